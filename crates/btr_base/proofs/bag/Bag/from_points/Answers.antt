@@ -1,0 +1,12 @@
+use Rattle.std.proofs.Common.{◌∙◌, sym}
+use Rattle.btr_base.specs.Order.{in_order-from_sorted, sort-of_order, sort-permutation}
+use Rattle.btr_base.proofs.bag.Bag.from_points.Goals as goal
+
+pub invariant_of-result : goal.invariant_of-result
+invariant_of-result c = in_order-from_sorted c.sort_unstable.new.self.items c.sort_unstable.ensures.sorted
+
+pub returns : goal.returns
+returns c =
+    let old = c.args.points.items in
+    let new = c.sort_unstable.new.self.items in
+    sym (sort-of_order new (in_order-from_sorted new c.sort_unstable.ensures.sorted)) ∙ sort-permutation old new c.sort_unstable.ensures.permutation

@@ -1,0 +1,12 @@
+use Rattle.std.proofs.Common.{take, drop, ◌↔◌, IsTrue}
+use Rattle.std.specs.List.{AllByRecursion}
+use Rattle.btr_base.specs.Range.{IsRange, AreApart}
+use Rattle.btr_base.specs.Apart.{ApartFrom}
+use Rattle.btr_base.proofs.ranges.are_apart.Given as goal
+
+-- what was seen is apart, and the rest is to be apart from its end on
+abbrev pub invariant-loop-range : goal.invariant-loop-range
+invariant-loop-range l = record {
+  each : AllByRecursion IsRange (take l.range-index l.ranges);
+  apart : AreApart l.ranges ↔ (IsTrue l.apart × ApartFrom l.end (drop l.range-index l.ranges));
+}

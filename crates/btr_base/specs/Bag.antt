@@ -1,0 +1,33 @@
+-- Bags: points in order, where equal points each count.
+use Rattle.std.specs.Prelude.{ℕ, ℤ, not, ◌&&◌, int_le, int_lt, List, [], ◌∷◌, if◌then◌else◌, IsTrue}
+use Rattle.std.specs.List.{filter, count_by, AllByRecursion}
+use Rattle.btr_base.specs.declared.point.Point.{Point}
+use Rattle.btr_base.specs.Point.{is_not_after, same_point}
+use Rattle.btr_base.specs.Range.{Interval, covered}
+
+-- each point may stand before all that come after it
+abbrev pub IsInOrder : List Point → Type 0
+IsInOrder [] = Unit {0}
+IsInOrder (p ∷ ps) = AllByRecursion (λ q. IsTrue (is_not_after p q)) ps × IsInOrder ps
+
+-- a point, put into its place
+abbrev pub put : Point → List Point → List Point
+put p [] = p ∷ []
+put p (q ∷ qs) = if is_not_after p q then p ∷ q ∷ qs else q ∷ put p qs
+
+-- the bag of the points of a list
+abbrev pub sort : List Point → List Point
+sort [] = []
+sort (p ∷ ps) = put p (sort ps)
+
+-- the points whose time no range covers
+abbrev pub outside : List Point → List Interval → List Point
+outside b rs = filter (λ p. not (covered rs p.time)) b
+
+-- the points from a time up to, and without, another
+abbrev pub within : ℤ → ℤ → List Point → List Point
+within from to b = filter (λ p. int_le from p.time && int_lt p.time to) b
+
+-- how often a point stands in a list
+abbrev pub copies : Point → List Point → ℕ
+copies p b = count_by (same_point p) b

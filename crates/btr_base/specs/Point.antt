@@ -1,0 +1,22 @@
+-- Points, and the order in which they stand.
+use Rattle.std.specs.Prelude.{ℤ, Bool, not, ◌≤ℤ◌, ◌<ℤ◌, ◌&&◌}
+use Rattle.std.specs.Ordering.{int_cmp, int_eq, ordering_then, is_lt}
+use Rattle.std.specs.declared.cmp.Ordering.{Ordering}
+use Rattle.btr_base.specs.declared.point.Point.{Point}
+use Rattle.btr_base.specs.declared.domain.TheConstants.{FIRST, END}
+
+-- by time, and points of one time by value
+abbrev pub point_cmp : Point → Point → Ordering
+point_cmp p q = ordering_then (int_cmp p.time q.time) (int_cmp p.value q.value)
+
+-- p may stand before q
+abbrev pub is_not_after : Point → Point → Bool
+is_not_after p q = not (is_lt (point_cmp q p))
+
+-- the two are equal
+abbrev pub same_point : Point → Point → Bool
+same_point p q = int_eq p.time q.time && int_eq p.value q.value
+
+-- the time can be held
+abbrev pub InDomain : ℤ → Type 0
+InDomain t = (FIRST ≤ℤ t) × (t <ℤ END)

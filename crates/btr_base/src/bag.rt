@@ -1,0 +1,145 @@
+ghost use Rattle.std.specs.Prelude.{◌≡◌, ℕ, ◌≤◌, ◌<◌, ℤ, ◌≤ℤ◌, ◌<ℤ◌, List, [], ◌++◌, length, drop, slice_index_or, IfOk};
+ghost use Rattle.btr_base.specs.declared.point.Point.{Point as APoint};
+ghost use Rattle.btr_base.specs.Bag.{IsInOrder, sort, outside};
+ghost use Rattle.btr_base.specs.Range.{Interval, IsCut, covered};
+
+use crate::point::Point;
+use crate::range::Range;
+use crate::ranges::{Ranges, has_begun};
+use std::alloc::{AllocError, Global};
+use std::marker::Model;
+
+/// Points by time and value, of which equal ones each count: what a stream holds at one version (BTrDB, FAST 2016). A
+/// bag may hold any time, also outside the domain.
+#[derive(Debug, Drop)]
+pub struct Bag {
+    points: Vec<Point>,
+}
+
+impl Model for Bag {
+    ghost use Rattle.std.specs.Prelude.{List};
+    ghost use Rattle.btr_base.specs.declared.point.Point.{Point};
+    ghost use Rattle.btr_base.specs.Bag.{IsInOrder};
+
+    ghost Value = { List Point };
+
+    ghost view = { λ b. b.points.items };
+
+    ghost invariant = { λ b. IsInOrder b.points.items };
+}
+
+impl Bag {
+    /// The bag of these points. It sorts them where they lie, in `n log n` time, and takes no memory.
+    pub fn from_points(points: Vec<Point>) -> Bag
+        ensures { result ≡ sort points.items }
+    {
+        let mut points = points;
+        points.sort_unstable();
+        Bag { points }
+    }
+
+    /// The points as a list, in order, in constant time. It takes no memory.
+    pub fn into_points(self) -> Vec<Point>
+        ensures points { result.items ≡ self }
+        ensures in_order { IsInOrder self }
+    {
+        let Bag { points } = self;
+        points
+    }
+
+    /// The points, in order, in constant time.
+    pub fn as_slice(&self) -> &[Point]
+        ensures points { result.now ≡ self.now }
+        ensures in_order { IsInOrder self.now }
+    {
+        self.points.as_slice()
+    }
+
+    /// The points whose time no range covers: what a cut leaves. It takes one pass over points and ranges, and memory for
+    /// as many points as the bag has. An `Err` is want of memory.
+    pub fn outside(&self, alloc: Global, cut: &Ranges) -> Result<Bag, AllocError>
+        ensures { IfOk result (λ b. b ≡ outside self.now cut.now) }
+    {
+        let points = points_outside(alloc, &self.points, cut.as_slice())?;
+        Ok(Bag { points })
+    }
+
+    /// The points of both; a point that stands in both counts for each. It takes one pass over both, and memory for all
+    /// points of both. An `Err` is want of memory.
+    pub fn merge(&self, alloc: Global, other: &Bag) -> Result<Bag, AllocError>
+        ensures { IfOk result (λ b. b ≡ sort (self.now ++ other.now)) }
+    {
+        let points = merged(alloc, &self.points, &other.points)?;
+        Ok(Bag { points })
+    }
+
+    /// The same points in memory of their own, in linear time. An `Err` is want of memory.
+    pub fn copy(&self, alloc: Global) -> Result<Bag, AllocError>
+        ensures { IfOk result (λ b. b ≡ self.now) }
+    {
+        let points = Vec::from_slice(alloc, &self.points)?;
+        Ok(Bag { points })
+    }
+}
+
+/// The points whose time no range covers.
+fn points_outside(
+    alloc: Global,
+    points: &[Point],
+    ranges: &[Range],
+) -> Result<Vec<Point>, AllocError>
+    requires points { IsInOrder points.now }
+    requires ranges { IsCut ranges.now }
+    ensures { IfOk result (λ v. v.items ≡ outside points.now ranges.now) }
+{
+    let mut kept = Vec::with_capacity(alloc, points.len())?;
+    let mut first = 0;
+    for point in points {
+        first = skip_ended(ranges, first, point.time);
+        if !has_begun(ranges, first, point.time) {
+            kept.push(*point)?;
+        }
+    }
+    Ok(kept)
+}
+
+/// The place of the first range from `first` on that ends behind the time, or the number of ranges.
+fn skip_ended(ranges: &[Range], first: usize, time: i64) -> usize
+    requires { first ≤ length ranges.now }
+    ensures within { result ≤ length ranges.now }
+    ensures ahead { (r : Interval) → result < length ranges.now → time <ℤ (slice_index_or ranges.now result r).to }
+    ensures same { (t : ℤ) → time ≤ℤ t → covered (drop result ranges.now) t ≡ covered (drop first ranges.now) t }
+{
+    let mut place = first;
+    while place < ranges.len() {
+        let range = &ranges[place];
+        if time < range.to {
+            return place;
+        }
+        place += 1;
+    }
+    place
+}
+
+/// The points of two lists in order, in order.
+fn merged(alloc: Global, a: &[Point], b: &[Point]) -> Result<Vec<Point>, AllocError>
+    requires a { IsInOrder a.now }
+    requires b { IsInOrder b.now }
+    ensures { IfOk result (λ v. v.items ≡ sort (a.now ++ b.now)) }
+{
+    let mut all = Vec::with_capacity(alloc, a.len() + b.len())?;
+    let mut i = 0;
+    let mut j = 0;
+    while i < a.len() && j < b.len() {
+        if b[j] < a[i] {
+            all.push(b[j])?;
+            j += 1;
+        } else {
+            all.push(a[i])?;
+            i += 1;
+        }
+    }
+    all.extend_from_slice(&a[i..])?;
+    all.extend_from_slice(&b[j..])?;
+    Ok(all)
+}

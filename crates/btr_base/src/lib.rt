@@ -1,0 +1,28 @@
+//! Points, ranges of time and bags: the plain data that every other crate speaks of.
+//!
+//! A [`Bag`] is a list of points by time and value in which equal points each count, [`Ranges`] is a set of times
+//! kept as its few longest ranges, and one commit takes the points inside ranges out of a bag (`outside`) and puts
+//! others in (`merge`). The crates above say what a version of a stream holds by these two calls alone.
+//!
+//! It knows no streams, no versions and no bytes.
+#![tactic(auto)]
+
+mod domain;
+mod point;
+// what is cut
+mod range;
+mod ranges;
+// what is kept
+mod bag;
+// what the definitions entail
+mod laws;
+
+pub use bag::Bag;
+pub use domain::{END, FIRST};
+pub use laws::one_list_for_the_times;
+pub use point::Point;
+pub use range::Range;
+pub use ranges::Ranges;
+
+#[cfg(test)]
+mod tests;

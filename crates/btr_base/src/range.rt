@@ -1,0 +1,38 @@
+ghost use Rattle.std.specs.Prelude.{◌≡◌, ◌↔◌, IsSome, IfSome};
+ghost use Rattle.btr_base.specs.Range.{IsRange};
+
+use crate::domain::{END, FIRST};
+use std::marker::Model;
+
+/// The times from `from` up to, and without, `to`, in nanoseconds. It is never empty, and lies in the domain.
+#[derive(Clone, Copy, Debug, PartialEq, Eq)]
+pub struct Range {
+    pub from: i64,
+    pub to: i64,
+}
+
+impl Model for Range {
+    ghost use Rattle.btr_base.specs.Range.{Interval, IsRange};
+
+    ghost Value = { Interval };
+
+    ghost view = { λ r. record { from = r.from; to = r.to } };
+
+    ghost invariant = { λ r. IsRange (record { from = r.from; to = r.to }) };
+
+    ghost inverse = { λ i. record { from = i.from; to = i.to } };
+}
+
+impl Range {
+    /// The range between two times, or `None` where it would be empty or a bound lies outside the domain. The end of
+    /// the domain is a good `to`.
+    pub fn new(from: i64, to: i64) -> Option<Range>
+        ensures some { IsSome result ↔ IsRange (record { from = from; to = to }) }
+        ensures value { IfSome result (λ r. r ≡ record { from = from; to = to }) }
+    {
+        if from < FIRST || to > END || from >= to {
+            return None;
+        }
+        Some(Range { from, to })
+    }
+}

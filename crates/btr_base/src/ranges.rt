@@ -1,0 +1,183 @@
+ghost use Rattle.std.specs.Prelude.{◌≡◌, true, ◌++◌, ℕ, ◌≤◌, ◌<◌, ℤ, List, [], ◌∷◌, ◌||◌, length, drop, slice_index_or, ◌≤ℤ◌, ◌<ℤ◌, IfOk, IfSome, IsSome, IsTrue, ◌↔◌, OnOk, OnErr};
+ghost use Rattle.std.specs.List.{AllByRecursion};
+ghost use Rattle.btr_base.specs.Apart.{IsBehind};
+ghost use Rattle.btr_base.specs.Range.{Interval, IsRange, IsCut, AreApart, covered, spans};
+
+use crate::range::Range;
+use std::alloc::{AllocError, Global};
+use std::marker::Model;
+
+/// A set of times, kept as its longest ranges: in order, disjoint and not touching. It says which times a commit cuts.
+#[derive(Debug, Drop)]
+pub struct Ranges {
+    ranges: Vec<Range>,
+}
+
+impl Model for Ranges {
+    ghost use Rattle.std.specs.Prelude.{List};
+    ghost use Rattle.btr_base.specs.Range.{Interval, IsCut};
+
+    ghost Value = { List Interval };
+
+    ghost view = { λ r. r.ranges.items };
+
+    ghost invariant = { λ r. IsCut r.ranges.items };
+}
+
+impl Ranges {
+    /// No times. It takes no memory.
+    pub fn none(alloc: Global) -> Ranges
+        ensures { result ≡ [] }
+    {
+        Ranges {
+            ranges: Vec::new(alloc),
+        }
+    }
+
+    /// The ranges of a list, or `None` where they are not in order, each ending before the next begins with a time between
+    /// them. It takes linear time and no memory.
+    pub fn from_ranges(ranges: Vec<Range>) -> Option<Ranges>
+        ensures apart { IsSome result ↔ AreApart ranges.items }
+        ensures ranges { IfSome result (λ r. r ≡ ranges.items) }
+    {
+        if !are_apart(&ranges) {
+            return None;
+        }
+        Some(Ranges { ranges })
+    }
+
+    /// Adds the times of a range, which may touch, overlap or bridge others. A range behind all others is added in
+    /// constant time on average, and any other in time linear in the number of ranges. An `Err` is want of memory, and
+    /// changes nothing.
+    pub fn add(&mut self, range: Range) -> Result<(), AllocError>
+        ensures times { OnOk result ((t : ℤ) → covered self.new t ≡ (spans range t || covered self.old t)) }
+        ensures err { OnErr result (self.new ≡ self.old) }
+    {
+        if is_behind(&self.ranges, &range) {
+            self.ranges.push(range)?;
+            return Ok(());
+        }
+        let alloc = *self.ranges.allocator();
+        self.ranges = joined(alloc, &self.ranges, range)?;
+        Ok(())
+    }
+
+    /// Whether a range covers the time, in nanoseconds; any `i64` may be asked. It takes time logarithmic in the number of
+    /// ranges, and no memory.
+    pub fn covers(&self, t: i64) -> bool
+        ensures { result ≡ covered self.now t }
+    {
+        is_covered(&self.ranges, t)
+    }
+
+    /// The same ranges in memory of their own.
+    pub fn copy(&self, alloc: Global) -> Result<Ranges, AllocError>
+        ensures { IfOk result (λ r. r ≡ self.now) }
+    {
+        let ranges = Vec::from_slice(alloc, &self.ranges)?;
+        Ok(Ranges { ranges })
+    }
+
+    /// The ranges, in order, in constant time. No two touch or overlap.
+    pub fn as_slice(&self) -> &[Range]
+        ensures ranges { result.now ≡ self.now }
+        ensures cut { IsCut self.now }
+    {
+        self.ranges.as_slice()
+    }
+}
+
+/// Whether each range ends before the next begins, with a time between them.
+fn are_apart(ranges: &[Range]) -> bool
+    ensures each { AllByRecursion IsRange ranges.now }
+    ensures apart { IsTrue result ↔ AreApart ranges.now }
+{
+    let mut apart = true;
+    let mut end = None;
+    for range in ranges {
+        apart = stays_apart(apart, end, range.from);
+        end = Some(range.to);
+    }
+    apart
+}
+
+/// Whether it was so, and the time lies behind the end, if there is one.
+fn stays_apart(apart: bool, end: Option<i64>, from: i64) -> bool
+    ensures { IsTrue result ↔ (IsTrue apart × IsBehind end from) }
+{
+    match end {
+        Some(end) => apart && end < from,
+        None => apart,
+    }
+}
+
+/// Whether the range begins behind the end of the last one, with a time between them.
+fn is_behind(ranges: &[Range], range: &Range) -> bool
+    requires { IsCut ranges.now }
+    ensures { result ≡ true → IsCut (ranges.now ++ range.now ∷ []) }
+{
+    let from = range.from;
+    match ranges.last() {
+        Some(last) => last.to < from,
+        None => true,
+    }
+}
+
+/// The ranges with one more, whose neighbors it joins.
+fn joined(alloc: Global, ranges: &[Range], range: Range) -> Result<Vec<Range>, AllocError>
+    requires { IsCut ranges.now }
+    ensures cut { IfOk result (λ v. IsCut v.items) }
+    ensures times { IfOk result (λ v. (t : ℤ) → covered v.items t ≡ (spans range t || covered ranges.now t)) }
+{
+    let mut done = Vec::with_capacity(alloc, ranges.len())?;
+    // it shows that the bounds are those of a range
+    let _ = &range.from;
+    let mut current = range;
+    for next in ranges {
+        if next.to < current.from {
+            done.push(*next)?;
+        } else if current.to < next.from {
+            done.push(current)?;
+            current = *next;
+        } else {
+            current = union(&current, next);
+        }
+    }
+    done.push(current)?;
+    Ok(done)
+}
+
+/// Both of two ranges that touch or overlap.
+fn union(a: &Range, b: &Range) -> Range
+    requires a_reaches { b.now.from ≤ℤ a.now.to }
+    requires b_reaches { a.now.from ≤ℤ b.now.to }
+    ensures range { IsRange result }
+    ensures times { (t : ℤ) → spans result t ≡ (spans a.now t || spans b.now t) }
+{
+    Range {
+        from: a.from.min(b.from),
+        to: a.to.max(b.to),
+    }
+}
+
+/// Whether a range covers the time, by halving.
+fn is_covered(ranges: &[Range], t: i64) -> bool
+    requires { IsCut ranges.now }
+    ensures { result ≡ covered ranges.now t }
+{
+    let place = ranges.partition_point(|range| range.to <= t);
+    has_begun(ranges, place, t)
+}
+
+/// Whether there is a range at the place, and it begins at or before the time. All before it end by the time, and it
+/// ends behind the time.
+pub(crate) fn has_begun(ranges: &[Range], place: usize, time: i64) -> bool
+    requires cut { IsCut ranges.now }
+    requires ahead { (r : Interval) → place < length ranges.now → time <ℤ (slice_index_or ranges.now place r).to }
+    ensures { result ≡ covered (drop place ranges.now) time }
+{
+    match ranges.get(place) {
+        Some(range) => range.from <= time,
+        None => false,
+    }
+}

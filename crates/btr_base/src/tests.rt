@@ -1,0 +1,242 @@
+use crate::bag::Bag;
+use crate::domain::{END, FIRST};
+use crate::point::Point;
+use crate::range::Range;
+use crate::ranges::Ranges;
+use std::alloc::{AllocError, Global};
+use std::test::Fail;
+
+fn ranges_of(alloc: Global, pairs: &[(i64, i64)]) -> Result<Ranges, Fail> {
+    let mut ranges = Ranges::none(alloc);
+    for (from, to) in pairs {
+        ranges.add(Range::new(*from, *to).ok_or("a range")?)?;
+    }
+    Ok(ranges)
+}
+
+fn bounds_of(alloc: Global, ranges: &Ranges) -> Result<Vec<(i64, i64)>, AllocError> {
+    let mut pairs = Vec::new(alloc);
+    for range in ranges.as_slice() {
+        pairs.push((range.from, range.to))?;
+    }
+    Ok(pairs)
+}
+
+fn bag_of(alloc: Global, pairs: &[(i64, i64)]) -> Result<Bag, AllocError> {
+    let mut points = Vec::new(alloc);
+    for (time, value) in pairs {
+        points.push(Point {
+            time: *time,
+            value: *value,
+        })?;
+    }
+    Ok(Bag::from_points(points))
+}
+
+fn pairs_of(alloc: Global, points: &[Point]) -> Result<Vec<(i64, i64)>, AllocError> {
+    let mut pairs = Vec::new(alloc);
+    for point in points {
+        pairs.push((point.time, point.value))?;
+    }
+    Ok(pairs)
+}
+
+#[test]
+fn bounds_of_a_range(rt: HostRuntime) {
+    assert_eq!(rt; FIRST, -1152921504606846976);
+    assert_eq!(rt; END, 3458764513820540928);
+    for (from, to, want) in [
+        (FIRST, END, true),
+        (FIRST, FIRST + 1, true),
+        (END - 1, END, true),
+        (0, 1, true),
+        (FIRST - 1, 0, false),
+        (0, END + 1, false),
+        (END, END + 1, false),
+        (5, 5, false),
+        (FIRST, FIRST, false),
+        (END, END, false),
+        (6, 5, false),
+        (i64::MIN, i64::MAX, false),
+    ] {
+        let range = Range::new(from, to);
+        assert_eq!(rt; range.is_some(), want, "{from} to {to}");
+        if let Some(range) = range {
+            assert_eq!(rt; (range.from, range.to), (from, to));
+        }
+    }
+}
+
+#[test]
+fn ranges_that_are_added(rt: HostRuntime) -> Result<(), Fail> {
+    let alloc = rt.alloc();
+    let three = [(0, 10), (20, 30), (40, 50)];
+    for (added, want) in [
+        ((60, 70), [(0, 10), (20, 30), (40, 50), (60, 70)].as_slice()),
+        ((50, 60), [(0, 10), (20, 30), (40, 60)].as_slice()),
+        ((51, 60), [(0, 10), (20, 30), (40, 50), (51, 60)].as_slice()),
+        ((45, 60), [(0, 10), (20, 30), (40, 60)].as_slice()),
+        ((20, 30), [(0, 10), (20, 30), (40, 50)].as_slice()),
+        ((22, 28), [(0, 10), (20, 30), (40, 50)].as_slice()),
+        ((12, 15), [(0, 10), (12, 15), (20, 30), (40, 50)].as_slice()),
+        ((10, 15), [(0, 15), (20, 30), (40, 50)].as_slice()),
+        ((15, 20), [(0, 10), (15, 30), (40, 50)].as_slice()),
+        ((10, 20), [(0, 30), (40, 50)].as_slice()),
+        ((5, 45), [(0, 50)].as_slice()),
+        ((-5, 60), [(-5, 60)].as_slice()),
+        ((-9, -5), [(-9, -5), (0, 10), (20, 30), (40, 50)].as_slice()),
+        ((-9, 0), [(-9, 10), (20, 30), (40, 50)].as_slice()),
+        ((-9, 25), [(-9, 30), (40, 50)].as_slice()),
+        ((FIRST, END), [(FIRST, END)].as_slice()),
+    ] {
+        let mut ranges = ranges_of(alloc, &three)?;
+        ranges.add(Range::new(added.0, added.1).ok_or("a range")?)?;
+        assert_eq!(rt; bounds_of(alloc, &ranges)?.as_slice(), want, "{added:?}");
+    }
+    Ok(())
+}
+
+#[test]
+fn times_that_are_covered(rt: HostRuntime) -> Result<(), Fail> {
+    let alloc = rt.alloc();
+    let ranges = ranges_of(alloc, &[(FIRST, -9), (0, 10), (20, 21), (30, END)])?;
+    for (time, want) in [
+        (i64::MIN, false),
+        (FIRST - 1, false),
+        (FIRST, true),
+        (-10, true),
+        (-9, false),
+        (-1, false),
+        (0, true),
+        (9, true),
+        (10, false),
+        (19, false),
+        (20, true),
+        (21, false),
+        (29, false),
+        (30, true),
+        (END - 1, true),
+        (END, false),
+        (i64::MAX, false),
+    ] {
+        assert_eq!(rt; ranges.covers(time), want, "{time}");
+    }
+    assert!(rt; !Ranges::none(alloc).covers(0));
+    Ok(())
+}
+
+#[test]
+fn points_in_a_bag(rt: HostRuntime) -> Result<(), Fail> {
+    let alloc = rt.alloc();
+    let bag = bag_of(
+        alloc,
+        &[
+            (3, 1),
+            (i64::MAX, 0),
+            (3, -1),
+            (i64::MIN, i64::MAX),
+            (2, 9),
+            (3, 1),
+        ],
+    )?;
+    let want = [
+        (i64::MIN, i64::MAX),
+        (2, 9),
+        (3, -1),
+        (3, 1),
+        (3, 1),
+        (i64::MAX, 0),
+    ];
+    assert_eq!(rt;
+        pairs_of(alloc, bag.as_slice())?.as_slice(),
+        want.as_slice()
+    );
+    let copy = bag.copy(alloc)?;
+    assert_eq!(rt;
+        pairs_of(alloc, &copy.into_points())?.as_slice(),
+        want.as_slice()
+    );
+    assert_eq!(rt; bag_of(alloc, &[])?.into_points().len(), 0);
+    Ok(())
+}
+
+#[test]
+fn points_outside_ranges(rt: HostRuntime) -> Result<(), Fail> {
+    let alloc = rt.alloc();
+    let bag = bag_of(
+        alloc,
+        &[
+            (-1, 0),
+            (0, 1),
+            (0, 1),
+            (9, 2),
+            (10, 3),
+            (10, 3),
+            (15, 4),
+            (20, 5),
+            (30, 6),
+        ],
+    )?;
+    for (cut, want) in [
+        (
+            [(0, 10), (20, 30)].as_slice(),
+            [(-1, 0), (10, 3), (10, 3), (15, 4), (30, 6)].as_slice(),
+        ),
+        (
+            [(10, 11)].as_slice(),
+            [(-1, 0), (0, 1), (0, 1), (9, 2), (15, 4), (20, 5), (30, 6)].as_slice(),
+        ),
+        ([(FIRST, END)].as_slice(), [].as_slice()),
+        (
+            [(-9, -5), (-4, -1), (40, 50)].as_slice(),
+            [
+                (-1, 0),
+                (0, 1),
+                (0, 1),
+                (9, 2),
+                (10, 3),
+                (10, 3),
+                (15, 4),
+                (20, 5),
+                (30, 6),
+            ]
+            .as_slice(),
+        ),
+    ] {
+        let left = bag.outside(alloc, &ranges_of(alloc, cut)?)?;
+        assert_eq!(rt;
+            pairs_of(alloc, left.as_slice())?.as_slice(),
+            want,
+            "{cut:?}"
+        );
+    }
+    Ok(())
+}
+
+#[test]
+fn points_of_both(rt: HostRuntime) -> Result<(), Fail> {
+    let alloc = rt.alloc();
+    for (a, b, want) in [
+        (
+            [(1, 5), (3, 0)].as_slice(),
+            [(1, 4), (1, 5), (4, 0)].as_slice(),
+            [(1, 4), (1, 5), (1, 5), (3, 0), (4, 0)].as_slice(),
+        ),
+        (
+            [(5, 0), (6, 0)].as_slice(),
+            [(1, 0), (5, 0)].as_slice(),
+            [(1, 0), (5, 0), (5, 0), (6, 0)].as_slice(),
+        ),
+        ([(1, 0)].as_slice(), [].as_slice(), [(1, 0)].as_slice()),
+        ([].as_slice(), [(1, 0)].as_slice(), [(1, 0)].as_slice()),
+        ([].as_slice(), [].as_slice(), [].as_slice()),
+    ] {
+        let both = bag_of(alloc, a)?.merge(alloc, &bag_of(alloc, b)?)?;
+        assert_eq!(rt;
+            pairs_of(alloc, both.as_slice())?.as_slice(),
+            want,
+            "{a:?} and {b:?}"
+        );
+    }
+    Ok(())
+}
