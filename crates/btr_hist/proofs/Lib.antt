@@ -1,0 +1,5 @@
+mod Steps
+mod Crowd
+mod Stays
+mod Domain
+mod Machine

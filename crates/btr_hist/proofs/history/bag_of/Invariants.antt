@@ -1,0 +1,7 @@
+use Rattle.std.proofs.Common.{◌≡◌, take, drop}
+use Rattle.btr_hist.specs.Commit.{replay}
+use Rattle.btr_hist.specs.History.{commits, bag}
+use Rattle.btr_hist.proofs.history.bag_of.Given as goal
+
+abbrev pub invariant-loop-entry : goal.invariant-loop-entry
+invariant-loop-entry l = replay l.bag (take l.left (commits (drop l.entry-index l.entries) l.stream)) ≡ bag l.entries l.stream l.version

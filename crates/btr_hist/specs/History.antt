@@ -1,0 +1,27 @@
+-- Histories: their streams, and what each version of a stream holds.
+use Rattle.std.specs.Prelude.{ℕ, ◌==◌, List, [], ◌∷◌, length, take, if◌then◌else◌}
+use Rattle.btr_base.specs.declared.point.Point.{Point}
+use Rattle.btr_hist.specs.declared.entry.Entry.{Entry}
+use Rattle.btr_hist.specs.declared.entry.Entry.TheVariants.{Create, Commit}
+use Rattle.btr_hist.specs.Commit.{Change, replay}
+
+-- the ids of the streams: a stream's number is its place in this list
+abbrev pub ids : List Entry → List ℕ
+ids [] = []
+ids (Create id ∷ h) = id ∷ ids h
+ids (Commit s cut added ∷ h) = ids h
+
+-- the commits of a stream, in order
+abbrev pub commits : List Entry → ℕ → List Change
+commits [] stream = []
+commits (Create id ∷ h) stream = commits h stream
+commits (Commit s cut added ∷ h) stream =
+    if s == stream then record { cut = cut; added = added } ∷ commits h stream else commits h stream
+
+-- the latest version of a stream: each commit makes one
+abbrev pub latest : List Entry → ℕ → ℕ
+latest h stream = length (commits h stream)
+
+-- the points of a version: those after so many commits
+abbrev pub bag : List Entry → ℕ → ℕ → List Point
+bag h stream version = replay [] (take version (commits h stream))

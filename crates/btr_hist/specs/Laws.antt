@@ -1,0 +1,46 @@
+-- What holds of all histories.
+use Rattle.std.specs.Prelude.{◌≡◌, ℕ, ℤ, ◌+◌, ◌<◌, ◌≤◌, List, [], ◌∷◌, ◌++◌, length, take, if◌then◌else◌}
+use Rattle.std.specs.List.{AllByRecursion}
+use Rattle.btr_base.specs.declared.point.Point.{Point}
+use Rattle.btr_base.specs.Point.{InDomain}
+use Rattle.btr_base.specs.Range.{covered}
+use Rattle.btr_base.specs.Bag.{copies}
+use Rattle.btr_hist.specs.declared.entry.Entry.{Entry}
+use Rattle.btr_hist.specs.declared.query.At.TheVariants.{Number}
+use Rattle.btr_hist.specs.declared.query.Query.TheVariants.{Points}
+use Rattle.btr_hist.specs.Commit.{Change}
+use Rattle.btr_hist.specs.History.{ids, commits, latest, bag}
+use Rattle.btr_hist.specs.Legal.{Legal}
+use Rattle.btr_hist.specs.Answer.{answer}
+use Rattle.btr_hist.specs.Machine.{Event, start, run}
+
+-- what is answered at a version that a stream has, is answered for good
+abbrev pub OldVersionsStay : Type 0
+OldVersionsStay =
+    (h more : List Entry) (stream version : ℕ) (from to : ℤ) → stream < length (ids h) → version ≤ latest h stream
+    → answer (h ++ more) (Points stream from to (Number version)) ≡ answer h (Points stream from to (Number version))
+
+-- how often a point stands after some commits, where it stood n times: a commit that cuts its time takes it out each time,
+-- and puts it in as often as it is added
+abbrev pub copies_after : Point → ℕ → List Change → ℕ
+copies_after p n [] = n
+copies_after p n (c ∷ cs) = copies_after p ((if covered c.cut p.time then 0 else n) + copies p c.added) cs
+
+-- a version holds exactly what was put in and not cut since
+abbrev pub HoldsWhatWasPutIn : Type 0
+HoldsWhatWasPutIn =
+    (h : List Entry) (stream version : ℕ) (p : Point)
+    → copies p (bag h stream version) ≡ copies_after p 0 (take version (commits h stream))
+
+-- a front of a legal history is legal
+abbrev pub FrontsAreLegal : Type 0
+FrontsAreLegal = (h more : List Entry) → Legal (h ++ more) → Legal h
+
+-- each point of each version of a legal history lies in the domain
+abbrev pub PointsLieInTheDomain : Type 0
+PointsLieInTheDomain =
+    (h : List Entry) (stream version : ℕ) → Legal h → AllByRecursion (λ p. InDomain p.time) (bag h stream version)
+
+-- whatever users do, in whatever order, the history is legal
+abbrev pub MachineStaysLegal : Type 0
+MachineStaysLegal = (events : List (ℕ × Event)) → Legal (run start events).history

@@ -1,0 +1,307 @@
+ghost use Rattle.std.specs.Prelude.{◌≡◌, ℕ, ◌≤◌, List, [], ◌∷◌, ◌++◌, Bool, not, ◌&&◌, int_le, int_lt, length, nat_eq, max, IfOk, OnOk, OnErr, Option, Some, None};
+ghost use Rattle.std.specs.List.{list_any};
+ghost use Rattle.std.specs.Option.{option_map};
+ghost use Rattle.btr_base.specs.declared.domain.TheConstants.{FIRST, END};
+ghost use Rattle.btr_base.specs.Bag.{IsInOrder, within};
+ghost use Rattle.btr_hist.specs.declared.query.Query.TheVariants.{Points as AskPoints};
+ghost use Rattle.btr_hist.specs.Commit.{after};
+ghost use Rattle.btr_hist.specs.History.{ids, latest, bag};
+ghost use Rattle.btr_hist.specs.Legal.{rejection, create_rejection, change_rejection, points_rejection, commit_rejection, stray};
+ghost use Rattle.btr_hist.specs.Answer.{answer};
+
+use crate::answer::{Answer, PointList, Refusal, Rows};
+use crate::crowded::first_crowded;
+use crate::entry::Entry;
+use crate::limits::{MAX_POINTS, MAX_POINTS_IN_COMMIT, MAX_STREAMS, MAX_VERSIONS};
+use crate::query::{At, Query};
+use crate::rejection::Rejection;
+use btr_base::{Bag, END, FIRST, Point, Range, Ranges};
+use std::alloc::{AllocError, Global};
+use std::marker::Model;
+
+/// A history, kept as the list of its entries.
+#[derive(Debug, Drop)]
+pub struct History {
+    entries: Vec<Entry>,
+}
+
+impl Model for History {
+    ghost use Rattle.std.specs.Prelude.{List};
+    ghost use Rattle.btr_hist.specs.declared.entry.Entry.{Entry};
+
+    ghost Value = { List Entry };
+
+    ghost view = { λ h. h.entries.items };
+}
+
+impl History {
+    /// No entries. It takes no memory.
+    pub fn empty(alloc: Global) -> History
+        ensures { result ≡ [] }
+    {
+        History {
+            entries: Vec::new(alloc),
+        }
+    }
+
+    /// Adds an entry, allowed or not: `rejection` says which it is. An `Err` changes nothing.
+    pub fn push(&mut self, entry: Entry) -> Result<(), AllocError>
+        ensures ok { OnOk result (self.new ≡ self.old ++ entry ∷ []) }
+        ensures err { OnErr result (self.new ≡ self.old) }
+    {
+        self.entries.push(entry)?;
+        Ok(())
+    }
+
+    /// The answer to a question, by filters and folds over all entries. It costs the whole history, each time.
+    pub fn answer(&self, alloc: Global, query: &Query) -> Result<Answer, AllocError>
+        ensures { IfOk result (λ a. a ≡ answer self.now query.now) }
+    {
+        match *query {
+            Query::Points {
+                stream,
+                from,
+                to,
+                at,
+            } => points_answer(alloc, &self.entries, stream, from, to, at),
+        }
+    }
+
+    /// Why an entry may not follow, or `None` where it may. It costs the whole history, each time.
+    pub fn rejection(&self, alloc: Global, entry: &Entry) -> Result<Option<Rejection>, AllocError>
+        ensures { IfOk result (λ r. r ≡ rejection self.now entry.now) }
+    {
+        match entry {
+            Entry::Create { id } => Ok(creation(&self.entries, *id)),
+            Entry::Commit { stream, cut, added } => commit(
+                alloc,
+                &self.entries,
+                *stream,
+                cut,
+                added,
+            ),
+        }
+    }
+}
+
+/// The answer to a question for points.
+fn points_answer(
+    alloc: Global,
+    entries: &[Entry],
+    stream: u32,
+    from: i64,
+    to: i64,
+    at: At,
+) -> Result<Answer, AllocError>
+    ensures { IfOk result (λ a. a ≡ answer entries.now (AskPoints stream from to at)) }
+{
+    if stream as usize >= stream_count(entries) {
+        return Ok(Answer::Refused(Refusal::NoStream));
+    }
+    let latest = latest_of(entries, stream) as u64;
+    let version = match at {
+        At::Number(number) => number,
+        At::Latest => latest,
+    };
+    if version > latest {
+        return Ok(Answer::Refused(Refusal::NoVersion {
+            asked: version,
+            latest,
+        }));
+    }
+    if Range::new(from, to).is_none() {
+        return Ok(Answer::Refused(Refusal::BadRange));
+    }
+    let bag = bag_of(alloc, entries, stream, version)?;
+    let points = points_within(alloc, bag.as_slice(), from, to)?;
+    Ok(Answer::Found {
+        version,
+        rows: Rows::Points(PointList::from_points(points)),
+    })
+}
+
+/// Why a stream with this id may not be created.
+fn creation(entries: &[Entry], id: u128) -> Option<Rejection>
+    ensures { result ≡ create_rejection entries.now id }
+{
+    if has_id(entries, id) {
+        return Some(Rejection::StreamExists);
+    }
+    if stream_count(entries) >= MAX_STREAMS {
+        return Some(Rejection::StreamLimit);
+    }
+    None
+}
+
+/// Why a commit may not follow.
+fn commit(
+    alloc: Global,
+    entries: &[Entry],
+    stream: u32,
+    cut: &Ranges,
+    added: &Bag,
+) -> Result<Option<Rejection>, AllocError>
+    ensures { IfOk result (λ r. r ≡ commit_rejection entries.now stream (record { cut = cut.now; added = added.now })) }
+{
+    if stream as usize >= stream_count(entries) {
+        return Ok(Some(Rejection::NoStream));
+    }
+    if let Some(found) = change_rejection(cut.as_slice(), added.as_slice()) {
+        return Ok(Some(found));
+    }
+    let latest = latest_of(entries, stream);
+    if latest >= MAX_VERSIONS {
+        return Ok(Some(Rejection::VersionLimit));
+    }
+    let bag = bag_of(alloc, entries, stream, latest as u64)?;
+    let next = points_after(alloc, &bag, cut, added)?;
+    Ok(points_rejection(next.as_slice()))
+}
+
+/// Why a commit of these ranges and points may not be, whatever the stream holds, or `None`. It takes time linear in the
+/// number of points and no memory.
+pub fn change_rejection(cut: &[Range], added: &[Point]) -> Option<Rejection>
+    ensures { result ≡ change_rejection (record { cut = cut.now; added = added.now }) }
+{
+    if let Some(time) = stray_time(added) {
+        return Some(Rejection::OutOfDomain { time });
+    }
+    let count = cut.len().max(added.len());
+    if count == 0 {
+        return Some(Rejection::Empty);
+    }
+    if count > MAX_POINTS_IN_COMMIT {
+        return Some(Rejection::TooMany {
+            count: count as u64,
+        });
+    }
+    None
+}
+
+/// Why a version may not hold these points, or `None`. It takes time linear in their number and no memory.
+pub fn points_rejection(points: &[Point]) -> Option<Rejection>
+    requires { IsInOrder points.now }
+    ensures { result ≡ points_rejection points.now }
+{
+    if let Some(start) = first_crowded(points) {
+        return Some(Rejection::Crowded { start });
+    }
+    if points.len() > MAX_POINTS {
+        return Some(Rejection::TooManyPoints {
+            count: points.len() as u64,
+        });
+    }
+    None
+}
+
+/// How many streams there are.
+fn stream_count(entries: &[Entry]) -> usize
+    ensures { result ≡ length (ids entries.now) }
+{
+    let mut count = 0;
+    for entry in entries {
+        if let Entry::Create { .. } = entry {
+            count += 1;
+        }
+    }
+    count
+}
+
+/// Whether a stream has this id.
+fn has_id(entries: &[Entry], id: u128) -> bool
+    ensures { result ≡ list_any (nat_eq id) (ids entries.now) }
+{
+    for entry in entries {
+        if let Entry::Create { id: other } = entry {
+            if *other == id {
+                return true;
+            }
+        }
+    }
+    false
+}
+
+/// How many commits a stream has.
+fn latest_of(entries: &[Entry], stream: u32) -> usize
+    ensures { result ≡ latest entries.now stream }
+{
+    let mut count = 0;
+    for entry in entries {
+        if let Entry::Commit { stream: of, .. } = entry {
+            if *of == stream {
+                count += 1;
+            }
+        }
+    }
+    count
+}
+
+/// The points of a version: those after so many commits of the stream. It goes through all entries, and each commit of the
+/// stream costs the points that it finds.
+pub fn bag_of(
+    alloc: Global,
+    entries: &[Entry],
+    stream: u32,
+    version: u64,
+) -> Result<Bag, AllocError>
+    ensures { IfOk result (λ b. b ≡ bag entries.now stream version) }
+{
+    let mut bag = Bag::from_points(Vec::new(alloc));
+    let mut left = version;
+    for entry in entries {
+        if let Entry::Commit {
+            stream: of,
+            cut,
+            added,
+        } = entry
+        {
+            if *of == stream && left > 0 {
+                bag = points_after(alloc, &bag, cut, added)?;
+                left -= 1;
+            }
+        }
+    }
+    Ok(bag)
+}
+
+/// The points after one commit, in one pass over points and ranges.
+pub fn points_after(alloc: Global, bag: &Bag, cut: &Ranges, added: &Bag) -> Result<Bag, AllocError>
+    ensures { IfOk result (λ b. b ≡ after bag.now (record { cut = cut.now; added = added.now })) }
+{
+    bag.outside(alloc, cut)?.merge(alloc, added)
+}
+
+/// The points from a time up to, and without, another, in nanoseconds. It goes through all points.
+pub fn points_within(
+    alloc: Global,
+    points: &[Point],
+    from: i64,
+    to: i64,
+) -> Result<Vec<Point>, AllocError>
+    ensures { IfOk result (λ v. v.items ≡ within from to points.now) }
+{
+    points
+        .iter()
+        .filter(|p| from <= p.time && p.time < to)
+        .copied()
+        .collect(alloc)
+}
+
+/// The time of the first point outside the domain.
+fn stray_time(points: &[Point]) -> Option<i64>
+    ensures { result ≡ option_map (λ p. p.time) (stray points.now) }
+{
+    for point in points {
+        if is_stray(point) {
+            return Some(point.time);
+        }
+    }
+    None
+}
+
+/// Whether a point lies outside the domain.
+fn is_stray(point: &Point) -> bool
+    ensures { result ≡ not (int_le FIRST point.now.time && int_lt point.now.time END) }
+{
+    point.time < FIRST || point.time >= END
+}

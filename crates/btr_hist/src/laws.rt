@@ -1,0 +1,28 @@
+//! What holds of all histories: each function's clause is the law, and its body is empty.
+
+ghost use Rattle.btr_hist.specs.Laws.{OldVersionsStay, HoldsWhatWasPutIn, FrontsAreLegal, PointsLieInTheDomain, MachineStaysLegal};
+
+/// What is answered at a version that a stream has is answered for good, whatever is committed later.
+pub fn old_versions_stay()
+    ensures { OldVersionsStay }
+{}
+
+/// A version holds exactly what was put in and not cut since, each equal point as often.
+pub fn versions_hold_what_was_put_in()
+    ensures { HoldsWhatWasPutIn }
+{}
+
+/// A front of a legal history is legal.
+pub fn fronts_are_legal()
+    ensures { FrontsAreLegal }
+{}
+
+/// Each point of each version of a legal history lies in the domain.
+pub fn points_lie_in_the_domain()
+    ensures { PointsLieInTheDomain }
+{}
+
+/// Whatever users do, in whatever order, the history is legal.
+pub fn the_machine_stays_legal()
+    ensures { MachineStaysLegal }
+{}

@@ -1,0 +1,41 @@
+//! What a store means, over plain lists: the history of its commits, what each version of a stream holds, which
+//! entries are allowed, and what each question answers.
+//!
+//! A history is a list of entries. All that the store ever promises is said by the definitions in `specs/`, and
+//! [`History`] is the plain and slow program that computes them: `History::answer` is the definition itself, run over
+//! the list. Every fast crate above is proved to answer as it does.
+//!
+//! Streams, versions and the calls on them are those of BTrDB (Andersen and Culler, FAST 2016).
+#![tactic(auto)]
+
+mod limits;
+// what is kept
+mod crowded;
+mod entry;
+mod rejection;
+// what is asked and answered
+mod answer;
+mod query;
+// the plain program, and what holds of all histories
+mod history;
+mod laws;
+
+pub use answer::{Answer, PointList, Refusal, Rows};
+pub use crowded::first_crowded;
+pub use entry::Entry;
+pub use history::{
+    History, bag_of, change_rejection, points_after, points_rejection, points_within,
+};
+pub use laws::{
+    fronts_are_legal, old_versions_stay, points_lie_in_the_domain, the_machine_stays_legal,
+    versions_hold_what_was_put_in,
+};
+pub use limits::{
+    BOTTOM_SPAN, MAX_POINTS, MAX_POINTS_IN_BOTTOM_SPAN, MAX_POINTS_IN_COMMIT, MAX_STREAMS,
+    MAX_VERSIONS,
+};
+pub use query::{At, Query};
+pub use rejection::Rejection;
+
+#[cfg(test)]
+mod tests;
