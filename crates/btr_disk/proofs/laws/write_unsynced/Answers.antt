@@ -1,0 +1,15 @@
+use Rattle.std.specs.Prelude.{◌*◌, length}
+use Rattle.btr_disk.proofs.Steps.{both_ok}
+use Rattle.btr_disk.proofs.Others.{is_unsynced}
+use Rattle.btr_disk.proofs.laws.write_unsynced.Goals as goal
+
+pub returns-clause-unsynced : goal.returns-clause-unsynced
+returns-clause-unsynced g c tells =
+    let disk = g.D.Disk in
+    let laws = g.met.D.Disk in
+    let old = c.args.device.now in
+    let new = c.write.new.self in
+    let was = laws.reads_as_image tells old in
+    both_ok c.write.result _ _ (c.write.ensures.unsynced tells)
+    (λ tears. is_unsynced (4096 * c.args.first) (length c.args.bytes.now) (disk.contents old) (disk.contents new) (disk.image old) (disk.image new)
+    (laws.image_bytes tells old (disk.contents old) was) was (laws.reads_as_image tells new) tears)

@@ -1,0 +1,29 @@
+use Rattle.std.specs.Prelude.{◌≡◌, ◌+◌, ◌-◌, ◌*◌, ◌≤◌, ℕ, List, length, take, drop}
+use Rattle.std.proofs.Common.{arith, ap, ◌∙◌, sym, subst}
+use Rattle.btr_disk.specs.Bytes.{Has}
+use Rattle.btr_disk.specs.History.{contents_of}
+use Rattle.btr_disk.proofs.Recording.{idle, nothing_recorded, Has-part}
+use Rattle.btr_disk.proofs.memory.MemDiskDisk.read.Goals as goal
+
+pub returns-then-fails-clause-time : goal.returns-then-fails-clause-time
+returns-then-fails-clause-time c _ =
+    nothing_recorded (contents_of c.args.self.now.bytes.items) c.args.self.now.history c.note.new.self c.if-not-note.ensures.recorded
+
+pub returns-clause-bytes : goal.returns-clause-bytes
+returns-clause-bytes c _ =
+    let bytes = c.args.self.now.bytes.items in
+    let a = 4096 * c.args.first in
+    let n = length c.args.buf.now in
+    let size : (a + n) - a ≡ n = omega arith in
+    let fits : a + n ≤ length bytes = omega (arith, c.requires.inside) in
+    let is : c.copy_from_slice.new.self ≡ take n (drop a bytes) =
+    c.copy_from_slice.ensures.after ∙ ap (λ (x : ℕ). take x (drop a c.deref.result.now)) size ∙ ap (λ (l : List ℕ). take n (drop a l)) c.deref.ensures.value in
+    subst (λ (l : List ℕ). Has (contents_of bytes) a l) (sym is) (Has-part bytes a n fits)
+
+pub returns-clause-time : goal.returns-clause-time
+returns-clause-time c _ =
+    nothing_recorded (contents_of c.args.self.now.bytes.items) c.args.self.now.history c.note.new.self c.if-not-note.ensures.recorded
+
+pub returns-then-not-note-clause-time : goal.returns-then-not-note-clause-time
+returns-then-not-note-clause-time c _ =
+    idle (contents_of c.args.self.now.bytes.items) c.args.self.now.history c.note.new.self c.if-not-note.ensures.recorded

@@ -1,0 +1,131 @@
+use Rattle.std.specs.Prelude.{ℕ, ◌+◌, ◌*◌, ◌<◌, ◌≤◌, List, length}
+use Rattle.std.proofs.Common.{arith, inl}
+use Rattle.btr_disk.specs.Bytes.{Image, Has, SameBut}
+use Rattle.btr_disk.specs.Causes.{Counted}
+use Rattle.btr_disk.specs.Images.{Only, Torn}
+use Rattle.btr_disk.specs.Moments.{Elapses, Leaves}
+use Rattle.btr_disk.specs.Publish.{IsBeforeOrHasBody}
+use Rattle.btr_disk.specs.Addresses.{Has-Same, SameBut-trans, SameBut-from_Same, Same-trans}
+use Rattle.btr_disk.specs.Runs.{begins, goes_on}
+use Rattle.btr_disk.proofs.Steps.{after_sync, on_ok, body_torn, body_synced, gate_torn, gate_written, gate_synced, Published-Same}
+use Rattle.btr_disk.proofs.publishing.publish.Goals as goal
+
+-- what a call leaves to the rest of the run
+record Step {D : Type 0} (calls : D → ℕ) (since : D → ℕ → Image → Type 0) (image : D → Image → Type 0) (old new : D) : Type 0 where
+  counted : Counted (calls old) (calls new)
+  time : Elapses (calls old) (since old) (since new) (image new)
+
+module _ {D : Type 0} (calls : D → ℕ) (since : D → ℕ → Image → Type 0) (image : D → Image → Type 0) (contents : D → Image) (start : D) (address : ℕ) (body : List ℕ) (place : ℕ) where
+  -- the body is written, or the write failed
+  to_first : (new : D) → ((x : Image) → since start (calls start) x → image start x) → Only (contents start) (image start) → Step calls since image start new → Torn address (length body) (image start) (image new) → Leaves calls since start new (IsBeforeOrHasBody (contents start) address body place)
+  to_first new now settled step torn =
+      let P : Image → Type 0 = IsBeforeOrHasBody (contents start) address body place in
+      goes_on calls since start start new P (image new)
+      (begins calls since start P (λ x left. inl (SameBut-from_Same address (length body) (contents start) x (settled.each x (now x left)))))
+      step.counted step.time (body_torn (contents start) address body place (image start) (image new) settled torn)
+
+  -- the rest goes on from there
+  to_next : (mid new : D) → Leaves calls since start mid (IsBeforeOrHasBody (contents start) address body place) → Step calls since image mid new → ((x : Image) → image new x → IsBeforeOrHasBody (contents start) address body place x) → Leaves calls since start new (IsBeforeOrHasBody (contents start) address body place)
+  to_next mid new so_far step here =
+      goes_on calls since start mid new (IsBeforeOrHasBody (contents start) address body place) (image new) so_far step.counted step.time here
+
+pub returns-in_err-write-clause-moments : goal.returns-in_err-write-clause-moments
+returns-in_err-write-clause-moments g c tells settled =
+    let disk = g.D.Disk in
+    let d0 = c.args.device.now in
+    to_first disk.calls disk.since disk.image disk.contents d0 (4096 * c.args.first) c.args.body.now (4096 * c.args.at) c.write.new.self (g.met.D.Disk.only_now tells d0) settled
+    (record { counted = c.write.ensures.calls; time = c.write.ensures.time tells }) (c.write.ensures.torn tells)
+
+pub returns-in_err-sync-clause-moments : goal.returns-in_err-sync-clause-moments
+returns-in_err-sync-clause-moments g c tells settled =
+    let disk = g.D.Disk in
+    let d0 = c.args.device.now in
+    let d1 = c.write.new.self in
+    let a = 4096 * c.args.first in
+    let body = c.args.body.now in
+    let p = 4096 * c.args.at in
+    let first = to_first disk.calls disk.since disk.image disk.contents d0 a body p d1 (g.met.D.Disk.only_now tells d0) settled
+    (record { counted = c.write.ensures.calls; time = c.write.ensures.time tells }) (c.write.ensures.torn tells) in
+    to_next disk.calls disk.since disk.image disk.contents d0 a body p d1 c.sync.new.self first
+    (record { counted = c.sync.ensures.calls; time = c.sync.ensures.time tells })
+    (λ x left. body_torn (disk.contents d0) a body p (disk.image d0) (disk.image d1) settled (c.write.ensures.torn tells) x ((c.in_err-sync.ensures.unsynced tells).none_new x left))
+
+pub returns-in_err-write-2-clause-moments : goal.returns-in_err-write-2-clause-moments
+returns-in_err-write-2-clause-moments g c tells settled =
+    let disk = g.D.Disk in
+    let d0 = c.args.device.now in
+    let d1 = c.write.new.self in
+    let d2 = c.sync.new.self in
+    let d3 = c.write-2.new.self in
+    let a = 4096 * c.args.first in
+    let body = c.args.body.now in
+    let p = 4096 * c.args.at in
+    let first = to_first disk.calls disk.since disk.image disk.contents d0 a body p d1 (g.met.D.Disk.only_now tells d0) settled
+    (record { counted = c.write.ensures.calls; time = c.write.ensures.time tells }) (c.write.ensures.torn tells) in
+    let but : SameBut a (length body) (disk.contents d0) (disk.contents d2) = SameBut-trans a (length body) (disk.contents d0) (disk.contents d1) (disk.contents d2) (c.write.ensures.elsewhere tells)
+    (SameBut-from_Same a (length body) (disk.contents d1) (disk.contents d2) (c.sync.ensures.contents tells)) in
+    let has : Has (disk.contents d2) a body = Has-Same (disk.contents d1) (disk.contents d2) a body (c.sync.ensures.contents tells) (c.in_ok-write.ensures.written tells) in
+    let synced : Only (disk.contents d2) (disk.image d2) = c.in_ok-sync.ensures.synced tells in
+    let second = to_next disk.calls disk.since disk.image disk.contents d0 a body p d1 d2 first
+    (record { counted = c.sync.ensures.calls; time = c.sync.ensures.time tells })
+    (λ x left. body_synced (disk.contents d0) a body p (disk.contents d2) but x (synced.each x left)) in
+    let above : p < a → p + 4096 ≤ a = λ lt. omega arith in
+    let torn : Torn p 4096 (disk.image d2) (disk.image d3) = rw c.requires.one_block at c.write-2.ensures.torn tells in
+    to_next disk.calls disk.since disk.image disk.contents d0 a body p d2 d3 second
+    (record { counted = c.write-2.ensures.calls; time = c.write-2.ensures.time tells })
+    (gate_torn (disk.contents d0) a body p c.requires.apart above (disk.contents d2) (disk.image d2) (disk.image d3) has but synced torn)
+
+pub returns-clause-published : goal.returns-clause-published
+returns-clause-published g c tells =
+    let disk = g.D.Disk in
+    let d0 = c.args.device.now in
+    let d1 = c.write.new.self in
+    let d2 = c.sync.new.self in
+    let d3 = c.write-2.new.self in
+    let d4 = c.sync-2.new.self in
+    let a = 4096 * c.args.first in
+    let body = c.args.body.now in
+    let p = 4096 * c.args.at in
+    let gate = c.args.gate.now in
+    let but : SameBut a (length body) (disk.contents d0) (disk.contents d2) = SameBut-trans a (length body) (disk.contents d0) (disk.contents d1) (disk.contents d2) (c.write.ensures.elsewhere tells)
+    (SameBut-from_Same a (length body) (disk.contents d1) (disk.contents d2) (c.sync.ensures.contents tells)) in
+    let has : Has (disk.contents d2) a body = Has-Same (disk.contents d1) (disk.contents d2) a body (c.sync.ensures.contents tells) (c.in_ok-write.ensures.written tells) in
+    let above : p < a → p + 4096 ≤ a = λ lt. omega arith in
+    let then : SameBut p 4096 (disk.contents d2) (disk.contents d3) = rw c.requires.one_block at c.write-2.ensures.elsewhere tells in
+    on_ok c.sync-2.result _
+    (Published-Same (disk.contents d0) a body p gate (disk.contents d3) (disk.contents d4)
+    (gate_written (disk.contents d0) a body p c.requires.apart above (disk.contents d2) (disk.contents d3) gate has but then (c.in_ok-write-2.ensures.written tells))
+    (c.sync-2.ensures.contents tells))
+
+pub returns-clause-moments : goal.returns-clause-moments
+returns-clause-moments g c tells settled =
+    let disk = g.D.Disk in
+    let d0 = c.args.device.now in
+    let d1 = c.write.new.self in
+    let d2 = c.sync.new.self in
+    let d3 = c.write-2.new.self in
+    let d4 = c.sync-2.new.self in
+    let a = 4096 * c.args.first in
+    let body = c.args.body.now in
+    let p = 4096 * c.args.at in
+    let P : Image → Type 0 = IsBeforeOrHasBody (disk.contents d0) a body p in
+    let first = to_first disk.calls disk.since disk.image disk.contents d0 a body p d1 (g.met.D.Disk.only_now tells d0) settled
+    (record { counted = c.write.ensures.calls; time = c.write.ensures.time tells }) (c.write.ensures.torn tells) in
+    let but : SameBut a (length body) (disk.contents d0) (disk.contents d2) = SameBut-trans a (length body) (disk.contents d0) (disk.contents d1) (disk.contents d2) (c.write.ensures.elsewhere tells)
+    (SameBut-from_Same a (length body) (disk.contents d1) (disk.contents d2) (c.sync.ensures.contents tells)) in
+    let has : Has (disk.contents d2) a body = Has-Same (disk.contents d1) (disk.contents d2) a body (c.sync.ensures.contents tells) (c.in_ok-write.ensures.written tells) in
+    let synced : Only (disk.contents d2) (disk.image d2) = c.in_ok-sync.ensures.synced tells in
+    let second = to_next disk.calls disk.since disk.image disk.contents d0 a body p d1 d2 first
+    (record { counted = c.sync.ensures.calls; time = c.sync.ensures.time tells })
+    (λ x left. body_synced (disk.contents d0) a body p (disk.contents d2) but x (synced.each x left)) in
+    let above : p < a → p + 4096 ≤ a = λ lt. omega arith in
+    let torn : Torn p 4096 (disk.image d2) (disk.image d3) = rw c.requires.one_block at c.write-2.ensures.torn tells in
+    let then : SameBut p 4096 (disk.contents d2) (disk.contents d3) = rw c.requires.one_block at c.write-2.ensures.elsewhere tells in
+    let at_gate = gate_torn (disk.contents d0) a body p c.requires.apart above (disk.contents d2) (disk.image d2) (disk.image d3) has but synced torn in
+    let third = to_next disk.calls disk.since disk.image disk.contents d0 a body p d2 d3 second
+    (record { counted = c.write-2.ensures.calls; time = c.write-2.ensures.time tells }) at_gate in
+    to_next disk.calls disk.since disk.image disk.contents d0 a body p d3 d4 third
+    (record { counted = c.sync-2.ensures.calls; time = c.sync-2.ensures.time tells })
+    (after_sync c.sync-2.result (disk.contents d4) (disk.image d3) (disk.image d4) P (c.sync-2.ensures.synced tells) (c.sync-2.ensures.unsynced tells)
+    (λ x same. gate_synced (disk.contents d0) a body p c.requires.apart above (disk.contents d2) (disk.contents d3) x has but then (Same-trans (disk.contents d3) (disk.contents d4) x (c.sync-2.ensures.contents tells) same))
+    at_gate)

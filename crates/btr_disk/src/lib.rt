@@ -1,0 +1,23 @@
+//! A block device with its crash images, and one in memory.
+//!
+//! The device is the trait [`Disk`]: blocks of 4096 bytes that are read, written and synced.
+//! What a crash may leave of it is part of each contract: between two syncs a block that was
+//! written may hold any bytes, and all else what a read gives.
+#![tactic(auto)]
+
+mod disk;
+mod fuse;
+mod gate;
+mod history;
+pub mod laws;
+mod memory;
+mod publishing;
+
+pub use disk::{BLOCK, Disk, Failed};
+pub use fuse::FuseDisk;
+pub use gate::{GATE_MARK, is_open_gate, open_gate};
+pub use memory::{MemDisk, Room};
+pub use publishing::publish;
+
+#[cfg(test)]
+mod tests;

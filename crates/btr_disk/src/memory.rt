@@ -1,0 +1,229 @@
+// A device in memory, for tests.
+ghost use Rattle.std.specs.Prelude.{◌≡◌, ◌+◌, ◌-◌, min, ◌*◌, ◌/◌, ◌%◌, ◌<◌, ◌≤◌, ◌^◌, ℕ, length, IfOk, slice_index, ◌==◌};
+ghost use Rattle.std.specs.List.{list_any};
+ghost use Rattle.btr_disk.specs.Bytes.{AreBytes, Has, SameBut};
+ghost use Rattle.btr_disk.specs.History.{IsRoomFor, contents_of};
+ghost use Rattle.btr_disk.specs.Images.{Only};
+ghost use Rattle.btr_disk.specs.Causes.{Counted};
+
+use crate::history::{Event, History};
+use crate::{BLOCK, Disk, Failed};
+use std::alloc::{AllocError, Global};
+
+/// How much a [`MemDisk`] can remember: so many calls, and so many blocks that are written.
+#[derive(Clone, Copy)]
+pub struct Room {
+    pub calls: usize,
+    /// At most 2^32.
+    pub blocks: usize,
+}
+
+/// A device in memory, which tells what it holds.
+///
+/// The calls with the numbers of its list fail, the first call being 0. A call past its room fails
+/// too and changes nothing; no other call fails. A write of the list that fails leaves its blocks
+/// unsynced. It remembers its calls and the bytes that writes replaced, so that what a crash at
+/// any moment may leave follows from what it holds.
+///
+/// A read or write costs the bytes that it copies and the length of the list.
+#[derive(Drop)]
+pub struct MemDisk {
+    bytes: Vec<u8>,
+    history: History,
+    failing: Vec<u64>,
+    faults: u64,
+    ghost are_bytes: { (k : ℕ) → slice_index bytes.items k < 256 },
+    ghost whole_blocks: { length bytes.items % 4096 ≡ 0 },
+}
+
+impl MemDisk {
+    /// A device of so many blocks of zeros, at most 2^32, on which nothing was done.
+    ///
+    /// The calls numbered in `failing` will fail. The error is want of memory.
+    pub fn new(
+        alloc: Global,
+        blocks: usize,
+        room: Room,
+        failing: Vec<u64>,
+    ) -> Result<MemDisk, AllocError>
+        requires blocks { blocks ≤ 2 ^ 32 }
+        requires room { room.blocks ≤ 2 ^ 32 }
+        ensures size { IfOk result (λ disk. ⟦<MemDisk as Disk>⟧.size disk ≡ blocks) }
+        ensures zeros { IfOk result (λ disk. (k : ℕ) → ⟦<MemDisk as Disk>⟧.contents disk k ≡ 0) }
+        ensures settled { IfOk result (λ disk. Only (⟦<MemDisk as Disk>⟧.contents disk) (⟦<MemDisk as Disk>⟧.image disk)) }
+        ensures calls { IfOk result (λ disk. ⟦<MemDisk as Disk>⟧.calls disk ≡ 0) }
+        ensures faults { IfOk result (λ disk. ⟦<MemDisk as Disk>⟧.faults disk ≡ 0) }
+        ensures failing { IfOk result (λ disk. disk.failing.items ≡ failing.items) }
+        ensures room { IfOk result (λ disk. IsRoomFor room.calls room.blocks disk.history) }
+    {
+        MemDisk::from_bytes(alloc, vec![in alloc; 0; blocks * BLOCK]?, room, failing)
+    }
+
+    /// A device that holds these bytes, whole blocks, on which nothing was done.
+    ///
+    /// The calls numbered in `failing` will fail. The error is want of memory.
+    pub fn from_bytes(
+        alloc: Global,
+        bytes: Vec<u8>,
+        room: Room,
+        failing: Vec<u64>,
+    ) -> Result<MemDisk, AllocError>
+        requires whole { length bytes.items % 4096 ≡ 0 }
+        requires room { room.blocks ≤ 2 ^ 32 }
+        ensures size { IfOk result (λ disk. 4096 * ⟦<MemDisk as Disk>⟧.size disk ≡ length bytes.items) }
+        ensures contents { IfOk result (λ disk. (k : ℕ) → ⟦<MemDisk as Disk>⟧.contents disk k ≡ slice_index bytes.items k) }
+        ensures settled { IfOk result (λ disk. Only (⟦<MemDisk as Disk>⟧.contents disk) (⟦<MemDisk as Disk>⟧.image disk)) }
+        ensures calls { IfOk result (λ disk. ⟦<MemDisk as Disk>⟧.calls disk ≡ 0) }
+        ensures faults { IfOk result (λ disk. ⟦<MemDisk as Disk>⟧.faults disk ≡ 0) }
+        ensures failing { IfOk result (λ disk. disk.failing.items ≡ failing.items) }
+        ensures room { IfOk result (λ disk. IsRoomFor room.calls room.blocks disk.history) }
+    {
+        Ok(MemDisk {
+            bytes,
+            history: History::new(alloc, room)?,
+            failing,
+            faults: 0,
+        })
+    }
+
+    /// What a read of all blocks gives.
+    pub fn into_bytes(self) -> Vec<u8>
+        ensures length { length result.items ≡ 4096 * ⟦<MemDisk as Disk>⟧.size self }
+        ensures bytes { (k : ℕ) → slice_index result.items k ≡ ⟦<MemDisk as Disk>⟧.contents self k }
+    {
+        let MemDisk { bytes, .. } = self;
+        bytes
+    }
+
+    /// How many calls were made, up to the greatest that a u64 holds.
+    pub fn calls(&self) -> u64
+        ensures { result ≡ min (⟦<MemDisk as Disk>⟧.calls self.now) (2 ^ 64 - 1) }
+    {
+        self.history.calls()
+    }
+
+    /// How many of them failed.
+    pub fn faults(&self) -> u64
+        ensures { result ≡ ⟦<MemDisk as Disk>⟧.faults self.now }
+    {
+        self.faults
+    }
+
+    // Is the next call one of the list?
+    fn fails_now(&self) -> bool
+        ensures { result ≡ list_any (λ call. call == length self.now.history.events.items) self.now.failing.items }
+    {
+        self.failing.contains(&(self.history.recorded() as u64))
+    }
+}
+
+// Counts a fault.
+fn fault(faults: &mut u64) -> Failed
+    ensures { Counted faults.old faults.new }
+{
+    *faults = faults.saturating_add(1);
+    Failed
+}
+
+// Writes the bytes at an address.
+fn overwrite(file: &mut Vec<u8>, at: usize, bytes: &[u8])
+    requires { at + length bytes.now ≤ length file.old.items }
+    ensures length { length file.new.items ≡ length file.old.items }
+    ensures written { Has (contents_of file.new.items) at bytes.now }
+    ensures elsewhere { SameBut at (length bytes.now) (contents_of file.old.items) (contents_of file.new.items) }
+    ensures are_bytes { AreBytes (contents_of file.new.items) }
+{
+    file[at..at + bytes.len()].copy_from_slice(bytes);
+}
+
+impl Disk for MemDisk {
+    ghost use Rattle.std.specs.Prelude.{◌≡◌, ◌*◌, ◌/◌, ◌%◌, length, refl, OnOk};
+    ghost use Rattle.btr_disk.specs.Bytes.{Has, IsRun, SameBut};
+    ghost use Rattle.btr_disk.specs.Images.{Torn, MayTear};
+    ghost use Rattle.btr_disk.specs.Moments.{Elapses};
+    ghost use Rattle.btr_disk.specs.Causes.{Counted, HasCause};
+    ghost use Rattle.btr_disk.specs.History.{HasRoom, contents_of, newest_first, call_count};
+    ghost use Rattle.btr_disk.specs.Memory.{images_of, since_of};
+    ghost use Rattle.btr_disk.specs.HistoryLaws.{counts_now_of, only_now_of, fewer_later_of};
+
+    ghost tells = { Unit {0} };
+
+    ghost size = { λ disk. length disk.bytes.items / 4096 };
+
+    ghost contents = { λ disk. contents_of disk.bytes.items };
+
+    ghost image = { λ disk. images_of disk };
+
+    ghost since = { λ disk. since_of disk };
+
+    ghost calls = { λ disk. call_count disk.history };
+
+    ghost faults = { λ disk. disk.faults };
+
+    ghost image_bytes = { λ _ disk c left. left.bytes };
+
+    ghost reads_as_image = { λ _ disk. record { bytes = disk.are_bytes; synced = λ k no. refl } };
+
+    ghost counts_now = { λ _ disk t c le left. counts_now_of (contents_of disk.bytes.items) (newest_first disk.history) disk.history.replaced.items t c left };
+
+    ghost only_now = { λ _ disk c left. only_now_of (contents_of disk.bytes.items) disk.history c left };
+
+    ghost fewer_later = { λ _ disk s t c earlier le left. fewer_later_of (contents_of disk.bytes.items) (newest_first disk.history) disk.history.replaced.items s t c earlier left };
+
+    fn blocks(&self) -> u64 {
+        (self.bytes.len() / BLOCK) as u64
+    }
+
+    fn read(&mut self, first: u64, buf: &mut [u8]) -> Result<(), Failed> {
+        let at = BLOCK * first as usize;
+        let fails = self.fails_now();
+        if !self.history.note(Event::Nothing, &[]) {
+            return Err(fault(&mut self.faults));
+        }
+        if fails {
+            return Err(fault(&mut self.faults));
+        }
+        buf.copy_from_slice(&self.bytes[at..at + buf.len()]);
+        Ok(())
+    }
+
+    // The clauses of the trait, and one more: where the record has room, a write that fails leaves
+    // its blocks unsynced too.
+    fn write(&mut self, first: u64, bytes: &[u8]) -> Result<(), Failed>
+        requires { IsRun (length self.old.bytes.items / 4096) first (length bytes.now) }
+        ensures size { length self.new.bytes.items / 4096 ≡ length self.old.bytes.items / 4096 }
+        ensures calls { Counted (call_count self.old.history) (call_count self.new.history) }
+        ensures cause { HasCause self.old.faults self.new.faults result }
+        ensures written { OnOk result (Has (contents_of self.new.bytes.items) (4096 * first) bytes.now) }
+        ensures elsewhere { SameBut (4096 * first) (length bytes.now) (contents_of self.old.bytes.items) (contents_of self.new.bytes.items) }
+        ensures torn { Torn (4096 * first) (length bytes.now) (images_of self.old) (images_of self.new) }
+        ensures unsynced { OnOk result (MayTear (4096 * first) (length bytes.now) (images_of self.old) (images_of self.new)) }
+        ensures unsynced_too { HasRoom self.old.history (length bytes.now)
+            → MayTear (4096 * first) (length bytes.now) (images_of self.old) (images_of self.new) }
+        ensures time { Elapses (call_count self.old.history) (since_of self.old) (since_of self.new) (images_of self.new) }
+    {
+        let at = BLOCK * first as usize;
+        let end = at + bytes.len();
+        let fails = self.fails_now();
+        let event = Event::Wrote(at, bytes.len());
+        if !self.history.note(event, &self.bytes[at..end]) {
+            return Err(fault(&mut self.faults));
+        }
+        if fails {
+            return Err(fault(&mut self.faults));
+        }
+        overwrite(&mut self.bytes, at, bytes);
+        Ok(())
+    }
+
+    fn sync(&mut self) -> Result<(), Failed> {
+        if self.fails_now() {
+            self.history.note(Event::Nothing, &[]);
+            return Err(fault(&mut self.faults));
+        }
+        if !self.history.note(Event::Synced, &[]) {
+            return Err(fault(&mut self.faults));
+        }
+        Ok(())
+    }
+}
