@@ -1,0 +1,30 @@
+//! Bytes that come in and bytes that go out: the traits `Source` and `Sink`, and the loops over them.
+//!
+//! What the layers above rest on: `read_all` gives exactly the bytes that a source had left, or says
+//! why it does not, and `write_all` hands all bytes to a sink, or a first part of them and an error.
+//! A call fails only where the count of faults of the source or sink rose.
+//!
+//! Nothing is buffered between calls, no text is decoded, and no call waits for anything but the
+//! source or sink itself. The calls of both traits take no memory.
+#![tactic(auto)]
+
+mod fault;
+mod reading;
+mod sink;
+mod source;
+mod writing;
+// in memory
+mod calls;
+mod mem_sink;
+mod mem_source;
+
+pub use fault::Failed;
+pub use mem_sink::MemSink;
+pub use mem_source::MemSource;
+pub use reading::{ReadAllFault, read_all};
+pub use sink::Sink;
+pub use source::Source;
+pub use writing::write_all;
+
+#[cfg(test)]
+mod tests;

@@ -1,0 +1,97 @@
+// Reading a source to its end, up to a limit.
+ghost use Rattle.std.specs.Prelude.{◌≡◌, ◌+◌, ◌-◌, ◌<◌, ◌≤◌, ◌++◌, ◌↔◌, [], length, false, true, IfOk, OnOk, OnErr, IsErrOf, IsTrue};
+ghost use Rattle.btr_io.specs.declared.reading.ReadAllFault.TheVariants.{Fault, TooLong, Want};
+ghost use Rattle.btr_io.specs.Faults.{Rose};
+ghost use Rattle.btr_io.specs.Bytes.{gave, Gives};
+
+use crate::{Failed, Source};
+use std::alloc::{AllocError, Global};
+use thiserror::Error;
+
+// What one call of a source is asked for at most.
+const PIECE: usize = 1 << 16;
+
+/// Why a source was not read to its end.
+#[derive(Clone, Copy, Debug, PartialEq, Eq, Error)]
+pub enum ReadAllFault {
+    /// The source has failed.
+    #[error("the source has failed")]
+    Fault,
+    /// The source gave more bytes than the limit.
+    #[error("the source has more bytes than the limit")]
+    TooLong,
+    /// There was no memory for the bytes.
+    #[error("out of memory")]
+    Want,
+}
+
+impl From<AllocError> for ReadAllFault {
+    ghost from_gives = { λ _ e. e ≡ Want };
+
+    fn from(_: AllocError) -> Self {
+        ReadAllFault::Want
+    }
+}
+
+impl From<Failed> for ReadAllFault {
+    ghost from_gives = { λ _ e. e ≡ Fault };
+
+    fn from(_: Failed) -> Self {
+        ReadAllFault::Fault
+    }
+}
+
+/// Reads a source to its end, and gives all the bytes that it had left, at most `limit` of them.
+///
+/// `TooLong` where the source gave more than `limit` bytes: then it has given one more, and none
+/// behind that. `Fault` only where the source counted a fault, and `Want` where memory ran out. After
+/// an error the source stands behind the bytes that it gave.
+///
+/// A call of the source asks for at most 64 KiB. The cost is that of these calls and of copying the
+/// bytes: each stands in a piece of 64 KiB, and then in a vector that grows geometrically.
+pub fn read_all<S: Source>(
+    alloc: Global,
+    source: &mut S,
+    limit: u64,
+) -> Result<Vec<u8>, ReadAllFault>
+    ensures bytes { S.tells → IfOk result (λ bytes. bytes.items ≡ S.left source.old) }
+    ensures end { S.tells → OnOk result (S.left source.new ≡ []) }
+    ensures within { IfOk result (λ bytes. length bytes.items ≤ limit) }
+    ensures given { S.tells → Gives (limit + 1) (S.left source.old) (S.left source.new) }
+    ensures too_long { S.tells → (IsErrOf result TooLong ↔ (limit < gave (S.left source.old) (S.left source.new))) }
+    ensures fault { IsErrOf result Fault → Rose (S.faults source.old) (S.faults source.new) }
+    ensures never_falls { S.faults source.old ≤ S.faults source.new }
+{
+    let mut piece = vec![in alloc; 0u8; PIECE]?;
+    let mut bytes = Vec::new(alloc);
+    while read_piece(source, &mut piece, &mut bytes, limit)? {}
+    Ok(bytes)
+}
+
+// Reads one piece behind the bytes that were read so far, and answers whether the source gave any.
+fn read_piece<S: Source>(
+    source: &mut S,
+    piece: &mut [u8],
+    bytes: &mut Vec<u8>,
+    limit: u64,
+) -> Result<bool, ReadAllFault>
+    requires within { length bytes.old.items ≤ limit }
+    requires piece { 0 < length piece.old }
+    ensures kept { S.tells → OnOk result (bytes.new.items ++ S.left source.new ≡ bytes.old.items ++ S.left source.old) }
+    ensures more { IfOk result (λ more. IsTrue more → length bytes.old.items < length bytes.new.items) }
+    ensures end { S.tells → IfOk result (λ more. more ≡ false → S.left source.new ≡ []) }
+    ensures within { OnOk result (length bytes.new.items ≤ limit) }
+    ensures given { S.tells → Gives (limit + 1 - length bytes.old.items) (S.left source.old) (S.left source.new) }
+    ensures too_long { S.tells → (IsErrOf result TooLong ↔ (limit < length bytes.old.items + gave (S.left source.old) (S.left source.new))) }
+    ensures fault { IsErrOf result Fault → Rose (S.faults source.old) (S.faults source.new) }
+    ensures never_falls { S.faults source.old ≤ S.faults source.new }
+{
+    let room = limit - bytes.len() as u64;
+    let asked = piece.len().min(room.saturating_add(1) as usize);
+    let n = source.read(&mut piece[..asked])?;
+    if n as u64 > room {
+        return Err(ReadAllFault::TooLong);
+    }
+    bytes.extend_from_slice(&piece[..n])?;
+    Ok(n > 0)
+}
