@@ -1,0 +1,59 @@
+-- What an append promises: which runs it takes, when each answer comes, and what the log is then.
+use Rattle.std.specs.Prelude.{◌≡◌, ◌⊎◌, ℕ, ◌+◌, ◌-◌, ◌*◌, ◌<◌, false, true, List, [], ◌∷◌, ◌++◌, length, take, IsTrue, IsFalse}
+use Rattle.btr_disk.specs.declared.disk.Disk.{Ghosts}
+use Rattle.btr_disk.specs.Bytes.{Image}
+use Rattle.btr_disk.specs.Causes.{Rose}
+use Rattle.btr_disk.specs.Gate.{zeros}
+use Rattle.btr_log.specs.declared.head.Head.{Head}
+use Rattle.btr_log.specs.declared.log.Log.{Log}
+use Rattle.btr_log.specs.declared.append.AppendFault.{AppendFault}
+use Rattle.btr_log.specs.declared.append.AppendFault.TheVariants.{Full, Fault, Stopped}
+use Rattle.btr_log.specs.Extents.{IsBody, need, IsLog, first_gate}
+use Rattle.btr_log.specs.Log.{device, tail_of, room_of, extents_of, is_stopped}
+
+-- the body that a run brings: all but its last block
+abbrev pub body_of : List ℕ → List ℕ
+body_of run = take (length run - 4096) run
+
+-- a body, and then a block of zeros for the place of the next gate
+pub record IsAppendRun (run : List ℕ) : Type 0 where
+  pub body : (head : Head) × IsBody (body_of run) head
+  pub closed_behind : run ≡ body_of run ++ zeros 4096
+
+-- the image is the log of these bodies, or of these and one more
+abbrev pub IsLogOrMore : List (List ℕ) → List ℕ → Image → Type 0
+IsLogOrMore bodies body image =
+    IsLog image first_gate bodies ⊎ IsLog image first_gate (bodies ++ body ∷ [])
+
+-- An image at a moment of an append: all below the gate at the tail is as it was, and it is the log of these bodies, or of
+-- these and one more.
+pub record IsMoment (old : Image) (tail : ℕ) (bodies : List (List ℕ)) (body : List ℕ) (image : Image) : Type 0 where
+  pub below : (k : ℕ) → k < 4096 * tail → image k ≡ old k
+  pub log : IsLogOrMore bodies body image
+
+module _ {D : Type 0} {disk : Ghosts D} where
+  -- there are fewer blocks behind the tail than the run needs
+  abbrev pub IsTooLong : Log D disk → List ℕ → Type 0
+  IsTooLong log run = room_of log < need (body_of run)
+
+  -- its device has failed and it is stopped; it has no extent more
+  pub record StopsByFault (old new : Log D disk) : Type 0 where
+    pub rose : Rose (disk.faults (device old)) (disk.faults (device new))
+    pub stopped : is_stopped new ≡ true
+    pub tail : tail_of new ≡ tail_of old
+    pub extents : extents_of new ≡ extents_of old
+
+  -- why an append fails, and what the log is then
+  abbrev pub AppendCause : Log D disk → Log D disk → List ℕ → AppendFault → Type 0
+  AppendCause old new run (Full needed room) =
+      IsFalse (is_stopped old) × IsTooLong old run × (needed ≡ need (body_of run)) × (room ≡ room_of old) × (new ≡ old)
+  AppendCause old new run Fault = IsFalse (is_stopped old) × StopsByFault old new
+  AppendCause old new run (Stopped extents) =
+      IsTrue (is_stopped old) × (extents ≡ extents_of old) × (new ≡ old)
+
+  -- the log has one extent more
+  pub record IsAppended (old new : Log D disk) (run : List ℕ) : Type 0 where
+    pub tail : tail_of new ≡ tail_of old + need (body_of run)
+    pub extents : extents_of new ≡ extents_of old + 1
+    pub ran : is_stopped old ≡ false
+    pub runs : is_stopped new ≡ false

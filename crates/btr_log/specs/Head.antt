@@ -1,0 +1,77 @@
+-- The head of an extent's body: its grammar, and its 64 bytes.
+use Rattle.std.specs.Prelude.{◌≡◌, ◌⊎◌, ℕ, ◌+◌, ◌/◌, ◌^◌, ◌<◌, ◌≤◌, List, ◌++◌, take, drop, codes}
+use Rattle.std.specs.Int.{w32, w64, to_be_bytes, from_be_bytes}
+use Rattle.btr_disk.specs.Gate.{zeros}
+use Rattle.btr_log.specs.declared.head.Head.{Head}
+
+-- ASCII `BTR-BODY`
+abbrev pub mark : List ℕ
+mark = codes "BTR-BODY"
+
+-- the blocks that the head and a content of this many bytes fill, the last one filled up
+abbrev pub content_blocks : ℕ → ℕ
+content_blocks length = (64 + length + 4095) / 4096
+
+-- each number of eight bytes fits them
+pub record FitsFields (head : Head) : Type 0 where
+  pub number : head.number < 2 ^ 64
+  pub n : head.n < 2 ^ 64
+  pub length : head.length < 2 ^ 64
+  pub nodes : head.nodes < 2 ^ 64
+  pub root : head.root < 2 ^ 64
+
+-- an entry has a number from 1 on
+abbrev pub IsEntryHead : Head → Type 0
+IsEntryHead head = (head.kind ≡ 1) × (1 ≤ head.number)
+
+-- a checkpoint has no nodes and no root
+abbrev pub IsCheckpointHead : Head → Type 0
+IsCheckpointHead head = (head.kind ≡ 2) × (head.nodes ≡ 0) × (head.root ≡ 0)
+
+-- the grammar of a head, apart from its bytes
+pub record IsHead (head : Head) : Type 0 where
+  pub kind : IsEntryHead head ⊎ IsCheckpointHead head
+  pub format : head.format ≡ 1
+  pub blocks : head.n ≡ content_blocks head.length + head.nodes
+  pub fits : FitsFields head
+
+-- the 64 bytes of a head: the mark, the fields with the highest byte first, and zeros
+unfoldable pub head_bytes : Head → List ℕ
+head_bytes head =
+    mark
+    ++ to_be_bytes w32 head.kind
+    ++ to_be_bytes w32 head.format
+    ++ to_be_bytes w64 head.number
+    ++ to_be_bytes w64 head.n
+    ++ to_be_bytes w64 head.length
+    ++ to_be_bytes w64 head.nodes
+    ++ to_be_bytes w64 head.root
+    ++ zeros 8
+
+-- the bytes spell the head
+pub record Spells (bytes : List ℕ) (head : Head) : Type 0 where
+  pub is_head : IsHead head
+  pub spelling : bytes ≡ head_bytes head
+
+-- the bytes spell no head
+abbrev pub IsNoHead : List ℕ → Type 0
+IsNoHead bytes = (head : Head) → Spells bytes head → ⊥
+
+-- the number of four, or of eight, bytes at this offset
+abbrev pub number_4_at : ℕ → List ℕ → ℕ
+number_4_at offset bytes = from_be_bytes w32 (take 4 (drop offset bytes))
+
+abbrev pub number_at : ℕ → List ℕ → ℕ
+number_at offset bytes = from_be_bytes w64 (take 8 (drop offset bytes))
+
+-- the fields where they stand
+unfoldable pub head_at : List ℕ → Head
+head_at bytes = record {
+  kind = number_4_at 8 bytes;
+  format = number_4_at 12 bytes;
+  number = number_at 16 bytes;
+  n = number_at 24 bytes;
+  length = number_at 32 bytes;
+  nodes = number_at 40 bytes;
+  root = number_at 48 bytes;
+}

@@ -1,0 +1,36 @@
+-- Lemmas on the bytes of a head: they give the head back, so no other head has them.
+use Rattle.std.specs.Prelude.{◌≡◌, ℕ, ◌^◌, ◌<◌, List, length}
+use Rattle.std.proofs.Common.{refl, sym, ap, ◌∙◌, arith, ⊎_elim}
+use Rattle.std.proofs.lemmas.Nat.{from_be_bytes-to_be_bytes_4, from_be_bytes-to_be_bytes_8}
+use Rattle.btr_disk.specs.Gate.{zeros}
+use Rattle.btr_log.specs.declared.head.Head.{Head}
+use Rattle.btr_log.specs.Head.{head_bytes, head_at, IsHead, Spells}
+
+pub length-head_bytes : (head : Head) → length (head_bytes head) ≡ 64
+unfolding head_bytes zeros
+length-head_bytes head = refl
+
+-- the fields read where they were written
+pub head_at-head_bytes : (head : Head) → IsHead head → head_at (head_bytes head) ≡ head
+unfolding head_bytes head_at
+head_at-head_bytes head is =
+    let kind : head.kind < 2 ^ 32 = ⊎_elim (λ e. omega (arith, e.0)) (λ c. omega (arith, c.0)) is.kind in
+    let format : head.format < 2 ^ 32 = omega (arith, is.format) in
+    let fits = is.fits in
+    let e1 = from_be_bytes-to_be_bytes_4 head.kind kind in
+    let e2 = from_be_bytes-to_be_bytes_4 head.format format in
+    let e3 = from_be_bytes-to_be_bytes_8 head.number fits.number in
+    let e4 = from_be_bytes-to_be_bytes_8 head.n fits.n in
+    let e5 = from_be_bytes-to_be_bytes_8 head.length fits.length in
+    let e6 = from_be_bytes-to_be_bytes_8 head.nodes fits.nodes in
+    let e7 = from_be_bytes-to_be_bytes_8 head.root fits.root in
+    λ i. record { kind = e1 i; format = e2 i; number = e3 i; n = e4 i; length = e5 i; nodes = e6 i; root = e7 i }
+
+-- a head's spelling is no other head's
+pub head_bytes-one : (first second : Head) → IsHead first → IsHead second → head_bytes first ≡ head_bytes second → first ≡ second
+head_bytes-one first second is is_too same =
+    sym (head_at-head_bytes first is) ∙ ap head_at same ∙ head_at-head_bytes second is_too
+
+pub Spells-one : (bytes : List ℕ) (first second : Head) → Spells bytes first → Spells bytes second → first ≡ second
+Spells-one bytes first second one other =
+    head_bytes-one first second one.is_head other.is_head (sym one.spelling ∙ other.spelling)

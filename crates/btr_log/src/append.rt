@@ -1,0 +1,68 @@
+// The append: one body more at the end of the log, durable before its gate is open.
+ghost use Rattle.std.specs.Prelude.{◌≡◌, ◌+◌, ◌*◌, ◌++◌, ◌∷◌, [], List, ℕ, IsTrue, IsFalse, IfErr, OnOk};
+ghost use Rattle.btr_disk.specs.Gate.{gate_block};
+ghost use Rattle.btr_disk.specs.Publish.{Published};
+ghost use Rattle.btr_log.specs.Extents.{need};
+ghost use Rattle.btr_log.specs.Log.{device, tail_of, room_of, extents_of, is_stopped, IsAtRest, LogLeaves, KeepsBounds};
+ghost use Rattle.btr_log.specs.Append.{body_of, IsAppendRun, IsTooLong, IsMoment, AppendCause, IsAppended};
+
+use crate::Log;
+use btr_disk::{BLOCK, Disk, open_gate, publish};
+
+/// Why a body was not appended.
+#[derive(Clone, Copy, Debug, PartialEq, Eq)]
+pub enum AppendFault {
+    /// There is less room than the body needs, both in blocks. The log is as before.
+    Full { need: u64, left: u64 },
+    /// The device failed. The log is stopped; a crash leaves it with the body or without it.
+    Fault,
+    /// The log was stopped, with so many extents acknowledged. It is as before.
+    Stopped { extents: u64 },
+}
+
+impl<D: Disk> Log<D> {
+    /// Appends a body. After `Ok` it is durable, and no crash takes it away.
+    ///
+    /// The run is the body, which begins with its head, and then one block of zeros, which is the
+    /// caller's condition. `Full` comes exactly where the log is not stopped and the body's blocks and
+    /// one more are more than the room, and `Stopped` exactly where the log is stopped; neither makes
+    /// a call of the device. A crash at any moment leaves the log as it was or with this body.
+    ///
+    /// Four calls of the device, a write and a sync for the run and then for the gate. No memory is taken.
+    pub fn append(&mut self, run: &[u8]) -> Result<(), AppendFault>
+        requires { IsAppendRun run.now }
+        ensures stopped { IsTrue (is_stopped self.old)
+            → result ≡ Err (AppendFault.Stopped (extents_of self.old)) }
+        ensures full { IsFalse (is_stopped self.old) → IsTooLong self.old run.now
+            → result ≡ Err (AppendFault.Full (need (body_of run.now)) (room_of self.old)) }
+        ensures cause { IfErr result (AppendCause self.old self.new run.now) }
+        ensures kept { KeepsBounds self.old self.new }
+        ensures appended { OnOk result (IsAppended self.old self.new run.now) }
+        ensures written { D.tells
+            → OnOk result (Published (D.contents (device self.old)) (4096 * (tail_of self.old + 1)) run.now (4096 * tail_of self.old) gate_block (D.contents (device self.new))) }
+        // where the log was at rest with some bodies
+        ensures at_rest { D.tells → (bodies : List (List ℕ)) → IsAtRest self.old bodies
+            → OnOk result (IsAtRest self.new (bodies ++ body_of run.now ∷ [])) }
+        ensures moments { D.tells → (bodies : List (List ℕ)) → IsAtRest self.old bodies
+            → LogLeaves self.old self.new (IsMoment (D.contents (device self.old)) (tail_of self.old) bodies (body_of run.now)) }
+    {
+        if self.stopped {
+            return Err(AppendFault::Stopped {
+                extents: self.extents,
+            });
+        }
+        let need = (run.len() / BLOCK) as u64;
+        let left = self.room();
+        if need > left {
+            return Err(AppendFault::Full { need, left });
+        }
+        let written = publish(&mut self.disk, self.tail + 1, run, self.tail, &open_gate());
+        if written.is_err() {
+            self.stopped = true;
+            return Err(AppendFault::Fault);
+        }
+        self.tail += need;
+        self.extents += 1;
+        Ok(())
+    }
+}

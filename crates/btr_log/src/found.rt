@@ -1,0 +1,52 @@
+// What is found at a gate of the log, and why nothing is.
+use crate::Head;
+use btr_disk::Failed;
+use std::alloc::AllocError;
+
+/// What stands at a gate.
+#[derive(Debug, Drop)]
+pub enum Found {
+    /// The gate is closed: nothing behind it counts.
+    Closed,
+    /// The gate is open: its extent, with the gate behind it, a block's number.
+    Extent {
+        head: Head,
+        body: Vec<u8>,
+        next: u64,
+    },
+}
+
+/// Why no extent was read.
+#[derive(Clone, Copy, Debug, PartialEq, Eq)]
+pub enum ExtentFault {
+    /// The gate is open, but this block is not as it should be: the gate's own where it is the last
+    /// one, else the one behind it, which begins with no head, or with one whose extent leaves no
+    /// room for the next gate.
+    Damaged { block: u64 },
+    /// The device failed.
+    Fault,
+    /// There was no memory.
+    Want,
+}
+
+impl From<Failed> for ExtentFault {
+    ghost use Rattle.std.specs.Prelude.{◌≡◌};
+    ghost use Rattle.btr_log.specs.declared.found.ExtentFault.TheVariants.{Fault};
+
+    ghost from_gives = { λ _ e. e ≡ Fault };
+
+    fn from(_failed: Failed) -> ExtentFault {
+        ExtentFault::Fault
+    }
+}
+
+impl From<AllocError> for ExtentFault {
+    ghost use Rattle.std.specs.Prelude.{◌≡◌};
+    ghost use Rattle.btr_log.specs.declared.found.ExtentFault.TheVariants.{Want};
+
+    ghost from_gives = { λ _ e. e ≡ Want };
+
+    fn from(_error: AllocError) -> ExtentFault {
+        ExtentFault::Want
+    }
+}

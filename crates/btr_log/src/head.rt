@@ -1,0 +1,135 @@
+// The first 64 bytes of an extent's body: what the body is, and how many blocks it has.
+ghost use Rattle.std.specs.Prelude.{◌≡◌, ◌+◌, ◌≤◌, ◌↔◌, ◌++◌, length, take, IfSome, IsNone, IsTrue};
+ghost use Rattle.btr_log.specs.Head.{number_at, number_4_at, head_at, head_bytes, content_blocks, IsHead, IsNoHead, Spells};
+
+/// Bytes in a head.
+pub const HEAD_BYTES: usize = 64;
+
+/// The first eight bytes of a head: ASCII `BTR-BODY`.
+pub const HEAD_MARK: [u8; 8] = *b"BTR-BODY";
+
+/// What stands at the beginning of an extent's body.
+///
+/// As 64 bytes: the mark, then the fields in their order, with their own widths and the highest
+/// byte first, and then 8 zero bytes. The grammar of a head is that its format is 1, its kind
+/// is 1 or 2, and `n` is the blocks of head and content, the last one filled up, and the node blocks.
+#[derive(Clone, Copy, Debug, PartialEq, Eq)]
+pub struct Head {
+    /// 1 for an entry, whose number is at least 1, and 2 for a checkpoint, without nodes and root.
+    pub kind: u32,
+    /// The format of the body, 1.
+    pub format: u32,
+    /// Of an entry its number, from 1 on; of a checkpoint how many entries stand before it.
+    pub number: u64,
+    /// Blocks of the body.
+    pub n: u64,
+    /// Bytes of the content, which stands behind the head.
+    pub length: u64,
+    /// Node blocks, the last ones of the body.
+    pub nodes: u64,
+    /// The block of the root node, or 0.
+    pub root: u64,
+}
+
+impl Head {
+    /// Writes the head's 64 bytes, its one spelling. The head keeps the grammar, which is the caller's condition.
+    pub fn encode(&self, to: &mut [u8; HEAD_BYTES])
+        requires { IsHead self.now }
+        ensures { to.new ≡ head_bytes self.now }
+    {
+        put(to, 0, &HEAD_MARK);
+        put(to, 8, &self.kind.to_be_bytes());
+        put(to, 12, &self.format.to_be_bytes());
+        put(to, 16, &self.number.to_be_bytes());
+        put(to, 24, &self.n.to_be_bytes());
+        put(to, 32, &self.length.to_be_bytes());
+        put(to, 40, &self.nodes.to_be_bytes());
+        put(to, 48, &self.root.to_be_bytes());
+        put(to, 56, &[0; 8]);
+    }
+
+    /// The head that these bytes spell, or `None` exactly where they spell none.
+    pub fn decode(bytes: &[u8; HEAD_BYTES]) -> Option<Head>
+        ensures found { IfSome result (Spells bytes.now) }
+        ensures none { IsNone result → IsNoHead bytes.now }
+    {
+        let head = read_fields(bytes);
+        if !keeps_grammar(head) {
+            return None;
+        }
+        let mut spelling = [0; HEAD_BYTES];
+        head.encode(&mut spelling);
+        if is_same(&spelling, bytes) {
+            Some(head)
+        } else {
+            None
+        }
+    }
+}
+
+// Whether the fields are those of a head.
+fn keeps_grammar(head: Head) -> bool
+    ensures { IsTrue result ↔ IsHead head }
+{
+    let is_kind = (head.kind == 1 && head.number >= 1)
+        || (head.kind == 2 && head.nodes == 0 && head.root == 0);
+    let content = blocks_of_content(head.length);
+    head.format == 1 && is_kind && head.n >= content && head.n - content == head.nodes
+}
+
+// The blocks that the head and a content of this many bytes fill.
+fn blocks_of_content(length: u64) -> u64
+    ensures { result ≡ content_blocks length }
+{
+    length / 4096 + (length % 4096 + 63) / 4096 + 1
+}
+
+// The fields where they stand, whatever stands there.
+fn read_fields(bytes: &[u8]) -> Head
+    requires { length bytes.now ≡ 64 }
+    ensures { result ≡ head_at bytes.now }
+{
+    Head {
+        kind: read_4(bytes, 8),
+        format: read_4(bytes, 12),
+        number: read_8(bytes, 16),
+        n: read_8(bytes, 24),
+        length: read_8(bytes, 32),
+        nodes: read_8(bytes, 40),
+        root: read_8(bytes, 48),
+    }
+}
+
+// The number of four bytes at this offset.
+fn read_4(bytes: &[u8], at: usize) -> u32
+    requires { at + 4 ≤ length bytes.now }
+    ensures { result ≡ number_4_at at bytes.now }
+{
+    let mut word = [0; 4];
+    word.copy_from_slice(&bytes[at..at + 4]);
+    u32::from_be_bytes(word)
+}
+
+// The number of eight bytes at this offset.
+fn read_8(bytes: &[u8], at: usize) -> u64
+    requires { at + 8 ≤ length bytes.now }
+    ensures { result ≡ number_at at bytes.now }
+{
+    let mut word = [0; 8];
+    word.copy_from_slice(&bytes[at..at + 8]);
+    u64::from_be_bytes(word)
+}
+
+// Writes the piece at this offset.
+pub(crate) fn put(to: &mut [u8], at: usize, piece: &[u8])
+    requires { at + length piece.now ≤ length to.old }
+    ensures { take (at + length piece.now) to.new ≡ take at to.old ++ piece.now }
+{
+    to[at..at + piece.len()].copy_from_slice(piece);
+}
+
+fn is_same(first: &[u8], second: &[u8]) -> bool
+    ensures { IsTrue result ↔ (first.now ≡ second.now) }
+{
+    first == second
+}

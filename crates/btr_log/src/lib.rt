@@ -1,0 +1,20 @@
+//! A log of extents on a block device: each a gate, a body, and then the next gate.
+//!
+//! An append makes the body durable first and opens the gate that stands before it then, so that
+//! a crash at any moment leaves the log as it was or with the whole body behind it.
+#![tactic(auto)]
+
+mod append;
+mod found;
+mod head;
+pub mod laws;
+mod log;
+mod read;
+
+pub use append::AppendFault;
+pub use found::{ExtentFault, Found};
+pub use head::{HEAD_BYTES, HEAD_MARK, Head};
+pub use log::Log;
+
+#[cfg(test)]
+mod tests;

@@ -1,0 +1,192 @@
+// Reading an extent: the gate and the first block of the body in one call, the rest in another.
+ghost use Rattle.std.specs.Prelude.{◌≡◌, ◌+◌, ◌*◌, ◌<◌, ◌≤◌, ◌^◌, length, take, IfErr, IfOk, IfSome, IsNone, OnOk};
+ghost use Rattle.btr_disk.specs.Bytes.{Has, IsRun};
+ghost use Rattle.btr_log.specs.Head.{Spells, IsNoHead};
+ghost use Rattle.btr_disk.specs.Moments.{WroteNothing};
+ghost use Rattle.btr_log.specs.Counts.{KeepsCounts};
+ghost use Rattle.btr_log.specs.Log.{device, blocks_of, KeepsLog, KeepsDevice, LogWroteNothing};
+ghost use Rattle.btr_log.specs.Found.{IsWhole, Stands, FindCause, ReadCause, ExtentCause};
+
+use crate::{ExtentFault, Found, HEAD_BYTES, Head, Log};
+use btr_disk::{BLOCK, Disk, is_open_gate};
+use std::alloc::{AllocError, Global};
+
+impl<D: Disk> Log<D> {
+    /// What stands at this gate, which is below the log's blocks: that is the caller's condition.
+    ///
+    /// `Closed` comes exactly where the gate is closed, and `Damaged` only where it is open and the
+    /// block that is named is not as it should be. Nothing is written, and the log stays as it is.
+    ///
+    /// One call of the device where the body is one block or nothing is found, else two.
+    pub fn read_extent(&mut self, alloc: Global, gate: u64) -> Result<Found, ExtentFault>
+        requires { gate < blocks_of self.old }
+        ensures kept { KeepsLog self.old self.new }
+        ensures device { KeepsDevice self.old self.new }
+        ensures unwritten { D.tells → LogWroteNothing self.old self.new }
+        ensures whole { IfOk result (IsWhole (blocks_of self.old) gate) }
+        ensures stands { D.tells → IfOk result (Stands (D.contents (device self.old)) gate) }
+        ensures cause { IfErr result (ExtentCause self.old self.new gate) }
+    {
+        find_extent(alloc, &mut self.disk, self.blocks, gate)
+    }
+}
+
+// What stands at the gate, in a log of so many blocks.
+fn find_extent<D: Disk>(
+    alloc: Global,
+    disk: &mut D,
+    blocks: u64,
+    gate: u64,
+) -> Result<Found, ExtentFault>
+    requires gate { gate < blocks }
+    requires blocks { blocks ≤ D.size disk.old }
+    requires addressable { blocks ≤ 2 ^ 32 }
+    ensures counts { KeepsCounts D.size D.calls D.faults disk.old disk.new }
+    ensures unwritten { D.tells → WroteNothing D.calls D.contents D.image D.since disk.old disk.new }
+    ensures whole { IfOk result (IsWhole blocks gate) }
+    ensures stands { D.tells → IfOk result (Stands (D.contents disk.old) gate) }
+    ensures cause { IfErr result (FindCause D.tells (D.contents disk.old) blocks gate (D.faults disk.old) (D.faults disk.new)) }
+{
+    if gate + 1 == blocks {
+        return find_at_end(alloc, disk, gate);
+    }
+    let front = read_blocks(alloc, disk, gate, 2)?;
+    if !is_open_gate(&front) {
+        return Ok(Found::Closed);
+    }
+    let first = &front[BLOCK..];
+    let Some(head) = head_of(first) else {
+        return Err(ExtentFault::Damaged { block: gate + 1 });
+    };
+    if head.n >= blocks - 1 - gate {
+        return Err(ExtentFault::Damaged { block: gate + 1 });
+    }
+    let body = read_body(alloc, disk, gate + 1, first, head.n)?;
+    Ok(Found::Extent {
+        head,
+        body,
+        next: gate + head.n + 1,
+    })
+}
+
+// What stands at a gate that is the last block.
+fn find_at_end<D: Disk>(alloc: Global, disk: &mut D, gate: u64) -> Result<Found, ExtentFault>
+    requires gate { gate < D.size disk.old }
+    requires addressable { gate < 2 ^ 32 }
+    ensures counts { KeepsCounts D.size D.calls D.faults disk.old disk.new }
+    ensures unwritten { D.tells → WroteNothing D.calls D.contents D.image D.since disk.old disk.new }
+    ensures whole { IfOk result (IsWhole (gate + 1) gate) }
+    ensures stands { D.tells → IfOk result (Stands (D.contents disk.old) gate) }
+    ensures cause { IfErr result (FindCause D.tells (D.contents disk.old) (gate + 1) gate (D.faults disk.old) (D.faults disk.new)) }
+{
+    let block = read_blocks(alloc, disk, gate, 1)?;
+    if is_open_gate(&block) {
+        Err(ExtentFault::Damaged { block: gate })
+    } else {
+        Ok(Found::Closed)
+    }
+}
+
+// The head at the beginning of a body, or none.
+fn head_of(body: &[u8]) -> Option<Head>
+    requires { 64 ≤ length body.now }
+    ensures found { IfSome result (Spells (take 64 body.now)) }
+    ensures none { IsNone result → IsNoHead (take 64 body.now) }
+{
+    let mut bytes = [0; HEAD_BYTES];
+    bytes.copy_from_slice(&body[..HEAD_BYTES]);
+    Head::decode(&bytes)
+}
+
+// Reads so many blocks from this one on, in one call.
+fn read_blocks<D: Disk>(
+    alloc: Global,
+    disk: &mut D,
+    first: u64,
+    count: u64,
+) -> Result<Vec<u8>, ExtentFault>
+    requires run { IsRun (D.size disk.old) first (4096 * count) }
+    requires addressable { count ≤ 2 ^ 32 }
+    ensures counts { KeepsCounts D.size D.calls D.faults disk.old disk.new }
+    ensures unwritten { D.tells → WroteNothing D.calls D.contents D.image D.since disk.old disk.new }
+    ensures length { IfOk result (λ bytes. length bytes.items ≡ 4096 * count) }
+    ensures stands { D.tells → IfOk result (λ bytes. Has (D.contents disk.old) (4096 * first) bytes.items) }
+    ensures cause { IfErr result (ReadCause (D.faults disk.old) (D.faults disk.new)) }
+{
+    let mut bytes = zeroed(alloc, count)?;
+    disk.read(first, &mut bytes)?;
+    Ok(bytes)
+}
+
+// Zeros, so many blocks.
+pub(crate) fn zeroed(alloc: Global, count: u64) -> Result<Vec<u8>, AllocError>
+    requires { count ≤ 2 ^ 32 }
+    ensures { IfOk result (λ bytes. length bytes.items ≡ 4096 * count) }
+{
+    vec![in alloc; 0; BLOCK * count as usize]
+}
+
+// The body of n blocks from this one on, the first of which is read already; the others in one call.
+fn read_body<D: Disk>(
+    alloc: Global,
+    disk: &mut D,
+    first: u64,
+    front: &[u8],
+    n: u64,
+) -> Result<Vec<u8>, ExtentFault>
+    requires front { length front.now ≡ 4096 }
+    requires some { 1 ≤ n }
+    requires inside { first + n ≤ D.size disk.old }
+    requires addressable { first + n ≤ 2 ^ 32 }
+    ensures counts { KeepsCounts D.size D.calls D.faults disk.old disk.new }
+    ensures unwritten { D.tells → WroteNothing D.calls D.contents D.image D.since disk.old disk.new }
+    ensures length { IfOk result (λ body. length body.items ≡ 4096 * n) }
+    ensures front { IfOk result (λ body. take 4096 body.items ≡ front.now) }
+    ensures stands { D.tells → Has (D.contents disk.old) (4096 * first) front.now
+        → IfOk result (λ body. Has (D.contents disk.old) (4096 * first) body.items) }
+    ensures cause { IfErr result (ReadCause (D.faults disk.old) (D.faults disk.new)) }
+{
+    let mut body = begun(alloc, front, n)?;
+    read_behind(disk, first, &mut body)?;
+    Ok(body)
+}
+
+// Room for a body of n blocks, with the first of them.
+fn begun(alloc: Global, front: &[u8], n: u64) -> Result<Vec<u8>, AllocError>
+    requires front { length front.now ≡ 4096 }
+    requires some { 1 ≤ n }
+    requires addressable { n ≤ 2 ^ 32 }
+    ensures length { IfOk result (λ body. length body.items ≡ 4096 * n) }
+    ensures front { IfOk result (λ body. take 4096 body.items ≡ front.now) }
+{
+    let mut body = zeroed(alloc, n)?;
+    copy_to_front(&mut body, front);
+    Ok(body)
+}
+
+// Writes these bytes at the beginning.
+pub(crate) fn copy_to_front(body: &mut [u8], front: &[u8])
+    requires { length front.now ≤ length body.old }
+    ensures { take (length front.now) body.new ≡ front.now }
+{
+    body[..front.len()].copy_from_slice(front);
+}
+
+// Reads the blocks behind the first one of a body, if there are any.
+fn read_behind<D: Disk>(disk: &mut D, first: u64, body: &mut [u8]) -> Result<(), ExtentFault>
+    requires some { 4096 ≤ length body.old }
+    requires run { IsRun (D.size disk.old) first (length body.old) }
+    requires addressable { first < 2 ^ 32 }
+    ensures counts { KeepsCounts D.size D.calls D.faults disk.old disk.new }
+    ensures unwritten { D.tells → WroteNothing D.calls D.contents D.image D.since disk.old disk.new }
+    ensures front { take 4096 body.new ≡ take 4096 body.old }
+    ensures stands { D.tells → Has (D.contents disk.old) (4096 * first) (take 4096 body.old)
+        → OnOk result (Has (D.contents disk.old) (4096 * first) body.new) }
+    ensures cause { IfErr result (ReadCause (D.faults disk.old) (D.faults disk.new)) }
+{
+    if body.len() == BLOCK {
+        return Ok(());
+    }
+    disk.read(first + 1, &mut body[BLOCK..])?;
+    Ok(())
+}
