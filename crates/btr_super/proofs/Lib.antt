@@ -1,0 +1,5 @@
+mod Unwritten
+mod Fields
+mod Front
+mod Answered
+mod Writing

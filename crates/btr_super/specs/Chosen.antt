@@ -1,0 +1,35 @@
+-- What the parts of choosing answer, by cases on the answer.
+use Rattle.std.specs.Prelude.{◌≡◌, ℕ, ◌+◌, ◌*◌, ◌<◌, ◌≤◌, ◌⊎◌, List, length, Option, Some, None, Result, Ok, Err}
+use Rattle.btr_disk.specs.Bytes.{Image, Has}
+use Rattle.btr_super.specs.declared.superblock.Super.{Super}
+use Rattle.btr_super.specs.declared.choosing.ChooseFault.{ChooseFault}
+use Rattle.btr_super.specs.declared.choosing.ChooseFault.TheVariants.{NotAStore, Damaged, Fault}
+use Rattle.btr_super.specs.Choose.{IsOpenAt, HasSuper, IsChosen, HasNoSuper, IsBroken, IsDamagedSuper}
+
+-- these bytes are one block of the front, and stand where it stands
+pub record IsBlockOf (front : List ℕ) (block : ℕ) (bytes : List ℕ) : Type 0 where
+  pub inside : 4096 * block + 4096 ≤ length front
+  pub whole : length bytes ≡ 4096
+  pub stands : (image : Image) → Has image 0 front → Has image (4096 * block) bytes
+
+-- the superblock of one side, if its gate is open
+abbrev pub TellsSide : ℕ → Image → ℕ → Result (Option Super) ChooseFault → Type 0
+TellsSide size image side (Ok None) = IsOpenAt size image (2 * side) → ⊥
+TellsSide size image side (Ok (Some s)) = (s.side ≡ side) × HasSuper size image s
+TellsSide size image side (Err NotAStore) = ⊥
+TellsSide size image side (Err (Damaged block)) = (block ≡ 2 * side + 1) × IsBroken size image side
+TellsSide size image side (Err Fault) = ⊥
+
+-- of two superblocks the one with the greater number, or block 3 where both have the same
+abbrev pub IsLater : Super → Super → Result Super ChooseFault → Type 0
+IsLater first second (Ok s) = ((s ≡ first) × (second.seq < first.seq)) ⊎ ((s ≡ second) × (first.seq < second.seq))
+IsLater first second (Err NotAStore) = ⊥
+IsLater first second (Err (Damaged block)) = (block ≡ 3) × (first.seq ≡ second.seq)
+IsLater first second (Err Fault) = ⊥
+
+-- the answer that fits the device
+abbrev pub Tells : ℕ → Image → Result Super ChooseFault → Type 0
+Tells size image (Ok s) = IsChosen size image s
+Tells size image (Err NotAStore) = HasNoSuper size image
+Tells size image (Err (Damaged block)) = IsDamagedSuper size image block
+Tells size image (Err Fault) = ⊥

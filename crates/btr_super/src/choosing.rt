@@ -1,0 +1,169 @@
+// Which superblock of a device counts.
+ghost use Rattle.std.specs.Prelude.{IfOk, ◌≡◌, ◌≢◌, ◌↔◌, ℕ, ◌+◌, ◌*◌, ◌<◌, ◌≤◌, length, min, IsTrue, IsNone, IfSome, MatchOption, OnOk};
+ghost use Rattle.btr_disk.specs.Bytes.{Image, Has};
+ghost use Rattle.btr_disk.specs.Moments.{WroteNothing};
+ghost use Rattle.btr_disk.specs.Causes.{HasCause};
+ghost use Rattle.btr_super.specs.declared.superblock.Super.{Super};
+ghost use Rattle.btr_super.specs.declared.choosing.ChooseFault.TheVariants.{Fault};
+ghost use Rattle.btr_super.specs.Super.{IsSuper};
+ghost use Rattle.btr_super.specs.Choose.{IsOpenAt, Spells, IsChosen, HasNoSuper, IsDamagedSuper};
+ghost use Rattle.btr_super.specs.Chosen.{IsBlockOf, TellsSide, IsLater, Tells};
+ghost use Rattle.btr_super.specs.Unwritten.{CausesFault};
+
+use crate::codec::{decode, keeps_table};
+use crate::superblock::Super;
+use btr_disk::{BLOCK, Disk, Failed, is_open_gate};
+
+/// Why no superblock was chosen.
+#[derive(Clone, Copy, Debug, PartialEq, Eq)]
+pub enum ChooseFault {
+    /// Neither superblock has an open gate: no store stands on the device.
+    NotAStore,
+    /// The body of an open superblock breaks the table, or both have the same number.
+    Damaged {
+        /// The body's block: 1 or 3.
+        block: u64,
+    },
+    /// The device failed.
+    Fault,
+}
+
+impl From<Failed> for ChooseFault {
+    ghost from_gives = { λ _ e. e ≡ Fault };
+
+    fn from(_: Failed) -> Self {
+        ChooseFault::Fault
+    }
+}
+
+/// Bytes of the two superblocks, gates and bodies.
+const FRONT: usize = 4 * BLOCK;
+
+/// One block of the front, where the device has it.
+fn block_of(front: &[u8], block: usize) -> Option<&[u8]>
+    requires { block ≤ 3 }
+    ensures there { IfSome result (λ bytes. IsBlockOf front.now block bytes.now) }
+    ensures missing { IsNone result → length front.now < 4096 * block + 4096 }
+{
+    let start = BLOCK * block;
+    if start + BLOCK <= front.len() {
+        Some(&front[start..start + BLOCK])
+    } else {
+        None
+    }
+}
+
+/// Whether this block is there and is an open gate.
+fn has_open_gate(front: &[u8], block: usize, size: u64) -> bool
+    requires block { block ≤ 3 }
+    requires front { length front.now ≡ 4096 * min 4 size }
+    ensures { (image : Image) → Has image 0 front.now → IsTrue result ↔ IsOpenAt size image block }
+{
+    match block_of(front, block) {
+        Some(bytes) => is_open_gate(bytes),
+        None => false,
+    }
+}
+
+/// The superblock of this side that this block spells, where it is there.
+fn spelled(front: &[u8], block: usize, side: u8, size: u64) -> Option<Super>
+    requires block { block ≤ 3 }
+    requires side { side ≤ 1 }
+    requires front { length front.now ≡ 4096 * min 4 size }
+    ensures { (image : Image) → Has image 0 front.now
+        → MatchOption result ((s : Super) → s.side ≡ side → Spells size image block s → ⊥) (λ s. (s.side ≡ side) × Spells size image block s) }
+{
+    let found = decode(block_of(front, block)?, side)?;
+    if keeps_table(&found, size) {
+        Some(found)
+    } else {
+        None
+    }
+}
+
+/// The superblock of this side, where its gate is open.
+fn open_super(front: &[u8], side: u8, size: u64) -> Result<Option<Super>, ChooseFault>
+    requires side { side ≤ 1 }
+    requires front { length front.now ≡ 4096 * min 4 size }
+    ensures { (image : Image) → Has image 0 front.now → TellsSide size image side result }
+{
+    let gate = 2 * side as usize;
+    if !has_open_gate(front, gate, size) {
+        return Ok(None);
+    }
+    match spelled(front, gate + 1, side, size) {
+        Some(found) => Ok(Some(found)),
+        None => Err(ChooseFault::Damaged {
+            block: 2 * side as u64 + 1,
+        }),
+    }
+}
+
+/// Of both superblocks the one with the greater number.
+fn later(first: Super, second: Super) -> Result<Super, ChooseFault>
+    ensures { IsLater first second result }
+{
+    if first.seq > second.seq {
+        Ok(first)
+    } else if first.seq < second.seq {
+        Ok(second)
+    } else {
+        Err(ChooseFault::Damaged { block: 3 })
+    }
+}
+
+/// What a device of `size` blocks has, by its first blocks.
+fn choose_in(front: &[u8], size: u64) -> Result<Super, ChooseFault>
+    requires { length front.now ≡ 4096 * min 4 size }
+    ensures { (image : Image) → Has image 0 front.now → Tells size image result }
+{
+    let first = open_super(front, 0, size)?;
+    let second = open_super(front, 1, size)?;
+    match (first, second) {
+        (None, None) => Err(ChooseFault::NotAStore),
+        (Some(only), None) | (None, Some(only)) => Ok(only),
+        (Some(first), Some(second)) => later(first, second),
+    }
+}
+
+/// Reads the front, which has a block for each of the first four that the device has.
+fn read_front<D: Disk>(device: &mut D, front: &mut [u8]) -> Result<(), Failed>
+    requires { length front.old ≡ 4096 * min 4 (D.size device.old) }
+    ensures size { D.size device.new ≡ D.size device.old }
+    ensures cause { HasCause (D.faults device.old) (D.faults device.new) result }
+    ensures bytes { D.tells → OnOk result (Has (D.contents device.old) 0 front.new) }
+    ensures nothing { D.tells → WroteNothing D.calls D.contents D.image D.since device.old device.new }
+{
+    if front.is_empty() {
+        return Ok(());
+    }
+    device.read(0, front)
+}
+
+/// The superblock that counts: of those with an open gate the one with the greater number.
+///
+/// The superblock of an open gate whose body breaks the table is not passed over: it is `Damaged`,
+/// the first of both, and so are two of the same number. Where neither gate is open, no store stands
+/// on the device.
+///
+/// Reads blocks 0 to 3 in one call, or as many of them as the device has; one that it does not have
+/// is closed as a gate, and spells nothing as a body. Takes no memory. Nothing is written.
+pub fn choose<D: Disk>(device: &mut D) -> Result<Super, ChooseFault>
+    ensures size { D.size device.new ≡ D.size device.old }
+    ensures cause { CausesFault (D.faults device.old) (D.faults device.new) (result ≡ Err ChooseFault.Fault) }
+    ensures table { IfOk result (IsSuper (D.size device.old)) }
+    ensures chosen { D.tells → result ≢ Err ChooseFault.Fault
+        → (s : Super) → (result ≡ Ok s) ↔ IsChosen (D.size device.old) (D.contents device.old) s }
+    ensures not_a_store { D.tells → result ≢ Err ChooseFault.Fault
+        → (result ≡ Err ChooseFault.NotAStore) ↔ HasNoSuper (D.size device.old) (D.contents device.old) }
+    ensures damaged { D.tells → result ≢ Err ChooseFault.Fault
+        → (block : ℕ) → (result ≡ Err (ChooseFault.Damaged block)) ↔ IsDamagedSuper (D.size device.old) (D.contents device.old) block }
+    ensures nothing { D.tells → WroteNothing D.calls D.contents D.image D.since device.old device.new }
+{
+    let size = device.blocks();
+    let count = size.min(4);
+    let mut bytes = [0; FRONT];
+    let front = &mut bytes[..BLOCK * count as usize];
+    read_front(device, front)?;
+    choose_in(front, size)
+}

@@ -1,0 +1,90 @@
+// A superblock's body as a block, and a block as a superblock's body.
+ghost use Rattle.std.specs.Prelude.{◌≡◌, ◌↔◌, ℕ, ◌+◌, ◌≤◌, List, ◌++◌, length, take, drop, IsTrue, IfSome};
+ghost use Rattle.std.specs.Int.{w32, w64, from_be_bytes};
+ghost use Rattle.btr_disk.specs.Gate.{zeros};
+ghost use Rattle.btr_super.specs.declared.superblock.Super.{Super};
+ghost use Rattle.btr_super.specs.Super.{super_bytes, IsSuper, FitsFields};
+
+use crate::superblock::{FORMAT, LOG_START, SUPER_MARK, Super};
+use btr_disk::BLOCK;
+
+/// Writes `bytes` into `block` from the index `at` on.
+fn put(block: &mut [u8], at: usize, bytes: &[u8])
+    requires { at + length bytes.now ≤ length block.old }
+    ensures size { length block.new ≡ length block.old }
+    ensures grown { (front : List ℕ) (rest : ℕ) → length front ≡ at
+        → block.old ≡ front ++ zeros (length bytes.now + rest) → block.new ≡ front ++ bytes.now ++ zeros rest }
+{
+    block[at..at + bytes.len()].copy_from_slice(bytes);
+}
+
+/// The body of a superblock.
+pub(crate) fn encode(s: &Super) -> [u8; BLOCK]
+    ensures { result ≡ super_bytes s.now }
+{
+    let mut block = [0; BLOCK];
+    put(&mut block, 0, &SUPER_MARK);
+    put(&mut block, 8, &s.format.to_be_bytes());
+    put(&mut block, 16, &s.seq.to_be_bytes());
+    put(&mut block, 24, &s.blocks.to_be_bytes());
+    put(&mut block, 32, &s.tail.to_be_bytes());
+    put(&mut block, 40, &s.checkpoint.to_be_bytes());
+    block
+}
+
+/// The number of four bytes at the index `at`, the first byte highest.
+fn u32_at(block: &[u8], at: usize) -> u32
+    requires { at + 4 ≤ length block.now }
+    ensures { result ≡ from_be_bytes w32 (take 4 (drop at block.now)) }
+{
+    let bytes = &block[at..at + 4];
+    u32::from_be_bytes([bytes[0], bytes[1], bytes[2], bytes[3]])
+}
+
+/// The number of eight bytes at the index `at`, the first byte highest.
+fn u64_at(block: &[u8], at: usize) -> u64
+    requires { at + 8 ≤ length block.now }
+    ensures { result ≡ from_be_bytes w64 (take 8 (drop at block.now)) }
+{
+    let bytes = &block[at..at + 8];
+    u64::from_be_bytes([
+        bytes[0], bytes[1], bytes[2], bytes[3], bytes[4], bytes[5], bytes[6], bytes[7],
+    ])
+}
+
+/// The superblock of this side that a block spells. A superblock has one spelling, and a block that
+/// differs from it spells none.
+pub(crate) fn decode(block: &[u8], side: u8) -> Option<Super>
+    requires { length block.now ≡ 4096 }
+    ensures found { IfSome result (λ s. (s.side ≡ side) × (block.now ≡ super_bytes s)) }
+    ensures only { (s : Super) → s.side ≡ side → FitsFields s → block.now ≡ super_bytes s → result ≡ Some s }
+{
+    let read = Super {
+        seq: u64_at(block, 16),
+        side,
+        blocks: u64_at(block, 24),
+        tail: u64_at(block, 32),
+        checkpoint: u64_at(block, 40),
+        format: u32_at(block, 8),
+    };
+    if block == encode(&read).as_slice() {
+        Some(read)
+    } else {
+        None
+    }
+}
+
+/// Whether a superblock of a side keeps the table, on a device of `size` blocks.
+pub(crate) fn keeps_table(s: &Super, size: u64) -> bool
+    requires { s.now.side ≤ 1 }
+    ensures { IsTrue result ↔ IsSuper size s.now }
+{
+    s.format == FORMAT
+        && 8 <= s.blocks
+        && s.blocks <= 1 << 32
+        && s.blocks <= size
+        && s.checkpoint == 0
+        && s.tail == LOG_START
+        && 1 <= s.seq
+        && s.seq <= s.tail - LOG_START + s.format as u64
+}

@@ -1,0 +1,139 @@
+// Making a store that has no entry.
+ghost use Rattle.std.specs.Prelude.{◌≡◌, ◌≢◌, ◌↔◌, ◌⊎◌, ℕ, ◌*◌, ◌^◌, ◌<◌, ◌≤◌, OnOk};
+ghost use Rattle.btr_disk.specs.Bytes.{Has, SameBut, SameButTwo};
+ghost use Rattle.btr_disk.specs.Images.{Only};
+ghost use Rattle.btr_disk.specs.Moments.{Leaves};
+ghost use Rattle.btr_disk.specs.Causes.{HasCause};
+ghost use Rattle.btr_disk.specs.Gate.{gate_block, zeros};
+ghost use Rattle.btr_super.specs.declared.formatting.FormatFault.TheVariants.{Fault};
+ghost use Rattle.btr_super.specs.Super.{super_bytes, first_super};
+ghost use Rattle.btr_super.specs.Unwritten.{IsUnwritten, CausesFault};
+ghost use Rattle.btr_super.specs.Format.{IsTooSmall, IsOccupied, HasClosedGates, Formatted, IsFormatting, WritesFrom};
+
+use crate::codec::encode;
+use crate::gates::read_gates;
+use crate::superblock::{FORMAT, LOG_START, Super};
+use btr_disk::{BLOCK, Disk, Failed, open_gate};
+
+/// Why a device was not formatted.
+#[derive(Clone, Copy, Debug, PartialEq, Eq)]
+pub enum FormatFault {
+    /// A superblock's gate is open already: a store stands on the device. Nothing was written.
+    Occupied {
+        /// The gate's block: 0 or 2.
+        block: u64,
+    },
+    /// The device has fewer blocks than were asked for. It was not called.
+    TooSmall {
+        /// The blocks that were asked for.
+        asked: u64,
+        /// The blocks of the device.
+        blocks: u64,
+    },
+    /// The device failed.
+    Fault,
+}
+
+impl From<Failed> for FormatFault {
+    ghost from_gives = { λ _ e. e ≡ Fault };
+
+    fn from(_: Failed) -> Self {
+        FormatFault::Fault
+    }
+}
+
+/// Writes the first superblock's body and the log's first gate, and syncs.
+fn write_bodies<D: Disk>(device: &mut D, blocks: u64) -> Result<(), Failed>
+    requires { 8 ≤ D.size device.old }
+    ensures size { D.size device.new ≡ D.size device.old }
+    ensures cause { HasCause (D.faults device.old) (D.faults device.new) result }
+    ensures body { D.tells → OnOk result (Has (D.contents device.new) (4096 * 1) (super_bytes (first_super blocks))) }
+    ensures log { D.tells → OnOk result (Has (D.contents device.new) (4096 * 4) (zeros 4096)) }
+    ensures elsewhere { D.tells → SameButTwo (4096 * 1) 4096 (4096 * 4) 4096 (D.contents device.old) (D.contents device.new) }
+    ensures synced { D.tells → OnOk result (Only (D.contents device.new) (D.image device.new)) }
+    ensures moments { D.tells → Only (D.contents device.old) (D.image device.old)
+        → Leaves D.calls D.since device.old device.new (SameButTwo (4096 * 1) 4096 (4096 * 4) 4096 (D.contents device.old)) }
+{
+    let first = Super {
+        seq: 1,
+        side: 0,
+        blocks,
+        tail: LOG_START,
+        checkpoint: 0,
+        format: FORMAT,
+    };
+    device.write(1, &encode(&first))?;
+    device.write(LOG_START, &[0; BLOCK])?;
+    device.sync()
+}
+
+/// Opens the first superblock's gate, and syncs.
+fn open_first_gate<D: Disk>(device: &mut D) -> Result<(), Failed>
+    requires { 8 ≤ D.size device.old }
+    ensures size { D.size device.new ≡ D.size device.old }
+    ensures cause { HasCause (D.faults device.old) (D.faults device.new) result }
+    ensures gate { D.tells → OnOk result (Has (D.contents device.new) (4096 * 0) gate_block) }
+    ensures elsewhere { D.tells → SameBut (4096 * 0) 4096 (D.contents device.old) (D.contents device.new) }
+    ensures synced { D.tells → OnOk result (Only (D.contents device.new) (D.image device.new)) }
+    ensures moments { D.tells → Only (D.contents device.old) (D.image device.old)
+        → Leaves D.calls D.since device.old device.new (SameBut (4096 * 0) 4096 (D.contents device.old)) }
+{
+    device.write(0, &open_gate())?;
+    device.sync()
+}
+
+/// Writes the store that has no entry, on a device whose gates are closed.
+fn write_store<D: Disk>(device: &mut D, blocks: u64) -> Result<(), Failed>
+    requires least { 8 ≤ blocks }
+    requires greatest { blocks ≤ 2 ^ 32 }
+    requires inside { blocks ≤ D.size device.old }
+    ensures size { D.size device.new ≡ D.size device.old }
+    ensures cause { HasCause (D.faults device.old) (D.faults device.new) result }
+    ensures formatted { D.tells → HasClosedGates (D.contents device.old)
+        → OnOk result (Formatted (D.size device.old) blocks (D.contents device.old) (D.contents device.new)) }
+    ensures synced { D.tells → OnOk result (Only (D.contents device.new) (D.image device.new)) }
+    ensures moments { D.tells → HasClosedGates (D.contents device.old) → Only (D.contents device.old) (D.image device.old)
+        → Leaves D.calls D.since device.old device.new (IsFormatting (D.size device.old) blocks (D.contents device.old)) }
+{
+    write_bodies(device, blocks)?;
+    open_first_gate(device)
+}
+
+/// Makes a store of `blocks` blocks that has no entry.
+///
+/// The device's first `blocks` blocks are the store's. Eight calls: sync, read blocks 0 and 2, write
+/// blocks 1 and 4, sync, write block 0, sync. A crash at any moment of it leaves no open gate of a
+/// superblock, or the whole store. Takes no memory.
+pub fn format<D: Disk>(device: &mut D, blocks: u64) -> Result<(), FormatFault>
+    requires least { 8 ≤ blocks }
+    requires greatest { blocks ≤ 2 ^ 32 }
+    ensures size { D.size device.new ≡ D.size device.old }
+    ensures too_small { (asked has : ℕ) → (result ≡ Err (FormatFault.TooSmall asked has)) ↔ IsTooSmall (D.size device.old) blocks asked has }
+    ensures uncalled { D.size device.old < blocks → device.new ≡ device.old }
+    ensures cause { CausesFault (D.faults device.old) (D.faults device.new) (result ≡ Err FormatFault.Fault) }
+    ensures occupied { D.tells → blocks ≤ D.size device.old → result ≢ Err FormatFault.Fault
+        → (block : ℕ) → (result ≡ Err (FormatFault.Occupied block)) ↔ IsOccupied (D.contents device.old) block }
+    ensures refused { D.tells → (block : ℕ) → result ≡ Err (FormatFault.Occupied block)
+        → IsUnwritten D.calls D.contents D.image D.since device.old device.new }
+    ensures formatted { D.tells → OnOk result (Formatted (D.size device.old) blocks (D.contents device.old) (D.contents device.new)) }
+    ensures synced { D.tells → OnOk result (Only (D.contents device.new) (D.image device.new)) }
+    ensures moments { D.tells → IsUnwritten D.calls D.contents D.image D.since device.old device.new
+        ⊎ ((start : D) × WritesFrom D.calls D.contents D.image D.since (IsFormatting (D.size device.old) blocks (D.contents device.old)) device.old start device.new) }
+{
+    let has = device.blocks();
+    if blocks > has {
+        return Err(FormatFault::TooSmall {
+            asked: blocks,
+            blocks: has,
+        });
+    }
+    let (first, second) = read_gates(device)?;
+    if first {
+        return Err(FormatFault::Occupied { block: 0 });
+    }
+    if second {
+        return Err(FormatFault::Occupied { block: 2 });
+    }
+    write_store(device, blocks)?;
+    Ok(())
+}

@@ -1,0 +1,19 @@
+//! The two superblocks of a device: which store stands on it, and how one is made.
+//!
+//! Blocks 0 and 1 are gate and body of superblock A (side 0), blocks 2 and 3 those of superblock
+//! B (side 1). The body of an open gate says how many blocks the store has and from which gate its
+//! log is read. The log begins at block [`LOG_START`].
+#![tactic(auto)]
+
+mod choosing;
+mod codec;
+mod formatting;
+mod gates;
+mod superblock;
+
+pub use choosing::{ChooseFault, choose};
+pub use formatting::{FormatFault, format};
+pub use superblock::{FORMAT, LOG_START, SUPER_MARK, Super};
+
+#[cfg(test)]
+mod tests;
