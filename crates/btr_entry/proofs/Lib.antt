@@ -1,0 +1,4 @@
+pub mod Numbers
+pub mod Once
+pub mod Items
+pub mod Spellings

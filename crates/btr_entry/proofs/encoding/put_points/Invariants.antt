@@ -1,0 +1,10 @@
+use Rattle.std.proofs.Common.{◌≡◌, ◌++◌, length, take, drop, w64}
+use Rattle.std.specs.List.{flat_map}
+use Rattle.btr_entry.specs.Grammar.{number, point, ValuesFit}
+use Rattle.btr_entry.proofs.encoding.put_points.Given as goal
+
+abbrev pub invariant-loop-point : goal.invariant-loop-point
+invariant-loop-point l = record {
+  bytes : l.out.items ≡ l.initial.out.items ++ flat_map point (take l.point-index l.points);
+  values : ValuesFit (take l.point-index l.points);
+}

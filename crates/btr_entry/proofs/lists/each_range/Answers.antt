@@ -1,0 +1,52 @@
+use Rattle.std.proofs.Common.{◌≡◌, true≢false, refl, ◌++◌, List, [], ◌∷◌, ◌∙◌, sym, ap, subst, w64, to_z, of_z, FitsSigned, rules}
+use Rattle.std.specs.List.{flat_map, AllByRecursion}
+use Rattle.std.proofs.lemmas.Int.{to_z-of_z}
+use Rattle.btr_base.specs.Range.{Interval, IsRange}
+use Rattle.btr_base.specs.Order.{each-append}
+use Rattle.btr_entry.specs.Grammar.{range, signed}
+use Rattle.btr_entry.proofs.Items.{Taken, Taken-next, length-range, second_left, shorter, both_parts, next_is_range}
+use Rattle.btr_entry.proofs.lists.each_range.Goals as goal
+
+pub i64_at-to-requires : goal.i64_at-to-requires
+i64_at-to-requires c =
+    second_left c.loop-rest.rest.now c.i64_at-from.result.1.now c.i64_at-from.result.0 c.loop-rest-test.ensures c.loop-rest.invariant.taken.whole c.i64_at-from.ensures
+
+pub returns-in_default-clause-none : goal.returns-in_default-clause-none
+returns-in_default-clause-none c rs each same =
+    let a = c.i64_at-from.result.0 in
+    let b = c.i64_at-to.result.0 in
+    let a_fits : FitsSigned w64 a = search rules in
+    let b_fits : FitsSigned w64 b = search rules in
+    let same_from : to_z w64 (of_z w64 a) ≡ a = to_z-of_z w64 a a_fits in
+    let same_to : to_z w64 (of_z w64 b) ≡ b = to_z-of_z w64 b b_fits in
+    let r : Interval = record { from = a; to = b } in
+    let read : Interval = record { from = to_z w64 (of_z w64 a); to = to_z w64 (of_z w64 b) } in
+    let is : r ≡ read = λ i. record { from = sym same_from i; to = sym same_to i } in
+    let front = flat_map range c.loop-rest.ranges.items in
+    let behind = ap (λ (l : List _). front ++ l) (sym (c.i64_at-from.ensures ∙ ap (λ (l : List _). signed a ++ l) c.i64_at-to.ensures)) in
+    let good : IsRange r = next_is_range c.loop-rest.ranges.items r c.i64_at-to.result.1.now rs a_fits b_fits each (behind ∙ c.loop-rest.invariant.taken.parts ∙ sym same) in
+    absurd (true≢false (sym (c.in_default.ensures.some.1 (subst IsRange is good))))
+
+pub loop-rest-smaller : goal.loop-rest-smaller
+loop-rest-smaller c =
+    shorter c.loop-rest.rest.now c.i64_at-from.result.1.now c.i64_at-to.result.1.now c.i64_at-from.result.0 c.i64_at-to.result.0 c.i64_at-from.ensures c.i64_at-to.ensures
+
+pub loop-rest-preserved : goal.loop-rest-preserved
+loop-rest-preserved c =
+    let a = c.i64_at-from.result.0 in
+    let b = c.i64_at-to.result.0 in
+    let a_fits : FitsSigned w64 a = search rules in
+    let b_fits : FitsSigned w64 b = search rules in
+    let same_from : to_z w64 (of_z w64 a) ≡ a = to_z-of_z w64 a a_fits in
+    let same_to : to_z w64 (of_z w64 b) ≡ b = to_z-of_z w64 b b_fits in
+    let made : Interval = record { from = to_z w64 (of_z w64 a); to = to_z w64 (of_z w64 b) } in
+    let r : Interval = c.in-Some.range in
+    let is_made : r ≡ made = c.in-Some.ensures.value in
+    let good : IsRange r = subst IsRange (sym is_made) (c.in-Some.ensures.some.0 refl) in
+    let parts = both_parts c.loop-rest.rest.now c.i64_at-from.result.1.now c.i64_at-to.result.1.now a b c.i64_at-from.ensures c.i64_at-to.ensures in
+    let read : c.loop-rest.rest.now ≡ range made ++ c.i64_at-to.result.1.now = rw (same_from, same_to) parts in
+    let here : c.loop-rest.rest.now ≡ range r ++ c.i64_at-to.result.1.now = read ∙ ap (λ (s : Interval). range s ++ c.i64_at-to.result.1.now) (sym is_made) in
+    rw c.in_ok-push.ensures.items (record {
+      taken = Taken-next range c.args.bytes.now c.loop-rest.ranges.items c.loop-rest.rest.now r c.i64_at-to.result.1.now (length-range r) here c.loop-rest.invariant.taken;
+      each = each-append IsRange c.loop-rest.ranges.items (r ∷ []) c.loop-rest.invariant.each (good, tt);
+    })

@@ -1,0 +1,75 @@
+ghost use Rattle.std.specs.Prelude.{◌≡◌, ◌≢◌, ◌<◌, ◌≤◌, ◌^◌, ◌++◌, ℕ, List, length, IfSome, IfNone};
+ghost use Rattle.std.specs.Int.{w32, w64, w128};
+ghost use Rattle.btr_entry.specs.Grammar.{number, signed};
+ghost use Rattle.btr_entry.specs.Fields.{IsCounted};
+
+use btr_hist::MAX_POINTS_IN_COMMIT;
+
+/// The number in all of the bytes, or `None` where these are not sixteen.
+pub fn u128_of(bytes: &[u8]) -> Option<u128>
+    ensures some { IfSome result (λ n. bytes.now ≡ number w128 n) }
+    ensures none { IfNone result (length bytes.now ≢ 16) }
+{
+    let array = <[u8; 16]>::try_from(bytes).ok()?;
+    Some(u128::from_be_bytes(array))
+}
+
+/// The number in the first four bytes and the bytes behind it, or `None` where there are fewer.
+pub fn u32_at(bytes: &[u8]) -> Option<(u32, &[u8])>
+    ensures some { IfSome result (λ x. bytes.now ≡ number w32 x.0 ++ x.1.now) }
+    ensures fits { IfSome result (λ x. x.0 < 2 ^ 32) }
+    ensures none { IfNone result (length bytes.now < 4) }
+{
+    if bytes.len() < 4 {
+        return None;
+    }
+    let (front, rest) = bytes.split_at(4);
+    let number = u32::from_be_bytes([front[0], front[1], front[2], front[3]]);
+    Some((number, rest))
+}
+
+/// The number in the first eight bytes and the bytes behind it, or `None` where there are fewer.
+fn u64_at(bytes: &[u8]) -> Option<(u64, &[u8])>
+    ensures some { IfSome result (λ x. bytes.now ≡ number w64 x.0 ++ x.1.now) }
+    ensures fits { IfSome result (λ x. x.0 < 2 ^ 64) }
+    ensures none { IfNone result (length bytes.now < 8) }
+{
+    if bytes.len() < 8 {
+        return None;
+    }
+    let (front, rest) = bytes.split_at(8);
+    let number = u64::from_be_bytes([
+        front[0], front[1], front[2], front[3], front[4], front[5], front[6], front[7],
+    ]);
+    Some((number, rest))
+}
+
+/// The signed number in the first eight bytes, and the bytes behind it.
+#[tactic(auto, unfolding(crate::specs::Grammar::number, crate::specs::Grammar::signed))]
+pub fn i64_at(bytes: &[u8]) -> (i64, &[u8])
+    requires { 8 ≤ length bytes.now }
+    ensures { bytes.now ≡ signed result.0 ++ result.1.now }
+{
+    let (front, rest) = bytes.split_at(8);
+    let number = i64::from_be_bytes([
+        front[0], front[1], front[2], front[3], front[4], front[5], front[6], front[7],
+    ]);
+    (number, rest)
+}
+
+/// The bytes of the items that stand behind their number, sixteen for each, and the bytes behind these. `None` where
+/// there are fewer bytes than the number needs, or the number is too great for a commit.
+pub fn counted(bytes: &[u8]) -> Option<(&[u8], &[u8])>
+    ensures some { IfSome result (λ x. IsCounted bytes.now x.0.now x.1.now) }
+    ensures none { IfNone result ((items rest : List ℕ) → IsCounted bytes.now items rest → ⊥) }
+{
+    let (count, rest) = u64_at(bytes)?;
+    if count > MAX_POINTS_IN_COMMIT as u64 {
+        return None;
+    }
+    let len = 16 * count as usize;
+    if rest.len() < len {
+        return None;
+    }
+    Some(rest.split_at(len))
+}
