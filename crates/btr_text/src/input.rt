@@ -1,0 +1,68 @@
+ghost use Rattle.std.specs.Prelude.{◌≡◌, ◌++◌, IfOk, OnOk, option_to_list};
+ghost use Rattle.std.specs.Str.Lines.{strip_carriage_return};
+ghost use Rattle.btr_text.specs.Input.{script_line, script_of};
+
+use crate::form::read_form;
+use crate::script::{Script, ScriptLine};
+use crate::word::{LINE_FEED, next_word};
+use std::alloc::{AllocError, Global};
+
+/// The lines of an input that have a reply, in order. It takes time linear in the input, and memory for the lines and
+/// their points alone.
+///
+/// The input is cut at line feeds, and one carriage return at the end of a line is dropped. A line is words, with one
+/// or more spaces between each two. One that begins with `#` has no reply, and neither has one without a word. A first
+/// word `@0` names lane 0, which is the lane of a line without it too. The forms are those of [`Line`]: an id is the text
+/// of a UUID in any of its forms (RFC 9562), times and values are decimal digits within `i64`, behind a minus or alone,
+/// and a version is digits within `u64`, or `latest`. What fits none of them is a line without a form, also where it is
+/// not UTF-8.
+///
+/// [`Line`]: crate::Line
+pub fn read_script(alloc: Global, bytes: &[u8]) -> Result<Script, AllocError>
+    ensures { IfOk result (λ s. s ≡ script_of bytes.now) }
+{
+    let mut lines = Vec::new(alloc);
+    for line in bytes.split(|b| *b == LINE_FEED) {
+        add_line(alloc, &mut lines, without_carriage_return(line))?;
+    }
+    Ok(Script::from_lines(lines))
+}
+
+/// The line without one carriage return at its end.
+fn without_carriage_return(line: &[u8]) -> &[u8]
+    ensures { result.now ≡ strip_carriage_return line.now }
+{
+    match line.split_last() {
+        Some((&b'\r', front)) => front,
+        _ => line,
+    }
+}
+
+/// Adds what a line says, where it has a reply.
+fn add_line(alloc: Global, lines: &mut Vec<ScriptLine>, line: &[u8]) -> Result<(), AllocError>
+    ensures { OnOk result (lines.new.items ≡ lines.old.items ++ option_to_list (script_line line.now)) }
+{
+    if let Some(said) = read_line(alloc, line)? {
+        lines.push(said)?;
+    }
+    Ok(())
+}
+
+/// What a line says, or `None` where it has no reply.
+fn read_line(alloc: Global, line: &[u8]) -> Result<Option<ScriptLine>, AllocError>
+    ensures { IfOk result (λ l. l ≡ script_line line.now) }
+{
+    if line.starts_with(b"#") {
+        return Ok(None);
+    }
+    let Some((first, rest)) = next_word(line) else {
+        return Ok(None);
+    };
+    let words = if first == b"@0".as_slice() {
+        rest
+    } else {
+        line
+    };
+    let line = read_form(alloc, words)?;
+    Ok(Some(ScriptLine { lane: 0, line }))
+}

@@ -1,0 +1,77 @@
+ghost use Rattle.std.specs.Prelude.{◌≡◌};
+
+use btr_base::Bag;
+use btr_hist::At;
+use std::marker::Model;
+
+/// A line that fits a form, with the values of its words. Times are in nanoseconds.
+#[derive(Debug, Drop)]
+pub enum Line {
+    /// `create ID`: a new stream.
+    Create {
+        id: u128,
+    },
+
+    /// `insert ID T V [T V ..]`: one commit that adds these points.
+    Insert {
+        id: u128,
+        added: Bag,
+    },
+
+    /// `range ID S E AT`: the points with `from <= time < to` of a version.
+    Range {
+        id: u128,
+        from: i64,
+        to: i64,
+        at: At,
+    },
+}
+
+/// A line that has a reply.
+#[derive(Debug, Drop)]
+pub struct ScriptLine {
+    /// Who says it.
+    pub lane: u8,
+
+    /// What it says, or `None` where it fits no form.
+    pub line: Option<Line>,
+}
+
+/// The lines of a script that have a reply, in order.
+#[derive(Debug, Drop)]
+pub struct Script {
+    lines: Vec<ScriptLine>,
+}
+
+impl Model for Script {
+    ghost use Rattle.std.specs.Prelude.{List};
+    ghost use Rattle.btr_text.specs.declared.script.ScriptLine.{ScriptLine};
+
+    ghost Value = { List ScriptLine };
+
+    ghost view = { λ s. s.lines.items };
+}
+
+impl Script {
+    /// The script of these lines. It takes no memory.
+    pub fn from_lines(lines: Vec<ScriptLine>) -> Script
+        ensures { result ≡ lines.items }
+    {
+        Script { lines }
+    }
+
+    /// The lines, in order.
+    pub fn as_slice(&self) -> &[ScriptLine]
+        ensures { result.now ≡ self.now }
+    {
+        self.lines.as_slice()
+    }
+
+    /// The lines as a list, in order. It takes no memory.
+    pub fn into_lines(self) -> Vec<ScriptLine>
+        ensures { result.items ≡ self }
+    {
+        let Script { lines } = self;
+        lines
+    }
+}

@@ -1,0 +1,3 @@
+//! Lines as users type them, and replies as they read them.
+mod lines;
+mod replies;

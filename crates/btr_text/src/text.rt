@@ -1,0 +1,175 @@
+ghost use Rattle.std.specs.Prelude.{◌≡◌, [], ◌∷◌, ◌++◌, length, take, map, flat_map, codes, decimal, OnOk, OnErr};
+ghost use Rattle.std.specs.List.{join_with_byte};
+ghost use Rattle.btr_text.specs.Text.{text, line_text, ok_text, point_row, reason_words};
+
+use crate::reply::{LineReply, Reason};
+use crate::word::{LINE_FEED, SPACE};
+use btr_base::Point;
+use btr_hist::{MAX_STREAMS, MAX_VERSIONS};
+use itoa::{Buffer, Integer};
+use std::alloc::AllocError;
+
+/// Appends the text of a reply. An `Err` leaves the text as it was. It takes time linear in the text, and no memory but
+/// what the text needs to grow.
+///
+/// A reply is `ok VERSION ROWS` and its rows, `TIME VALUE` each, or `no WORD` with numbers. Each line ends with a line
+/// feed, its words are one space apart, and numbers are plain decimal.
+pub fn write_reply(reply: &LineReply, out: &mut Vec<u8>) -> Result<(), AllocError>
+    ensures ok { OnOk result (out.new.items ≡ out.old.items ++ text reply.now) }
+    ensures err { OnErr result (out.new.items ≡ out.old.items) }
+{
+    let before = out.len();
+    let done = append_reply(reply, out);
+    if done.is_err() {
+        out.truncate(before);
+    }
+    done
+}
+
+/// Appends the text of a reply, or a part of it.
+fn append_reply(reply: &LineReply, out: &mut Vec<u8>) -> Result<(), AllocError>
+    ensures ok { OnOk result (out.new.items ≡ out.old.items ++ text reply.now) }
+    ensures err { OnErr result (take (length out.old.items) out.new.items ≡ out.old.items) }
+{
+    match reply {
+        LineReply::Done { version } => append_ok(out, *version, 0),
+        LineReply::Points { version, points } => {
+            append_ok(out, *version, points.as_slice().len())?;
+            append_rows(out, points.as_slice())
+        }
+        LineReply::No(reason) => append_reason(out, *reason),
+    }
+}
+
+/// Appends the first line of a reply that is no refusal, or a part of it.
+fn append_ok(out: &mut Vec<u8>, version: u64, rows: usize) -> Result<(), AllocError>
+    ensures ok { OnOk result (out.new.items ≡ out.old.items ++ ok_text version rows) }
+    ensures err { OnErr result (take (length out.old.items) out.new.items ≡ out.old.items) }
+{
+    let mut first = Buffer::new();
+    let mut second = Buffer::new();
+    append_line(
+        out,
+        b"ok",
+        &[
+            first.format(version).as_bytes(),
+            second.format(rows).as_bytes(),
+        ],
+    )
+}
+
+/// Appends the rows of points, or a part of them.
+fn append_rows(out: &mut Vec<u8>, points: &[Point]) -> Result<(), AllocError>
+    ensures ok { OnOk result (out.new.items ≡ out.old.items ++ flat_map point_row points.now) }
+    ensures err { OnErr result (take (length out.old.items) out.new.items ≡ out.old.items) }
+{
+    for point in points {
+        append_row(out, *point)?;
+    }
+    Ok(())
+}
+
+/// Appends the row of a point, or a part of it.
+fn append_row(out: &mut Vec<u8>, point: Point) -> Result<(), AllocError>
+    ensures ok { OnOk result (out.new.items ≡ out.old.items ++ point_row point) }
+    ensures err { OnErr result (take (length out.old.items) out.new.items ≡ out.old.items) }
+{
+    let mut first = Buffer::new();
+    let mut second = Buffer::new();
+    append_line(
+        out,
+        first.format(point.time).as_bytes(),
+        &[second.format(point.value).as_bytes()],
+    )
+}
+
+/// Appends the line of a refusal, or a part of it.
+fn append_reason(out: &mut Vec<u8>, reason: Reason) -> Result<(), AllocError>
+    ensures ok { OnOk result (out.new.items ≡ out.old.items ++ line_text (codes "no" ∷ reason_words reason)) }
+    ensures err { OnErr result (take (length out.old.items) out.new.items ≡ out.old.items) }
+{
+    match reason {
+        Reason::Line => append_no(out, b"line"),
+        Reason::Stream => append_no(out, b"stream"),
+        Reason::Range => append_no(out, b"range"),
+        Reason::Version { asked, latest } => append_two(out, b"version", asked, latest),
+        Reason::Exists => append_no(out, b"exists"),
+        Reason::Domain { time } => append_one(out, b"domain", time),
+        Reason::Empty => append_no(out, b"empty"),
+        Reason::Many { count } => append_one(out, b"many", count),
+        Reason::Streams => append_one(out, b"streams", MAX_STREAMS),
+        Reason::Versions => append_one(out, b"versions", MAX_VERSIONS),
+        Reason::Crowded { start } => append_one(out, b"crowded", start),
+        Reason::Points { count } => append_one(out, b"points", count),
+        Reason::Memory => append_no(out, b"memory"),
+        Reason::Full { need, left } => append_two(out, b"full", need, left),
+        Reason::Device => append_no(out, b"device"),
+        Reason::Stopped { entries } => append_one(out, b"stopped", entries),
+    }
+}
+
+/// Appends a refusal of one word, or a part of it.
+fn append_no(out: &mut Vec<u8>, word: &[u8]) -> Result<(), AllocError>
+    ensures ok { OnOk result (out.new.items ≡ out.old.items ++ line_text (codes "no" ∷ word.now ∷ [])) }
+    ensures err { OnErr result (take (length out.old.items) out.new.items ≡ out.old.items) }
+{
+    append_line(out, b"no", &[word])
+}
+
+/// Appends a refusal of a word and a number, or a part of it.
+fn append_one<I: Integer>(out: &mut Vec<u8>, word: &[u8], number: I) -> Result<(), AllocError>
+    ensures ok { OnOk result (out.new.items ≡ out.old.items ++ line_text (codes "no" ∷ word.now ∷ I.text number ∷ [])) }
+    ensures err { OnErr result (take (length out.old.items) out.new.items ≡ out.old.items) }
+{
+    let mut text = Buffer::new();
+    append_line(out, b"no", &[word, text.format(number).as_bytes()])
+}
+
+/// Appends a refusal of a word and two numbers, or a part of it.
+fn append_two(out: &mut Vec<u8>, word: &[u8], a: u64, b: u64) -> Result<(), AllocError>
+    ensures ok { OnOk result (out.new.items ≡ out.old.items ++ line_text (codes "no" ∷ word.now ∷ decimal a ∷ decimal b ∷ [])) }
+    ensures err { OnErr result (take (length out.old.items) out.new.items ≡ out.old.items) }
+{
+    let mut first = Buffer::new();
+    let mut second = Buffer::new();
+    append_line(
+        out,
+        b"no",
+        &[
+            word,
+            first.format(a).as_bytes(),
+            second.format(b).as_bytes(),
+        ],
+    )
+}
+
+/// Appends a line of these words, one space apart, with a line feed at its end; an `Err` may leave a part of it.
+pub fn append_line(out: &mut Vec<u8>, first: &[u8], rest: &[&[u8]]) -> Result<(), AllocError>
+    ensures ok { OnOk result (out.new.items ≡ out.old.items ++ line_text (first.now ∷ map (λ w. w.now) rest.now)) }
+    ensures err { OnErr result (take (length out.old.items) out.new.items ≡ out.old.items) }
+{
+    out.extend_from_slice(first)?;
+    append_words(out, rest)?;
+    out.push(LINE_FEED)?;
+    Ok(())
+}
+
+/// Appends these words, each behind a space, or a part of them.
+fn append_words(out: &mut Vec<u8>, words: &[&[u8]]) -> Result<(), AllocError>
+    ensures ok { OnOk result (out.new.items ≡ out.old.items ++ flat_map (λ w. SPACE ∷ w.now) words.now) }
+    ensures err { OnErr result (take (length out.old.items) out.new.items ≡ out.old.items) }
+{
+    for word in words {
+        append_word(out, word)?;
+    }
+    Ok(())
+}
+
+/// Appends a word behind a space, or a part of it.
+fn append_word(out: &mut Vec<u8>, word: &[u8]) -> Result<(), AllocError>
+    ensures ok { OnOk result (out.new.items ≡ out.old.items ++ SPACE ∷ word.now) }
+    ensures err { OnErr result (take (length out.old.items) out.new.items ≡ out.old.items) }
+{
+    out.push(SPACE)?;
+    out.extend_from_slice(word)
+}
