@@ -1,0 +1,10 @@
+// What both kinds of counts need: they rise by one, and stay at the greatest u64.
+ghost use Rattle.std.specs.Prelude.{◌≡◌, ◌+◌, ◌-◌, ◌^◌, ◌≤◌, min};
+
+// One more, at most the greatest u64.
+pub fn raise(count: &mut u64)
+    ensures raised { count.new ≡ min (count.old + 1) (2 ^ 64 - 1) }
+    ensures never_falls { count.old ≤ count.new }
+{
+    *count = count.saturating_add(1);
+}

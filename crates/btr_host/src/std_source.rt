@@ -1,0 +1,55 @@
+// A stream of the system that is read.
+ghost use Rattle.std.specs.Prelude.{◌≡◌, ◌≤◌, [], length, IfOk};
+
+use crate::count::raise;
+use btr_io::{Failed, Source};
+use std::io;
+use std::io::{ErrorKind, Read};
+
+/// A reader of the system as a source: `StdSource::new(rt.stdin())` is standard input. It tells
+/// nothing of the bytes that are left.
+#[derive(Drop)]
+pub struct StdSource<R> {
+    reader: R,
+    faults: u64,
+}
+
+impl<R: Read> StdSource<R> {
+    /// A source over this reader, with a count of 0.
+    pub fn new(reader: R) -> StdSource<R>
+        ensures { result.faults ≡ 0 }
+    {
+        StdSource { reader, faults: 0 }
+    }
+}
+
+impl<R: Read> Source for StdSource<R> {
+    ghost tells = { ⊥ };
+
+    ghost left = { λ source. [] };
+
+    ghost faults = { λ source. source.faults };
+
+    fn read(&mut self, buf: &mut [u8]) -> Result<usize, Failed> {
+        match read_some(&mut self.reader, buf) {
+            Ok(n) => Ok(n),
+            Err(_) => {
+                raise(&mut self.faults);
+                Err(Failed)
+            }
+        }
+    }
+}
+
+// One read, made again where a signal interrupts it.
+fn read_some<R: Read>(reader: &mut R, buf: &mut [u8]) -> io::Result<usize>
+    ensures { IfOk result (λ n. n ≤ length buf.old) }
+{
+    for _ in 0..u64::MAX {
+        match reader.read(buf) {
+            Err(error) if error.kind() == ErrorKind::Interrupted => {}
+            answer => return answer,
+        }
+    }
+    Err(io::Error::from(ErrorKind::Interrupted))
+}

@@ -1,0 +1,124 @@
+// What no contract can say: a real file and a real pipe hold what was written to them.
+ghost use Rattle.std.specs.Prelude.{◌≡◌, ◌+◌, ◌*◌, ◌^◌, ◌<◌, ◌≤◌, IfOk, vec_len};
+
+use super::*;
+use btr_disk::Disk;
+use btr_io::{ReadAllFault, Sink, Source, read_all, write_all};
+use std::alloc::{AllocError, Global};
+use std::io::{ErrorKind, Read, Write};
+use std::test::Fail;
+use std::{env, fs, io};
+
+// Blocks that hold one byte all over.
+fn filled(alloc: Global, blocks: usize, byte: u8) -> Result<Vec<u8>, AllocError>
+    requires { blocks < 100 }
+    ensures { IfOk result (λ bytes. vec_len bytes ≡ 4096 * blocks) }
+{
+    vec![in alloc; byte; 4096 * blocks]
+}
+
+// How often a byte stands in a slice.
+fn count(bytes: &[u8], byte: u8) -> usize {
+    bytes.iter().filter(|b| **b == byte).count()
+}
+
+// Writes blocks 1 and 2, and syncs.
+fn write_two(alloc: Global, disk: &mut FileDisk) -> Result<bool, AllocError> {
+    let two = filled(alloc, 2, 7)?;
+    Ok(disk.write(1, &two).is_ok() && disk.sync().is_ok())
+}
+
+// Reads blocks, or no byte where the read fails.
+fn read_blocks(
+    alloc: Global,
+    disk: &mut FileDisk,
+    first: u64,
+    blocks: usize,
+) -> Result<Vec<u8>, AllocError>
+    requires some { 0 < blocks }
+    requires few { blocks < 100 }
+    requires inside { first + blocks ≤ 2 ^ 32 }
+{
+    let mut bytes = filled(alloc, blocks, 9)?;
+    if disk.read(first, &mut bytes).is_err() {
+        bytes.clear();
+    }
+    Ok(bytes)
+}
+
+// A file keeps blocks until a second opening, and reads as zeros past its end.
+#[test]
+fn a_file_keeps_blocks(rt: HostRuntime) -> Result<(), Fail> {
+    let alloc = rt.alloc();
+    let process = std::process::id(rt.process());
+    let folder = env::temp_dir(&rt)?;
+    let path = format!(in alloc; "{}/btr_host_{}", folder.as_str(), process)?;
+
+    let mut disk = FileDisk::open(&rt, &path)?;
+    assert!(rt; write_two(alloc, &mut disk)?);
+    let mut again = FileDisk::open(&rt, &path)?;
+    let four = read_blocks(alloc, &mut again, 0, 4)?;
+    assert_eq!(rt; (count(&four, 7), count(&four, 0)), (8192, 8192));
+    assert_eq!(rt; four.iter().position(|byte| *byte == 7), Some(4096));
+    let last = read_blocks(alloc, &mut again, 4294967295, 1)?;
+    assert_eq!(rt; count(&last, 0), 4096);
+    fs::remove_file(&rt, &path)?;
+    Ok(())
+}
+
+#[test]
+fn no_disk_fails_each_call(rt: HostRuntime) -> Result<(), Fail> {
+    let mut disk = NoDisk::new();
+    let mut block = [0; 4096];
+    assert_eq!(rt; disk.blocks(), 4294967296);
+    assert!(rt; disk.read(0, &mut block).is_err());
+    assert!(rt; disk.write(0, &block).is_err());
+    assert!(rt; disk.sync().is_err());
+    Ok(())
+}
+
+#[test]
+fn a_pipe_from_end_to_end(rt: HostRuntime) -> Result<(), Fail> {
+    let alloc = rt.alloc();
+    let (reader, writer) = io::pipe(&rt)?;
+    let mut sink = StdSink::new(writer);
+    assert_eq!(rt; write_all(&mut sink, b"stream"), Ok(()));
+    assert_eq!(rt; sink.flush(), Ok(()));
+    drop(sink);
+    let mut source = StdSource::new(reader);
+    let read = read_all(alloc, &mut source, 6);
+    assert!(rt; read.is_ok_and(|read| read.as_slice() == b"stream".as_slice()));
+    Ok(())
+}
+
+// A stream that fails: its writes take nothing, its reads and flushes give an error.
+#[derive(Drop)]
+struct Broken;
+
+impl Read for Broken {
+    fn read(&mut self, _buf: &mut [u8]) -> io::Result<usize> {
+        Err(io::Error::from(ErrorKind::Other))
+    }
+}
+
+impl Write for Broken {
+    fn write(&mut self, _buf: &[u8]) -> io::Result<usize> {
+        Ok(0)
+    }
+
+    fn flush(&mut self) -> io::Result<()> {
+        Err(io::Error::from(ErrorKind::Other))
+    }
+}
+
+#[test]
+fn a_broken_stream_fails(rt: HostRuntime) -> Result<(), Fail> {
+    let alloc = rt.alloc();
+    let mut source = StdSource::new(Broken);
+    assert!(rt; read_all(alloc, &mut source, 6).is_err_and(|fault| fault == ReadAllFault::Fault));
+    let mut sink = StdSink::new(Broken);
+    assert_eq!(rt; sink.write(b"").is_ok(), true);
+    assert_eq!(rt; write_all(&mut sink, b"stream").is_err(), true);
+    assert_eq!(rt; sink.flush().is_err(), true);
+    Ok(())
+}
