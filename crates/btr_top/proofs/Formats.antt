@@ -51,8 +51,8 @@ module _ {T D : Type 0} (disk : Ghosts D) where
         },
       )
 
-  pub after_occupied : (blocks : ℕ) (old new : D) (fault : FormatFault) (block : ℕ) → fault ≡ faults.Occupied block → FormatFacts blocks old new (Err fault) → Cause disk (Some (Format blocks)) old new endings.Occupied
-  after_occupied blocks old new fault block e given =
+  pub after_occupied : (blocks : ℕ) (old new : D) (why : FormatFault) (block : ℕ) → why ≡ faults.Occupied block → FormatFacts blocks old new (Err why) → Cause disk (Some (Format blocks)) old new endings.Occupied
+  after_occupied blocks old new why block e given =
       let facts = subst (λ f. FormatFacts blocks old new (Err f)) e given in
       let le : blocks ≤ disk.size old = fits blocks old new (Err (faults.Occupied block)) facts (λ e. cc) in (
         blocks,
@@ -65,8 +65,8 @@ module _ {T D : Type 0} (disk : Ghosts D) where
         },
       )
 
-  pub after_too_small : (blocks : ℕ) (old new : D) (fault : FormatFault) (asked has : ℕ) → fault ≡ faults.TooSmall asked has → FormatFacts blocks old new (Err fault) → Cause disk (Some (Format blocks)) old new (endings.TooSmall asked has)
-  after_too_small blocks old new fault asked has e given =
+  pub after_too_small : (blocks : ℕ) (old new : D) (why : FormatFault) (asked has : ℕ) → why ≡ faults.TooSmall asked has → FormatFacts blocks old new (Err why) → Cause disk (Some (Format blocks)) old new (endings.TooSmall asked has)
+  after_too_small blocks old new why asked has e given =
       let facts = subst (λ f. FormatFacts blocks old new (Err f)) e given in
       let small = (facts.too_small asked has).0 refl in
       (ap (λ n. Some (Format n)) (sym small.asked_is), small.has_is, omega (arith, small.short, small.asked_is, small.has_is), facts.uncalled small.short)

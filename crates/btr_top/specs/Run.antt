@@ -34,6 +34,11 @@ module _ {D : Type 0} (disk : Ghosts D) where
       KeepsAll old new
       ⊎ ((start : D) × format.WritesFrom disk.calls disk.contents disk.image disk.since (format.IsFormatting (disk.size old) blocks (disk.contents old)) old start new)
 
+  -- there is room for a store of so many blocks, and none is there
+  pub record CanFormat (blocks : ℕ) (old : D) : Type 0 where
+    pub fits : blocks ≤ disk.size old
+    pub is_free : format.HasClosedGates (disk.contents old)
+
   -- Why a run with this command ends so. What is said of bytes holds of a device that tells what it holds.
   abbrev pub Cause : Option Command → D → D → Ending → Type 0
   Cause command old new Usage = (command ≡ None) × (new ≡ old)

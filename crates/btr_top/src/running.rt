@@ -1,9 +1,11 @@
 // A whole run.
-ghost use Rattle.std.specs.Prelude.{◌≡◌, ℕ, map, string_bytes, Some};
+ghost use Rattle.std.specs.Prelude.{◌≡◌, ◌⊎◌, ℕ, map, string_bytes, Some};
+ghost use Rattle.btr_disk.specs.Causes.{Rose};
+ghost use Rattle.btr_io.specs.Faults.{Rose as SinkRose};
 ghost use Rattle.btr_top.specs.declared.words.Command.TheVariants.{Format};
 ghost use Rattle.btr_top.specs.declared.ending.Ending.{Ending as AnEnding};
 ghost use Rattle.btr_top.specs.Words.{command_of};
-ghost use Rattle.btr_top.specs.Run.{Cause, FormatLeaves};
+ghost use Rattle.btr_top.specs.Run.{CanFormat, Cause, FormatLeaves};
 ghost use Rattle.btr_top.specs.Showing.{Shows};
 
 use crate::ending::Ending;
@@ -40,6 +42,12 @@ pub fn run<R, S: Source, K: Sink, D: Disk + Send>(
         × Shows K.tells (K.written sink.old) (K.written sink.new) (K.faults sink.old) (K.faults sink.new) e result.status }
     ensures moments { D.tells → (blocks : ℕ) → command_of (map string_bytes words.now) ≡ Some (Format blocks)
         → FormatLeaves ⟦<D as Disk>⟧ blocks disk result.disk }
+    // where a store can be made and nothing fails one is made, unless there is no memory to say so
+    ensures completes { D.tells → (blocks : ℕ) → command_of (map string_bytes words.now) ≡ Some (Format blocks)
+        → CanFormat ⟦<D as Disk>⟧ blocks disk
+        → (Rose (D.faults disk) (D.faults result.disk) → ⊥)
+        → (SinkRose (K.faults sink.old) (K.faults sink.new) → ⊥)
+        → (result.status ≡ 0) ⊎ (result.status ≡ 9) }
     ensures unread { _source.new ≡ _source.old }
 {
     let mut disk = disk;
