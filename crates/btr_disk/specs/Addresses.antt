@@ -1,5 +1,5 @@
 -- Lemmas on bytes at addresses, for each crash proof above: by index, along images that agree, and over ranges.
-use Rattle.std.specs.Prelude.{◌≡◌, ℕ, ◌+◌, ◌<◌, ◌≤◌, ◌⊎◌, ◌&&◌, nat_le, nat_lt, if◌then◌else◌, List, [], ◌∷◌, ◌++◌, length}
+use Rattle.std.specs.Prelude.{◌≡◌, ℕ, ◌+◌, ◌<◌, ◌≤◌, ◌⊎◌, ◌&&◌, nat_le, nat_lt, if◌then◌else◌, List, [], ◌∷◌, length}
 use Rattle.std.proofs.Common.{suc, zero, get_or, refl, sym, ◌∙◌, subst, arith, inl, inr, ⊎_elim}
 use Rattle.std.proofs.lemmas.Bool.{cases_lt}
 use Rattle.std.proofs.lemmas.Bool.Decides.{nat_tests}
@@ -106,27 +106,6 @@ AreBytes-patched address length inner outer ins outs k =
     (λ inside. subst (λ b. b < 256) (sym (patched-inside address length inner outer k inside.0 inside.1)) (ins k))
     (λ outside. subst (λ b. b < 256) (sym (SameBut-at address length outer _ (SameBut-patched address length inner outer) k outside)) (outs k))
     (cases_range address length k)
-
--- bytes one after another
-pub Has-append : (image : Image) (address : ℕ) (xs ys : List ℕ) → Has image address xs → Has image (address + length xs) ys → Has image address (xs ++ ys)
-Has-append image address [] ys x y =
-    let e : address + length {A = ℕ} [] ≡ address = omega arith in
-    subst (λ a. Has image a ys) e y
-Has-append image address (b ∷ xs) ys x y =
-    let e : address + length (b ∷ xs) ≡ suc address + length xs = omega arith in
-    (x.0, Has-append image (suc address) xs ys x.1 (subst (λ a. Has image a ys) e y))
-
-pub Has-front : (image : Image) (address : ℕ) (xs ys : List ℕ) → Has image address (xs ++ ys) → Has image address xs
-Has-front image address [] ys has = tt
-Has-front image address (b ∷ xs) ys has = (has.0, Has-front image (suc address) xs ys has.1)
-
-pub Has-back : (image : Image) (address : ℕ) (xs ys : List ℕ) → Has image address (xs ++ ys) → Has image (address + length xs) ys
-Has-back image address [] ys has =
-    let e : address ≡ address + length {A = ℕ} [] = omega arith in
-    subst (λ a. Has image a ys) e has
-Has-back image address (b ∷ xs) ys has =
-    let e : suc address + length xs ≡ address + length (b ∷ xs) = omega arith in
-    subst (λ a. Has image a ys) e (Has-back image (suc address) xs ys has.1)
 
 -- bytes below a range that changed, and above it
 pub Has-below : (address n : ℕ) (old new : Image) → SameBut address n old new → (at : ℕ) (bytes : List ℕ) → at + length bytes ≤ address → Has old at bytes → Has new at bytes

@@ -1,7 +1,8 @@
--- What a device in memory means: its images now, and those since a call number.
-use Rattle.std.specs.Prelude.{ℕ}
+-- What a device in memory means: its images now, those since a call number, and which of its calls fail.
+use Rattle.std.specs.Prelude.{ℕ, ◌==◌, Bool, length, IsTrue, IsFalse}
+use Rattle.std.specs.List.{list_any}
 use Rattle.btr_disk.specs.Bytes.{Image}
-use Rattle.btr_disk.specs.History.{contents_of, MayLeave, MayHaveLeft, newest_first}
+use Rattle.btr_disk.specs.History.{HasRoom, contents_of, MayLeave, MayHaveLeft, newest_first}
 use Rattle.btr_disk.specs.declared.memory.MemDisk.{MemDisk}
 
 abbrev pub images_of : MemDisk → Image → Type 0
@@ -9,3 +10,12 @@ images_of disk = MayLeave (contents_of disk.bytes.items) (newest_first disk.hist
 
 abbrev pub since_of : MemDisk → ℕ → Image → Type 0
 since_of disk = MayHaveLeft (contents_of disk.bytes.items) (newest_first disk.history) disk.history.replaced.items
+
+-- the number of the next call is in the list of those that fail
+abbrev pub is_listed : MemDisk → Bool
+is_listed disk = list_any (λ call. call == length disk.history.events.items) disk.failing.items
+
+-- A call that is listed fails, and no other fails while the record has room for it and for the bytes that it replaces.
+pub record FailsAsListed (bytes : ℕ) (disk : MemDisk) (fails : Type 0) : Type 0 where
+  pub listed : IsTrue (is_listed disk) → fails
+  pub alone : IsFalse (is_listed disk) → HasRoom disk.history bytes → fails → ⊥

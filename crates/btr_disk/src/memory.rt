@@ -1,6 +1,5 @@
 // A device in memory, for tests.
-ghost use Rattle.std.specs.Prelude.{◌≡◌, ◌+◌, ◌-◌, min, ◌*◌, ◌/◌, ◌%◌, ◌<◌, ◌≤◌, ◌^◌, ℕ, length, IfOk, slice_index, ◌==◌};
-ghost use Rattle.std.specs.List.{list_any};
+ghost use Rattle.std.specs.Prelude.{◌≡◌, ◌+◌, ◌-◌, min, ◌*◌, ◌/◌, ◌%◌, ◌<◌, ◌≤◌, ◌^◌, ℕ, length, IfOk, IsErr, slice_index};
 ghost use Rattle.btr_disk.specs.Bytes.{AreBytes, Has, SameBut};
 ghost use Rattle.btr_disk.specs.History.{IsRoomFor, contents_of};
 ghost use Rattle.btr_disk.specs.Images.{Only};
@@ -37,6 +36,8 @@ pub struct MemDisk {
 }
 
 impl MemDisk {
+    ghost use Rattle.btr_disk.specs.Memory.{is_listed};
+
     /// A device of so many blocks of zeros, at most 2^32, on which nothing was done.
     ///
     /// The calls numbered in `failing` will fail. The error is want of memory.
@@ -111,7 +112,7 @@ impl MemDisk {
 
     // Is the next call one of the list?
     fn fails_now(&self) -> bool
-        ensures { result ≡ list_any (λ call. call == length self.now.history.events.items) self.now.failing.items }
+        ensures { result ≡ is_listed self.now }
     {
         self.failing.contains(&(self.history.recorded() as u64))
     }
@@ -137,13 +138,13 @@ fn overwrite(file: &mut Vec<u8>, at: usize, bytes: &[u8])
 }
 
 impl Disk for MemDisk {
-    ghost use Rattle.std.specs.Prelude.{◌≡◌, ◌*◌, ◌/◌, ◌%◌, length, refl, OnOk};
-    ghost use Rattle.btr_disk.specs.Bytes.{Has, IsRun, SameBut};
-    ghost use Rattle.btr_disk.specs.Images.{Torn, MayTear};
+    ghost use Rattle.std.specs.Prelude.{◌≡◌, ◌*◌, ◌/◌, ◌%◌, length, refl, IsErr, OnOk, OnErr};
+    ghost use Rattle.btr_disk.specs.Bytes.{Has, IsRun, Same, SameBut};
+    ghost use Rattle.btr_disk.specs.Images.{Only, SameImages, Torn, MayTear};
     ghost use Rattle.btr_disk.specs.Moments.{Elapses};
     ghost use Rattle.btr_disk.specs.Causes.{Counted, HasCause};
     ghost use Rattle.btr_disk.specs.History.{HasRoom, contents_of, newest_first, call_count};
-    ghost use Rattle.btr_disk.specs.Memory.{images_of, since_of};
+    ghost use Rattle.btr_disk.specs.Memory.{images_of, since_of, FailsAsListed};
     ghost use Rattle.btr_disk.specs.HistoryLaws.{counts_now_of, only_now_of, fewer_later_of};
 
     ghost tells = { Unit {0} };
@@ -174,7 +175,18 @@ impl Disk for MemDisk {
         (self.bytes.len() / BLOCK) as u64
     }
 
-    fn read(&mut self, first: u64, buf: &mut [u8]) -> Result<(), Failed> {
+    // The clauses of the trait, and one more: which calls fail.
+    fn read(&mut self, first: u64, buf: &mut [u8]) -> Result<(), Failed>
+        requires { IsRun (length self.old.bytes.items / 4096) first (length buf.old) }
+        ensures size { length self.new.bytes.items / 4096 ≡ length self.old.bytes.items / 4096 }
+        ensures calls { Counted (call_count self.old.history) (call_count self.new.history) }
+        ensures cause { HasCause self.old.faults self.new.faults result }
+        ensures fails { FailsAsListed 0 self.old (IsErr result) }
+        ensures bytes { OnOk result (Has (contents_of self.old.bytes.items) (4096 * first) buf.new) }
+        ensures contents { Same (contents_of self.old.bytes.items) (contents_of self.new.bytes.items) }
+        ensures images { SameImages (images_of self.old) (images_of self.new) }
+        ensures time { Elapses (call_count self.old.history) (since_of self.old) (since_of self.new) (images_of self.new) }
+    {
         let at = BLOCK * first as usize;
         let fails = self.fails_now();
         if !self.history.note(Event::Nothing, &[]) {
@@ -187,13 +199,14 @@ impl Disk for MemDisk {
         Ok(())
     }
 
-    // The clauses of the trait, and one more: where the record has room, a write that fails leaves
-    // its blocks unsynced too.
+    // The clauses of the trait, and two more: which calls fail, and that where the record has room a
+    // write that fails leaves its blocks unsynced too.
     fn write(&mut self, first: u64, bytes: &[u8]) -> Result<(), Failed>
         requires { IsRun (length self.old.bytes.items / 4096) first (length bytes.now) }
         ensures size { length self.new.bytes.items / 4096 ≡ length self.old.bytes.items / 4096 }
         ensures calls { Counted (call_count self.old.history) (call_count self.new.history) }
         ensures cause { HasCause self.old.faults self.new.faults result }
+        ensures fails { FailsAsListed (length bytes.now) self.old (IsErr result) }
         ensures written { OnOk result (Has (contents_of self.new.bytes.items) (4096 * first) bytes.now) }
         ensures elsewhere { SameBut (4096 * first) (length bytes.now) (contents_of self.old.bytes.items) (contents_of self.new.bytes.items) }
         ensures torn { Torn (4096 * first) (length bytes.now) (images_of self.old) (images_of self.new) }
@@ -216,7 +229,17 @@ impl Disk for MemDisk {
         Ok(())
     }
 
-    fn sync(&mut self) -> Result<(), Failed> {
+    // The clauses of the trait, and one more: which calls fail.
+    fn sync(&mut self) -> Result<(), Failed>
+        ensures size { length self.new.bytes.items / 4096 ≡ length self.old.bytes.items / 4096 }
+        ensures calls { Counted (call_count self.old.history) (call_count self.new.history) }
+        ensures cause { HasCause self.old.faults self.new.faults result }
+        ensures fails { FailsAsListed 0 self.old (IsErr result) }
+        ensures contents { Same (contents_of self.old.bytes.items) (contents_of self.new.bytes.items) }
+        ensures synced { OnOk result (Only (contents_of self.new.bytes.items) (images_of self.new)) }
+        ensures unsynced { OnErr result (SameImages (images_of self.old) (images_of self.new)) }
+        ensures time { Elapses (call_count self.old.history) (since_of self.old) (since_of self.new) (images_of self.new) }
+    {
         if self.fails_now() {
             self.history.note(Event::Nothing, &[]);
             return Err(fault(&mut self.faults));

@@ -1,7 +1,6 @@
 -- Fields at the front of the bytes stand there once.
-use Rattle.std.proofs.Common.{◌≡◌, ℕ, ◌+◌, ◌*◌, ◌<◌, ◌≤◌, ◌^◌, List, [], ◌∷◌, ◌++◌, length, refl, sym, ap, ◌∙◌, subst, arith, length-append, append_assoc}
+use Rattle.std.proofs.Common.{◌≡◌, ℕ, ◌+◌, ◌*◌, ◌<◌, ◌^◌, List, [], ◌++◌, length, sym, ap, ◌∙◌, subst, arith, length-append}
 use Rattle.std.specs.Int.{w32, w64}
-use Rattle.std.proofs.lemmas.List.{append-nil}
 use Rattle.btr_entry.specs.Grammar.{number}
 use Rattle.btr_entry.specs.Fields.{IsCounted, IsFrame}
 use Rattle.btr_entry.proofs.Numbers.{same_parts, number_once, wide32, wide64}

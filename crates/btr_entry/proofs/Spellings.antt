@@ -1,13 +1,13 @@
 -- Entries and the parts of their spellings.
-use Rattle.std.proofs.Common.{◌≡◌, ℕ, ◌+◌, ◌*◌, ◌<◌, ◌≤◌, ◌^◌, List, [], ◌∷◌, ◌++◌, length, get_or, drop, refl, sym, ap, ◌∙◌, subst, arith, length-append, append_assoc}
-use Rattle.std.specs.List.{flat_map, AllByRecursion}
+use Rattle.std.proofs.Common.{◌≡◌, ℕ, ◌<◌, ◌≤◌, ◌^◌, List, [], ◌∷◌, ◌++◌, length, refl, sym, ap, ◌∙◌, arith, append_assoc}
+use Rattle.std.specs.List.{flat_map}
 use Rattle.std.specs.Int.{w32, w64, w128}
 use Rattle.std.proofs.lemmas.List.{append-nil}
 use Rattle.btr_base.specs.declared.point.Point.{Point}
 use Rattle.btr_base.specs.Range.{Interval, IsCut, IsRange}
 use Rattle.btr_hist.specs.declared.entry.Entry.{Entry}
 use Rattle.btr_hist.specs.declared.entry.Entry.TheVariants.{Create, Commit}
-use Rattle.btr_entry.specs.Grammar.{number, range, point, listed, spelling, IsBounded, IsCommit, IsSpelled, IsEntry}
+use Rattle.btr_entry.specs.Grammar.{number, range, point, listed, spelling, IsCommit, IsSpelled, IsEntry}
 use Rattle.btr_entry.specs.Fields.{IsCounted, IsFrame, HasRoom, IsAdded}
 use Rattle.btr_entry.proofs.Numbers.{number_once, wide128}
 use Rattle.btr_entry.proofs.Once.{frame_once}

@@ -1,6 +1,6 @@
 -- One step of a walk over the entries of a history.
 use Rattle.std.specs.Prelude.{◌≡◌, ℕ, ◌+◌, ◌≤◌, ◌<◌, nat_eq, Bool, true, false, ◌||◌, not, ◌&&◌, int_le, int_lt, Option, Some, List, ◌∷◌, length, take, drop, get_or, cond}
-use Rattle.std.specs.List.{list_any}
+use Rattle.std.specs.List.{list_any, position_from}
 use Rattle.std.proofs.Common.{suc, sym, ap, ◌∙◌, arith}
 use Rattle.std.proofs.lemmas.List.{drop_more}
 use Rattle.std.proofs.lemmas.Bool.{eq-eqb, ne_eqb}
@@ -45,6 +45,13 @@ any-first x y xs same = ap (λ t. t || list_any (nat_eq x) xs) (eq-eqb x y (sym 
 
 pub any-rest : (x y : ℕ) (xs : List ℕ) → (y ≡ x → ⊥) → list_any (nat_eq x) (y ∷ xs) ≡ list_any (nat_eq x) xs
 any-rest x y xs other = ap (λ t. t || list_any (nat_eq x) xs) (ne_eqb x y (λ e. other (sym e)))
+
+-- the place of the first of a list that is this one
+pub position-first : (x y i : ℕ) (xs : List ℕ) → y ≡ x → position_from (nat_eq x) i (y ∷ xs) ≡ Some i
+position-first x y i xs same = ap {A = Bool} {B = Option ℕ} (λ t. cond t (Some i) (position_from (nat_eq x) (i + 1) xs)) (eq-eqb x y (sym same))
+
+pub position-rest : (x y i : ℕ) (xs : List ℕ) → (y ≡ x → ⊥) → position_from (nat_eq x) i (y ∷ xs) ≡ position_from (nat_eq x) (i + 1) xs
+position-rest x y i xs other = ap {A = Bool} {B = Option ℕ} (λ t. cond t (Some i) (position_from (nat_eq x) (i + 1) xs)) (ne_eqb x y (λ e. other (sym e)))
 
 -- a point outside the domain is the first such, where it is the first
 pub stray-first : (p : Point) (b : List Point) → not (int_le FIRST p.time && int_lt p.time END) ≡ true → stray (p ∷ b) ≡ Some p

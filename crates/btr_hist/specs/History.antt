@@ -1,5 +1,6 @@
 -- Histories: their streams, and what each version of a stream holds.
-use Rattle.std.specs.Prelude.{ℕ, ◌==◌, List, [], ◌∷◌, length, take, if◌then◌else◌}
+use Rattle.std.specs.Prelude.{ℕ, nat_eq, ◌==◌, List, [], ◌∷◌, length, take, if◌then◌else◌, Option}
+use Rattle.std.specs.List.{position_from}
 use Rattle.btr_base.specs.declared.point.Point.{Point}
 use Rattle.btr_hist.specs.declared.entry.Entry.{Entry}
 use Rattle.btr_hist.specs.declared.entry.Entry.TheVariants.{Create, Commit}
@@ -10,6 +11,10 @@ abbrev pub ids : List Entry → List ℕ
 ids [] = []
 ids (Create id ∷ h) = id ∷ ids h
 ids (Commit s cut added ∷ h) = ids h
+
+-- the number of the stream with this id, of several the first; a legal history has one at most
+abbrev pub stream_of : List Entry → ℕ → Option ℕ
+stream_of h id = position_from (nat_eq id) 0 (ids h)
 
 -- the commits of a stream, in order
 abbrev pub commits : List Entry → ℕ → List Change

@@ -1,11 +1,11 @@
-ghost use Rattle.std.specs.Prelude.{◌≡◌, ℕ, ◌≤◌, List, [], ◌∷◌, ◌++◌, Bool, not, ◌&&◌, int_le, int_lt, length, nat_eq, max, IfOk, OnOk, OnErr, Option, Some, None};
+ghost use Rattle.std.specs.Prelude.{◌≡◌, ℕ, ◌≤◌, List, [], ◌∷◌, ◌++◌, Bool, not, ◌&&◌, int_le, int_lt, length, nat_eq, max, IfOk, IfSome, IsNone, OnOk, OnErr, Option, Some, None};
 ghost use Rattle.std.specs.List.{list_any};
 ghost use Rattle.std.specs.Option.{option_map};
 ghost use Rattle.btr_base.specs.declared.domain.TheConstants.{FIRST, END};
 ghost use Rattle.btr_base.specs.Bag.{IsInOrder, within};
 ghost use Rattle.btr_hist.specs.declared.query.Query.TheVariants.{Points as AskPoints};
 ghost use Rattle.btr_hist.specs.Commit.{after};
-ghost use Rattle.btr_hist.specs.History.{ids, latest, bag};
+ghost use Rattle.btr_hist.specs.History.{ids, stream_of, latest, bag};
 ghost use Rattle.btr_hist.specs.Legal.{rejection, create_rejection, change_rejection, points_rejection, commit_rejection, stray};
 ghost use Rattle.btr_hist.specs.Answer.{answer};
 
@@ -51,6 +51,36 @@ impl History {
     {
         self.entries.push(entry)?;
         Ok(())
+    }
+
+    /// Takes the last entry away again, if there is one, and gives it back. It takes no memory.
+    pub fn pop(&mut self) -> Option<Entry>
+        ensures last { IfSome result (λ e. self.old ≡ self.new ++ e ∷ []) }
+        ensures none { IsNone result → (self.old ≡ []) × (self.new ≡ []) }
+    {
+        self.entries.pop()
+    }
+
+    /// The number of the stream with this id, the first one in order of creation, if there is one. It goes through all
+    /// entries, and takes no memory.
+    pub fn find(&self, id: u128) -> Option<usize>
+        ensures { result ≡ stream_of self.now id }
+    {
+        place_of(&self.entries, id)
+    }
+
+    /// How many streams there are. It goes through all entries, and takes no memory.
+    pub fn streams(&self) -> usize
+        ensures { result ≡ length (ids self.now) }
+    {
+        stream_count(&self.entries)
+    }
+
+    /// The latest version of a stream: the number of its commits. It goes through all entries, and takes no memory.
+    pub fn latest(&self, stream: u32) -> usize
+        ensures { result ≡ latest self.now stream }
+    {
+        latest_of(&self.entries, stream)
     }
 
     /// The answer to a question, by filters and folds over all entries. It costs the whole history, each time.
@@ -205,6 +235,22 @@ fn stream_count(entries: &[Entry]) -> usize
         }
     }
     count
+}
+
+/// The place of the first stream with this id among the streams.
+fn place_of(entries: &[Entry], id: u128) -> Option<usize>
+    ensures { result ≡ stream_of entries.now id }
+{
+    let mut place = 0;
+    for entry in entries {
+        if let Entry::Create { id: other } = entry {
+            if *other == id {
+                return Some(place);
+            }
+            place += 1;
+        }
+    }
+    None
 }
 
 /// Whether a stream has this id.

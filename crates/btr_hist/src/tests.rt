@@ -1,5 +1,5 @@
 //! The worked examples of the model, and what is rejected: each cause that can be reached, each boundary, and two
-//! causes at once. The limits of streams, of versions and of points of a version are too far to be reached here.
+//! causes at once. The limits of versions and of points of a version are too far to be reached here.
 
 use crate::answer::{Answer, PointList, Refusal, Rows};
 use crate::crowded::first_crowded;
@@ -345,6 +345,48 @@ fn an_id_is_taken_once(rt: HostRuntime) -> Result<(), Fail> {
     ] {
         assert_eq!(rt; history.rejection(alloc, &Entry::Create { id })?, want);
     }
+    Ok(())
+}
+
+#[test]
+fn no_more_streams_than_may_be(rt: HostRuntime) -> Result<(), Fail> {
+    let alloc = rt.alloc();
+    let mut history = History::empty(alloc);
+    for id in 0..65535u32 {
+        history.push(Entry::Create { id: u128::from(id) })?;
+    }
+    assert_eq!(rt;
+        history.rejection(alloc, &Entry::Create { id: 65535 })?,
+        None
+    );
+    history.push(Entry::Create { id: 65535 })?;
+    for (id, want) in [
+        (0, Rejection::StreamExists),
+        (65535, Rejection::StreamExists),
+        (65536, Rejection::StreamLimit),
+    ] {
+        assert_eq!(rt;
+            history.rejection(alloc, &Entry::Create { id })?,
+            Some(want)
+        );
+    }
+    Ok(())
+}
+
+#[test]
+fn streams_are_found_by_their_ids(rt: HostRuntime) -> Result<(), Fail> {
+    let alloc = rt.alloc();
+    let mut history = two_streams(alloc)?;
+    for (id, want) in [(1, Some(0)), (2, Some(1)), (3, None)] {
+        assert_eq!(rt; history.find(id), want);
+    }
+    assert_eq!(rt; history.latest(0), 1);
+    assert_eq!(rt; history.latest(1), 0);
+    assert_eq!(rt; history.streams(), 2);
+    history.push(Entry::Create { id: 3 })?;
+    assert_eq!(rt; history.find(3), Some(2));
+    assert!(rt; history.pop().is_some());
+    assert_eq!(rt; history.find(3), None);
     Ok(())
 }
 

@@ -130,6 +130,7 @@ fn choose_in(front: &[u8], size: u64) -> Result<Super, ChooseFault>
 fn read_front<D: Disk>(device: &mut D, front: &mut [u8]) -> Result<(), Failed>
     requires { length front.old ≡ 4096 * min 4 (D.size device.old) }
     ensures size { D.size device.new ≡ D.size device.old }
+    ensures calls { D.calls device.old ≤ D.calls device.new }
     ensures cause { HasCause (D.faults device.old) (D.faults device.new) result }
     ensures bytes { D.tells → OnOk result (Has (D.contents device.old) 0 front.new) }
     ensures nothing { D.tells → WroteNothing D.calls D.contents D.image D.since device.old device.new }
@@ -150,6 +151,7 @@ fn read_front<D: Disk>(device: &mut D, front: &mut [u8]) -> Result<(), Failed>
 /// is closed as a gate, and spells nothing as a body. Takes no memory. Nothing is written.
 pub fn choose<D: Disk>(device: &mut D) -> Result<Super, ChooseFault>
     ensures size { D.size device.new ≡ D.size device.old }
+    ensures calls { D.calls device.old ≤ D.calls device.new }
     ensures cause { CausesFault (D.faults device.old) (D.faults device.new) (result ≡ Err ChooseFault.Fault) }
     ensures table { IfOk result (IsSuper (D.size device.old)) }
     ensures chosen { D.tells → result ≢ Err ChooseFault.Fault

@@ -1,5 +1,3 @@
-use Rattle.std.proofs.Common.{◌≡◌, ℕ, sym, ◌∙◌}
-use Rattle.btr_entry.specs.Grammar.{range, point}
 use Rattle.btr_entry.proofs.Once.{frame_once}
 use Rattle.btr_entry.proofs.Spellings.{commit_from_entry, added_from_commit, entry_from_frame}
 use Rattle.btr_entry.proofs.decoding.commit_of.Goals as goal

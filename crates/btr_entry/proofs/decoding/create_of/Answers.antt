@@ -1,5 +1,4 @@
-use Rattle.std.proofs.Common.{◌≡◌, ℕ, length, ap, ◌∙◌}
-use Rattle.std.specs.Int.{w128}
+use Rattle.std.proofs.Common.{ℕ, length, ap, ◌∙◌}
 use Rattle.btr_entry.proofs.Numbers.{wide128}
 use Rattle.btr_entry.proofs.Spellings.{id_from_entry}
 use Rattle.btr_entry.proofs.decoding.create_of.Goals as goal

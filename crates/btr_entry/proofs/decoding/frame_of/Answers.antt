@@ -1,6 +1,5 @@
-use Rattle.std.proofs.Common.{◌≡◌, ℕ, ◌+◌, ◌<◌, ◌==◌, true, false, List, length, arith}
+use Rattle.std.proofs.Common.{◌≡◌, ℕ, ◌==◌, true, false, arith}
 use Rattle.std.proofs.lemmas.Bool.Decides.{nat_tests}
-use Rattle.btr_entry.specs.Fields.{IsFrame}
 use Rattle.btr_entry.proofs.Once.{behind_stream, behind_ranges, behind_points}
 use Rattle.btr_entry.proofs.decoding.frame_of.Goals as goal
 

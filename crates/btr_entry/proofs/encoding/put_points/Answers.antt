@@ -1,4 +1,4 @@
-use Rattle.std.proofs.Common.{◌≡◌, refl, ◌+◌, ◌++◌, List, [], ◌∷◌, take, get_or, ℤ, sym, ap, ◌∙◌, subst, w64, to_z, of_z, FitsSigned, rules}
+use Rattle.std.proofs.Common.{◌≡◌, refl, ◌+◌, ◌++◌, [], ◌∷◌, take, get_or, ℤ, sym, ap, ◌∙◌, subst, w64, FitsSigned, rules}
 use Rattle.std.specs.Prelude.{pos}
 use Rattle.std.proofs.lemmas.List.{take_more}
 use Rattle.std.proofs.lemmas.Int.{to_z-of_z}

@@ -1,6 +1,6 @@
-use Rattle.std.proofs.Common.{◌≡◌, ◌++◌, length, take, drop, w64}
+use Rattle.std.proofs.Common.{◌≡◌, ◌++◌, take}
 use Rattle.std.specs.List.{flat_map}
-use Rattle.btr_entry.specs.Grammar.{number, point, ValuesFit}
+use Rattle.btr_entry.specs.Grammar.{point, ValuesFit}
 use Rattle.btr_entry.proofs.encoding.put_points.Given as goal
 
 abbrev pub invariant-loop-point : goal.invariant-loop-point

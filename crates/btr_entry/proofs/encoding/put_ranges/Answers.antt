@@ -1,7 +1,7 @@
-use Rattle.std.proofs.Common.{◌≡◌, refl, ◌+◌, ◌++◌, List, [], ◌∷◌, take, get_or, ℤ, sym, ap, ◌∙◌, subst, w64, to_z, of_z, rules}
+use Rattle.std.proofs.Common.{◌≡◌, refl, ◌+◌, ◌++◌, [], ◌∷◌, take, ℤ, sym, ap, ◌∙◌, w64}
 use Rattle.std.proofs.lemmas.List.{take_more}
 use Rattle.std.proofs.lemmas.Int.{to_z-of_z}
-use Rattle.btr_base.specs.Range.{Interval, IsRange}
+use Rattle.btr_base.specs.Range.{Interval}
 use Rattle.btr_entry.specs.Grammar.{signed, range}
 use Rattle.btr_entry.proofs.Items.{Taken-wrote, from_fits, to_fits}
 use Rattle.btr_entry.proofs.encoding.put_ranges.Goals as goal

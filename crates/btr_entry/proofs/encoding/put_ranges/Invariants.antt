@@ -1,6 +1,6 @@
-use Rattle.std.proofs.Common.{◌≡◌, ◌++◌, length, take, drop, w64}
+use Rattle.std.proofs.Common.{◌≡◌, ◌++◌, take}
 use Rattle.std.specs.List.{flat_map}
-use Rattle.btr_entry.specs.Grammar.{number, range}
+use Rattle.btr_entry.specs.Grammar.{range}
 use Rattle.btr_entry.proofs.encoding.put_ranges.Given as goal
 
 abbrev pub invariant-loop-range : goal.invariant-loop-range

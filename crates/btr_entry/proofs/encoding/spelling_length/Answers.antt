@@ -1,5 +1,5 @@
-use Rattle.std.proofs.Common.{◌≡◌, ℕ, ◌+◌, ◌*◌, List, ◌++◌, length, length-append, sym, ap, arith}
-use Rattle.std.specs.Int.{w32, w64, w128}
+use Rattle.std.proofs.Common.{◌≡◌, ℕ, ◌+◌, ◌*◌, List, ◌++◌, length, length-append, arith}
+use Rattle.std.specs.Int.{w32, w64}
 use Rattle.std.specs.List.{flat_map}
 use Rattle.btr_base.specs.declared.point.Point.{Point}
 use Rattle.btr_base.specs.Range.{Interval}

@@ -1,6 +1,4 @@
-use Rattle.std.proofs.Common.{◌≡◌, ℕ, ap, List, length, ◌++◌, arith, rules, length-append}
-use Rattle.std.specs.Int.{w64}
-use Rattle.btr_entry.specs.Grammar.{number}
+use Rattle.std.proofs.Common.{ℕ, ap, length, arith, length-append}
 use Rattle.btr_entry.proofs.Once.{counted_long, counted_number}
 use Rattle.btr_entry.proofs.fields.counted.Goals as goal
 

@@ -1,4 +1,4 @@
-use Rattle.std.proofs.Common.{◌≡◌, ◌+◌, ◌<◌, ℤ, ◌≤ℤ◌, ◌<ℤ◌, false, ◌↔◌, List, ◌∷◌, length, drop, get_or, subst, w64, to_z, of_z, FitsSigned, rules, arith, drop-cons, add-one}
+use Rattle.std.proofs.Common.{◌≡◌, ◌+◌, ◌<◌, ℤ, ◌≤ℤ◌, ◌<ℤ◌, false, ◌↔◌, List, ◌∷◌, length, drop, get_or, subst, w64, FitsSigned, rules, arith, drop-cons, add-one}
 use Rattle.std.specs.Prelude.{pos, int_le, int_lt}
 use Rattle.std.proofs.lemmas.Int.{ints, to_z-of_z}
 use Rattle.btr_base.specs.declared.domain.TheConstants.{FIRST, END}

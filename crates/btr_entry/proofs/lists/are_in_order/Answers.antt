@@ -1,4 +1,4 @@
-use Rattle.std.proofs.Common.{◌≡◌, ℕ, ◌+◌, ◌<◌, Bool, true, false, true≢false, not, List, length, ◌↔◌, ◌∙◌, sym, refl, arith, IsTrue}
+use Rattle.std.proofs.Common.{◌≡◌, Bool, true, false, not, List, ◌↔◌, ◌∙◌, sym, refl, arith, IsTrue}
 use Rattle.std.specs.Prelude.{pos}
 use Rattle.std.specs.Ordering.{partial_le, is_lt}
 use Rattle.std.specs.List.{IsAllAdjacentAnswer}

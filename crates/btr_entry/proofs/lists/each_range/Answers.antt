@@ -1,10 +1,10 @@
 use Rattle.std.proofs.Common.{◌≡◌, true≢false, refl, ◌++◌, List, [], ◌∷◌, ◌∙◌, sym, ap, subst, w64, to_z, of_z, FitsSigned, rules}
-use Rattle.std.specs.List.{flat_map, AllByRecursion}
+use Rattle.std.specs.List.{flat_map}
 use Rattle.std.proofs.lemmas.Int.{to_z-of_z}
 use Rattle.btr_base.specs.Range.{Interval, IsRange}
 use Rattle.btr_base.specs.Order.{each-append}
 use Rattle.btr_entry.specs.Grammar.{range, signed}
-use Rattle.btr_entry.proofs.Items.{Taken, Taken-next, length-range, second_left, shorter, both_parts, next_is_range}
+use Rattle.btr_entry.proofs.Items.{Taken-next, length-range, second_left, shorter, both_parts, next_is_range}
 use Rattle.btr_entry.proofs.lists.each_range.Goals as goal
 
 pub i64_at-to-requires : goal.i64_at-to-requires

@@ -4,7 +4,7 @@ use Rattle.btr_base.specs.declared.point.Point.{Point}
 use Rattle.btr_base.specs.Order.{each-append}
 use Rattle.btr_entry.specs.Grammar.{point}
 use Rattle.btr_entry.specs.Fields.{HasRoom}
-use Rattle.btr_entry.proofs.Items.{Taken, Taken-next, length-point, second_left, shorter, both_parts}
+use Rattle.btr_entry.proofs.Items.{Taken-next, length-point, second_left, shorter, both_parts}
 use Rattle.btr_entry.proofs.lists.points_of.Goals as goal
 
 pub i64_at-value-requires : goal.i64_at-value-requires

@@ -6,11 +6,11 @@ use Rattle.btr_disk.proofs.Recording.{idle, nothing_recorded, Has-part}
 use Rattle.btr_disk.proofs.memory.MemDiskDisk.read.Goals as goal
 
 pub returns-then-fails-clause-time : goal.returns-then-fails-clause-time
-returns-then-fails-clause-time c _ =
+returns-then-fails-clause-time c =
     nothing_recorded (contents_of c.args.self.now.bytes.items) c.args.self.now.history c.note.new.self c.if-not-note.ensures.recorded
 
 pub returns-clause-bytes : goal.returns-clause-bytes
-returns-clause-bytes c _ =
+returns-clause-bytes c =
     let bytes = c.args.self.now.bytes.items in
     let a = 4096 * c.args.first in
     let n = length c.args.buf.now in
@@ -21,9 +21,9 @@ returns-clause-bytes c _ =
     subst (λ (l : List ℕ). Has (contents_of bytes) a l) (sym is) (Has-part bytes a n fits)
 
 pub returns-clause-time : goal.returns-clause-time
-returns-clause-time c _ =
+returns-clause-time c =
     nothing_recorded (contents_of c.args.self.now.bytes.items) c.args.self.now.history c.note.new.self c.if-not-note.ensures.recorded
 
 pub returns-then-not-note-clause-time : goal.returns-then-not-note-clause-time
-returns-then-not-note-clause-time c _ =
+returns-then-not-note-clause-time c =
     idle (contents_of c.args.self.now.bytes.items) c.args.self.now.history c.note.new.self c.if-not-note.ensures.recorded

@@ -3,13 +3,13 @@ use Rattle.btr_disk.proofs.Recording.{idle, nothing_either, sync_recorded}
 use Rattle.btr_disk.proofs.memory.MemDiskDisk.sync.Goals as goal
 
 pub returns-then-fails_now-clause-time : goal.returns-then-fails_now-clause-time
-returns-then-fails_now-clause-time c _ =
+returns-then-fails_now-clause-time c =
     nothing_either c.note.result (contents_of c.args.self.now.bytes.items) c.args.self.now.history c.note.new.self c.note.ensures.recorded
 
 pub returns-clause-time : goal.returns-clause-time
-returns-clause-time c _ =
+returns-clause-time c =
     sync_recorded (contents_of c.args.self.now.bytes.items) c.args.self.now.history c.note-2.new.self c.if-not-note.ensures.recorded
 
 pub returns-then-not-note-clause-time : goal.returns-then-not-note-clause-time
-returns-then-not-note-clause-time c _ =
+returns-then-not-note-clause-time c =
     idle (contents_of c.args.self.now.bytes.items) c.args.self.now.history c.note-2.new.self c.if-not-note.ensures.recorded
