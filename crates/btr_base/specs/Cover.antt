@@ -1,5 +1,5 @@
 -- Lemmas on ranges and the times that they cover.
-use Rattle.std.specs.Prelude.{◌≡◌, ℕ, ◌≤◌, ◌<◌, length, ℤ, true, false, not, ◌||◌, int_le, ◌≤ℤ◌, ◌<ℤ◌, List, [], ◌∷◌, ◌++◌, drop, cond}
+use Rattle.std.specs.Prelude.{◌≡◌, ℕ, ◌≤◌, ◌<◌, length, ℤ, true, false, not, ◌||◌, int_le, ◌≤ℤ◌, ◌<ℤ◌, List, [], ◌∷◌, ◌++◌, drop, take, cond}
 use Rattle.std.specs.List.{AllByRecursion}
 use Rattle.std.proofs.Common.{get_or, zero, suc, refl, sym, ap, subst, ◌∙◌, arith}
 use Rattle.std.proofs.lemmas.Bool.{both_ways}
@@ -104,6 +104,41 @@ ends-rise (r ∷ rs) zero (suc j) d h le lt =
     All-from_recursion (λ s. r.to ≤ℤ s.to) rs (first_ends_first r rs h) j d (omega arith)
 ends-rise (r ∷ rs) (suc i) zero d h le lt = absurd (omega arith)
 ends-rise (r ∷ rs) (suc i) (suc j) d h le lt = ends-rise rs i j d (IsCut-rest r rs h) (omega arith) (omega arith)
+
+pub begins-rise : (rs : List Interval) (i j : ℕ) (d : Interval) → IsCut rs → i ≤ j → j < length rs → (get_or rs i d).from ≤ℤ (get_or rs j d).from
+begins-rise [] i j d h le lt = absurd (omega arith)
+begins-rise (r ∷ rs) zero zero d h le lt = omega (arith, ints)
+begins-rise (r ∷ rs) zero (suc j) d h le lt =
+    let full = h.each.0.not_empty in
+    let next : r.to <ℤ (get_or rs j d).from = All-from_recursion (λ s. r.to <ℤ s.from) rs (first_ends r rs h) j d (omega arith) in
+    omega (arith, ints)
+begins-rise (r ∷ rs) (suc i) zero d h le lt = absurd (omega arith)
+begins-rise (r ∷ rs) (suc i) (suc j) d h le lt = begins-rise rs i j d (IsCut-rest r rs h) (omega arith) (omega arith)
+
+pub each-take : {X : Type 0} (P : X → Type 0) (n : ℕ) (xs : List X) → AllByRecursion P xs → AllByRecursion P (take n xs)
+each-take P zero xs h = tt
+each-take P (suc n) [] h = tt
+each-take P (suc n) (x ∷ xs) h = (h.0, each-take P n xs h.1)
+
+apart-take : (n : ℕ) (rs : List Interval) → AreApart rs → AreApart (take n rs)
+apart-take zero rs h = tt
+apart-take (suc n) [] h = tt
+apart-take (suc zero) (r ∷ rs) h = tt
+apart-take (suc (suc n)) (r ∷ []) h = tt
+apart-take (suc (suc n)) (r ∷ s ∷ rs) h = (h.0, apart-take (suc n) (s ∷ rs) h.1)
+
+pub IsCut-take : (n : ℕ) (rs : List Interval) → IsCut rs → IsCut (take n rs)
+IsCut-take n rs h = record { each = each-take IsRange n rs h.each; apart = apart-take n rs h.apart }
+
+-- the ranges from a place on begin behind the time
+pub covered-take : (n : ℕ) (rs : List Interval) (t : ℤ) → ((k : ℕ) (d : Interval) → n ≤ k → k < length rs → t <ℤ (get_or rs k d).from) → covered (take n rs) t ≡ covered rs t
+covered-take zero [] t h = refl
+covered-take zero (r ∷ rs) t h =
+    covered-take zero rs t (λ k d le lt. h (suc k) d (omega arith) (omega arith))
+    ∙ sym (ap (λ s. s || covered rs t) (spans-before r t (h 0 r (omega arith) (omega arith))))
+covered-take (suc n) [] t h = refl
+covered-take (suc n) (r ∷ rs) t h =
+    ap (λ c. spans r t || c) (covered-take n rs t (λ k d le lt. h (suc k) d (omega arith) (omega arith)))
 
 -- ---- one more range behind all others
 

@@ -1,9 +1,14 @@
 -- data
 pub mod Point
 pub mod Range
+pub mod Span
 -- meaning
 pub mod Bag
+pub mod Agg
 -- laws
 pub mod Order
 pub mod Cover
 pub mod Apart
+pub mod Within
+pub mod Aggregates
+pub mod Spans

@@ -1,11 +1,12 @@
 -- Lemmas on points in order.
-use Rattle.std.specs.Prelude.{◌≡◌, ℕ, ◌+◌, ◌<◌, slice_index_or, drop, Bool, true, false, not, ◌&&◌, ◌≤ℤ◌, ◌<ℤ◌, ◌⊎◌, List, [], ◌∷◌, ◌++◌, length, cond, IsTrue}
+use Rattle.std.specs.Prelude.{◌≡◌, ℕ, ◌+◌, ◌<◌, ◌≤◌, slice_index_or, drop, Bool, true, false, not, ◌&&◌, ◌≤ℤ◌, ◌<ℤ◌, ◌⊎◌, List, [], ◌∷◌, ◌++◌, length, cond, IsTrue}
 use Rattle.std.specs.List.{filter, count_by, AllByRecursion}
 use Rattle.std.proofs.Common.{zero, suc, refl, sym, ap, ◌∙◌, arith, subst}
 use Rattle.std.proofs.lemmas.Int.{ints}
 use Rattle.std.proofs.lemmas.Bool.{not-true}
 use Rattle.std.proofs.lemmas.Cmp.{int_cmp_total, on_total, then_total}
 use Rattle.std.specs.Cmp.{IsTotalOrder}
+use Rattle.std.proofs.lemmas.List.Elements.{All-from_recursion}
 use Rattle.std.proofs.lemmas.List.Sums.{sum_by-cons, sum_by-append}
 use Rattle.std.proofs.lemmas.List.Sorted.{sum_by-IsPermutation}
 use Rattle.std.specs.List.Sorted.{IsPermutation, IsSorted}
@@ -332,3 +333,13 @@ pub sort-take_second : (p : Point) (a b : List Point) → AllByRecursion (λ q. 
 sort-take_second p a b h k =
     sort-same (a ++ p ∷ b) (p ∷ a ++ b) (λ q. omega (arith, copies-append q a (p ∷ b), count-cons (same_point q) p b, count-cons (same_point q) p (a ++ b), copies-append q a b))
     ∙ sort-take_first p a b h k
+
+-- ---- points by their places
+
+pub times-rise : (b : List Point) (i j : ℕ) (d : Point) → IsInOrder b → i ≤ j → j < length b → (slice_index_or b i d).time ≤ℤ (slice_index_or b j d).time
+times-rise [] i j d h le lt = absurd (omega arith)
+times-rise (p ∷ b) zero zero d h le lt = omega (arith, ints)
+times-rise (p ∷ b) zero (suc j) d h le lt =
+    is_not_after-times p (slice_index_or b j d) (All-from_recursion (λ q. IsTrue (is_not_after p q)) b h.0 j d (omega arith))
+times-rise (p ∷ b) (suc i) zero d h le lt = absurd (omega arith)
+times-rise (p ∷ b) (suc i) (suc j) d h le lt = times-rise b i j d h.1 (omega arith) (omega arith)

@@ -1,4 +1,4 @@
-ghost use Rattle.std.specs.Prelude.{◌≡◌, ℕ, ◌≤◌, ◌<◌, ℤ, ◌≤ℤ◌, ◌<ℤ◌, List, [], ◌++◌, length, drop, slice_index_or, IfOk};
+ghost use Rattle.std.specs.Prelude.{◌≡◌, ℕ, ◌≤◌, ◌<◌, ℤ, ◌≤ℤ◌, ◌<ℤ◌, List, [], ◌++◌, length, drop, slice_index_or, IfOk, filter, int_lt, not};
 ghost use Rattle.btr_base.specs.declared.point.Point.{Point as APoint};
 ghost use Rattle.btr_base.specs.Bag.{IsInOrder, sort, outside};
 ghost use Rattle.btr_base.specs.Range.{Interval, IsCut, covered};
@@ -82,8 +82,9 @@ impl Bag {
     }
 }
 
-/// The points whose time no range covers.
-fn points_outside(
+/// The points of a list in order whose time no range covers. It takes one pass over points and ranges, and memory for as
+/// many points as there are.
+pub fn points_outside(
     alloc: Global,
     points: &[Point],
     ranges: &[Range],
@@ -101,6 +102,18 @@ fn points_outside(
         }
     }
     Ok(kept)
+}
+
+/// Parts points in order at a time, in nanoseconds: those before it, and those from it on. It takes time logarithmic in
+/// their number, and no memory.
+pub fn parted(points: &[Point], time: i64) -> (&[Point], &[Point])
+    requires { IsInOrder points.now }
+    ensures before { result.0.now ≡ filter (λ p. int_lt p.time time) points.now }
+    ensures from { result.1.now ≡ filter (λ p. not (int_lt p.time time)) points.now }
+    ensures all { result.0.now ++ result.1.now ≡ points.now }
+{
+    let place = points.partition_point(|point| point.time < time);
+    (&points[..place], &points[place..])
 }
 
 /// The place of the first range from `first` on that ends behind the time, or the number of ranges.
@@ -121,8 +134,8 @@ fn skip_ended(ranges: &[Range], first: usize, time: i64) -> usize
     place
 }
 
-/// The points of two lists in order, in order.
-fn merged(alloc: Global, a: &[Point], b: &[Point]) -> Result<Vec<Point>, AllocError>
+/// The points of two lists in order, in order. It takes one pass over both, and memory for all points of both.
+pub fn merged(alloc: Global, a: &[Point], b: &[Point]) -> Result<Vec<Point>, AllocError>
     requires a { IsInOrder a.now }
     requires b { IsInOrder b.now }
     ensures { IfOk result (λ v. v.items ≡ sort (a.now ++ b.now)) }

@@ -14,15 +14,22 @@ mod range;
 mod ranges;
 // what is kept
 mod bag;
+// what is said of it
+mod agg;
+mod cell;
+mod span;
 // what the definitions entail
 mod laws;
 
-pub use bag::Bag;
+pub use agg::Agg;
+pub use bag::{Bag, merged, parted, points_outside};
+pub use cell::Cell;
 pub use domain::{END, FIRST};
 pub use laws::one_list_for_the_times;
 pub use point::Point;
 pub use range::Range;
-pub use ranges::Ranges;
+pub use ranges::{Ranges, ranges_before, ranges_from};
+pub use span::Span;
 
 #[cfg(test)]
 mod tests;

@@ -169,6 +169,28 @@ fn is_covered(ranges: &[Range], t: i64) -> bool
     has_begun(ranges, place, t)
 }
 
+/// Of ranges that stand apart in order, those that end behind a time, in nanoseconds. Of the times from it on they cover
+/// the same. It takes time logarithmic in the number of ranges, and no memory.
+pub fn ranges_from(ranges: &[Range], from: i64) -> &[Range]
+    requires { IsCut ranges.now }
+    ensures cut { IsCut result.now }
+    ensures times { (t : ℤ) → from ≤ℤ t → covered result.now t ≡ covered ranges.now t }
+{
+    let place = ranges.partition_point(|range| range.to <= from);
+    &ranges[place..]
+}
+
+/// Of ranges that stand apart in order, those that begin before a time, in nanoseconds. Of the times before it they cover
+/// the same. It takes time logarithmic in the number of ranges, and no memory.
+pub fn ranges_before(ranges: &[Range], to: i64) -> &[Range]
+    requires { IsCut ranges.now }
+    ensures cut { IsCut result.now }
+    ensures times { (t : ℤ) → t <ℤ to → covered result.now t ≡ covered ranges.now t }
+{
+    let place = ranges.partition_point(|range| range.from < to);
+    &ranges[..place]
+}
+
 /// Whether there is a range at the place, and it begins at or before the time. All before it end by the time, and it
 /// ends behind the time.
 pub(crate) fn has_begun(ranges: &[Range], place: usize, time: i64) -> bool

@@ -1,8 +1,11 @@
+use crate::agg::Agg;
 use crate::bag::Bag;
+use crate::cell::Cell;
 use crate::domain::{END, FIRST};
 use crate::point::Point;
 use crate::range::Range;
 use crate::ranges::Ranges;
+use crate::span::Span;
 use std::alloc::{AllocError, Global};
 use std::test::Fail;
 
@@ -239,4 +242,74 @@ fn points_of_both(rt: HostRuntime) -> Result<(), Fail> {
         );
     }
     Ok(())
+}
+
+#[test]
+fn aggregates_of_values(rt: HostRuntime) {
+    assert_eq!(rt;
+        Agg::none(),
+        Agg {
+            count: 0,
+            sum: 0,
+            ends: None
+        }
+    );
+    for (values, sum, ends) in [
+        ([5, 7, -2].as_slice(), 10, (-2, 7)),
+        ([4].as_slice(), 4, (4, 4)),
+        (
+            [i64::MAX, i64::MAX].as_slice(),
+            18446744073709551614,
+            (i64::MAX, i64::MAX),
+        ),
+        ([i64::MIN, i64::MAX, 0].as_slice(), -1, (i64::MIN, i64::MAX)),
+    ] {
+        let mut all = Agg::none();
+        for value in values {
+            if all.count < 9 {
+                all = all.join(&Agg::of(*value));
+            }
+        }
+        let cell = Cell { start: 0, agg: all };
+        assert_eq!(rt; cell.agg.count, values.len() as u64, "{values:?}");
+        assert_eq!(rt; cell.agg.sum, sum, "{values:?}");
+        assert_eq!(rt; cell.agg.ends, Some(ends), "{values:?}");
+    }
+}
+
+#[test]
+fn spans_of_times(rt: HostRuntime) {
+    for (time, height, start) in [
+        (FIRST, 0, FIRST),
+        (FIRST + 3, 0, FIRST),
+        (FIRST + 4, 0, FIRST + 4),
+        (-1, 0, -4),
+        (0, 0, 0),
+        (255, 1, 0),
+        (256, 1, 256),
+        (-1, 1, -256),
+        (END - 1, 10, FIRST),
+        (END - 1, 0, END - 4),
+        (END - 1, 9, END - 72057594037927936),
+    ] {
+        assert!(rt; FIRST <= time && time < END && height <= 10);
+        let span = Span::of(time, height);
+        assert_eq!(rt; (span.start, span.height), (start, height), "{time}");
+    }
+    for (time, height, i, start) in [
+        (0, 1, 0, 0),
+        (0, 1, 63, 252),
+        (5000, 2, 1, 256),
+        (0, 10, 0, FIRST),
+        (0, 10, 16, 0),
+        (0, 10, 63, END - 72057594037927936),
+    ] {
+        assert!(rt; FIRST <= time && time < END && 1 <= height && height <= 10 && i < 64);
+        let slot = Span::of(time, height).slot(i);
+        assert_eq!(rt;
+            (slot.start, slot.height),
+            (start, height - 1),
+            "{time} {i}"
+        );
+    }
 }

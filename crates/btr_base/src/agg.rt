@@ -1,0 +1,85 @@
+ghost use Rattle.std.specs.Prelude.{◌≡◌, ◌+◌, ◌<◌, ◌^◌, ℤ, List, [], ◌∷◌, ◌++◌};
+ghost use Rattle.btr_base.specs.declared.point.Point.{Point as APoint};
+ghost use Rattle.btr_base.specs.Agg.{IsSummary, agg, joined, one_point, join_ends as outer_ends};
+
+use std::marker::Model;
+
+/// What is said of points without naming them: how many there are, the sum of their values, and the least and the
+/// greatest value (the aggregate of BTrDB, FAST 2016, in whole numbers and with the sum in place of the mean).
+///
+/// `ends` is `None` exactly where there is no point, and then the sum is 0. Else the sum lies from the count times the
+/// least value to the count times the greatest.
+#[derive(Clone, Copy, Debug, PartialEq, Eq)]
+pub struct Agg {
+    /// How many points there are.
+    pub count: u64,
+
+    /// The sum of their values, in the unit of the stream.
+    pub sum: i128,
+
+    /// The least and the greatest value, in the unit of the stream.
+    pub ends: Option<(i64, i64)>,
+}
+
+impl Model for Agg {
+    ghost use Rattle.btr_base.specs.Agg.{Summary, IsSummary};
+
+    ghost Value = { Summary };
+
+    ghost view = { λ a. record { count = a.count; total = a.sum; ends = a.ends } };
+
+    ghost invariant = { λ a. IsSummary (record { count = a.count; total = a.sum; ends = a.ends }) };
+
+    ghost inverse = { λ s. record { count = s.count; sum = s.total; ends = s.ends } };
+}
+
+impl Agg {
+    /// The aggregate of no points.
+    pub fn none() -> Agg
+        ensures { result ≡ agg [] }
+    {
+        Agg {
+            count: 0,
+            sum: 0,
+            ends: None,
+        }
+    }
+
+    /// The aggregate of one point with this value.
+    pub fn of(value: i64) -> Agg
+        ensures numbers { result ≡ one_point value }
+        ensures list { (time : ℤ) → result ≡ agg (record { time = time; value = value } ∷ []) }
+    {
+        Agg {
+            count: 1,
+            sum: i128::from(value),
+            ends: Some((value, value)),
+        }
+    }
+
+    /// The aggregate of the points of both, in constant time. Of the aggregates of two lists it is that of the one list
+    /// followed by the other.
+    pub fn join(&self, other: &Agg) -> Agg
+        requires { self.now.count + other.now.count < 2 ^ 64 }
+        ensures numbers { result ≡ joined self.now other.now }
+        ensures lists { (a b : List APoint) → agg a ≡ self.now → agg b ≡ other.now → agg (a ++ b) ≡ result }
+        ensures summary { IsSummary result }
+    {
+        Agg {
+            count: self.count + other.count,
+            sum: self.sum + other.sum,
+            ends: join_ends(self.ends, other.ends),
+        }
+    }
+}
+
+/// The lower of the least values and the higher of the greatest, of those that there are.
+fn join_ends(a: Option<(i64, i64)>, b: Option<(i64, i64)>) -> Option<(i64, i64)>
+    ensures { result ≡ outer_ends a b }
+{
+    match (a, b) {
+        (Some(a), Some(b)) => Some((a.0.min(b.0), a.1.max(b.1))),
+        (Some(a), None) => Some(a),
+        (None, b) => b,
+    }
+}

@@ -1,0 +1,30 @@
+use Rattle.std.proofs.Common.{◌≤◌, ◌++◌, length, ◌≡◌, ℕ, suc, ◌<◌, ◌+◌, ◌*◌, ◌∷◌, List}
+use Rattle.btr_base.specs.Bag.{IsInOrder, within}
+use Rattle.btr_tree.specs.History.{Commit}
+use Rattle.btr_tree.specs.Shape.{HasSlots, HasChildren, slot_start}
+use Rattle.btr_tree.specs.Change.{IsSplit, end_of}
+use Rattle.btr_tree.specs.declared.limits.TheConstants.{LEAF_POINTS}
+use Rattle.btr_tree.specs.Nodes.{is_inner}
+use Rattle.btr_tree.specs.Pages.{first_of, pages}
+use Rattle.btr_tree.specs.Crowd.{HasRoom}
+use Rattle.btr_tree.proofs.build.+build.Given as goal
+
+-- the slots that were made are those of the points before the next one
+abbrev pub invariant-build_slots-loop-i : goal.invariant-build_slots-loop-i
+invariant-build_slots-loop-i l = record {
+  rest : (below : ℕ) → l.span.height ≡ suc below → l.rest ≡ within (slot_start below l.span.start l.i) (end_of l.span) l.points;
+  order : IsInOrder l.rest;
+  slots : (below : ℕ) (h : List Commit) (c : Commit) → IsSplit below l.span h c l.version l.points → HasSlots below l.span.start (c ∷ h) l.i l.slots.items l.children.items × HasChildren below l.span.start (c ∷ h) l.i l.children.items;
+  nodes : (below : ℕ) (h : List Commit) (c : Commit) → IsSplit below l.span h c l.version l.points → LEAF_POINTS < length l.points → l.nodes.items ≡ l.fn.nodes.items ++ first_of l.i (λ i. pages below (slot_start below l.span.start i) (is_inner (suc below) l.span.start) (c ∷ h) l.version);
+  counted : l.steps + length l.fn.nodes.items ≤ l.fn.steps + length l.nodes.items;
+  room : (below : ℕ) → l.span.height ≡ suc below → HasRoom l.span.start (slot_start below l.span.start l.i) l.points;
+}
+
+abbrev pub decreases-build : goal.decreases-build
+decreases-build l = 3 * l.span.height + 1
+
+abbrev pub decreases-build_slots : goal.decreases-build_slots
+decreases-build_slots l = 3 * l.span.height
+
+abbrev pub decreases-build_slot : goal.decreases-build_slot
+decreases-build_slot l = 3 * l.span.height + 2

@@ -1,0 +1,16 @@
+use Rattle.std.proofs.Common.{◌∙◌, ap, sym}
+use Rattle.btr_base.specs.Agg.{agg}
+use Rattle.btr_tree.specs.History.{bag}
+use Rattle.btr_tree.specs.Nodes.{points_of}
+use Rattle.btr_tree.specs.Totals.{joined_all}
+use Rattle.btr_tree.specs.Shapes.{place-is, inner-is, total-of}
+use Rattle.btr_tree.proofs.total.agg_of_place.Goals as goal
+
+pub returns-in-Inner : goal.returns-in-Inner
+returns-in-Inner c height start above h holds =
+    let node = place-is height start above h c.args.place.now c.in-Some.node c.in-Some.is holds in
+    let body = inner-is height start above h c.in-Some.node.value c.in-Inner.version c.in-Inner.slots c.in-Inner.children (sym c.deref.ensures ∙ c.in-Inner.is) node in
+    c.agg_of_slots.ensures
+    ∙ ap joined_all c.deref-in-Inner.ensures.value
+    ∙ total-of body.below start h c.in-Inner.slots.items c.in-Inner.children.items body.inner.all
+    ∙ ap (λ k. agg (points_of k start (bag h))) (sym body.height)

@@ -1,0 +1,31 @@
+-- Bottom spans that have more points than a leaf holds.
+use Rattle.std.specs.Prelude.{◌≡◌, ℕ, ◌*◌, ◌<◌, ◌≤◌, ℤ, ◌≤ℤ◌, ◌<ℤ◌, List, length}
+use Rattle.btr_base.specs.declared.point.Point.{Point}
+use Rattle.btr_base.specs.Span.{at, width}
+use Rattle.btr_tree.specs.declared.limits.TheConstants.{LEAF_POINTS}
+use Rattle.btr_tree.specs.declared.fault.TreeFault.{TreeFault}
+use Rattle.btr_tree.specs.declared.fault.TreeFault.TheVariants.{Crowded, TooManyPoints, Want}
+use Rattle.btr_tree.specs.Nodes.{points_of}
+
+-- the start of a bottom span, by its place in the domain
+abbrev pub bottom : ℕ → ℤ
+bottom place = at (place * width 0)
+
+-- no bottom span that starts from one time on and before another is crowded
+abbrev pub HasRoom : ℤ → ℤ → List Point → Type 0
+HasRoom from to b =
+    (place : ℕ) → from ≤ℤ bottom place → bottom place <ℤ to → length (points_of 0 (bottom place) b) ≤ LEAF_POINTS
+
+-- the first crowded bottom span that starts from one time on and before another starts at `start`
+pub record IsFirstCrowd (from to : ℤ) (b : List Point) (start : ℤ) (place : ℕ) : Type 0 where
+  pub is : start ≡ bottom place
+  pub begins : from ≤ℤ start
+  pub ends : start <ℤ to
+  pub crowded : LEAF_POINTS < length (points_of 0 start b)
+  pub first : HasRoom from start b
+
+-- a fault of the points between two times
+abbrev pub IsCrowding : ℤ → ℤ → List Point → TreeFault → Type 0
+IsCrowding from to b (Crowded start) = (place : ℕ) × IsFirstCrowd from to b start place
+IsCrowding from to b (TooManyPoints count) = ⊥
+IsCrowding from to b Want = Unit {0}

@@ -1,0 +1,25 @@
+use std::alloc::AllocError;
+
+/// Why a commit was not applied. The tree is as it was.
+#[derive(Clone, Copy, Debug, PartialEq, Eq)]
+pub enum TreeFault {
+    /// The bottom span of 4 ns that starts here, in nanoseconds, would have more than 252 points. It is the first such.
+    Crowded { start: i64 },
+
+    /// The version would have so many points, which is more than 2^32.
+    TooManyPoints { count: u64 },
+
+    /// Want of memory.
+    Want,
+}
+
+impl From<AllocError> for TreeFault {
+    ghost use Rattle.std.specs.Prelude.{◌≡◌};
+    ghost use Rattle.btr_tree.specs.declared.fault.TreeFault.TheVariants.{Want};
+
+    ghost from_gives = { λ _ e. e ≡ Want };
+
+    fn from(_error: AllocError) -> TreeFault {
+        TreeFault::Want
+    }
+}
