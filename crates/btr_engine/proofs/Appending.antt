@@ -1,0 +1,138 @@
+-- What a step makes of the answer of its append: why it fails, and what then stands on the device, and at each moment before.
+use Rattle.std.specs.Prelude.{◌≡◌, ℕ, ◌+◌, ◌*◌, ◌<◌, ◌≤◌, List, [], ◌∷◌, ◌++◌, length, Result, Err, None, IsFalse}
+use Rattle.std.proofs.Common.{refl, sym, ◌∙◌, ap, subst, ⊎_elim, arith, length-append}
+use Rattle.std.proofs.lemmas.Bool.{cases_lt}
+use Rattle.btr_disk.specs.declared.disk.Disk.{Ghosts}
+use Rattle.btr_disk.specs.Bytes.{Image}
+use Rattle.btr_disk.specs.Gate.{zeros, gate_block}
+use Rattle.btr_disk.specs.Publish.{Published}
+use Rattle.btr_disk.specs.Runs.{weakens}
+use Rattle.btr_log.specs.declared.log.Log.{Log}
+use Rattle.btr_log.specs.declared.append.AppendFault.{AppendFault}
+use Rattle.btr_log.specs.declared.append.AppendFault.TheVariants.{Full, Fault, Stopped as AlreadyStopped}
+use Rattle.btr_log.specs.Extents.{need, IsLog, first_gate}
+use Rattle.btr_log.specs.ExtentLaws.{AtRest-IsLog}
+use Rattle.btr_log.specs.Append as append
+use Rattle.btr_log.specs.Log as log
+use Rattle.btr_hist.specs.declared.entry.Entry.{Entry}
+use Rattle.btr_hist.specs.Legal.{rejection}
+use Rattle.btr_entry.specs.Grammar.{IsSpelled}
+use Rattle.btr_engine.specs.declared.engine.Engine.{Engine}
+use Rattle.btr_engine.specs.declared.step.Receipt.{Receipt}
+use Rattle.btr_engine.specs.declared.step.StepFault.{StepFault}
+use Rattle.btr_engine.specs.declared.step.StepFault.TheVariants.{DeviceFull, DeviceFault}
+use Rattle.btr_engine.specs.Body.{body_of, need_of, bodies}
+use Rattle.btr_engine.specs.Stands.{StandsTo}
+use Rattle.btr_engine.specs.Engine.{device, history_of, blocks_of, tail_of, room_of, is_stopped, IsAtRest}
+use Rattle.btr_engine.specs.Step.{IsBeforeOrAfter, IsReceipt, IsStepped, StepCause}
+use Rattle.btr_engine.proofs.Standing.{stands_with, before_or_after}
+use Rattle.btr_engine.proofs.Stepping.{same_engine, no_moment, brings, needs}
+
+-- what an append answers
+abbrev pub Answer : Type 0
+Answer = Result (Unit {0}) AppendFault
+
+-- the run is that of the entry, as the next one of the history
+pub record IsRunOf (h : List Entry) (e : Entry) (run : List ℕ) : Type 0 where
+  pub spelled : IsSpelled e
+  pub bytes : run ≡ body_of (length h + 1) e ++ zeros 4096
+
+module _ {D : Type 0} {disk : Ghosts D} (old : Engine D disk) (e : Entry) (run : List ℕ) (is : IsRunOf (history_of old) e run) where
+  -- the answer of an append of the run to a log that is too short for it
+  abbrev pub full : Answer
+  full = Err (Full (need (append.body_of run)) (room_of old))
+
+  -- such a log always answers so
+  abbrev pub TellsFull : Answer → Type 0
+  TellsFull answer = IsFalse (is_stopped old) → append.IsTooLong old.log run → answer ≡ full
+
+  needed : need (append.body_of run) ≡ need_of e
+  needed = needs (length (history_of old) + 1) e run is.bytes
+
+  -- an append that answers otherwise found room
+  pub fits_unless_full : (answer : Answer) → IsFalse (is_stopped old) → TellsFull answer → (answer ≡ full → ⊥) → need_of e ≤ room_of old
+  fits_unless_full answer runs tells_full other =
+      let size : need (append.body_of run) ≡ need_of e = needed in
+      ⊎_elim (λ short. absurd (other (tells_full runs (omega arith)))) (λ le. le) (cases_lt (room_of old) (need_of e))
+
+  -- ---- where it fails
+
+  pub refused : (new : Engine D disk) (fault : AppendFault) (answer : StepFault) → IsFalse (is_stopped old) → rejection (history_of old) e ≡ None → TellsFull (Err fault) → append.AppendCause old.log new.log run fault → history_of new ≡ history_of old → ((n left : ℕ) → fault ≡ Full n left → answer ≡ DeviceFull n left) → (fault ≡ Fault → answer ≡ DeviceFault) → StepCause old new e answer
+  refused new (Full n room) answer runs allowed tells_full cause same is_full is_fault =
+      let short : room < n = omega (arith, cause.1, cause.2, cause.3) in
+      subst (StepCause old new e) (sym (is_full n room refl)) (runs, allowed, cause.2 ∙ needed, cause.3, short, same_engine new old cause.4 same)
+  refused new Fault answer runs allowed tells_full cause same is_full is_fault =
+      let fits = fits_unless_full (Err Fault) runs tells_full (λ no. absurd (cc)) in
+      subst (StepCause old new e) (sym (is_fault refl)) (
+        record { runs = runs; allowed = allowed; fits = fits },
+        record { rose = cause.1.rose; stopped = cause.1.stopped; history = same; tail = cause.1.tail },
+      )
+  refused new (AlreadyStopped n) answer runs allowed tells_full cause same is_full is_fault =
+      let stopped = cause.0 in absurd (cc)
+
+  -- ---- at each moment of it
+
+  -- the body that it brings is the entry's
+  its_body : append.body_of run ≡ body_of (length (history_of old) + 1) e
+  its_body = brings (length (history_of old) + 1) e run is.bytes
+
+  -- there is a block behind it for the next gate
+  inside : need_of e ≤ room_of old → tail_of old + need_of e < blocks_of old
+  inside fits =
+      let below : tail_of old < blocks_of old = old.log.tail_inside in
+      omega arith
+
+  pub moments : (after : Log D disk) → need_of e ≤ room_of old → IsAtRest old → log.LogLeaves old.log after (append.IsMoment (disk.contents (device old)) (tail_of old) (bodies (history_of old)) (append.body_of run)) → log.LogLeaves old.log after (IsBeforeOrAfter (disk.size (device old)) (history_of old) e)
+  moments after fits rest leaves =
+      let h = history_of old in
+      let contents = disk.contents (device old) in
+      weakens disk.calls disk.since (device old) (log.device after) (append.IsMoment contents (tail_of old) (bodies h) (append.body_of run)) (IsBeforeOrAfter (disk.size (device old)) h e)
+      (before_or_after (disk.size (device old)) contents (blocks_of old) (tail_of old) h rest.stands e is.spelled (inside fits) (append.body_of run) its_body)
+      leaves
+
+  -- where it fails: without a call of the device, or by the device
+  pub moments_of_fault : (after : Log D disk) (fault : AppendFault) → IsFalse (is_stopped old) → TellsFull (Err fault) → append.AppendCause old.log after run fault → ((c : Image) → disk.since (device old) (disk.calls (device old)) c → disk.image (device old) c) → IsAtRest old → log.LogLeaves old.log after (append.IsMoment (disk.contents (device old)) (tail_of old) (bodies (history_of old)) (append.body_of run)) → log.LogLeaves old.log after (IsBeforeOrAfter (disk.size (device old)) (history_of old) e)
+  moments_of_fault after (Full n room) runs tells_full cause only_now rest leaves =
+      subst (λ l. log.LogLeaves old.log l (IsBeforeOrAfter (disk.size (device old)) (history_of old) e)) (sym cause.4) (no_moment old e only_now rest)
+  moments_of_fault after Fault runs tells_full cause only_now rest leaves =
+      moments after (fits_unless_full (Err Fault) runs tells_full (λ no. absurd (cc))) rest leaves
+  moments_of_fault after (AlreadyStopped n) runs tells_full cause only_now rest leaves =
+      let stopped = cause.0 in absurd (cc)
+
+  -- ---- where it succeeds
+
+  module _ (new : Engine D disk) (history : history_of new ≡ history_of old ++ e ∷ []) (appended : append.IsAppended old.log new.log run) where
+    tail_after : tail_of new ≡ tail_of old + need_of e
+    tail_after = appended.tail ∙ ap (λ n. tail_of old + n) needed
+
+    pub stepped : (receipt : Receipt) → need_of e ≤ room_of old → rejection (history_of old) e ≡ None → IsReceipt (history_of old) e receipt → IsStepped old new e receipt
+    stepped receipt fits allowed is_receipt = record {
+      could = record { runs = appended.ran; allowed = allowed; fits = fits };
+      history = history;
+      tail = tail_after;
+      runs = appended.runs;
+      is_receipt = is_receipt;
+    }
+
+    pub at_rest : need_of e ≤ room_of old → log.KeepsBounds old.log new.log → IsAtRest old → Published (disk.contents (device old)) (4096 * (tail_of old + 1)) run (4096 * tail_of old) gate_block (disk.contents (device new)) → log.IsAtRest new.log (bodies (history_of old) ++ append.body_of run ∷ []) → IsAtRest new
+    at_rest fits kept rest written log_rests =
+        let h = history_of old in
+        let size = disk.size (device old) in
+        let now = disk.contents (device new) in
+        let below : (k : ℕ) → k < 4096 * tail_of old → now k ≡ disk.contents (device old) k = λ k lt. written.elsewhere k (λ le. absurd (omega arith)) (λ le. absurd (omega arith)) in
+        let its_log = AtRest-IsLog now (disk.image (device new)) (tail_of new) (bodies h ++ append.body_of run ∷ []) log_rests in
+        let stands : StandsTo size now (blocks_of old) (tail_of old + need_of e) (h ++ e ∷ []) = stands_with size (disk.contents (device old)) (blocks_of old) (tail_of old) h rest.stands e is.spelled (inside fits) now below (subst (λ b. IsLog now first_gate (bodies h ++ b ∷ [])) its_body its_log) in
+        let sized = subst (λ n. StandsTo n now (blocks_of old) (tail_of old + need_of e) (h ++ e ∷ [])) (sym kept.device_kept.same_size) stands in
+        let blocked = subst (λ n. StandsTo (disk.size (device new)) now n (tail_of old + need_of e) (h ++ e ∷ [])) (sym kept.blocks) sized in
+        let tailed = subst (λ n. StandsTo (disk.size (device new)) now (blocks_of new) n (h ++ e ∷ [])) (sym tail_after) blocked in
+        record { stands = subst (StandsTo (disk.size (device new)) now (blocks_of new) (tail_of new)) (sym history) tailed; only = log_rests.only }
+
+  -- the ghost fields of the engine, which has the new log and the new history
+  pub counted_after : (after : Log D disk) (h : List Entry) → h ≡ history_of old ++ e ∷ [] → append.IsAppended old.log after run → log.extents_of after ≡ length h
+  counted_after after h history appended =
+      omega (arith, ap (length {A = Entry}) history, length-append (history_of old) (e ∷ []), appended.extents, old.counted)
+
+  pub ends_after : (after : Log D disk) (h : List Entry) → h ≡ history_of old ++ e ∷ [] → append.IsAppended old.log after run → 2 * length h + 4 ≤ log.tail_of after
+  ends_after after h history appended =
+      let tail : log.tail_of after ≡ tail_of old + need_of e = appended.tail ∙ ap (λ n. tail_of old + n) needed in
+      omega (arith, ap (length {A = Entry}) history, length-append (history_of old) (e ∷ []), old.ends)

@@ -1,0 +1,16 @@
+mod Runs
+mod Streams
+mod Allowed
+mod Standing
+mod Stepping
+mod Appending
+mod Contents
+mod Reasons
+mod Synced
+mod Reading
+mod Opened
+mod Sound
+mod BoardKeys
+mod BoardNumbers
+mod BoardRecent
+mod BoardIndex

@@ -1,0 +1,127 @@
+-- At most one history stands on a device, and what stands is damaged nowhere.
+use Rattle.std.specs.Prelude.{◌≡◌, ℕ, ◌+◌, ◌*◌, ◌<◌, ◌≤◌, ◌^◌, List, [], ◌∷◌, length}
+use Rattle.std.specs.List.{AllByRecursion}
+use Rattle.std.proofs.Common.{suc, refl, sym, ◌∙◌, ap, subst, arith, ⊎_elim}
+use Rattle.btr_disk.specs.Bytes.{Image, Has}
+use Rattle.btr_disk.specs.Gate.{IsOpen, IsClosed}
+use Rattle.btr_disk.specs.Addresses.{Has-one}
+use Rattle.btr_disk.specs.Pieces.{Has-take}
+use Rattle.btr_log.specs.declared.head.Head.{Head}
+use Rattle.btr_log.specs.Head.{head_bytes}
+use Rattle.btr_log.specs.HeadLaws.{length-head_bytes, head_bytes-one}
+use Rattle.btr_log.specs.Extents.{need, IsExtent, Extents, first_gate}
+use Rattle.btr_log.specs.ExtentLaws.{IsBody-one, IsBody-blocks, Extents-le, Extents-one}
+use Rattle.btr_log.specs.Found.{SpellsAt, IsDamagedExtent}
+use Rattle.btr_super.specs.declared.superblock.Super.{Super}
+use Rattle.btr_super.specs.OneChosen.{one_chosen, chosen_not_none, chosen_not_damaged}
+use Rattle.btr_hist.specs.declared.entry.Entry.{Entry}
+use Rattle.btr_entry.specs.Grammar.{IsSpelled}
+use Rattle.btr_engine.specs.Body.{body_of, bodies_from, bodies}
+use Rattle.btr_engine.specs.BodyLaws.{need-body_of, body_of-one}
+use Rattle.btr_engine.specs.Stands.{StandsTo, Stands}
+use Rattle.btr_engine.specs.Damage.{IsDamagedEntry, IsDamagedLog, IsDamaged}
+use Rattle.btr_engine.specs.Laws.{OneHistoryStands, WhatStandsIsSound}
+
+-- ---- one history
+
+-- each extent has two blocks at least
+extents-long : (image : Image) (gate number : ℕ) (h : List Entry) (tail : ℕ) → Extents image gate (bodies_from number h) tail → gate + 2 * length h ≤ tail
+extents-long image gate number [] tail same = omega arith
+extents-long image gate number (e ∷ h) tail is =
+    omega (arith, need-body_of number e, extents-long image (gate + need (body_of number e)) (suc number) h tail is.1)
+
+-- the bodies tell the entries
+bodies-one : (number : ℕ) (h k : List Entry) → 1 ≤ number → number + length h < 2 ^ 64 → AllByRecursion IsSpelled h → AllByRecursion IsSpelled k → bodies_from number h ≡ bodies_from number k → h ≡ k
+bodies-one number [] [] some few all all_too same = refl
+bodies-one number [] (f ∷ k) some few all all_too same = cc
+bodies-one number (e ∷ h) [] some few all all_too same = cc
+bodies-one number (e ∷ h) (f ∷ k) some few all all_too same =
+    let heads : body_of number e ≡ body_of number f = cc in
+    let tails : bodies_from (suc number) h ≡ bodies_from (suc number) k = cc in
+    let first : e ≡ f = body_of-one number e f some (omega (arith, few)) all.0 all_too.0 heads in
+    let rest : h ≡ k = bodies-one (suc number) h k (omega arith) (omega (arith, few)) all.1 all_too.1 tails in
+    cc
+
+-- the numbers of a history's entries are small
+short : (size : ℕ) (image : Image) (blocks tail : ℕ) (h : List Entry) → StandsTo size image blocks tail h → 1 + length h < 2 ^ 64
+short size image blocks tail h st =
+    omega (arith, extents-long image first_gate 1 h tail st.extents, st.inside, st.same_blocks, st.chosen.stands.spelled.keeps.blocks_to)
+
+pub one_history : OneHistoryStands
+one_history size image h k first second =
+    let s = first.stands in
+    let t = second.stands in
+    let same = (Extents-one image first_gate (bodies h) (bodies k) first.tail second.tail s.extents s.closed t.extents t.closed).0 in
+    bodies-one 1 h k (omega arith) (short size image first.blocks first.tail h s) s.spelled t.spelled same
+
+-- ---- no damage
+
+-- the gate of a damaged entry is open
+damaged_open : (image : Image) (blocks gate number block : ℕ) → IsDamagedEntry image blocks gate number block → IsOpen image gate
+damaged_open image blocks gate number block damage =
+    ⊎_elim (λ d. d.is_open) (λ n. n.extent.is_open) damage
+
+-- an extent that holds its entry, inside the blocks, is not damaged
+module _ (image : Image) (blocks gate number block : ℕ) (e : Entry) (head : Head) (spelled : IsSpelled e) (extent : IsExtent image gate (body_of number e) head) (inside : gate + need (body_of number e) < blocks) where
+  head_stands : Has image (4096 * (gate + 1)) (head_bytes head)
+  head_stands =
+      subst (Has image (4096 * (gate + 1))) extent.is_body.spells.spelling (Has-take image (4096 * (gate + 1)) 64 (body_of number e) extent.stands)
+
+  -- the head there is the body's
+  one_head : (other : Head) → SpellsAt image (gate + 1) other → other ≡ head
+  one_head other at =
+      head_bytes-one other head at.is_head extent.is_body.spells.is_head
+      (Has-one image (4096 * (gate + 1)) (head_bytes other) (head_bytes head) (length-head_bytes other ∙ sym (length-head_bytes head)) at.stands head_stands)
+
+  room : (other : Head) → SpellsAt image (gate + 1) other → blocks ≤ gate + other.n + 1 → ⊥
+  room other at much =
+      let n : other.n ≡ head.n = ap (λ (h : Head). h.n) (one_head other at) in
+      omega (arith, n, much, inside, IsBody-blocks (body_of number e) head extent.is_body)
+
+  extent_sound : IsDamagedExtent image blocks gate block → ⊥
+  extent_sound damaged =
+      ⊎_elim
+      (λ end. let at = end.0 in omega (arith, at, inside, need-body_of number e))
+      (λ body. ⊎_elim (λ none. none head (record { is_head = extent.is_body.spells.is_head; stands = head_stands })) (λ few. room few.0 few.1 few.2) body.2)
+      damaged.damage
+
+  entry_sound : IsDamagedEntry image blocks gate number block → ⊥
+  entry_sound damage =
+      ⊎_elim extent_sound
+      (λ n. n.no_entry e spelled (IsBody-one image (4096 * (gate + 1)) n.body (body_of number e) n.head head n.extent.is_body extent.is_body n.extent.stands extent.stands))
+      damage
+
+-- two walks from one gate, of which one comes to a closed gate, and the other to a damaged entry
+walk_sound : (image : Image) (blocks block gate number : ℕ) (h k : List Entry) (tail other : ℕ) → AllByRecursion IsSpelled h → Extents image gate (bodies_from number h) tail → IsClosed image tail → tail < blocks → Extents image gate (bodies_from number k) other → IsDamagedEntry image blocks other (length k + number) block → ⊥
+walk_sound image blocks block gate number [] [] tail other all x closed inside y damage =
+    closed (subst (IsOpen image) (sym y ∙ x) (damaged_open image blocks other (length {A = Entry} [] + number) block damage))
+walk_sound image blocks block gate number [] (f ∷ k) tail other all x closed inside y damage =
+    closed (subst (IsOpen image) x y.0.1.is_open)
+walk_sound image blocks block gate number (e ∷ h) [] tail other all x closed inside y damage =
+    let le = Extents-le image (gate + need (body_of number e)) (bodies_from (suc number) h) tail x.1 in
+    let at : length {A = Entry} [] + number ≡ number = omega arith in
+    let here = subst (λ g. IsDamagedEntry image blocks g number block) (sym y) (subst (λ n. IsDamagedEntry image blocks other n block) at damage) in
+    entry_sound image blocks gate number block e x.0.0 all.0 x.0.1 (omega (arith, le, inside)) here
+walk_sound image blocks block gate number (e ∷ h) (f ∷ k) tail other all x closed inside y damage =
+    let same = IsBody-one image (4096 * (gate + 1)) (body_of number e) (body_of number f) x.0.0 y.0.0 x.0.1.is_body y.0.1.is_body x.0.1.stands y.0.1.stands in
+    let rest = subst (λ b. Extents image (gate + need b) (bodies_from (suc number) k) other) (sym same) y.1 in
+    let at : length (f ∷ k) + number ≡ length k + suc number = omega arith in
+    walk_sound image blocks block (gate + need (body_of number e)) (suc number) h k tail other all.1 x.1 closed inside rest (subst (λ n. IsDamagedEntry image blocks other n block) at damage)
+
+log_sound : (size block : ℕ) (image : Image) (blocks tail : ℕ) (h : List Entry) → StandsTo size image blocks tail h → IsDamagedLog image blocks block → ⊥
+log_sound size block image blocks tail h st log =
+    walk_sound image blocks block first_gate 1 h log.entries tail log.gate st.spelled st.extents st.closed st.inside log.extents log.damage
+
+damage_none : (size block : ℕ) (image : Image) (h : List Entry) → Stands size image h → IsDamaged size image block → ⊥
+damage_none size block image h first damaged =
+    let st = first.stands in
+    ⊎_elim
+    (chosen_not_damaged size image st.super block st.chosen)
+    (λ log.
+    let same : log.0.blocks ≡ first.blocks = ap (λ (s : Super). s.blocks) (one_chosen size image log.0 st.super log.1 st.chosen) ∙ st.same_blocks in
+    log_sound size block image first.blocks first.tail h st (subst (λ b. IsDamagedLog image b block) same log.2))
+    damaged
+
+pub sound : WhatStandsIsSound
+sound size block image h first =
+    (chosen_not_none size image first.stands.super first.stands.chosen, damage_none size block image h first)

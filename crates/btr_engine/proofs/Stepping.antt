@@ -1,0 +1,110 @@
+-- What a step leaves of an engine: at each moment, after a refusal, and after the entry was taken.
+use Rattle.std.specs.Prelude.{◌≡◌, ℕ, ◌+◌, ◌*◌, ◌/◌, ◌<◌, ◌≤◌, ◌^◌, List, [], ◌∷◌, ◌++◌, length, Result, Ok, Err, Option, Some, None, IsFalse, IfSome, IsNone, IfErr, IsErr}
+use Rattle.std.specs.Result.{IsErrAnd}
+use Rattle.std.specs.Coded.{le_prop}
+use Rattle.std.proofs.Common.{refl, sym, ◌∙◌, ap, subst, inl, arith, length-append}
+use Rattle.std.proofs.Math.Nat.{ℕ_set}
+use mathlib.Core.HLevel.{is_prop→PathP}
+use Rattle.btr_disk.specs.declared.disk.Disk.{Ghosts}
+use Rattle.btr_disk.specs.Bytes.{Image}
+use Rattle.btr_disk.specs.Gate.{zeros, length-zeros}
+use Rattle.btr_disk.specs.Runs.{begins}
+use Rattle.btr_log.specs.Extents.{need}
+use Rattle.btr_log.specs.Append as append
+use Rattle.btr_log.specs.AppendLaws.{body_of-append, IsAppendRun-from}
+use Rattle.btr_log.specs.Log as log
+use Rattle.btr_hist.specs.declared.entry.Entry.{Entry}
+use Rattle.btr_hist.specs.declared.entry.Entry.TheVariants.{Create, Commit}
+use Rattle.btr_hist.specs.Machine as machine
+use Rattle.btr_entry.specs.Grammar.{spelling, IsSpelled}
+use Rattle.btr_engine.specs.declared.engine.Engine.{Engine}
+use Rattle.btr_engine.specs.declared.step.Receipt.{Receipt}
+use Rattle.btr_engine.specs.declared.step.StepFault.{StepFault}
+use Rattle.btr_engine.specs.declared.step.StepFault.TheVariants.{Want}
+use Rattle.btr_engine.specs.Body.{body_of, head_of, need_of, bodies}
+use Rattle.btr_engine.specs.BodyLaws.{length-body_of, IsBody-body_of, need-body_of}
+use Rattle.btr_engine.specs.Engine.{device, history_of, blocks_of, tail_of, is_stopped, IsAtRest, EngineLeaves}
+use Rattle.btr_engine.specs.Step.{IsBeforeOrAfter, StepCause}
+use Rattle.btr_engine.proofs.Standing.{stands_still}
+
+-- ---- the run of an entry
+
+module _ (number : ℕ) (e : Entry) (run : List ℕ) (is : run ≡ body_of number e ++ zeros 4096) where
+  -- the body that it brings
+  pub brings : append.body_of run ≡ body_of number e
+  brings = ap append.body_of is ∙ body_of-append (body_of number e)
+
+  pub needs : need (append.body_of run) ≡ need_of e
+  needs = ap need brings ∙ need-body_of number e
+
+  pub is_append_run : 1 ≤ number → number < 2 ^ 64 → IsSpelled e → append.IsAppendRun run
+  is_append_run some few spelled =
+      subst append.IsAppendRun (sym is) (IsAppendRun-from (body_of number e) (head_of number (length (spelling e))) (IsBody-body_of number e some few spelled))
+
+-- the number of a receipt
+-- the blocks of a run are those that the entry needs
+pub blocks_of_run : (number : ℕ) (e : Entry) (n : ℕ) → n ≡ length (body_of number e ++ zeros 4096) → n / 4096 ≡ need_of e
+blocks_of_run number e n is =
+    omega (arith, is, length-append (body_of number e) (zeros 4096), length-body_of number e, length-zeros 4096)
+
+pub number_of_receipt : (h : List Entry) (e : Entry) → (machine.receipt h e).number ≡ length h + 1
+number_of_receipt h (Create id) = refl
+number_of_receipt h (Commit s cut added) = refl
+
+-- ---- histories that lose their last entry
+
+-- what is pushed and popped again leaves the history
+pub push_pop : (h k : List Entry) (e f : Entry) → h ++ e ∷ [] ≡ k ++ f ∷ [] → k ≡ h
+push_pop [] [] e f same = refl
+push_pop [] (x ∷ []) e f same = absurd (cc)
+push_pop [] (x ∷ y ∷ k) e f same = absurd (cc)
+push_pop (x ∷ []) [] e f same = absurd (cc)
+push_pop (x ∷ y ∷ h) [] e f same = absurd (cc)
+push_pop (x ∷ h) (y ∷ k) e f same =
+    let rest : h ++ e ∷ [] ≡ k ++ f ∷ [] = cc in
+    let more = push_pop h k e f rest in
+    let first : x ≡ y = cc in
+    cc
+
+-- what is pushed, and then popped
+pub popped : (taken : Option Entry) (h pushed k : List Entry) (e : Entry) → pushed ≡ h ++ e ∷ [] → IfSome taken (λ f. pushed ≡ k ++ f ∷ []) → (IsNone taken → (pushed ≡ []) × (k ≡ [])) → k ≡ h
+popped (Some f) h pushed k e grown last none = push_pop h k e f (sym grown ∙ last)
+popped None h pushed k e grown last none =
+    let empty : pushed ≡ [] = (none refl).0 in
+    absurd (omega (arith, ap (length {A = Entry}) grown, ap (length {A = Entry}) empty, length-append h (e ∷ [])))
+
+-- what is not some is none
+pub none_from : {A : Type 0} (o : Option A) → ((x : A) → o ≡ Some x → ⊥) → o ≡ None
+none_from None other = refl
+none_from (Some x) other = absurd (other x refl)
+
+module _ {D : Type 0} {disk : Ghosts D} where
+  -- ---- where nothing was done
+
+  pub same_engine : (a b : Engine D disk) → a.log ≡ b.log → a.history ≡ b.history → a ≡ b
+  same_engine a b logs histories = λ i. record {
+    log = logs i;
+    history = histories i;
+    counted = is_prop→PathP (λ j. (logs j).extents ≡ length (histories j)) (λ j. ℕ_set (logs j).extents (length (histories j))) a.counted b.counted i;
+    ends = is_prop→PathP (λ j. 2 * length (histories j) + 4 ≤ (logs j).tail) (λ j. le_prop) a.ends b.ends i;
+  }
+
+  -- what stands on the device is the log of the bodies, at rest
+  pub log_at_rest : (engine : Engine D disk) → IsAtRest engine → log.IsAtRest engine.log (bodies (history_of engine))
+  log_at_rest engine rest =
+      record { extents = rest.stands.extents; closed = rest.stands.closed; only = rest.only }
+
+  -- no call of the device was made: `only_now` is its law
+  pub no_moment : (engine : Engine D disk) (e : Entry) → ((c : Image) → disk.since (device engine) (disk.calls (device engine)) c → disk.image (device engine) c) → IsAtRest engine → EngineLeaves engine engine (IsBeforeOrAfter (disk.size (device engine)) (history_of engine) e)
+  no_moment engine e only_now rest =
+      begins disk.calls disk.since (device engine) (IsBeforeOrAfter (disk.size (device engine)) (history_of engine) e) (λ c now. inl (record {
+        blocks = blocks_of engine;
+        tail = tail_of engine;
+        stands = stands_still (disk.size (device engine)) (disk.contents (device engine)) (blocks_of engine) (tail_of engine) (history_of engine) rest.stands c (rest.only.each c (only_now c now));
+      }))
+
+  -- there was no memory
+  pub no_memory : (old new : Engine D disk) (e : Entry) (answer : Result Receipt StepFault) → IsErr answer × IsErrAnd answer (λ fault. fault ≡ Want) → IsFalse (is_stopped old) → new.log ≡ old.log → history_of new ≡ history_of old → IfErr answer (StepCause old new e)
+  no_memory old new e (Ok receipt) is runs logs histories = absurd (cc)
+  no_memory old new e (Err fault) is runs logs histories =
+      subst (StepCause old new e) (sym is.1) (runs, same_engine new old logs histories)

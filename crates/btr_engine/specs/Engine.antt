@@ -1,0 +1,56 @@
+-- What contracts see of an engine: its device, its history, the blocks that are left, and whether it is stopped.
+use Rattle.std.specs.Prelude.{◌≡◌, ℕ, Bool, List}
+use Rattle.btr_disk.specs.declared.disk.Disk.{Ghosts}
+use Rattle.btr_disk.specs.Bytes.{Image}
+use Rattle.btr_disk.specs.Images.{Only}
+use Rattle.btr_disk.specs.Moments.{Leaves}
+use Rattle.btr_log.specs.Counts.{KeepsCounts}
+use Rattle.btr_log.specs.Extents.{left}
+use Rattle.btr_log.specs.Log as log
+use Rattle.btr_hist.specs.declared.entry.Entry.{Entry}
+use Rattle.btr_engine.specs.declared.engine.Engine.{Engine}
+use Rattle.btr_engine.specs.Stands.{StandsTo}
+
+module _ {D : Type 0} {disk : Ghosts D} where
+  -- the device
+  abbrev pub device : Engine D disk → D
+  device e = log.device e.log
+
+  -- the entries, in order
+  abbrev pub history_of : Engine D disk → List Entry
+  history_of e = e.history
+
+  -- the blocks of the store, from block 0 on
+  abbrev pub blocks_of : Engine D disk → ℕ
+  blocks_of e = log.blocks_of e.log
+
+  -- the block of the gate behind the last extent
+  abbrev pub tail_of : Engine D disk → ℕ
+  tail_of e = log.tail_of e.log
+
+  -- the blocks behind that gate
+  abbrev pub room_of : Engine D disk → ℕ
+  room_of e = left (blocks_of e) (tail_of e)
+
+  -- whether a step failed by the device
+  abbrev pub is_stopped : Engine D disk → Bool
+  is_stopped e = log.is_stopped e.log
+
+  -- the device's count of faults as the engine was opened
+  abbrev pub faults_at : Engine D disk → ℕ
+  faults_at e = log.faults_at e.log
+
+  -- the history stands on the device as it reads, and a crash leaves nothing else
+  pub record IsAtRest (e : Engine D disk) : Type 0 where
+    pub stands : StandsTo (disk.size (device e)) (disk.contents (device e)) (blocks_of e) (tail_of e) (history_of e)
+    pub only : Only (disk.contents (device e)) (disk.image (device e))
+
+  -- a crash at any moment between the two leaves an image that has P
+  abbrev pub EngineLeaves : Engine D disk → Engine D disk → (Image → Type 0) → Type 0
+  EngineLeaves old new P = Leaves disk.calls disk.since (device old) (device new) P
+
+  -- the store's blocks and the count of faults at the opening stay, and the device is the same one
+  pub record KeepsOpening (old new : Engine D disk) : Type 0 where
+    pub blocks : blocks_of new ≡ blocks_of old
+    pub faults : faults_at new ≡ faults_at old
+    pub device_kept : KeepsCounts disk.size disk.calls disk.faults (device old) (device new)

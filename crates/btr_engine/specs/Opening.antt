@@ -1,0 +1,48 @@
+-- What an opening promises: the engine that it gives, and why there is none.
+use Rattle.std.specs.Prelude.{◌≡◌, ℕ, ◌≤◌, false}
+use Rattle.btr_disk.specs.declared.disk.Disk.{Ghosts}
+use Rattle.btr_disk.specs.Bytes.{Image, Same}
+use Rattle.btr_disk.specs.Causes.{Counted, Rose}
+use Rattle.btr_log.specs.Counts.{KeepsCounts}
+use Rattle.btr_super.specs.Choose.{HasNoSuper}
+use Rattle.btr_super.specs.Unwritten.{IsUnwritten}
+use Rattle.btr_engine.specs.declared.engine.Engine.{Engine}
+use Rattle.btr_engine.specs.declared.opening.OpenCause.{OpenCause}
+use Rattle.btr_engine.specs.declared.opening.OpenCause.TheVariants.{NotAStore, Damaged, Fault, Want}
+use Rattle.btr_engine.specs.declared.opening.OpenFault.{OpenFault}
+use Rattle.btr_engine.specs.Damage.{IsDamaged}
+use Rattle.btr_engine.specs.Engine.{device, is_stopped, faults_at, IsAtRest}
+
+-- why a device with these bytes is not opened, where it tells what it holds or not
+abbrev pub IsCause : Type 0 → ℕ → Image → ℕ → ℕ → OpenCause → Type 0
+IsCause tells size image before after NotAStore = tells → HasNoSuper size image
+IsCause tells size image before after (Damaged block) = tells → IsDamaged size image block
+IsCause tells size image before after Fault = Rose before after
+IsCause tells size image before after Want = Unit {0}
+
+module _ {D : Type 0} (disk : Ghosts D) where
+  -- the device is the same one, and nothing was written on it
+  pub record KeepsDisk (old new : D) : Type 0 where
+    pub counts : KeepsCounts disk.size disk.calls disk.faults old new
+    pub unwritten : disk.tells → IsUnwritten disk.calls disk.contents disk.image disk.since old new
+
+  -- the first call was a sync that succeeded, and a crash since it returned left what a read gives
+  pub record SyncedFirst (old new : D) : Type 0 where
+    pub synced : ℕ
+    pub counted : Counted (disk.calls old) synced
+    pub past : synced ≤ disk.calls new
+    pub each : (c : Image) → disk.since new synced c → Same (disk.contents new) c
+
+  -- the engine runs, on this device, whose bytes are its history's
+  pub record IsOpened (old : D) (engine : Engine D disk) : Type 0 where
+    pub kept : KeepsDisk old (device engine)
+    pub runs : is_stopped engine ≡ false
+    pub faults : faults_at engine ≤ disk.faults (device engine)
+    pub later : disk.faults old ≤ faults_at engine
+    pub at_rest : disk.tells → IsAtRest engine
+    pub moments : disk.tells → SyncedFirst old (device engine)
+
+  -- the device is handed back, with the cause
+  pub record IsNotOpened (old : D) (fault : OpenFault D) : Type 0 where
+    pub kept : KeepsDisk old fault.disk
+    pub cause : IsCause disk.tells (disk.size old) (disk.contents old) (disk.faults old) (disk.faults fault.disk) fault.cause
