@@ -1,5 +1,5 @@
 -- Why a `format` ends so.
-use Rattle.std.proofs.Common.{◌≡◌, ℕ, ◌<◌, ◌≤◌, ◌↔◌, Some, Result, Ok, Err, OnOk, refl, sym, ap, subst, arith, inl, inr, ⊎_elim}
+use Rattle.std.proofs.Common.{◌≡◌, ℕ, ◌<◌, ◌≤◌, ◌↔◌, Result, Ok, Err, OnOk, refl, subst, arith, inl, inr, ⊎_elim}
 use Rattle.std.proofs.lemmas.Bool.{cases_lt}
 use Rattle.btr_disk.specs.declared.disk.Disk.{Ghosts}
 use Rattle.btr_disk.specs.Images.{Only}
@@ -7,9 +7,8 @@ use Rattle.btr_super.specs.Unwritten.{IsUnwritten}
 use Rattle.btr_super.specs.Format.{IsTooSmall, IsOccupied, HasClosedGates, Formatted}
 use Rattle.btr_super.specs.declared.formatting.FormatFault.{FormatFault}
 use Rattle.btr_super.specs.declared.formatting.FormatFault.TheVariants as faults
-use Rattle.btr_top.specs.declared.words.Command.TheVariants.{Format}
 use Rattle.btr_top.specs.declared.ending.Ending.TheVariants as endings
-use Rattle.btr_top.specs.Run.{Cause}
+use Rattle.btr_top.specs.Run.{FormatCause}
 
 module _ {T D : Type 0} (disk : Ghosts D) where
   -- what a format says of its answer
@@ -39,7 +38,7 @@ module _ {T D : Type 0} (disk : Ghosts D) where
         second = λ opened. none 2 (inr (refl, (λ first. none 0 (inl (refl, first))), opened));
       }
 
-  pub after_ok : (blocks : ℕ) (old new : D) (x : T) → FormatFacts blocks old new (Ok x) → Cause disk (Some (Format blocks)) old new (endings.Formatted blocks)
+  pub after_ok : (blocks : ℕ) (old new : D) (x : T) → FormatFacts blocks old new (Ok x) → FormatCause disk blocks old new (endings.Formatted blocks)
   after_ok blocks old new x facts =
       let le : blocks ≤ disk.size old = fits blocks old new (Ok x) facts (λ e. cc) in (
         refl,
@@ -51,12 +50,10 @@ module _ {T D : Type 0} (disk : Ghosts D) where
         },
       )
 
-  pub after_occupied : (blocks : ℕ) (old new : D) (why : FormatFault) (block : ℕ) → why ≡ faults.Occupied block → FormatFacts blocks old new (Err why) → Cause disk (Some (Format blocks)) old new endings.Occupied
+  pub after_occupied : (blocks : ℕ) (old new : D) (why : FormatFault) (block : ℕ) → why ≡ faults.Occupied block → FormatFacts blocks old new (Err why) → FormatCause disk blocks old new endings.Occupied
   after_occupied blocks old new why block e given =
       let facts = subst (λ f. FormatFacts blocks old new (Err f)) e given in
       let le : blocks ≤ disk.size old = fits blocks old new (Err (faults.Occupied block)) facts (λ e. cc) in (
-        blocks,
-        refl,
         le,
         λ told. record {
           block = block;
@@ -65,8 +62,8 @@ module _ {T D : Type 0} (disk : Ghosts D) where
         },
       )
 
-  pub after_too_small : (blocks : ℕ) (old new : D) (why : FormatFault) (asked has : ℕ) → why ≡ faults.TooSmall asked has → FormatFacts blocks old new (Err why) → Cause disk (Some (Format blocks)) old new (endings.TooSmall asked has)
+  pub after_too_small : (blocks : ℕ) (old new : D) (why : FormatFault) (asked has : ℕ) → why ≡ faults.TooSmall asked has → FormatFacts blocks old new (Err why) → FormatCause disk blocks old new (endings.TooSmall asked has)
   after_too_small blocks old new why asked has e given =
       let facts = subst (λ f. FormatFacts blocks old new (Err f)) e given in
       let small = (facts.too_small asked has).0 refl in
-      (ap (λ n. Some (Format n)) (sym small.asked_is), small.has_is, omega (arith, small.short, small.asked_is, small.has_is), facts.uncalled small.short)
+      (small.asked_is, small.has_is, omega (arith, small.short, small.asked_is, small.has_is), facts.uncalled small.short)

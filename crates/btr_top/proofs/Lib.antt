@@ -1,1 +1,15 @@
+-- why a format ends so
 mod Formats
+-- what lines do to a store
+mod Replies
+mod Fronts
+mod Leaving
+mod Lives
+mod Openings
+mod Legality
+-- why a script ends so
+mod Opened
+-- where nothing fails
+mod Room
+mod Mild
+mod Completes

@@ -2,7 +2,7 @@
 use Rattle.std.specs.Prelude.{◌≡◌, ◌⊎◌, ℕ, ◌≤◌, List, ◌++◌, length, take}
 use Rattle.btr_io.specs.Faults.{Rose}
 use Rattle.btr_top.specs.declared.ending.Ending.{Ending}
-use Rattle.btr_top.specs.declared.ending.Ending.TheVariants.{NoMemory}
+use Rattle.btr_top.specs.declared.ending.Ending.TheVariants.{NoMemory, Played}
 use Rattle.btr_top.specs.Ending.{status_of, text_of}
 
 -- the sink took the first bytes of the text, or all of them
@@ -16,8 +16,13 @@ WritesText tells before now faults_before faults_now text wanted status =
     ((status ≡ wanted) × (tells → now ≡ before ++ text))
     ⊎ ((status ≡ 4) × Rose faults_before faults_now × (tells → TookFront before text now))
 
--- what the ending says was written so, or where there was no memory for it, that alone
+-- the line of an ending is made for it; the replies of a script are there already
+abbrev pub NeedsLine : Ending → Type 0
+NeedsLine (Played status text) = ⊥
+NeedsLine e = Unit {0}
+
+-- what the ending says was written so, or where there was no memory for its line, that alone
 abbrev pub Shows : Type 0 → List ℕ → List ℕ → ℕ → ℕ → Ending → ℕ → Type 0
 Shows tells before now faults_before faults_now e status =
     WritesText tells before now faults_before faults_now (text_of e) (status_of e) status
-    ⊎ WritesText tells before now faults_before faults_now (text_of NoMemory) 9 status
+    ⊎ (NeedsLine e × WritesText tells before now faults_before faults_now (text_of NoMemory) 9 status)

@@ -2,22 +2,36 @@
 ghost use Rattle.std.specs.Prelude.{◌≡◌, [], ◌∷◌, map, codes, decimal, IfOk};
 ghost use Rattle.btr_text.specs.Text.{line_text};
 ghost use Rattle.btr_top.specs.Ending.{status_of, text_of};
+ghost use Rattle.btr_top.specs.Showing.{NeedsLine};
 
+use crate::scripting::MOST_INPUT;
 use btr_text::append_line;
 use itoa::Buffer;
 use std::alloc::{AllocError, Global};
 
 /// How a run ends.
-#[derive(Clone, Copy, Debug, PartialEq, Eq)]
+#[derive(Debug, Drop)]
 pub enum Ending {
     /// The words are no command.
     Usage,
 
-    /// There was no memory for the text of another ending.
+    /// The source failed.
+    NoSource,
+
+    /// The source gave more than may be read.
+    TooLong,
+
+    /// There was no memory: for the input or its lines, or for the text of another ending.
     NoMemory,
 
     /// A device call failed.
     NoDevice,
+
+    /// The device has no store.
+    NoStore,
+
+    /// This block of the device breaks the format of a store.
+    Damaged { block: u64 },
 
     /// The device has a store already.
     Occupied,
@@ -27,6 +41,9 @@ pub enum Ending {
 
     /// An empty store of so many blocks was made.
     Formatted { blocks: u64 },
+
+    /// A script was played to its end, with the status and the text of its replies.
+    Played { status: u8, text: Vec<u8> },
 }
 
 /// The status of an ending whose text is written whole.
@@ -35,26 +52,45 @@ pub fn status_of(ending: &Ending) -> u8
 {
     match ending {
         Ending::Usage => 2,
+        Ending::NoSource => 3,
+        Ending::TooLong => 10,
         Ending::NoMemory => 9,
         Ending::NoDevice => 5,
+        Ending::NoStore => 6,
+        Ending::Damaged { .. } => 7,
         Ending::Occupied => 6,
         Ending::TooSmall { .. } => 8,
         Ending::Formatted { .. } => 0,
+        Ending::Played { status, .. } => *status,
     }
 }
 
-/// The line that an ending says. An `Err` is want of memory.
+/// The line that an ending says, but for a script that was played, which has its text already. An `Err` is want of memory.
 pub fn text_of(alloc: Global, ending: &Ending) -> Result<Vec<u8>, AllocError>
+    requires { NeedsLine ending.now }
     ensures { IfOk result (λ t. t.items ≡ text_of ending.now) }
 {
     match ending {
         Ending::Usage => line(alloc, b"no", &[b"usage"]),
+        Ending::NoSource => line(alloc, b"no", &[b"source"]),
+        Ending::TooLong => numbered_text(alloc, b"long", MOST_INPUT),
         Ending::NoMemory => line(alloc, b"no", &[b"memory"]),
         Ending::NoDevice => line(alloc, b"no", &[b"device"]),
+        Ending::NoStore => line(alloc, b"no", &[b"store"]),
+        Ending::Damaged { block } => numbered_text(alloc, b"damaged", *block),
         Ending::Occupied => line(alloc, b"no", &[b"occupied"]),
         Ending::TooSmall { asked, blocks } => too_small_text(alloc, *asked, *blocks),
         Ending::Formatted { blocks } => formatted_text(alloc, *blocks),
+        Ending::Played { .. } => Ok(Vec::new(alloc)),
     }
+}
+
+/// A refusal of this word, with a number.
+fn numbered_text(alloc: Global, word: &[u8], number: u64) -> Result<Vec<u8>, AllocError>
+    ensures { IfOk result (λ t. t.items ≡ line_text (codes "no" ∷ word.now ∷ decimal number ∷ [])) }
+{
+    let mut text = Buffer::new();
+    line(alloc, b"no", &[word, text.format(number).as_bytes()])
 }
 
 /// That a device has fewer blocks than were asked for.

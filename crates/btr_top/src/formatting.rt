@@ -1,7 +1,6 @@
 // The command that makes an empty store.
-ghost use Rattle.std.specs.Prelude.{◌≡◌, ℕ, ◌^◌, ◌≤◌, Some};
-ghost use Rattle.btr_top.specs.declared.words.Command.TheVariants.{Format};
-ghost use Rattle.btr_top.specs.Run.{Cause, FormatLeaves};
+ghost use Rattle.std.specs.Prelude.{◌≡◌, ℕ, ◌^◌, ◌≤◌};
+ghost use Rattle.btr_top.specs.Run.{FormatCause, FormatLeaves};
 
 use crate::ending::Ending;
 use btr_disk::Disk;
@@ -12,7 +11,7 @@ pub(crate) fn format_device<D: Disk>(disk: &mut D, blocks: u64) -> Ending
     requires least { 8 ≤ blocks }
     requires greatest { blocks ≤ 2 ^ 32 }
     ensures size { D.size disk.new ≡ D.size disk.old }
-    ensures cause { Cause ⟦<D as Disk>⟧ (Some (Format blocks)) disk.old disk.new result }
+    ensures cause { FormatCause ⟦<D as Disk>⟧ blocks disk.old disk.new result }
     ensures moments { D.tells → FormatLeaves ⟦<D as Disk>⟧ blocks disk.old disk.new }
 {
     match format(disk, blocks) {

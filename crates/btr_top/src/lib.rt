@@ -6,16 +6,23 @@
 
 // what is typed
 mod words;
-// the command
+// the commands
 mod formatting;
+mod lines;
+mod playing;
+mod scripting;
 // how a run ends, and what it writes
 mod ending;
 mod showing;
 // the whole
 mod running;
+// what holds of all scripts
+mod laws;
 
 pub use ending::Ending;
+pub use laws::lines_keep_legal;
 pub use running::{Outcome, run};
+pub use scripting::MOST_INPUT;
 pub use words::{Command, read_words};
 
 #[cfg(test)]

@@ -1,18 +1,20 @@
 // A whole run.
-ghost use Rattle.std.specs.Prelude.{◌≡◌, ◌⊎◌, ℕ, map, string_bytes, Some};
+ghost use Rattle.std.specs.Prelude.{◌≡◌, ◌⊎◌, ℕ, ◌≤◌, ◌^◌, map, string_bytes, Some};
 ghost use Rattle.btr_disk.specs.Causes.{Rose};
 ghost use Rattle.btr_io.specs.Faults.{Rose as SinkRose};
-ghost use Rattle.btr_top.specs.declared.words.Command.TheVariants.{Format};
+ghost use Rattle.btr_top.specs.declared.words.Command.TheVariants.{Format, Live};
 ghost use Rattle.btr_top.specs.declared.ending.Ending.{Ending as AnEnding};
 ghost use Rattle.btr_top.specs.Words.{command_of};
-ghost use Rattle.btr_top.specs.Run.{CanFormat, Cause, FormatLeaves};
+ghost use Rattle.btr_top.specs.Run.{CanFormat, CanLive, Cause, FormatCause, FormatLeaves};
 ghost use Rattle.btr_top.specs.Showing.{Shows};
 
 use crate::ending::Ending;
 use crate::formatting::format_device;
+use crate::scripting::{Ended, end_with, run_script};
 use crate::showing::show;
 use crate::words::{Command, read_words};
 use btr_disk::Disk;
+use btr_engine::what_stands_is_sound;
 use btr_io::{Sink, Source};
 use std::alloc::Global;
 
@@ -26,19 +28,20 @@ pub struct Outcome<D> {
     pub disk: D,
 }
 
-/// Runs the command that the words are: works on the device, and writes what it has to say to the sink. The source is not
-/// read, since the only command reads nothing, and of `rt` nothing is used.
+/// Runs the command that the words are: works on the device, and writes what it has to say to the sink. `live` reads the
+/// source to its end first; `format` reads nothing. Of `rt` nothing is used.
 pub fn run<R, S: Source, K: Sink, D: Disk + Send>(
     _rt: &R,
     alloc: Global,
     words: &[String],
-    _source: &mut S,
+    source: &mut S,
     sink: &mut K,
     disk: D,
 ) -> Outcome<D>
     ensures size { D.size result.disk ≡ D.size disk }
     // why it ends so, and what is written then
-    ensures ends { (e : AnEnding) × Cause ⟦<D as Disk>⟧ (command_of (map string_bytes words.now)) disk result.disk e
+    ensures ends { (e : AnEnding)
+        × Cause ⟦<S as Source>⟧ ⟦<D as Disk>⟧ (command_of (map string_bytes words.now)) source.old source.new disk result.disk e
         × Shows K.tells (K.written sink.old) (K.written sink.new) (K.faults sink.old) (K.faults sink.new) e result.status }
     ensures moments { D.tells → (blocks : ℕ) → command_of (map string_bytes words.now) ≡ Some (Format blocks)
         → FormatLeaves ⟦<D as Disk>⟧ blocks disk result.disk }
@@ -48,23 +51,44 @@ pub fn run<R, S: Source, K: Sink, D: Disk + Send>(
         → (Rose (D.faults disk) (D.faults result.disk) → ⊥)
         → (SinkRose (K.faults sink.old) (K.faults sink.new) → ⊥)
         → (result.status ≡ 0) ⊎ (result.status ≡ 9) }
-    ensures unread { _source.new ≡ _source.old }
+    // where a store stands that has room and nothing fails, each line is done or refused as the model refuses it
+    ensures lives { S.tells → D.tells → command_of (map string_bytes words.now) ≡ Some Live
+        → CanLive ⟦<S as Source>⟧ ⟦<D as Disk>⟧ source.old disk
+        → (SinkRose (S.faults source.old) (S.faults source.new) → ⊥)
+        → (Rose (D.faults disk) (D.faults result.disk) → ⊥)
+        → (SinkRose (K.faults sink.old) (K.faults sink.new) → ⊥)
+        → (result.status ≡ 0) ⊎ (result.status ≡ 1) ⊎ (result.status ≡ 9) }
 {
-    let mut disk = disk;
-    let ending = perform(words, &mut disk);
+    let Ended { ending, disk } = perform(alloc, words, source, disk);
     let status = show(alloc, sink, &ending);
+    // so a device on which a history stands is not refused as one without a store, or as a damaged one
+    what_stands_is_sound();
     Outcome { status, disk }
 }
 
 /// Does what the words say, and tells how it ended.
-fn perform<D: Disk>(words: &[String], disk: &mut D) -> Ending
-    ensures size { D.size disk.new ≡ D.size disk.old }
-    ensures cause { Cause ⟦<D as Disk>⟧ (command_of (map string_bytes words.now)) disk.old disk.new result }
+fn perform<S: Source, D: Disk>(alloc: Global, words: &[String], source: &mut S, disk: D) -> Ended<D>
+    ensures size { D.size result.disk ≡ D.size disk }
+    ensures cause { Cause ⟦<S as Source>⟧ ⟦<D as Disk>⟧ (command_of (map string_bytes words.now)) source.old source.new disk result.disk result.ending }
     ensures moments { D.tells → (blocks : ℕ) → command_of (map string_bytes words.now) ≡ Some (Format blocks)
-        → FormatLeaves ⟦<D as Disk>⟧ blocks disk.old disk.new }
+        → FormatLeaves ⟦<D as Disk>⟧ blocks disk result.disk }
 {
     match read_words(words) {
-        None => Ending::Usage,
-        Some(Command::Format { blocks }) => format_device(disk, blocks),
+        None => end_with(Ending::Usage, disk),
+        Some(Command::Format { blocks }) => make_store(disk, blocks),
+        Some(Command::Live) => run_script(alloc, source, disk),
     }
+}
+
+/// Makes an empty store of so many blocks.
+fn make_store<D: Disk>(disk: D, blocks: u64) -> Ended<D>
+    requires least { 8 ≤ blocks }
+    requires greatest { blocks ≤ 2 ^ 32 }
+    ensures size { D.size result.disk ≡ D.size disk }
+    ensures cause { FormatCause ⟦<D as Disk>⟧ blocks disk result.disk result.ending }
+    ensures moments { D.tells → FormatLeaves ⟦<D as Disk>⟧ blocks disk result.disk }
+{
+    let mut disk = disk;
+    let ending = format_device(&mut disk, blocks);
+    Ended { ending, disk }
 }

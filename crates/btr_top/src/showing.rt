@@ -1,15 +1,27 @@
 // What is written at the end of a run.
 ghost use Rattle.std.specs.Prelude.{◌≡◌, ◌++◌, OnOk, OnErr};
 ghost use Rattle.btr_io.specs.Faults.{Rose};
-ghost use Rattle.btr_top.specs.Showing.{TookFront, WritesText, Shows};
+ghost use Rattle.btr_top.specs.Showing.{TookFront, WritesText, NeedsLine, Shows};
 
 use crate::ending::{Ending, status_of, text_of};
 use btr_io::{Failed, Sink, write_all};
 use std::alloc::Global;
 
 /// Writes what an ending says, and answers the run's status: 4 where the sink fails, 9 where there is no memory for the
-/// text, which is then that of [`Ending::NoMemory`], and else the ending's own. The text is handed to the sink whole.
+/// line, which is then that of [`Ending::NoMemory`], and else the ending's own. The text is handed to the sink whole; that of
+/// a script is not copied.
 pub fn show<K: Sink>(alloc: Global, sink: &mut K, ending: &Ending) -> u8
+    ensures { Shows K.tells (K.written sink.old) (K.written sink.new) (K.faults sink.old) (K.faults sink.new) ending.now result }
+{
+    match ending {
+        Ending::Played { status, text } => write_text(sink, text, *status),
+        _ => show_line(alloc, sink, ending),
+    }
+}
+
+/// Writes the line of an ending.
+fn show_line<K: Sink>(alloc: Global, sink: &mut K, ending: &Ending) -> u8
+    requires { NeedsLine ending.now }
     ensures { Shows K.tells (K.written sink.old) (K.written sink.new) (K.faults sink.old) (K.faults sink.new) ending.now result }
 {
     match text_of(alloc, ending) {

@@ -7,9 +7,12 @@ use btr_io::{MemSink, MemSource};
 use std::alloc::Global;
 use std::test::Fail;
 
+mod crashes;
+mod live;
+
 const ROOM: Room = Room {
     calls: 64,
-    blocks: 64,
+    blocks: 128,
 };
 
 // What runs on one device wrote, one after the other, each line with its status behind it. The calls of the device and of
@@ -24,8 +27,9 @@ fn shown(
     let mut disk = MemDisk::new(alloc, 64, ROOM, disk_fails.to_vec(alloc)?)?;
     let mut text = String::new(alloc);
     for words in runs {
+        let mut source = MemSource::new(Vec::new(alloc), 1, Vec::new(alloc));
         let mut sink = MemSink::new(alloc, 100, 7, sink_fails.to_vec(alloc)?)?;
-        let (status, given_back) = ran(rt, words, &mut sink, disk)?;
+        let (status, given_back) = ran(rt, words, &mut source, &mut sink, disk)?;
         disk = given_back;
         text.push_str(String::from_utf8_lossy(alloc, sink.written())?.as_str())?;
         text.push_str(format!(in alloc; "{status};")?.as_str())?;
@@ -33,9 +37,11 @@ fn shown(
     Ok(text)
 }
 
+// A run of these words, with the status that it ends with.
 fn ran(
     rt: &impl AllocGlobal,
     words: &str,
+    source: &mut MemSource,
     sink: &mut MemSink,
     disk: MemDisk,
 ) -> Result<(u8, MemDisk), Fail> {
@@ -44,8 +50,7 @@ fn ran(
     for word in words.split(' ') {
         given.push(word.to_string(alloc)?)?;
     }
-    let mut source = MemSource::new(Vec::new(alloc), 1, Vec::new(alloc));
-    let Outcome { status, disk } = run(rt, alloc, &given, &mut source, sink, disk);
+    let Outcome { status, disk } = run(rt, alloc, &given, source, sink, disk);
     Ok((status, disk))
 }
 
@@ -71,7 +76,9 @@ fn each_run_says_how_it_ends(rt: HostRuntime) -> Result<(), Fail> {
         (["format --blocks=64"].as_slice(), "no usage\n2;"),
         (["format -b 64"].as_slice(), "no usage\n2;"),
         (["Format --blocks 64"].as_slice(), "no usage\n2;"),
-        (["live"].as_slice(), "no usage\n2;"),
+        (["live "].as_slice(), "no usage\n2;"),
+        (["live live"].as_slice(), "no usage\n2;"),
+        (["Live"].as_slice(), "no usage\n2;"),
         ([""].as_slice(), "no usage\n2;"),
     ] {
         assert_eq!(rt; shown(&rt, runs, &[], &[])?.as_str(), want, "{runs:?}");
@@ -119,13 +126,14 @@ fn faults_have_their_status(rt: HostRuntime) -> Result<(), Fail> {
 #[test]
 fn words_that_are_no_command_make_no_call(rt: HostRuntime) -> Result<(), Fail> {
     let alloc = rt.alloc();
+    let mut source = MemSource::new(Vec::new(alloc), 1, Vec::new(alloc));
     let mut sink = MemSink::new(alloc, 100, 7, Vec::new(alloc))?;
     let disk = MemDisk::new(alloc, 8, ROOM, Vec::new(alloc))?;
-    let (status, disk) = ran(&rt, "format --blocks 9 9", &mut sink, disk)?;
+    let (status, disk) = ran(&rt, "format --blocks 9 9", &mut source, &mut sink, disk)?;
     assert_eq!(rt; (status, disk.calls()), (2, 0));
-    let (status, disk) = ran(&rt, "format --blocks 9", &mut sink, disk)?;
+    let (status, disk) = ran(&rt, "format --blocks 9", &mut source, &mut sink, disk)?;
     assert_eq!(rt; (status, disk.calls()), (8, 0));
-    let (status, disk) = ran(&rt, "format --blocks 8", &mut sink, disk)?;
+    let (status, disk) = ran(&rt, "format --blocks 8", &mut source, &mut sink, disk)?;
     assert_eq!(rt; (status, disk.calls()), (0, 8));
     Ok(())
 }

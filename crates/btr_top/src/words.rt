@@ -13,6 +13,9 @@ pub const MOST_BLOCKS: u64 = 4294967296;
 /// What a run is to do.
 #[derive(Clone, Copy, Debug, PartialEq, Eq)]
 pub enum Command {
+    /// `live`: play the script that the input is on the store of the device.
+    Live,
+
     /// `format --blocks N`: make an empty store of so many blocks.
     Format { blocks: u64 },
 }
@@ -22,6 +25,7 @@ pub fn read_words(words: &[String]) -> Option<Command>
     ensures { result ≡ command_of (map string_bytes words.now) }
 {
     match words {
+        [name] if name.as_bytes() == b"live".as_slice() => Some(Command::Live),
         [name, option, number]
             if name.as_bytes() == b"format".as_slice()
                 && option.as_bytes() == b"--blocks".as_slice() => {
