@@ -108,6 +108,7 @@ impl Tree {
         requires { AreInDomain added.now }
         ensures tree { IfOk result (λ a. (h : List Commit) → IsTree h self.now → IsTree (record { version = version; cut = cut.now; added = added.now } ∷ h) a.tree) }
         ensures nodes { IfOk result (λ a. (h : List Commit) → IsTree h self.now → 0 < version → IsBefore version h → a.nodes.items ≡ pages 10 FIRST_TIME no_span (record { version = version; cut = cut.now; added = added.now } ∷ h) version) }
+        ensures few { IfOk result (λ a. (h : List Commit) → IsTree h self.now → 0 < version → IsBefore version h → length a.nodes.items ≤ 11 * (253 * length added.now + 2 * length cut.now)) }
         ensures steps { OnOk result ((h : List Commit) → IsTree h self.now → 0 < version → IsBefore version h → steps.new ≤ steps.old + 11 * (253 * length added.now + 2 * length cut.now)) }
         ensures room { OnOk result ((h : List Commit) → IsTree h self.now → HasRoom FIRST_TIME END_TIME (bag (record { version = version; cut = cut.now; added = added.now } ∷ h))) }
         ensures fault { IfErr result (λ e. (h : List Commit) → IsTree h self.now → IsTreeFault (bag (record { version = version; cut = cut.now; added = added.now } ∷ h)) e) }

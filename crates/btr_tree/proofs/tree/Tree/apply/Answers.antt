@@ -79,6 +79,12 @@ returns-clause-nodes c h tree some before =
     ∙ ap (λ (u : Part). c.new-nodes.result.items ++ pages u.height u.start no_span (mine ∷ h) c.args.version) c.root_span.ensures
     ∙ ap (λ (x : List Page). x ++ pages 10 FIRST no_span (mine ∷ h) c.args.version) c.new-nodes.ensures.items
 
+pub returns-clause-few : goal.returns-clause-few
+returns-clause-few c h tree some before =
+    let mine : Commit = record { version = c.args.version; cut = c.args.cut.now; added = c.args.added.now } in
+    let told = ap (length {A = Page}) (returns-clause-nodes c h tree some before) in
+    omega (arith, told, pages-bound FIRST no_span h mine c.args.version refl some before)
+
 pub returns-clause-steps : goal.returns-clause-steps
 returns-clause-steps c h tree some before =
     let mine : Commit = record { version = c.args.version; cut = c.args.cut.now; added = c.args.added.now } in
