@@ -5,6 +5,9 @@ pub mod Span
 -- meaning
 pub mod Bag
 pub mod Agg
+pub mod Nearest
+pub mod Windows
+pub mod Changes
 -- laws
 pub mod Order
 pub mod Cover
@@ -12,3 +15,4 @@ pub mod Apart
 pub mod Within
 pub mod Aggregates
 pub mod Spans
+pub mod Runs

@@ -2,10 +2,6 @@
 use Rattle.std.specs.Prelude.{◌≡◌, ℕ, ◌+◌, ◌-◌, ◌*◌, ◌^◌, ◌≤◌, ℤ, pos, ◌+ℤ◌, ◌≤ℤ◌}
 use Rattle.btr_base.specs.declared.domain.TheConstants.{FIRST, END}
 
--- how many slots of the next lower height a span has
-abbrev pub fan_out : ℕ
-fan_out = 64
-
 -- how many nanoseconds a span of this height covers
 unfoldable pub width : ℕ → ℕ
 width height = 2 ^ (6 * height + 2)

@@ -1,7 +1,7 @@
 -- Lemmas on spans and their widths.
 use Rattle.std.specs.Prelude.{◌≡◌, ℕ, ◌+◌, ◌-◌, ◌*◌, ◌/◌, ◌^◌, ◌<◌, ◌≤◌}
 use Rattle.std.proofs.Common.{zero, suc, refl, sym, ap, ◌∙◌, arith, mul-le-mul_right}
-use Rattle.std.proofs.Math.Nat.{lt_of_not-le, div-mul-le_self}
+use Rattle.std.proofs.Math.Nat.{lt_of_not-le, div-mul-le_self, lt-div-mul-add}
 use Rattle.std.proofs.lemmas.Nat.{pow-add, pow_pos}
 use Rattle.std.proofs.lemmas.Int.{ints}
 use Rattle.btr_base.specs.Span.{width, Part, IsAligned, slot_of}
@@ -80,3 +80,21 @@ slot-offset s i low place =
 pub width-at_most : (h : ℕ) → h ≤ 10 → width h ≤ 2 ^ 62
 width-at_most h low =
     let fits = width-fits h 0 low (omega arith) in omega arith
+
+-- ---- the slot that an offset lies in
+
+-- the offset is at or behind the slot's begin and before its end, and so it is not in another one
+pub record IsSlotAround (o w i : ℕ) : Type 0 where
+  pub place : i < 64
+  pub begins : i * w ≤ o
+  pub ends : o < i * w + w
+
+pub slot-around : (o w : ℕ) → 0 < w → o < 64 * w → IsSlotAround o w (o / w)
+slot-around o w some inside =
+    let begins = div-mul-le_self o w in
+    let ends = lt-div-mul-add {a = o} some in
+    let place : o / w < 64 = less-times (o / w) 64 w (omega arith) in
+    record { place = place; begins = begins; ends = omega arith }
+
+pub times-up_to : (a b w : ℕ) → a < b → a * w + w ≤ b * w
+times-up_to a b w h = next-times a b w h

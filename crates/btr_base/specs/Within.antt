@@ -1,13 +1,13 @@
 -- Lemmas on the points of a bag from a time up to another.
-use Rattle.std.specs.Prelude.{◌≡◌, ℕ, ◌+◌, ◌<◌, ◌≤◌, ℤ, Bool, true, false, not, ◌&&◌, ◌||◌, int_le, int_lt, ◌≤ℤ◌, ◌<ℤ◌, List, [], ◌∷◌, ◌++◌, length, cond, take, drop, slice_index_or, IsTrue}
-use Rattle.std.specs.List.{filter, AllByRecursion, list_any}
-use Rattle.std.proofs.Common.{zero, suc, refl, sym, ap, ◌∙◌, arith, subst}
+use Rattle.std.specs.Prelude.{◌≡◌, ℕ, ◌<◌, ◌≤◌, ℤ, Bool, true, false, not, ◌&&◌, int_le, int_lt, ◌≤ℤ◌, ◌<ℤ◌, List, [], ◌∷◌, ◌++◌, length, cond, take, drop, slice_index_or, IsTrue}
+use Rattle.std.specs.List.{filter, AllByRecursion}
+use Rattle.std.proofs.Common.{zero, suc, refl, sym, ap, ◌∙◌, arith}
 use Rattle.std.proofs.lemmas.Int.{ints, by_lt_z}
 use Rattle.btr_base.specs.declared.point.Point.{Point}
 use Rattle.btr_base.specs.Point.{is_not_after}
 use Rattle.btr_base.specs.Range.{Interval, covered}
 use Rattle.btr_base.specs.Bag.{IsInOrder, sort, outside, within}
-use Rattle.btr_base.specs.Order.{each-weaker, is_not_after-times, filter-append, filter-filter, filter-sort, filter-all, filter-none, filter-in_order}
+use Rattle.btr_base.specs.Order.{each-weaker, is_not_after-times, filter-append, filter-filter, filter-sort, filter-in_order}
 
 -- the point is from the first time on and before the second
 abbrev pub is_within : ℤ → ℤ → Point → Bool

@@ -1,6 +1,6 @@
 ghost use Rattle.std.specs.Prelude.{◌≡◌, ℕ, ◌≤◌, ◌<◌, ℤ, ◌≤ℤ◌, ◌<ℤ◌, List, [], ◌++◌, length, drop, slice_index_or, IfOk, filter, int_lt, not};
 ghost use Rattle.btr_base.specs.declared.point.Point.{Point as APoint};
-ghost use Rattle.btr_base.specs.Bag.{IsInOrder, sort, outside};
+ghost use Rattle.btr_base.specs.Bag.{IsInOrder, sort, outside, within};
 ghost use Rattle.btr_base.specs.Range.{Interval, IsCut, covered};
 
 use crate::point::Point;
@@ -114,6 +114,17 @@ pub fn parted(points: &[Point], time: i64) -> (&[Point], &[Point])
 {
     let place = points.partition_point(|point| point.time < time);
     (&points[..place], &points[place..])
+}
+
+/// Of points in order those from a time up to, and without, another, in nanoseconds. It takes time logarithmic in their
+/// number, and no memory.
+pub fn points_between(points: &[Point], from: i64, to: i64) -> &[Point]
+    requires { IsInOrder points.now }
+    ensures { result.now ≡ within from to points.now }
+{
+    let (before, _) = parted(points, to);
+    let (_, between) = parted(before, from);
+    between
 }
 
 /// The place of the first range from `first` on that ends behind the time, or the number of ranges.

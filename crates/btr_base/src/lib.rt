@@ -18,11 +18,12 @@ mod bag;
 mod agg;
 mod cell;
 mod span;
+mod toward;
 // what the definitions entail
 mod laws;
 
 pub use agg::Agg;
-pub use bag::{Bag, merged, parted, points_outside};
+pub use bag::{Bag, merged, parted, points_between, points_outside};
 pub use cell::Cell;
 pub use domain::{END, FIRST};
 pub use laws::one_list_for_the_times;
@@ -30,6 +31,7 @@ pub use point::Point;
 pub use range::Range;
 pub use ranges::{Ranges, ranges_before, ranges_from};
 pub use span::Span;
+pub use toward::Toward;
 
 #[cfg(test)]
 mod tests;

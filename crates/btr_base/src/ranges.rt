@@ -1,4 +1,4 @@
-ghost use Rattle.std.specs.Prelude.{◌≡◌, true, ◌++◌, ℕ, ◌≤◌, ◌<◌, ℤ, List, [], ◌∷◌, ◌||◌, length, drop, slice_index_or, ◌≤ℤ◌, ◌<ℤ◌, IfOk, IfSome, IsSome, IsTrue, ◌↔◌, OnOk, OnErr};
+ghost use Rattle.std.specs.Prelude.{◌≡◌, true, false, ◌++◌, ℕ, ◌≤◌, ◌<◌, ℤ, List, [], ◌∷◌, ◌||◌, length, drop, slice_index_or, ◌≤ℤ◌, ◌<ℤ◌, IfOk, IfSome, IsSome, IsTrue, ◌↔◌, OnOk, OnErr};
 ghost use Rattle.std.specs.List.{AllByRecursion};
 ghost use Rattle.btr_base.specs.Apart.{IsBehind};
 ghost use Rattle.btr_base.specs.Range.{Interval, IsRange, IsCut, AreApart, covered, spans};
@@ -46,15 +46,18 @@ impl Ranges {
         Some(Ranges { ranges })
     }
 
-    /// Adds the times of a range, which may touch, overlap or bridge others. A range behind all others is added in
-    /// constant time on average, and any other in time linear in the number of ranges. An `Err` is want of memory, and
-    /// changes nothing.
+    /// Adds the times of a range, which may touch, overlap or bridge others. A range that begins behind the last one, or
+    /// in it, is added in constant time on average, and any other in time linear in the number of ranges. An `Err` is want of
+    /// memory, and changes nothing.
     pub fn add(&mut self, range: Range) -> Result<(), AllocError>
         ensures times { OnOk result ((t : ℤ) → covered self.new t ≡ (spans range t || covered self.old t)) }
         ensures err { OnErr result (self.new ≡ self.old) }
     {
         if is_behind(&self.ranges, &range) {
             self.ranges.push(range)?;
+            return Ok(());
+        }
+        if joins_last(&mut self.ranges, &range) {
             return Ok(());
         }
         let alloc = *self.ranges.allocator();
@@ -123,6 +126,23 @@ fn is_behind(ranges: &[Range], range: &Range) -> bool
     }
 }
 
+/// Whether the range begins in the last one or at its end. Where it does, the union of both takes the place of the last
+/// one. It takes constant time and no memory.
+fn joins_last(ranges: &mut Vec<Range>, range: &Range) -> bool
+    requires { IsCut ranges.old.items }
+    ensures cut { IsCut ranges.new.items }
+    ensures times { result ≡ true → (t : ℤ) → covered ranges.new.items t ≡ (spans range.now t || covered ranges.old.items t) }
+    ensures left { result ≡ false → ranges.new.items ≡ ranges.old.items }
+{
+    if let Some(last) = ranges.last_mut() {
+        if last.from <= range.from && range.from <= last.to {
+            *last = union(last, range);
+            return true;
+        }
+    }
+    false
+}
+
 /// The ranges with one more, whose neighbors it joins.
 fn joined(alloc: Global, ranges: &[Range], range: Range) -> Result<Vec<Range>, AllocError>
     requires { IsCut ranges.now }
@@ -174,6 +194,7 @@ fn is_covered(ranges: &[Range], t: i64) -> bool
 pub fn ranges_from(ranges: &[Range], from: i64) -> &[Range]
     requires { IsCut ranges.now }
     ensures cut { IsCut result.now }
+    ensures behind { AllByRecursion (λ r. from <ℤ r.to) result.now }
     ensures times { (t : ℤ) → from ≤ℤ t → covered result.now t ≡ covered ranges.now t }
 {
     let place = ranges.partition_point(|range| range.to <= from);
@@ -185,6 +206,7 @@ pub fn ranges_from(ranges: &[Range], from: i64) -> &[Range]
 pub fn ranges_before(ranges: &[Range], to: i64) -> &[Range]
     requires { IsCut ranges.now }
     ensures cut { IsCut result.now }
+    ensures before { AllByRecursion (λ r. r.from <ℤ to) result.now }
     ensures times { (t : ℤ) → t <ℤ to → covered result.now t ≡ covered ranges.now t }
 {
     let place = ranges.partition_point(|range| range.from < to);

@@ -1,4 +1,4 @@
-ghost use Rattle.std.specs.Prelude.{◌≡◌, ◌+◌, ◌<◌, ◌≤◌, pos, ◌+ℤ◌, ◌≤ℤ◌, ◌<ℤ◌};
+ghost use Rattle.std.specs.Prelude.{◌≡◌, ℕ, ◌+◌, ◌-◌, ◌<◌, ◌≤◌, pos, ◌+ℤ◌, ◌≤ℤ◌, ◌<ℤ◌};
 ghost use Rattle.btr_base.specs.Point.{InDomain};
 ghost use Rattle.btr_base.specs.Span.{width as nanoseconds, IsSpan, slot_of};
 
@@ -65,6 +65,66 @@ impl Span {
             start: self.start + (u64::from(i) * width) as i64,
             height,
         }
+    }
+}
+
+impl Span {
+    /// The place, from 0, of the one of the 64 slots that the time lies in.
+    pub fn slot_at(&self, time: i64) -> u8
+        requires height { 1 ≤ self.now.height }
+        requires begins { self.now.start ≤ℤ time }
+        requires ends { time <ℤ (self.now.start +ℤ pos (nanoseconds self.now.height)) }
+        ensures place { result < 64 }
+        ensures begins { (slot_of self.now result).start ≤ℤ time }
+        ensures ends { time <ℤ ((slot_of self.now result).start +ℤ pos (nanoseconds (self.now.height - 1))) }
+    {
+        let offset = time.abs_diff(self.start);
+        (offset / width(self.height - 1)) as u8
+    }
+
+    /// The places of the first and of the last of the 64 slots that have times from one up to, and without, another.
+    /// Some times of the span have to be among them.
+    pub fn slots_between(&self, from: i64, to: i64) -> (u8, u8)
+        requires height { 1 ≤ self.now.height }
+        requires some { from <ℤ to }
+        requires begins { from <ℤ (self.now.start +ℤ pos (nanoseconds self.now.height)) }
+        requires ends { self.now.start <ℤ to }
+        ensures order { result.0 ≤ result.1 }
+        ensures place { result.1 < 64 }
+        ensures before { (i : ℕ) → i < result.0 → ((slot_of self.now i).start +ℤ pos (nanoseconds (self.now.height - 1))) ≤ℤ from }
+        ensures first { from <ℤ ((slot_of self.now result.0).start +ℤ pos (nanoseconds (self.now.height - 1))) }
+        ensures last { (slot_of self.now result.1).start <ℤ to }
+        ensures behind { (i : ℕ) → result.1 < i → i < 64 → to ≤ℤ (slot_of self.now i).start }
+    {
+        (self.first_slot(from), self.last_slot(to))
+    }
+
+    /// The place of the first slot that ends behind the time.
+    fn first_slot(&self, from: i64) -> u8
+        requires height { 1 ≤ self.now.height }
+        requires begins { from <ℤ (self.now.start +ℤ pos (nanoseconds self.now.height)) }
+        ensures place { result < 64 }
+        ensures before { (i : ℕ) → i < result → ((slot_of self.now i).start +ℤ pos (nanoseconds (self.now.height - 1))) ≤ℤ from }
+        ensures first { from <ℤ ((slot_of self.now result).start +ℤ pos (nanoseconds (self.now.height - 1))) }
+    {
+        if from <= self.start {
+            return 0;
+        }
+        self.slot_at(from)
+    }
+
+    /// The place of the last slot that begins before the time.
+    fn last_slot(&self, to: i64) -> u8
+        requires height { 1 ≤ self.now.height }
+        requires ends { self.now.start <ℤ to }
+        ensures place { result < 64 }
+        ensures last { (slot_of self.now result).start <ℤ to }
+        ensures behind { (i : ℕ) → result < i → i < 64 → to ≤ℤ (slot_of self.now i).start }
+    {
+        if to >= self.end() {
+            return 63;
+        }
+        self.slot_at(to - 1)
     }
 }
 

@@ -1,5 +1,5 @@
 use Rattle.std.specs.List.{filter}
-use Rattle.std.proofs.Common.{◌≡◌, true, false, not, ℤ, ◌≤ℤ◌, ◌<ℤ◌, List, ◌++◌, ◌∙◌, ap, sym, subst, arith, get_or, length, take, drop, int_lt, rules, w64, to_z, of_z}
+use Rattle.std.proofs.Common.{◌≡◌, true, not, ℤ, ◌≤ℤ◌, List, ◌++◌, ◌∙◌, ap, subst, arith, get_or, take, drop, int_lt, rules, w64, to_z, of_z}
 use Rattle.std.specs.List.Sorted.{IsPartitionedBy}
 use Rattle.std.proofs.lemmas.List.{take_rest, take-append-drop}
 use Rattle.std.proofs.lemmas.List.Sorted.{IsPartitionPoint-from_clause}

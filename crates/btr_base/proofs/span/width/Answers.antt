@@ -1,4 +1,3 @@
-use Rattle.btr_base.specs.Within.{within-split}
 use Rattle.std.proofs.Common.{◌≡◌, ◌+◌, ◌*◌, ◌^◌, ap, ◌∙◌, arith}
 use Rattle.std.proofs.Math.Pow.{shl_exact}
 use Rattle.btr_base.specs.Span.{width}

@@ -1,0 +1,50 @@
+-- What differs between two bags: the aligned slots of time in which some time has other points in the one than in the other.
+use Rattle.std.specs.Prelude.{ℕ, ◌+◌, ◌^◌, ℤ, Bool, true, false, not, ◌&&◌, int_le, int_lt, List, [], ◌∷◌, ◌++◌, map, if◌then◌else◌}
+use Rattle.std.specs.Ordering.{int_eq}
+use Rattle.std.specs.List.{filter}
+use Rattle.btr_base.specs.declared.domain.TheConstants.{FIRST, END}
+use Rattle.btr_base.specs.declared.point.Point.{Point}
+use Rattle.btr_base.specs.Point.{same_point}
+use Rattle.btr_base.specs.Range.{Interval}
+use Rattle.btr_base.specs.Bag.{sort}
+use Rattle.btr_base.specs.Windows.{window_of, window_at}
+
+-- the points at a time
+abbrev pub points_at : ℤ → List Point → List Point
+points_at t b = filter (λ p. int_eq p.time t) b
+
+-- two lists are equal
+abbrev pub same_points : List Point → List Point → Bool
+same_points [] [] = true
+same_points [] (q ∷ qs) = false
+same_points (p ∷ ps) [] = false
+same_points (p ∷ ps) (q ∷ qs) = same_point p q && same_points ps qs
+
+-- the two bags have other points at the time
+abbrev pub differ_at : List Point → List Point → ℤ → Bool
+differ_at a b t = not (same_points (points_at t a) (points_at t b))
+
+-- the points of both, in order, at whose times the two differ, in the domain
+abbrev pub changed : List Point → List Point → List Point
+changed a b =
+    filter (λ p. differ_at a b p.time && (int_le FIRST p.time && int_lt p.time END)) (sort (a ++ b))
+
+-- the aligned slot, `2^p` ns wide, that a time lies in
+abbrev pub slot_around : ℕ → ℤ → Interval
+slot_around p t =
+    record { from = window_at FIRST (2 ^ p) (window_of FIRST (2 ^ p) t); to = window_at FIRST (2 ^ p) (window_of FIRST (2 ^ p) t + 1) }
+
+-- a range before others, one with the first of them where the two touch
+abbrev pub joined_before : Interval → List Interval → List Interval
+joined_before r [] = r ∷ []
+joined_before r (s ∷ rs) =
+    if int_le s.from r.to then record { from = r.from; to = s.to } ∷ rs else r ∷ s ∷ rs
+
+-- the longest runs of ranges that stand in order of time
+abbrev pub runs : List Interval → List Interval
+runs [] = []
+runs (r ∷ rs) = joined_before r (runs rs)
+
+-- the longest runs of slots that have a time at which the two bags differ
+abbrev pub changes : ℕ → List Point → List Point → List Interval
+changes p a b = runs (map (λ q. slot_around p q.time) (changed a b))
