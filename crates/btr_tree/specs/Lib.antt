@@ -7,6 +7,8 @@ pub mod Crowd
 pub mod Pages
 pub mod Shape
 pub mod Root
+pub mod Newer
+pub mod Agree
 -- laws of the definitions
 pub mod Stamps
 -- what a walk knows

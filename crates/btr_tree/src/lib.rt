@@ -18,6 +18,7 @@ mod steps;
 mod fault;
 // what is read of nodes
 mod kept;
+mod opening;
 mod shared;
 mod total;
 // what a commit writes
@@ -30,8 +31,9 @@ mod laws;
 pub use fault::TreeFault;
 pub use laws::equal_since_its_version;
 pub use limits::{LEAF_POINTS, ROOT_HEIGHT, SLOTS, VERSION_POINTS};
-pub use node::{NewNode, Slot};
-pub use root::are_in_domain;
+pub use node::{NewNode, Node, Place, Slot};
+pub use opening::opened;
+pub use root::{are_in_domain, root_span};
 pub use steps::Steps;
 pub use tree::{Applied, Tree};
 

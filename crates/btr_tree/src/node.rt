@@ -40,19 +40,19 @@ impl Model for NewNode {
     ghost view = { λ n. record { span = n.span; version = n.version; points = n.points.items; slots = n.slots.items } };
 }
 
-/// The child of a slot, or the root; none where the span has no point.
-pub(crate) type Place = Option<Arc<Node, Global>>;
+/// The child of a slot, or the root; none where the span has no point. [`crate::opened`] tells what stands there.
+pub type Place = Option<Arc<Node, Global>>;
 
-/// What a tree keeps of a span that has a point. Versions share it.
+/// What a tree keeps of a span that has a point (BTrDB, FAST 2016). Versions and threads share it.
 #[derive(Drop)]
-pub(crate) enum Node {
-    /// Few points, in order.
+pub enum Node {
+    /// The points, at most 252, by time and value.
     Leaf {
         version: u64,
         points: Vec<Point>,
     },
 
-    /// Many points, in 64 slots.
+    /// More points, in 64 slots in order of time. A slot has a child where it has a point.
     Inner {
         version: u64,
         slots: Vec<Slot>,

@@ -6,7 +6,7 @@ use crate::limits::ROOT_HEIGHT;
 use btr_base::{END, FIRST, Point, Span};
 
 /// The span of the root, the whole domain.
-pub(crate) fn root_span() -> Span
+pub fn root_span() -> Span
     ensures { result ≡ record { start = FIRST_TIME; height = 10 } }
 {
     Span {

@@ -1,8 +1,8 @@
-ghost use Rattle.std.specs.Prelude.{◌≡◌, ◌+◌, ◌≤◌};
+ghost use Rattle.std.specs.Prelude.{◌≡◌, ◌+◌, ◌≤◌, min};
 
 use std::marker::Model;
 
-/// A counter of the nodes that a call writes. It stops at the greatest `u64`.
+/// A counter of the nodes that a call writes, or opens. It stops at the greatest `u64`.
 #[derive(Debug, Drop)]
 pub struct Steps {
     count: u64,
@@ -35,6 +35,7 @@ impl Steps {
     pub(crate) fn tick(&mut self)
         ensures more { self.new ≤ self.old + 1 }
         ensures kept { self.old ≤ self.new }
+        ensures counted { self.new ≡ min (self.old + 1) 18446744073709551615 }
     {
         self.count = self.count.saturating_add(1);
     }

@@ -5,6 +5,8 @@ ghost use Rattle.btr_tree.specs.History.{Commit, bag, IsBefore};
 ghost use Rattle.btr_tree.specs.Crowd.{HasRoom};
 ghost use Rattle.btr_tree.specs.Nodes.{no_span};
 ghost use Rattle.btr_tree.specs.Pages.{pages};
+ghost use Rattle.btr_tree.specs.Shape.{IsPlace};
+ghost use Rattle.btr_tree.specs.Change.{Stands};
 ghost use Rattle.btr_tree.specs.Root.{IsTree, IsTreeFault, AreInDomain};
 
 use crate::apply::apply_slot;
@@ -84,6 +86,14 @@ impl Tree {
         ensures { (h : List Commit) → IsTree h self.now → result ≡ agg (bag h) }
     {
         self.agg
+    }
+
+    /// The place of the root, whose span is the whole domain, in constant time. It takes no memory.
+    pub fn root(&self) -> &Place
+        ensures place { (h : List Commit) → IsTree h self.now → IsPlace 10 FIRST_TIME no_span h result.now }
+        ensures stands { Stands 10 FIRST_TIME result.now 0 }
+    {
+        &self.root
     }
 
     /// The tree after a commit, which first removes the points whose time the cut covers, and then adds points. This tree
