@@ -1,0 +1,259 @@
+-- Lemmas on the slots in which two bags differ: part by part, in order of time.
+use Rattle.std.specs.Prelude.{◌≡◌, ℕ, ℤ, Bool, true, false, not, ◌&&◌, ◌||◌, int_le, int_lt, ◌≤ℤ◌, ◌<ℤ◌, List, [], ◌∷◌, ◌++◌, cond}
+use Rattle.std.specs.Ordering.{int_eq}
+use Rattle.std.specs.List.{filter, list_any, AllByRecursion}
+use Rattle.std.proofs.Common.{refl, sym, ap, ◌∙◌, arith, append-nil, subst, ◌≤◌}
+use Rattle.std.proofs.lemmas.Int.{ints}
+use Rattle.std.proofs.lemmas.List.Folds.{list_any-append}
+use Rattle.btr_base.specs.declared.domain.TheConstants.{FIRST, END}
+use Rattle.btr_base.specs.declared.point.Point.{Point}
+use Rattle.btr_base.specs.Point.{is_not_after, InDomain}
+use Rattle.btr_base.specs.Range.{Interval, IsCut, spans, covered}
+use Rattle.btr_base.specs.Bag.{IsInOrder, put, sort, within}
+use Rattle.btr_base.specs.Changes.{points_at, same_points, differ_at, slot_around, changes}
+use Rattle.btr_base.specs.Order.{each-weaker, filter-append, filter-all, filter-none, filter-passes, same_point-refl, same_point-true}
+use Rattle.std.proofs.Math.Bool.{or-false}
+use Rattle.btr_base.specs.Cover.{same_from-covered}
+use Rattle.btr_base.specs.Within.{is_within, within-split}
+use Rattle.btr_base.specs.Runs.{changes-cut, changes-covered}
+use Rattle.btr_diff.specs.Comparing.{hit, Adds}
+
+-- ---- tests on lists
+
+any-filter : {X : Type 0} (f g : X → Bool) (xs : List X) → list_any f (filter g xs) ≡ list_any (λ x. g x && f x) xs
+any-filter f g [] = refl
+any-filter f g (x ∷ xs) =
+    elim (g x) as (λ t. list_any f (cond t (x ∷ filter g xs) (filter g xs)) ≡ ((t && f x) || list_any (λ y. g y && f y) xs)) [
+      | true ↦ ap (λ t. f x || t) (any-filter f g xs)
+      | false ↦ any-filter f g xs
+    ]
+
+swapped : (a b c d : Bool) → c ≡ (b || d) → (a || c) ≡ (b || (a || d))
+swapped a b c d e = grind arith
+
+any-put : (f : Point → Bool) (p : Point) (b : List Point) → list_any f (put p b) ≡ (f p || list_any f b)
+any-put f p [] = refl
+any-put f p (q ∷ b) =
+    elim (is_not_after p q) as (λ t. list_any f (cond t (p ∷ q ∷ b) (q ∷ put p b)) ≡ (f p || list_any f (q ∷ b))) [
+      | true ↦ refl
+      | false ↦ swapped (f q) (f p) (list_any f (put p b)) (list_any f b) (any-put f p b)
+    ]
+
+any-sort : (f : Point → Bool) (b : List Point) → list_any f (sort b) ≡ list_any f b
+any-sort f [] = refl
+any-sort f (p ∷ b) = any-put f p (sort b) ∙ ap (λ t. f p || t) (any-sort f b)
+
+any-same : {X : Type 0} (f g : X → Bool) (xs : List X) → AllByRecursion (λ x. f x ≡ g x) xs → list_any f xs ≡ list_any g xs
+any-same f g [] h = refl
+any-same f g (x ∷ xs) h = ap (λ t. t || list_any f xs) h.0 ∙ ap (λ t. g x || t) (any-same f g xs h.1)
+
+any-none : {X : Type 0} (f : X → Bool) (xs : List X) → AllByRecursion (λ x. f x ≡ false) xs → list_any f xs ≡ false
+any-none f [] h = refl
+any-none f (x ∷ xs) h = ap (λ t. t || list_any f xs) h.0 ∙ any-none f xs h.1
+
+-- ---- a point of the two
+
+-- the point names a slot that the time is in
+abbrev pub names : ℕ → List Point → List Point → ℤ → Point → Bool
+names p a b t q =
+    (differ_at a b q.time && (int_le FIRST q.time && int_lt q.time END)) && spans (slot_around p q.time) t
+
+pub hit-is : (p : ℕ) (a b : List Point) (t : ℤ) → hit p a b t ≡ (list_any (names p a b t) a || list_any (names p a b t) b)
+unfolding hit
+hit-is p a b t =
+    any-filter (λ q. spans (slot_around p q.time) t) (λ q. differ_at a b q.time && (int_le FIRST q.time && int_lt q.time END)) (sort (a ++ b))
+    ∙ any-sort (names p a b t) (a ++ b)
+    ∙ list_any-append (names p a b t) a b
+
+-- ---- parts in order of time
+
+abbrev pub Before : ℤ → List Point → Type 0
+Before m b = AllByRecursion (λ q. q.time <ℤ m) b
+
+abbrev pub From : ℤ → List Point → Type 0
+From m b = AllByRecursion (λ q. m ≤ℤ q.time) b
+
+not_at-early : (u m : ℤ) (b : List Point) → m ≤ℤ u → Before m b → points_at u b ≡ []
+not_at-early u m b low h =
+    filter-none (λ q. int_eq q.time u) b (each-weaker (λ q. q.time <ℤ m) (λ q. int_eq q.time u ≡ false) (λ q k. grind (arith, ints)) b h)
+
+not_at-late : (u m : ℤ) (b : List Point) → u <ℤ m → From m b → points_at u b ≡ []
+not_at-late u m b low h =
+    filter-none (λ q. int_eq q.time u) b (each-weaker (λ q. m ≤ℤ q.time) (λ q. int_eq q.time u ≡ false) (λ q k. grind (arith, ints)) b h)
+
+at-early : (u m : ℤ) (a b : List Point) → u <ℤ m → From m b → points_at u (a ++ b) ≡ points_at u a
+at-early u m a b low h =
+    filter-append (λ q. int_eq q.time u) a b
+    ∙ ap (λ c. points_at u a ++ c) (not_at-late u m b low h)
+    ∙ append-nil (points_at u a)
+
+at-late : (u m : ℤ) (a b : List Point) → m ≤ℤ u → Before m a → points_at u (a ++ b) ≡ points_at u b
+at-late u m a b low h =
+    filter-append (λ q. int_eq q.time u) a b ∙ ap (λ c. c ++ points_at u b) (not_at-early u m a low h)
+
+-- two bags, each in two parts: those before a time, and those from it on
+pub record AreParts (m : ℤ) (a b c d : List Point) : Type 0 where
+  pub a_before : Before m a
+  pub b_before : Before m b
+  pub c_from : From m c
+  pub d_from : From m d
+
+names-early : (p : ℕ) (t m : ℤ) (a b c d : List Point) (q : Point) → AreParts m a b c d → q.time <ℤ m → names p (a ++ c) (b ++ d) t q ≡ names p a b t q
+names-early p t m a b c d q h low =
+    ap (λ x. (not (same_points x (points_at q.time (b ++ d))) && (int_le FIRST q.time && int_lt q.time END)) && spans (slot_around p q.time) t) (at-early q.time m a c low h.c_from)
+    ∙ ap (λ x. (not (same_points (points_at q.time a) x) && (int_le FIRST q.time && int_lt q.time END)) && spans (slot_around p q.time) t) (at-early q.time m b d low h.d_from)
+
+names-late : (p : ℕ) (t m : ℤ) (a b c d : List Point) (q : Point) → AreParts m a b c d → m ≤ℤ q.time → names p (a ++ c) (b ++ d) t q ≡ names p c d t q
+names-late p t m a b c d q h low =
+    ap (λ x. (not (same_points x (points_at q.time (b ++ d))) && (int_le FIRST q.time && int_lt q.time END)) && spans (slot_around p q.time) t) (at-late q.time m a c low h.a_before)
+    ∙ ap (λ x. (not (same_points (points_at q.time c) x) && (int_le FIRST q.time && int_lt q.time END)) && spans (slot_around p q.time) t) (at-late q.time m b d low h.b_before)
+
+any-early : (p : ℕ) (t m : ℤ) (a b c d x : List Point) → AreParts m a b c d → Before m x → list_any (names p (a ++ c) (b ++ d) t) x ≡ list_any (names p a b t) x
+any-early p t m a b c d x h low =
+    any-same (names p (a ++ c) (b ++ d) t) (names p a b t) x (each-weaker (λ q. q.time <ℤ m) (λ q. names p (a ++ c) (b ++ d) t q ≡ names p a b t q) (λ q k. names-early p t m a b c d q h k) x low)
+
+any-late : (p : ℕ) (t m : ℤ) (a b c d x : List Point) → AreParts m a b c d → From m x → list_any (names p (a ++ c) (b ++ d) t) x ≡ list_any (names p c d t) x
+any-late p t m a b c d x h low =
+    any-same (names p (a ++ c) (b ++ d) t) (names p c d t) x (each-weaker (λ q. m ≤ℤ q.time) (λ q. names p (a ++ c) (b ++ d) t q ≡ names p c d t q) (λ q k. names-late p t m a b c d q h k) x low)
+
+or-assoc : (a b c : Bool) → ((a || b) || c) ≡ (a || (b || c))
+or-assoc true b c = refl
+or-assoc false b c = refl
+
+crossed : (a b c d : Bool) → ((a || c) || (b || d)) ≡ ((a || b) || (c || d))
+crossed a b c d = grind arith
+
+both-same : (a b c d : Bool) → a ≡ c → b ≡ d → (a || b) ≡ (c || d)
+both-same a b c d e f = ap (λ x. x || b) e ∙ ap (λ x. c || x) f
+
+-- what is hit in two bags, part by part
+pub hit-parts : (p : ℕ) (t m : ℤ) (a b c d : List Point) → AreParts m a b c d → hit p (a ++ c) (b ++ d) t ≡ (hit p a b t || hit p c d t)
+hit-parts p t m a b c d h =
+    let whole = names p (a ++ c) (b ++ d) t in
+    hit-is p (a ++ c) (b ++ d) t
+    ∙ both-same (list_any whole (a ++ c)) (list_any whole (b ++ d)) (list_any (names p a b t) a || list_any (names p c d t) c) (list_any (names p a b t) b || list_any (names p c d t) d) (list_any-append whole a c ∙ both-same (list_any whole a) (list_any whole c) (list_any (names p a b t) a) (list_any (names p c d t) c) (any-early p t m a b c d a h h.a_before) (any-late p t m a b c d c h h.c_from)) (list_any-append whole b d ∙ both-same (list_any whole b) (list_any whole d) (list_any (names p a b t) b) (list_any (names p c d t) d) (any-early p t m a b c d b h h.b_before) (any-late p t m a b c d d h h.d_from))
+    ∙ crossed (list_any (names p a b t) a) (list_any (names p a b t) b) (list_any (names p c d t) c) (list_any (names p c d t) d)
+    ∙ sym (both-same (hit p a b t) (hit p c d t) (list_any (names p a b t) a || list_any (names p a b t) b) (list_any (names p c d t) c || list_any (names p c d t) d) (hit-is p a b t) (hit-is p c d t))
+
+-- ---- the points of one time
+
+pub same_points-refl : (a : List Point) → same_points a a ≡ true
+same_points-refl [] = refl
+same_points-refl (q ∷ a) = ap (λ t. t && same_points a a) (same_point-refl q) ∙ same_points-refl a
+
+pub same_points-true : (a b : List Point) → same_points a b ≡ true → a ≡ b
+same_points-true [] [] h = refl
+same_points-true [] (r ∷ b) h = cc
+same_points-true (q ∷ a) [] h = cc
+same_points-true (q ∷ a) (r ∷ b) h =
+    let first = same_point-true q r (grind arith) in
+    let rest = same_points-true a b (grind arith) in
+    cc
+
+each-of : {X : Type 0} (P : X → Type 0) (xs : List X) → ((x : X) → P x) → AllByRecursion P xs
+each-of P [] h = tt
+each-of P (x ∷ xs) h = (h x, each-of P xs h)
+
+-- equal bags do not differ
+pub hit-same : (p : ℕ) (a : List Point) (t : ℤ) → hit p a a t ≡ false
+hit-same p a t =
+    let none : (q : Point) → names p a a t q ≡ false = λ q. ap (λ x. (not x && (int_le FIRST q.time && int_lt q.time END)) && spans (slot_around p q.time) t) (same_points-refl (points_at q.time a)) in
+    let each : list_any (names p a a t) a ≡ false = any-none (names p a a t) a (each-of (λ q. names p a a t q ≡ false) a none) in
+    hit-is p a a t
+    ∙ both-same (list_any (names p a a t) a) (list_any (names p a a t) a) false false each each
+
+-- no test of a list without elements passes, and else one answer of all is that of the list
+any-alike : {X : Type 0} (f : X → Bool) (s : Bool) (x : X) (xs : List X) → AllByRecursion (λ y. f y ≡ s) (x ∷ xs) → list_any f (x ∷ xs) ≡ s
+any-alike f true x xs h = ap (λ t. t || list_any f xs) h.0
+any-alike f false x xs h = any-none f (x ∷ xs) h
+
+abbrev pub AllAt : ℤ → List Point → Type 0
+AllAt u b = AllByRecursion (λ q. q.time ≡ u) b
+
+in_domain : (u : ℤ) → InDomain u → (int_le FIRST u && int_lt u END) ≡ true
+in_domain u h =
+    let low = h.0 in
+    let high = h.1 in
+    grind (arith, ints)
+
+at-all : (u : ℤ) (b : List Point) → AllAt u b → points_at u b ≡ b
+at-all u b h =
+    filter-all (λ q. int_eq q.time u) b (each-weaker (λ q. q.time ≡ u) (λ q. int_eq q.time u ≡ true) (λ q k. grind (arith, ints)) b h)
+
+names-at : (p : ℕ) (a b : List Point) (t u : ℤ) → AllAt u a → AllAt u b → same_points a b ≡ false → InDomain u → (q : Point) → q.time ≡ u → names p a b t q ≡ spans (slot_around p u) t
+names-at p a b t u h k differ inside q e =
+    ap (λ v. (differ_at a b v && (int_le FIRST v && int_lt v END)) && spans (slot_around p v) t) e
+    ∙ ap (λ x. (not (same_points x (points_at u b)) && (int_le FIRST u && int_lt u END)) && spans (slot_around p u) t) (at-all u a h)
+    ∙ ap (λ x. (not (same_points a x) && (int_le FIRST u && int_lt u END)) && spans (slot_around p u) t) (at-all u b k)
+    ∙ ap (λ x. (not x && (int_le FIRST u && int_lt u END)) && spans (slot_around p u) t) differ
+    ∙ ap (λ x. x && spans (slot_around p u) t) (in_domain u inside)
+
+any-times : (p : ℕ) (a b : List Point) (t u : ℤ) → AllAt u a → AllAt u b → same_points a b ≡ false → InDomain u → (x : List Point) → AllAt u x → AllByRecursion (λ q. names p a b t q ≡ spans (slot_around p u) t) x
+any-times p a b t u h k differ inside x at =
+    each-weaker (λ q. q.time ≡ u) (λ q. names p a b t q ≡ spans (slot_around p u) t) (names-at p a b t u h k differ inside) x at
+
+same-both : (s : Bool) → (s || s) ≡ s
+same-both true = refl
+same-both false = refl
+
+-- of other points of one time comes the slot around it
+pub hit-time : (p : ℕ) (a b : List Point) (t u : ℤ) → AllAt u a → AllAt u b → same_points a b ≡ false → InDomain u → hit p a b t ≡ spans (slot_around p u) t
+hit-time p [] [] t u h k differ inside = cc
+hit-time p [] (r ∷ b) t u h k differ inside =
+    let all = names p [] (r ∷ b) t in
+    hit-is p [] (r ∷ b) t ∙ any-alike all (spans (slot_around p u) t) r b (any-times p [] (r ∷ b) t u h k differ inside (r ∷ b) k)
+hit-time p (q ∷ a) [] t u h k differ inside =
+    let all = names p (q ∷ a) [] t in
+    let s = spans (slot_around p u) t in
+    let first = any-alike all s q a (any-times p (q ∷ a) [] t u h k differ inside (q ∷ a) h) in
+    hit-is p (q ∷ a) [] t ∙ or-false (list_any all (q ∷ a)) ∙ first
+hit-time p (q ∷ a) (r ∷ b) t u h k differ inside =
+    let all = names p (q ∷ a) (r ∷ b) t in
+    let s = spans (slot_around p u) t in
+    hit-is p (q ∷ a) (r ∷ b) t
+    ∙ both-same (list_any all (q ∷ a)) (list_any all (r ∷ b)) s s (any-alike all s q a (any-times p (q ∷ a) (r ∷ b) t u h k differ inside (q ∷ a) h)) (any-alike all s r b (any-times p (q ∷ a) (r ∷ b) t u h k differ inside (r ∷ b) k))
+    ∙ same-both s
+
+-- ---- what is added, part by part
+
+pub adds-none : (p : ℕ) (was : List Interval) (a : List Point) → Adds p was was a a
+adds-none p was a = record { times = λ t. sym (ap (λ s. covered was t || s) (hit-same p a t) ∙ or-false (covered was t)) }
+
+pub adds-parts : (p : ℕ) (was mid now : List Interval) (m : ℤ) (a b c d : List Point) → AreParts m a b c d → Adds p was mid a b → Adds p mid now c d → Adds p was now (a ++ c) (b ++ d)
+adds-parts p was mid now m a b c d h x y =
+    record {
+      times = λ t.
+          y.times t
+          ∙ ap (λ s. s || hit p c d t) (x.times t)
+          ∙ or-assoc (covered was t) (hit p a b t) (hit p c d t)
+          ∙ ap (λ s. covered was t || s) (sym (hit-parts p t m a b c d h));
+    }
+
+before-within : (x m : ℤ) (b : List Point) → Before m (within x m b)
+before-within x m b =
+    each-weaker (λ q. is_within x m q ≡ true) (λ q. q.time <ℤ m) (λ q k. grind (arith, ints)) (within x m b) (filter-passes (is_within x m) b)
+
+from-within : (m y : ℤ) (b : List Point) → From m (within m y b)
+from-within m y b =
+    each-weaker (λ q. is_within m y q ≡ true) (λ q. m ≤ℤ q.time) (λ q k. grind (arith, ints)) (within m y b) (filter-passes (is_within m y) b)
+
+pub within-parts : (x m y : ℤ) (a b : List Point) → AreParts m (within x m a) (within x m b) (within m y a) (within m y b)
+within-parts x m y a b =
+    record {
+      a_before = before-within x m a;
+      b_before = before-within x m b;
+      c_from = from-within m y a;
+      d_from = from-within m y b;
+    }
+
+-- what is added up to a time, and from it on
+pub adds-within : (p : ℕ) (was mid now : List Interval) (x m y : ℤ) (a b : List Point) → x ≤ℤ m → m ≤ℤ y → IsInOrder a → IsInOrder b → Adds p was mid (within x m a) (within x m b) → Adds p mid now (within m y a) (within m y b) → Adds p was now (within x y a) (within x y b)
+adds-within p was mid now x m y a b low high first second before here =
+    let whole = adds-parts p was mid now m (within x m a) (within x m b) (within m y a) (within m y b) (within-parts x m y a b) before here in
+    subst (λ c. Adds p was now c (within x y b)) (sym (within-split x m y a low high first)) (subst (λ d. Adds p was now (within x m a ++ within m y a) d) (sym (within-split x m y b low high second)) whole)
+
+-- all that is added to nothing are the changes
+pub adds-all : (p : ℕ) (now : List Interval) (a b : List Point) → p ≤ 62 → IsCut now → Adds p [] now a b → now ≡ changes p a b
+unfolding hit
+adds-all p now a b low cut h =
+    same_from-covered now (changes p a b) cut (changes-cut p a b low) (λ t. h.times t ∙ sym (changes-covered p a b t low))

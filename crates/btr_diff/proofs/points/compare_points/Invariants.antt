@@ -1,0 +1,19 @@
+use Rattle.std.proofs.Common.{◌+◌, List, length}
+use Rattle.btr_base.specs.Bag.{IsInOrder}
+use Rattle.btr_base.specs.Range.{Interval}
+use Rattle.btr_tree.specs.Root.{AreInDomain}
+use Rattle.btr_diff.specs.Comparing.{Adds}
+use Rattle.btr_diff.proofs.points.compare_points.Given as goal
+
+-- what is added of the rest is added of all
+abbrev pub invariant-loop-time : goal.invariant-loop-time
+invariant-loop-time l = record {
+  old_order : IsInOrder l.old_left;
+  new_order : IsInOrder l.new_left;
+  old_domain : AreInDomain l.old_left;
+  new_domain : AreInDomain l.new_left;
+  times : (now : List Interval) → Adds l.p l.out now l.old_left l.new_left → Adds l.p l.fn.out now l.fn.old l.fn.new;
+}
+
+abbrev pub decreases-loop-time : goal.decreases-loop-time
+decreases-loop-time l = length l.old_left + length l.new_left

@@ -1,0 +1,117 @@
+-- Lemmas on what a walk finds in a place: the points of a leaf, the slots of an inner node, and a slot's child.
+use Rattle.std.specs.Prelude.{◌≡◌, ℕ, suc, ◌+◌, ◌<◌, ◌^◌, ℤ, pos, ◌+ℤ◌, ◌≤ℤ◌, Bool, not, int_le, int_lt, List, [], length, slice_index_or, Vec, Result, Ok, Err, OnOk, if◌then◌else◌}
+use Rattle.std.specs.Result.{is_ok}
+use Rattle.std.proofs.Common.{sym, ap, ◌∙◌, arith, subst}
+use Rattle.std.specs.declared.alloc.Global.{Global}
+use Rattle.btr_base.specs.declared.point.Point.{Point}
+use Rattle.btr_base.specs.Bag.{IsInOrder, within}
+use Rattle.btr_base.specs.Within.{filter-same, within-from, within-before}
+use Rattle.std.specs.List.{filter}
+use Rattle.std.proofs.lemmas.Int.{ints}
+use Rattle.btr_base.specs.Span.{width, Part, slot_of}
+use Rattle.btr_tree.specs.declared.node.Node.{Node}
+use Rattle.btr_tree.specs.declared.node.Node.TheVariants.{Leaf, Inner}
+use Rattle.btr_tree.specs.declared.node.Slot.{Slot}
+use Rattle.btr_tree.specs.History.{Commit, bag}
+use Rattle.btr_tree.specs.Nodes.{points_of, is_inner}
+use Rattle.btr_tree.specs.Shape.{slot_start, IsPlace, Child, HasSlots, HasChildren, IsNode}
+use Rattle.btr_tree.specs.Shapes.{leaf-is, inner-is, slot-part, slot-few}
+use Rattle.btr_tree.specs.Change.{Stands, StandsInner}
+use Rattle.btr_tree.specs.Making.{slots-as}
+use Rattle.btr_tree.specs.Stamps.{points-in_order}
+
+-- what a list is after a call that leaves it as it was where it fails
+pub where_ok : {E : Type 0} (r : Result (Unit {0}) E) (new all old : List Point) → new ≡ (if is_ok r then all else old) → OnOk r (new ≡ all)
+where_ok (Ok x) new all old e = e
+where_ok (Err x) new all old e = tt
+
+not_before : (time t : ℤ) → not (int_lt t time) ≡ int_le time t
+not_before time t = grind (arith, ints)
+
+-- the points of a leaf are those of its span
+pub leaf-points : (k : ℕ) (s : ℤ) (above : List Point → Bool) (h : List Commit) (n : Node) (v : ℕ) (ps : Vec Point Global) (slice : List Point) → n ≡ Leaf v ps → slice ≡ ps.items → IsNode k s above h n → slice ≡ points_of k s (bag h)
+leaf-points k s above h n v ps slice e same holds = same ∙ (leaf-is k s above h n v ps e holds).same
+
+pub leaf-in_order : (k : ℕ) (s : ℤ) (above : List Point → Bool) (h : List Commit) (n : Node) (v : ℕ) (ps : Vec Point Global) (slice : List Point) → n ≡ Leaf v ps → slice ≡ ps.items → IsNode k s above h n → IsInOrder slice
+leaf-in_order k s above h n v ps slice e same holds =
+    subst IsInOrder (sym (leaf-points k s above h n v ps slice e same holds)) (points-in_order k s h)
+
+-- those of them from a time on, and before it
+pub leaf-from : (k : ℕ) (s : ℤ) (b : List Point) (points behind : List Point) (time at : ℤ) → at ≡ time → s ≤ℤ time → points ≡ points_of k s b → behind ≡ filter (λ p. not (int_lt p.time at)) points → behind ≡ within time (s +ℤ pos (width k)) b
+leaf-from k s b points behind time at same low is e =
+    e
+    ∙ (λ i. filter (λ p. not (int_lt p.time (same i))) (is i))
+    ∙ filter-same (λ p. not (int_lt p.time time)) (λ p. int_le time p.time) (points_of k s b) (λ p. not_before time p.time)
+    ∙ within-from s (s +ℤ pos (width k)) time b low
+
+pub leaf-before : (k : ℕ) (s : ℤ) (b : List Point) (points before : List Point) (time at : ℤ) → at ≡ time → time ≤ℤ (s +ℤ pos (width k)) → points ≡ points_of k s b → before ≡ filter (λ p. int_lt p.time at) points → before ≡ within s time b
+leaf-before k s b points before time at same high is e =
+    e
+    ∙ (λ i. filter (λ p. int_lt p.time (same i)) (is i))
+    ∙ within-before s (s +ℤ pos (width k)) time b high
+
+-- there are none of either in a span without points
+pub none-from : (k : ℕ) (s : ℤ) (b : List Point) (time : ℤ) → s ≤ℤ time → points_of k s b ≡ [] → within time (s +ℤ pos (width k)) b ≡ []
+none-from k s b time low none =
+    sym (within-from s (s +ℤ pos (width k)) time b low) ∙ ap (filter (λ p. int_le time p.time)) none
+
+pub none-until : (k : ℕ) (s : ℤ) (b : List Point) (time : ℤ) → time ≤ℤ (s +ℤ pos (width k)) → points_of k s b ≡ [] → within s time b ≡ []
+none-until k s b time high none =
+    sym (within-before s (s +ℤ pos (width k)) time b high) ∙ ap (filter (λ p. int_lt p.time time)) none
+
+-- the slots and children of an inner node
+pub record HasInner (k : ℕ) (s : ℤ) (h : List Commit) (ss : List Slot) (cs : List Child) : Type 0 where
+  pub below : ℕ
+  pub height : k ≡ suc below
+  pub all : HasSlots below s h 64 ss cs
+  pub each : HasChildren below s h 64 cs
+
+pub inner-parts : (k : ℕ) (s : ℤ) (above : List Point → Bool) (h : List Commit) (n : Node) (v : ℕ) (ss : Vec Slot Global) (cs : Vec Child Global) (ts : List Slot) (ds : List Child) → n ≡ Inner v ss cs → ts ≡ ss.items → ds ≡ cs.items → IsNode k s above h n → HasInner k s h ts ds
+inner-parts k s above h n v ss cs ts ds e p q holds =
+    let body = inner-is k s above h n v ss cs e holds in
+    record {
+      below = body.below;
+      height = body.height;
+      all = slots-as body.below s h 64 ss.items ts cs.items ds p q body.inner.all;
+      each = subst (HasChildren body.below s h 64) (sym q) body.each;
+    }
+
+-- an inner node stands where its place did
+pub inner-stands : (k : ℕ) (s : ℤ) (h : List Commit) (ss : List Slot) (cs : List Child) → HasInner k s h ss cs → length (points_of k s (bag h)) + 0 < 2 ^ 64 → (below : ℕ) × (k ≡ suc below) × StandsInner below s ss cs 0
+inner-stands k s h ss cs body few = (
+  body.below,
+  body.height,
+  record {
+    commits = h;
+    holds = body.all;
+    each = body.each;
+    few = subst (λ j. length (points_of j s (bag h)) + 0 < 2 ^ 64) body.height few;
+  },
+)
+
+-- ---- a slot's child
+
+-- what is known of a slot's child
+pub record IsChildAt (below : ℕ) (s : ℤ) (h : List Commit) (i : ℕ) (part : Part) (child : Child) : Type 0 where
+  pub is : part ≡ record { start = slot_start below s i; height = below }
+  pub holds : IsPlace part.height part.start (is_inner (suc below) s) h child
+
+pub child-at : (span : Part) (below : ℕ) (h : List Commit) (i j : ℕ) (part : Part) (child : Child) (cs : List Child) → span.height ≡ suc below → HasChildren below span.start h 64 cs → i < 64 → j ≡ i → part ≡ slot_of span i → child ≡ slice_index_or cs j child → IsChildAt below span.start h i part child
+child-at span below h i j part child cs e each place same p r =
+    let is : part ≡ record { start = slot_start below span.start i; height = below } = p ∙ slot-part span below i e in
+    let holds : IsPlace below (slot_start below span.start i) (is_inner (suc below) span.start) h child = subst (IsPlace below (slot_start below span.start i) (is_inner (suc below) span.start) h) (ap (λ k. slice_index_or cs k child) (sym same) ∙ sym r) (each i child place) in
+    record {
+      is = is;
+      holds = subst (λ u. IsPlace u.height u.start (is_inner (suc below) span.start) h child) (sym is) holds;
+    }
+
+-- it stands where its node does
+pub child-stands : (below : ℕ) (s : ℤ) (h : List Commit) (i : ℕ) (part : Part) (child : Child) → part ≡ record { start = slot_start below s i; height = below } → IsPlace part.height part.start (is_inner (suc below) s) h child → i < 64 → length (points_of (suc below) s (bag h)) + 0 < 2 ^ 64 → Stands part.height part.start child 0
+child-stands below s h i part child is holds place few =
+    let fewer = slot-few below s h i part place is in
+    record {
+      above = is_inner (suc below) s;
+      commits = h;
+      holds = holds;
+      few = omega arith;
+    }

@@ -1,0 +1,114 @@
+use Rattle.std.proofs.Common.{◌≡◌, suc, ◌≤ℤ◌, ◌<ℤ◌, List, refl, sym, ap, ◌∙◌, subst, arith, rules, w64, to_z, of_z}
+use Rattle.std.specs.Prelude.{slice_get, None}
+use Rattle.std.proofs.lemmas.Int.{ints, to_z-of_z}
+use Rattle.btr_base.specs.declared.point.Point.{Point}
+use Rattle.btr_base.specs.Bag.{within}
+use Rattle.btr_base.specs.Span.{Part}
+use Rattle.btr_tree.specs.Change.{end_of}
+use Rattle.btr_tree.specs.History.{bag}
+use Rattle.btr_tree.specs.Nodes.{is_inner}
+use Rattle.btr_scan.proofs.Places.{leaf-points, leaf-in_order, leaf-from, none-from, inner-parts, inner-stands, child-at, child-stands}
+use Rattle.btr_scan.proofs.Runs.{next-here, next-behind}
+use Rattle.btr_scan.proofs.forward.+next.Goals as goal
+
+pub next_in_place-returns-in_err-points-clause-point : goal.next_in_place-returns-in_err-points-clause-point
+next_in_place-returns-in_err-points-clause-point t c above h holds =
+    let k = c.args.span.height in
+    let s = c.args.span.start in
+    let none = none-from k s (bag h) c.args.time c.requires.begins (c.in_err-points.ensures.none refl k s above h holds) in
+    let is : c.from_residual.result ≡ None = search rules in
+    is ∙ sym (ap (λ (x : List Point). slice_get x 0) none)
+
+pub next_in_place-parted-requires : goal.next_in_place-parted-requires
+next_in_place-parted-requires t c =
+    let st = c.requires.stands in
+    let k = c.args.span.height in
+    let s = c.args.span.start in
+    let node = c.in_ok-points.ensures.node k s st.above st.commits st.holds in
+    leaf-in_order k s st.above st.commits c.in_ok-points.field-0.now c.in-Leaf.version c.in-Leaf.points c.deref.result.now c.in-Leaf.is c.deref.ensures.value node
+
+pub next_in_place-next_in_slots-requires : goal.next_in_place-next_in_slots-requires
+next_in_place-next_in_slots-requires t c =
+    let st = c.requires.stands in
+    let k = c.args.span.height in
+    let s = c.args.span.start in
+    let d = c.decreases in
+    let same = to_z-of_z w64 c.args.time c.ranges.time in
+    let node = c.in_ok-points.ensures.node k s st.above st.commits st.holds in
+    let body = inner-parts k s st.above st.commits c.in_ok-points.field-0.now c.in-Inner.version c.in-Inner.slots c.in-Inner.children c.deref-in-Inner.result.now c.deref-in-Inner-2.result.now c.in-Inner.is c.deref-in-Inner.ensures.value c.deref-in-Inner-2.ensures.value node in (
+      omega arith,
+      (
+        inner-stands k s st.commits _ _ body st.few,
+        (subst (λ x. s ≤ℤ x) (sym same) c.requires.begins, subst (λ x. x <ℤ end_of c.args.span) (sym same) c.requires.ends),
+      ),
+    )
+
+pub next_in_place-returns-in-Leaf-clause-point : goal.next_in_place-returns-in-Leaf-clause-point
+next_in_place-returns-in-Leaf-clause-point t c above h holds =
+    let k = c.args.span.height in
+    let s = c.args.span.start in
+    let same = to_z-of_z w64 c.args.time c.ranges.time in
+    let node = c.in_ok-points.ensures.node k s above h holds in
+    let points = leaf-points k s above h c.in_ok-points.field-0.now c.in-Leaf.version c.in-Leaf.points c.deref.result.now c.in-Leaf.is c.deref.ensures.value node in
+    let behind = leaf-from k s (bag h) c.deref.result.now c.parted.result.1.now c.args.time (to_z w64 (of_z w64 c.args.time)) same c.requires.begins points c.parted.ensures.from in
+    c.first_of.ensures ∙ ap (λ (x : List Point). slice_get x 0) behind
+
+pub next_in_place-returns-in-Inner-clause-point : goal.next_in_place-returns-in-Inner-clause-point
+next_in_place-returns-in-Inner-clause-point t c above h holds =
+    let k = c.args.span.height in
+    let s = c.args.span.start in
+    let same = to_z-of_z w64 c.args.time c.ranges.time in
+    let node = c.in_ok-points.ensures.node k s above h holds in
+    let body = inner-parts k s above h c.in_ok-points.field-0.now c.in-Inner.version c.in-Inner.slots c.in-Inner.children c.deref-in-Inner.result.now c.deref-in-Inner-2.result.now c.in-Inner.is c.deref-in-Inner.ensures.value c.deref-in-Inner-2.ensures.value node in
+    c.next_in_slots.ensures.point body.below h body.height body.all body.each
+    ∙ ap (λ x. slice_get (within x (end_of c.args.span) (bag h)) 0) same
+
+pub next_in_slots-next_in_place-requires : goal.next_in_slots-next_in_place-requires
+next_in_slots-next_in_place-requires t c =
+    let st = c.requires.stands in
+    let below = st.0 in
+    let d = c.decreases in
+    let i = c.slot_at-i.result in
+    let all = c.slot_at-i.ensures in
+    let at = child-at c.args.span below st.2.commits i c.from.result c.slot.result c.index-children-from.result c.args.children.now st.1 st.2.each all.place c.from.ensures c.slot.ensures c.index-children-from.is in
+    let stands = child-stands below c.args.span.start st.2.commits i c.slot.result c.index-children-from.result at.is at.holds all.place st.2.few in
+    let down : c.slot.result.height ≡ below = ap (λ u. u.height) at.is in
+    let up = st.1 in
+    let x = to_z w64 (of_z w64 c.args.time) in (
+      omega arith,
+      (
+        stands,
+        (
+          subst (λ (u : Part). u.start ≤ℤ to_z w64 (of_z w64 c.args.time)) (sym c.slot.ensures) all.begins,
+          subst (λ (u : Part). to_z w64 (of_z w64 c.args.time) <ℤ end_of u) (sym c.slot.ensures) all.ends,
+        ),
+      ),
+    )
+
+pub next_in_slots-returns-in-Some-clause-point : goal.next_in_slots-returns-in-Some-clause-point
+next_in_slots-returns-in-Some-clause-point t c below h e slots each =
+    let i = c.slot_at-i.result in
+    let all = c.slot_at-i.ensures in
+    let same = to_z-of_z w64 c.args.time c.ranges.time in
+    let at = child-at c.args.span below h i c.from.result c.slot.result c.index-children-from.result c.args.children.now e each all.place c.from.ensures c.slot.ensures c.index-children-from.is in
+    let ends : c.args.time <ℤ end_of c.slot.result = subst (λ x. x <ℤ end_of c.slot.result) same (subst (λ (u : Part). to_z w64 (of_z w64 c.args.time) <ℤ end_of u) (sym c.slot.ensures) all.ends) in
+    let found = c.in-Some.ensures.point (is_inner (suc below) c.args.span.start) h at.holds ∙ ap (λ x. slice_get (within x (end_of c.slot.result) (bag h)) 0) same in
+    next-here c.args.span below h c.args.time i c.slot.result c.in-Some.point e all.place at.is (omega (arith, ints)) found
+
+pub next_in_slots-returns-in-None-clause-point : goal.next_in_slots-returns-in-None-clause-point
+next_in_slots-returns-in-None-clause-point t c below h e slots each =
+    let i = c.slot_at-i.result in
+    let all = c.slot_at-i.ensures in
+    let same = to_z-of_z w64 c.args.time c.ranges.time in
+    let at = child-at c.args.span below h i c.from.result c.slot.result c.index-children-from.result c.args.children.now e each all.place c.from.ensures c.slot.ensures c.index-children-from.is in
+    let ends : c.args.time <ℤ end_of c.slot.result = subst (λ x. x <ℤ end_of c.slot.result) same (subst (λ (u : Part). to_z w64 (of_z w64 c.args.time) <ℤ end_of u) (sym c.slot.ensures) all.ends) in
+    let missed = c.in-None.ensures.point (is_inner (suc below) c.args.span.start) h at.holds ∙ ap (λ x. slice_get (within x (end_of c.slot.result) (bag h)) 0) same in
+    next-behind c.args.span below h c.args.time i c.slot.result c.first_in_slots.result e all.place at.is (omega (arith, ints)) missed (c.first_in_slots.ensures.point below h e slots each)
+
+pub next_in_slots-returns-in-None-clause-none : goal.next_in_slots-returns-in-None-clause-none
+next_in_slots-returns-in-None-clause-none t c none =
+    let first = c.in-None.ensures.none refl in
+    let behind = c.first_in_slots.ensures.none none in
+    let down = ap (λ (u : Part). u.height) c.slot.ensures in
+    let up = c.requires.stands.1 in
+    omega arith

@@ -1,0 +1,125 @@
+//! The last point before a time.
+ghost use Rattle.std.specs.Prelude.{◌≡◌, ◌+◌, ◌*◌, ◌≤◌, ℕ, ℤ, suc, ◌≤ℤ◌, ◌<ℤ◌, int_lt, Bool, List, None, filter, IsNone};
+ghost use Rattle.std.specs.List.{last_or};
+ghost use Rattle.btr_base.specs.Bag.{within};
+ghost use Rattle.btr_base.specs.declared.domain.TheConstants.{FIRST as FIRST_TIME};
+ghost use Rattle.btr_base.specs.declared.point.Point.{Point as APoint};
+ghost use Rattle.btr_tree.specs.History.{Commit, bag};
+ghost use Rattle.btr_tree.specs.Nodes.{points_of, no_span};
+ghost use Rattle.btr_tree.specs.Shape.{IsPlace, HasSlots, HasChildren, slot_start};
+ghost use Rattle.btr_tree.specs.Change.{Stands, StandsInner, end_of};
+ghost use Rattle.btr_tree.specs.Root.{AreInDomain};
+
+use crate::slots::previous_slot;
+use btr_base::{END, FIRST, Point, Span, parted};
+use btr_tree::{Node, Place, SLOTS, Slot, Steps, opened, root_span};
+
+/// The last point of the root's place before a time. It opens at most 21 nodes.
+pub(crate) fn previous_in_root(place: &Place, time: i64, steps: &mut Steps) -> Option<Point>
+    requires { Stands 10 FIRST_TIME place.now 0 }
+    ensures point { (h : List Commit) → IsPlace 10 FIRST_TIME no_span h place.now → AreInDomain (bag h) → result ≡ last_or None (filter (λ p. int_lt p.time time) (bag h)) }
+    ensures few { steps.new ≤ steps.old + 21 }
+    ensures kept { steps.old ≤ steps.new }
+{
+    if time <= FIRST {
+        return None;
+    }
+    if time >= END {
+        return last_in_place(root_span(), place, steps);
+    }
+    previous_in_place(root_span(), place, time, steps)
+}
+
+/// The last point of a place before a time, which lies behind its span's start and not behind its end. It opens at most two
+/// nodes a height, and at most one where it finds none.
+#[cycle(previous)]
+fn previous_in_place(span: Span, place: &Place, time: i64, steps: &mut Steps) -> Option<Point>
+    requires stands { Stands span.height span.start place.now 0 }
+    requires begins { span.start <ℤ time }
+    requires ends { time ≤ℤ end_of span }
+    ensures point { (above : List APoint → Bool) (h : List Commit) → IsPlace span.height span.start above h place.now → result ≡ last_or None (within span.start time (bag h)) }
+    ensures few { steps.new ≤ steps.old + 2 * span.height + 1 }
+    ensures none { IsNone result → steps.new ≤ steps.old + span.height + 1 }
+    ensures kept { steps.old ≤ steps.new }
+{
+    match opened(place, steps)? {
+        Node::Leaf { points, .. } => {
+            let (before, _) = parted(points, time);
+            last_of(before)
+        }
+        Node::Inner {
+            slots,
+            children,
+            ..
+        } => previous_in_slots(span, slots, children, time, steps),
+    }
+}
+
+/// The same of an inner node's slots: of the last slot that begins before the time, else of those before it.
+#[cycle(previous)]
+fn previous_in_slots(
+    span: Span,
+    slots: &[Slot],
+    children: &[Place],
+    time: i64,
+    steps: &mut Steps,
+) -> Option<Point>
+    requires stands { (below : ℕ) × (span.height ≡ suc below) × StandsInner below span.start slots.now children.now 0 }
+    requires begins { span.start <ℤ time }
+    requires ends { time ≤ℤ end_of span }
+    ensures point { (below : ℕ) (h : List Commit) → span.height ≡ suc below → HasSlots below span.start h 64 slots.now children.now → HasChildren below span.start h 64 children.now → result ≡ last_or None (within span.start time (bag h)) }
+    ensures few { steps.new ≤ steps.old + 2 * span.height }
+    ensures none { IsNone result → steps.new ≤ steps.old + span.height }
+    ensures kept { steps.old ≤ steps.new }
+{
+    let (_, i) = span.slots_between(span.start, time);
+    match previous_in_place(span.slot(i), &children[usize::from(i)], time, steps) {
+        Some(point) => Some(point),
+        None => last_in_slots(span, slots, children, i, steps),
+    }
+}
+
+/// The last point of a place. It opens at most one node a height.
+#[cycle(last)]
+fn last_in_place(span: Span, place: &Place, steps: &mut Steps) -> Option<Point>
+    requires { Stands span.height span.start place.now 0 }
+    ensures point { (above : List APoint → Bool) (h : List Commit) → IsPlace span.height span.start above h place.now → result ≡ last_or None (points_of span.height span.start (bag h)) }
+    ensures few { steps.new ≤ steps.old + span.height + 1 }
+    ensures kept { steps.old ≤ steps.new }
+{
+    match opened(place, steps)? {
+        Node::Leaf { points, .. } => last_of(points),
+        Node::Inner {
+            slots,
+            children,
+            ..
+        } => last_in_slots(span, slots, children, SLOTS, steps),
+    }
+}
+
+/// The last point of an inner node's slots before a place. It opens nothing where it finds none.
+#[cycle(last)]
+fn last_in_slots(
+    span: Span,
+    slots: &[Slot],
+    children: &[Place],
+    to: u8,
+    steps: &mut Steps,
+) -> Option<Point>
+    requires stands { (below : ℕ) × (span.height ≡ suc below) × StandsInner below span.start slots.now children.now 0 }
+    requires place { to ≤ 64 }
+    ensures point { (below : ℕ) (h : List Commit) → span.height ≡ suc below → HasSlots below span.start h 64 slots.now children.now → HasChildren below span.start h 64 children.now → result ≡ last_or None (within span.start (slot_start below span.start to) (bag h)) }
+    ensures few { steps.new ≤ steps.old + span.height }
+    ensures none { IsNone result → steps.new ≡ steps.old }
+    ensures kept { steps.old ≤ steps.new }
+{
+    let i = previous_slot(slots, to)?;
+    last_in_place(span.slot(i), &children[usize::from(i)], steps)
+}
+
+/// The last of points.
+fn last_of(points: &[Point]) -> Option<Point>
+    ensures { result ≡ last_or None points.now }
+{
+    points.last().copied()
+}

@@ -1,0 +1,124 @@
+//! The first point from a time on.
+ghost use Rattle.std.specs.Prelude.{◌≡◌, ◌+◌, ◌*◌, ◌≤◌, ℕ, ℤ, suc, ◌≤ℤ◌, ◌<ℤ◌, int_le, Bool, List, slice_get, filter, IsNone};
+ghost use Rattle.btr_base.specs.Bag.{within};
+ghost use Rattle.btr_base.specs.declared.domain.TheConstants.{FIRST as FIRST_TIME};
+ghost use Rattle.btr_base.specs.declared.point.Point.{Point as APoint};
+ghost use Rattle.btr_tree.specs.History.{Commit, bag};
+ghost use Rattle.btr_tree.specs.Nodes.{points_of, no_span};
+ghost use Rattle.btr_tree.specs.Shape.{IsPlace, HasSlots, HasChildren, slot_start};
+ghost use Rattle.btr_tree.specs.Change.{Stands, StandsInner, end_of};
+ghost use Rattle.btr_tree.specs.Root.{AreInDomain};
+
+use crate::slots::next_slot;
+use btr_base::{END, FIRST, Point, Span, parted};
+use btr_tree::{Node, Place, Slot, Steps, opened, root_span};
+
+/// The first point of the root's place at or behind a time. It opens at most 21 nodes.
+pub(crate) fn next_in_root(place: &Place, time: i64, steps: &mut Steps) -> Option<Point>
+    requires { Stands 10 FIRST_TIME place.now 0 }
+    ensures point { (h : List Commit) → IsPlace 10 FIRST_TIME no_span h place.now → AreInDomain (bag h) → result ≡ slice_get (filter (λ p. int_le time p.time) (bag h)) 0 }
+    ensures few { steps.new ≤ steps.old + 21 }
+    ensures kept { steps.old ≤ steps.new }
+{
+    if time >= END {
+        return None;
+    }
+    if time < FIRST {
+        return first_in_place(root_span(), place, steps);
+    }
+    next_in_place(root_span(), place, time, steps)
+}
+
+/// The first point of a place at or behind a time of its span. It opens at most two nodes a height, and at most one where it
+/// finds none.
+#[cycle(next)]
+fn next_in_place(span: Span, place: &Place, time: i64, steps: &mut Steps) -> Option<Point>
+    requires stands { Stands span.height span.start place.now 0 }
+    requires begins { span.start ≤ℤ time }
+    requires ends { time <ℤ end_of span }
+    ensures point { (above : List APoint → Bool) (h : List Commit) → IsPlace span.height span.start above h place.now → result ≡ slice_get (within time (end_of span) (bag h)) 0 }
+    ensures few { steps.new ≤ steps.old + 2 * span.height + 1 }
+    ensures none { IsNone result → steps.new ≤ steps.old + span.height + 1 }
+    ensures kept { steps.old ≤ steps.new }
+{
+    match opened(place, steps)? {
+        Node::Leaf { points, .. } => {
+            let (_, behind) = parted(points, time);
+            first_of(behind)
+        }
+        Node::Inner {
+            slots,
+            children,
+            ..
+        } => next_in_slots(span, slots, children, time, steps),
+    }
+}
+
+/// The same of an inner node's slots: of the slot that the time lies in, else of those behind it.
+#[cycle(next)]
+fn next_in_slots(
+    span: Span,
+    slots: &[Slot],
+    children: &[Place],
+    time: i64,
+    steps: &mut Steps,
+) -> Option<Point>
+    requires stands { (below : ℕ) × (span.height ≡ suc below) × StandsInner below span.start slots.now children.now 0 }
+    requires begins { span.start ≤ℤ time }
+    requires ends { time <ℤ end_of span }
+    ensures point { (below : ℕ) (h : List Commit) → span.height ≡ suc below → HasSlots below span.start h 64 slots.now children.now → HasChildren below span.start h 64 children.now → result ≡ slice_get (within time (end_of span) (bag h)) 0 }
+    ensures few { steps.new ≤ steps.old + 2 * span.height }
+    ensures none { IsNone result → steps.new ≤ steps.old + span.height }
+    ensures kept { steps.old ≤ steps.new }
+{
+    let i = span.slot_at(time);
+    match next_in_place(span.slot(i), &children[usize::from(i)], time, steps) {
+        Some(point) => Some(point),
+        None => first_in_slots(span, slots, children, i + 1, steps),
+    }
+}
+
+/// The first point of a place. It opens at most one node a height.
+#[cycle(first)]
+fn first_in_place(span: Span, place: &Place, steps: &mut Steps) -> Option<Point>
+    requires { Stands span.height span.start place.now 0 }
+    ensures point { (above : List APoint → Bool) (h : List Commit) → IsPlace span.height span.start above h place.now → result ≡ slice_get (points_of span.height span.start (bag h)) 0 }
+    ensures few { steps.new ≤ steps.old + span.height + 1 }
+    ensures kept { steps.old ≤ steps.new }
+{
+    match opened(place, steps)? {
+        Node::Leaf { points, .. } => first_of(points),
+        Node::Inner {
+            slots,
+            children,
+            ..
+        } => first_in_slots(span, slots, children, 0, steps),
+    }
+}
+
+/// The first point of an inner node's slots from a place on. It opens nothing where it finds none.
+#[cycle(first)]
+fn first_in_slots(
+    span: Span,
+    slots: &[Slot],
+    children: &[Place],
+    from: u8,
+    steps: &mut Steps,
+) -> Option<Point>
+    requires stands { (below : ℕ) × (span.height ≡ suc below) × StandsInner below span.start slots.now children.now 0 }
+    requires place { from ≤ 64 }
+    ensures point { (below : ℕ) (h : List Commit) → span.height ≡ suc below → HasSlots below span.start h 64 slots.now children.now → HasChildren below span.start h 64 children.now → result ≡ slice_get (within (slot_start below span.start from) (end_of span) (bag h)) 0 }
+    ensures few { steps.new ≤ steps.old + span.height }
+    ensures none { IsNone result → steps.new ≡ steps.old }
+    ensures kept { steps.old ≤ steps.new }
+{
+    let i = next_slot(slots, from)?;
+    first_in_place(span.slot(i), &children[usize::from(i)], steps)
+}
+
+/// The first of points.
+fn first_of(points: &[Point]) -> Option<Point>
+    ensures { result ≡ slice_get points.now 0 }
+{
+    points.first().copied()
+}

@@ -1,0 +1,21 @@
+//! Raw points of one version of a stream, read from its tree (BTrDB, FAST 2016).
+//!
+//! [`range`] gives the points of a range of time (BTrDB's GetRange), and [`nearest`] the one that is nearest to a time in one
+//! direction (BTrDB's GetNearestValue). Both go down the tree only where what is asked can be, and stop at a slot that has
+//! no point.
+#![tactic(auto)]
+
+// how a walk goes on over slots
+mod slots;
+// the points of a range
+mod scanning;
+// the point nearest to a time
+mod backward;
+mod forward;
+mod seeking;
+
+pub use scanning::range;
+pub use seeking::nearest;
+
+#[cfg(test)]
+mod tests;

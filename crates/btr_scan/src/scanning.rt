@@ -1,0 +1,101 @@
+//! The points of a range.
+ghost use Rattle.std.specs.Prelude.{◌≡◌, ◌++◌, ℕ, ℤ, suc, ◌<ℤ◌, Bool, List, length, IfOk, OnOk};
+ghost use Rattle.btr_base.specs.Bag.{within};
+ghost use Rattle.btr_base.specs.declared.point.Point.{Point as APoint};
+ghost use Rattle.btr_tree.specs.History.{Commit, bag};
+ghost use Rattle.btr_tree.specs.Nodes.{points_of};
+ghost use Rattle.btr_tree.specs.Shape.{IsPlace, HasSlots, HasChildren};
+ghost use Rattle.btr_tree.specs.Change.{Stands, StandsInner, end_of};
+ghost use Rattle.btr_tree.specs.Root.{IsTree};
+
+use btr_base::{Point, Range, Span, points_between};
+use btr_tree::{Node, Place, Slot, Steps, Tree, opened, root_span};
+use std::alloc::{AllocError, Global};
+
+/// The points of a version with `from <= time < to`, by time and value, each equal one (BTrDB's GetRange). It costs its
+/// points, and the nodes on the way to the two ends of the range. An `Err` is want of memory.
+pub fn range(alloc: Global, tree: &Tree, range: Range) -> Result<Vec<Point>, AllocError>
+    ensures { IfOk result (λ v. (h : List Commit) → IsTree h tree.now → v.items ≡ within range.from range.to (bag h)) }
+{
+    let mut rows = Vec::new(alloc);
+    let mut steps = Steps::new();
+    // it shows that the bounds are those of a range
+    let _ = &range.from;
+    walk_place(root_span(), tree.root(), range, &mut rows, &mut steps)?;
+    Ok(rows)
+}
+
+/// Appends the points of a place whose times are in a range, which has times of the span.
+#[cycle(walk)]
+fn walk_place(
+    span: Span,
+    place: &Place,
+    range: Range,
+    rows: &mut Vec<Point>,
+    steps: &mut Steps,
+) -> Result<(), AllocError>
+    requires stands { Stands span.height span.start place.now 0 }
+    requires begins { range.from <ℤ end_of span }
+    requires ends { span.start <ℤ range.to }
+    ensures { OnOk result ((above : List APoint → Bool) (h : List Commit) → IsPlace span.height span.start above h place.now → rows.new.items ≡ rows.old.items ++ within range.from range.to (points_of span.height span.start (bag h))) }
+{
+    match opened(place, steps) {
+        None => Ok(()),
+        Some(node) => match node {
+            Node::Leaf { points, .. } => {
+                rows.extend_from_slice(points_between(points, range.from, range.to))
+            }
+            Node::Inner {
+                slots,
+                children,
+                ..
+            } => walk_slots(span, slots, children, range, rows, steps),
+        },
+    }
+}
+
+/// The same of an inner node's slots, of which it looks at those alone that have times of the range.
+#[cycle(walk)]
+fn walk_slots(
+    span: Span,
+    slots: &[Slot],
+    children: &[Place],
+    range: Range,
+    rows: &mut Vec<Point>,
+    steps: &mut Steps,
+) -> Result<(), AllocError>
+    requires stands { (below : ℕ) × (span.height ≡ suc below) × StandsInner below span.start slots.now children.now 0 }
+    requires begins { range.from <ℤ end_of span }
+    requires ends { span.start <ℤ range.to }
+    ensures { OnOk result ((below : ℕ) (h : List Commit) → span.height ≡ suc below → HasSlots below span.start h 64 slots.now children.now → HasChildren below span.start h 64 children.now → rows.new.items ≡ rows.old.items ++ within range.from range.to (points_of span.height span.start (bag h))) }
+{
+    let (first, last) = span.slots_between(range.from, range.to);
+    for i in first..last + 1 {
+        let place = usize::from(i);
+        let agg = &slots[place].agg;
+        let count = agg.count;
+        walk_slot(span.slot(i), count, &children[place], range, rows, steps)?;
+    }
+    Ok(())
+}
+
+/// The same of a slot with so many points, which it does not open where it has none.
+#[cycle(walk)]
+fn walk_slot(
+    span: Span,
+    count: u64,
+    place: &Place,
+    range: Range,
+    rows: &mut Vec<Point>,
+    steps: &mut Steps,
+) -> Result<(), AllocError>
+    requires stands { Stands span.height span.start place.now 0 }
+    requires begins { range.from <ℤ end_of span }
+    requires ends { span.start <ℤ range.to }
+    ensures { OnOk result ((above : List APoint → Bool) (h : List Commit) → IsPlace span.height span.start above h place.now → count ≡ length (points_of span.height span.start (bag h)) → rows.new.items ≡ rows.old.items ++ within range.from range.to (points_of span.height span.start (bag h))) }
+{
+    if count == 0 {
+        return Ok(());
+    }
+    walk_place(span, place, range, rows, steps)
+}
