@@ -3,3 +3,7 @@ mod Crowd
 mod Stays
 mod Domain
 mod Machine
+mod Once
+mod Bounds
+mod Found
+mod Differ

@@ -1,20 +1,28 @@
--- What is answered at a version that a stream has is answered for good.
-use Rattle.std.specs.Prelude.{◌≡◌, ℕ, ℤ, ◌+◌, ◌≤◌, ◌<◌, nat_lt, Bool, List, ◌++◌, length, cond}
+-- What is answered of versions that are there is answered for good.
+use Rattle.std.specs.Prelude.{◌≡◌, ℕ, ◌+◌, ◌≤◌, ◌<◌, nat_lt, nat_le, max, true, ◌&&◌, Bool, List, ◌++◌, length, cond}
 use Rattle.std.proofs.Common.{sym, ap, ◌∙◌, arith}
 use Rattle.std.proofs.lemmas.Bool.{lt-leb, le-ltb}
 use Rattle.std.proofs.lemmas.List.{length-append}
 use Rattle.btr_base.specs.declared.point.Point.{Point}
+use Rattle.btr_base.specs.declared.domain.TheConstants.{FIRST, END}
+use Rattle.btr_base.specs.Agg.{agg_within}
 use Rattle.btr_base.specs.Bag.{within}
+use Rattle.btr_base.specs.Changes.{changes}
+use Rattle.btr_base.specs.Nearest.{nearest}
+use Rattle.btr_base.specs.Windows.{aligned, windows}
 use Rattle.btr_hist.specs.declared.entry.Entry.{Entry}
-use Rattle.btr_hist.specs.declared.query.At.TheVariants.{Number}
-use Rattle.btr_hist.specs.declared.query.Query.TheVariants.{Points as AskPoints}
+use Rattle.btr_hist.specs.declared.query.At.{At}
+use Rattle.btr_hist.specs.declared.query.At.TheVariants.{Number, Latest}
+use Rattle.btr_hist.specs.declared.query.Query.{Query}
+use Rattle.btr_hist.specs.declared.query.Query.TheVariants as ask
 use Rattle.btr_hist.specs.declared.answer.Answer.{Answer}
 use Rattle.btr_hist.specs.declared.answer.Answer.TheVariants.{Found, Refused}
 use Rattle.btr_hist.specs.declared.answer.Refusal.TheVariants.{NoStream, NoVersion, BadRange}
 use Rattle.btr_hist.specs.declared.answer.Rows.{Rows}
-use Rattle.btr_hist.specs.declared.answer.Rows.TheVariants.{Points}
+use Rattle.btr_hist.specs.declared.answer.Rows.TheVariants.{Points, Cells, Ranges, Info}
 use Rattle.btr_hist.specs.History.{ids, latest, bag}
-use Rattle.btr_hist.specs.Answer.{answer, answer_at, is_range}
+use Rattle.btr_hist.specs.Answer.{answer, answer_at, version_of, is_range, is_power, is_width, list_of}
+use Rattle.btr_hist.specs.Laws.{IsThere, IsSettled}
 use Rattle.btr_hist.specs.Lemmas.{ids-append, latest-append, bag-append}
 
 -- what is answered of a version that is there
@@ -32,6 +40,26 @@ answer_at-stays h more stream version good rows known old =
     let same = bag-append h more stream version old in
     answer_at-there (h ++ more) stream version good rows (omega arith) (omega arith) ∙ ap {A = List Point} {B = Answer} (λ b. cond good (Found version (rows b)) (Refused BadRange)) same ∙ sym (answer_at-there h stream version good rows known old)
 
-pub answer-stays : (h more : List Entry) (stream version : ℕ) (from to : ℤ) → stream < length (ids h) → version ≤ latest h stream → answer (h ++ more) (AskPoints stream from to (Number version)) ≡ answer h (AskPoints stream from to (Number version))
-answer-stays h more stream version from to known old =
-    answer_at-stays h more stream version (is_range from to) (λ b. Points (within from to b)) known old
+at-stays : (h more : List Entry) (stream : ℕ) (at : At) (good : Bool) (rows : List Point → Rows) → IsThere h stream at → answer_at (h ++ more) stream (version_of (h ++ more) stream at) good rows ≡ answer_at h stream (version_of h stream at) good rows
+at-stays h more stream (Number version) good rows there =
+    answer_at-stays h more stream version good rows there.0 there.1
+at-stays h more stream Latest good rows there = absurd there
+
+pub answer-stays : (h more : List Entry) (q : Query) → IsSettled h q → answer (h ++ more) q ≡ answer h q
+answer-stays h more (ask.Points stream from to at) there =
+    at-stays h more stream at (is_range from to) (λ b. Points (within from to b)) there
+answer-stays h more (ask.Nearest stream time way at) there =
+    at-stays h more stream at true (λ b. Points (list_of (nearest way time b))) there
+answer-stays h more (ask.Aligned stream from to p at) there =
+    at-stays h more stream at (is_range from to && is_power p) (λ b. Cells (aligned p from to b)) there
+answer-stays h more (ask.Windows stream from to width at) there =
+    at-stays h more stream at (is_range from to && is_width width) (λ b. Cells (windows width from to b)) there
+answer-stays h more (ask.Changes stream old new p) there =
+    let old_there = there.0.1 in
+    let new_there = there.1.1 in
+    let before = bag-append h more stream old there.0.1 in
+    ap (λ (a : List Point). answer_at (h ++ more) stream (max old new) (nat_le old new && is_power p) (λ b. Ranges (changes p a b))) before
+    ∙ answer_at-stays h more stream (max old new) (nat_le old new && is_power p) (λ b. Ranges (changes p (bag h stream old) b)) there.0.0 (omega arith)
+answer-stays h more (ask.Info stream at) there =
+    at-stays h more stream at true (λ b. Info (agg_within FIRST END b)) there
+answer-stays h more ask.Streams there = absurd there

@@ -1,18 +1,23 @@
 -- What a question about a history answers.
-use Rattle.std.specs.Prelude.{ℕ, ℤ, Bool, ◌&&◌, nat_lt, nat_le, int_le, int_lt, List, length, if◌then◌else◌}
+use Rattle.std.specs.Prelude.{ℕ, ◌+◌, ◌^◌, ℤ, Bool, true, ◌&&◌, nat_lt, nat_le, max, int_le, int_lt, List, [], ◌∷◌, length, if◌then◌else◌, Option, Some, None}
 use Rattle.btr_base.specs.declared.point.Point.{Point}
 use Rattle.btr_base.specs.declared.domain.TheConstants.{FIRST, END}
+use Rattle.btr_base.specs.Agg.{agg_within}
 use Rattle.btr_base.specs.Bag.{within}
+use Rattle.btr_base.specs.Nearest.{nearest}
+use Rattle.btr_base.specs.Windows.{aligned, windows}
+use Rattle.btr_base.specs.Changes.{changes}
 use Rattle.btr_hist.specs.declared.entry.Entry.{Entry}
 use Rattle.btr_hist.specs.declared.query.At.{At}
 use Rattle.btr_hist.specs.declared.query.At.TheVariants.{Number, Latest}
 use Rattle.btr_hist.specs.declared.query.Query.{Query}
-use Rattle.btr_hist.specs.declared.query.Query.TheVariants.{Points as AskPoints}
+use Rattle.btr_hist.specs.declared.query.Query.TheVariants as ask
 use Rattle.btr_hist.specs.declared.answer.Answer.{Answer}
 use Rattle.btr_hist.specs.declared.answer.Answer.TheVariants.{Found, Refused}
 use Rattle.btr_hist.specs.declared.answer.Refusal.TheVariants.{NoStream, NoVersion, BadRange}
 use Rattle.btr_hist.specs.declared.answer.Rows.{Rows}
-use Rattle.btr_hist.specs.declared.answer.Rows.TheVariants.{Points}
+use Rattle.btr_hist.specs.declared.answer.Rows.TheVariants.{Points, Cells, Ranges, Info, Streams}
+use Rattle.btr_hist.specs.declared.answer.StreamRow.{StreamRow}
 use Rattle.btr_hist.specs.History.{ids, latest, bag}
 
 -- the number of the version that is asked
@@ -24,6 +29,14 @@ version_of h stream Latest = latest h stream
 abbrev pub is_range : ℤ → ℤ → Bool
 is_range from to = int_le FIRST from && int_lt from to && int_le to END
 
+-- windows and slots of `2^p` ns can be asked
+abbrev pub is_power : ℕ → Bool
+is_power p = nat_le p 62
+
+-- windows of this width in nanoseconds can be asked
+abbrev pub is_width : ℕ → Bool
+is_width width = nat_le 1 width && nat_le width (2 ^ 62)
+
 -- what there is to say of the points of a version, where the stream has that version and the question is a good one
 abbrev pub answer_at : List Entry → ℕ → ℕ → Bool → (List Point → Rows) → Answer
 answer_at h stream version good rows =
@@ -32,7 +45,28 @@ answer_at h stream version good rows =
     else if good then Found version (rows (bag h stream version))
     else Refused BadRange
 
+-- one point or none as a list
+abbrev pub list_of : Option Point → List Point
+list_of None = []
+list_of (Some p) = p ∷ []
+
+-- the streams with these ids, numbered from one on, each with its latest version
+abbrev pub rows_from : List Entry → ℕ → List ℕ → List StreamRow
+rows_from h number [] = []
+rows_from h number (id ∷ rest) = record { id = id; latest = latest h number } ∷ rows_from h (number + 1) rest
+
 -- the answer to a question
 abbrev pub answer : List Entry → Query → Answer
-answer h (AskPoints stream from to at) =
+answer h (ask.Points stream from to at) =
     answer_at h stream (version_of h stream at) (is_range from to) (λ b. Points (within from to b))
+answer h (ask.Nearest stream time toward at) =
+    answer_at h stream (version_of h stream at) true (λ b. Points (list_of (nearest toward time b)))
+answer h (ask.Aligned stream from to p at) =
+    answer_at h stream (version_of h stream at) (is_range from to && is_power p) (λ b. Cells (aligned p from to b))
+answer h (ask.Windows stream from to width at) =
+    answer_at h stream (version_of h stream at) (is_range from to && is_width width) (λ b. Cells (windows width from to b))
+answer h (ask.Changes stream old new p) =
+    answer_at h stream (max old new) (nat_le old new && is_power p) (λ b. Ranges (changes p (bag h stream old) b))
+answer h (ask.Info stream at) =
+    answer_at h stream (version_of h stream at) true (λ b. Info (agg_within FIRST END b))
+answer h ask.Streams = Found (length h) (Streams (rows_from h 0 (ids h)))

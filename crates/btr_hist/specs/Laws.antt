@@ -1,24 +1,39 @@
 -- What holds of all histories.
-use Rattle.std.specs.Prelude.{◌≡◌, ℕ, ℤ, ◌+◌, ◌<◌, ◌≤◌, List, [], ◌∷◌, ◌++◌, length, take, if◌then◌else◌}
+use Rattle.std.specs.Prelude.{◌≡◌, ℕ, ◌+◌, ◌<◌, ◌≤◌, List, [], ◌∷◌, ◌++◌, length, take, if◌then◌else◌}
 use Rattle.std.specs.List.{AllByRecursion}
 use Rattle.btr_base.specs.declared.point.Point.{Point}
 use Rattle.btr_base.specs.Point.{InDomain}
 use Rattle.btr_base.specs.Range.{covered}
 use Rattle.btr_base.specs.Bag.{copies}
 use Rattle.btr_hist.specs.declared.entry.Entry.{Entry}
-use Rattle.btr_hist.specs.declared.query.At.TheVariants.{Number}
-use Rattle.btr_hist.specs.declared.query.Query.TheVariants.{Points}
+use Rattle.btr_hist.specs.declared.query.At.{At}
+use Rattle.btr_hist.specs.declared.query.At.TheVariants.{Number, Latest}
+use Rattle.btr_hist.specs.declared.query.Query.{Query}
+use Rattle.btr_hist.specs.declared.query.Query.TheVariants as ask
 use Rattle.btr_hist.specs.Commit.{Change}
 use Rattle.btr_hist.specs.History.{ids, commits, latest, bag}
 use Rattle.btr_hist.specs.Legal.{Legal}
 use Rattle.btr_hist.specs.Answer.{answer}
 use Rattle.btr_hist.specs.Machine.{Event, start, run}
 
--- what is answered at a version that a stream has, is answered for good
+-- the stream is known, and the version is named by its number and there
+abbrev pub IsThere : List Entry → ℕ → At → Type 0
+IsThere h stream (Number version) = (stream < length (ids h)) × (version ≤ latest h stream)
+IsThere h stream Latest = ⊥
+
+-- the question is about versions that are there
+abbrev pub IsSettled : List Entry → Query → Type 0
+IsSettled h (ask.Points stream from to at) = IsThere h stream at
+IsSettled h (ask.Nearest stream time way at) = IsThere h stream at
+IsSettled h (ask.Aligned stream from to p at) = IsThere h stream at
+IsSettled h (ask.Windows stream from to width at) = IsThere h stream at
+IsSettled h (ask.Changes stream old new p) = IsThere h stream (Number old) × IsThere h stream (Number new)
+IsSettled h (ask.Info stream at) = IsThere h stream at
+IsSettled h ask.Streams = ⊥
+
+-- what is answered of versions that are there, is answered for good
 abbrev pub OldVersionsStay : Type 0
-OldVersionsStay =
-    (h more : List Entry) (stream version : ℕ) (from to : ℤ) → stream < length (ids h) → version ≤ latest h stream
-    → answer (h ++ more) (Points stream from to (Number version)) ≡ answer h (Points stream from to (Number version))
+OldVersionsStay = (h more : List Entry) (q : Query) → IsSettled h q → answer (h ++ more) q ≡ answer h q
 
 -- how often a point stands after some commits, where it stood n times: a commit that cuts its time takes it out each time,
 -- and puts it in as often as it is added

@@ -104,17 +104,17 @@ copies-replay p b (c ∷ cs) =
 pub legal-none : Legal []
 legal-none n e at = absurd (omega (arith, slice_get_within {A = Entry} [] n e at))
 
-get-append : {X : Type 0} (xs ys : List X) (n : ℕ) (x : X) → slice_get xs n ≡ Some x → slice_get (xs ++ ys) n ≡ Some x
+pub get-append : {X : Type 0} (xs ys : List X) (n : ℕ) (x : X) → slice_get xs n ≡ Some x → slice_get (xs ++ ys) n ≡ Some x
 get-append [] ys n x at = absurd (cc)
 get-append (y ∷ xs) ys zero x at = at
 get-append (y ∷ xs) ys (suc n) x at = get-append xs ys n x at
 
-get_back : {X : Type 0} (xs ys : List X) (n : ℕ) (x : X) → n < length xs → slice_get (xs ++ ys) n ≡ Some x → slice_get xs n ≡ Some x
+pub get_back : {X : Type 0} (xs ys : List X) (n : ℕ) (x : X) → n < length xs → slice_get (xs ++ ys) n ≡ Some x → slice_get xs n ≡ Some x
 get_back [] ys n x low at = absurd (omega arith)
 get_back (y ∷ xs) ys zero x low at = at
 get_back (y ∷ xs) ys (suc n) x low at = get_back xs ys n x (omega arith) at
 
-get_last : {X : Type 0} (xs : List X) (y : X) → slice_get (xs ++ y ∷ []) (length xs) ≡ Some y
+pub get_last : {X : Type 0} (xs : List X) (y : X) → slice_get (xs ++ y ∷ []) (length xs) ≡ Some y
 get_last [] y = refl
 get_last (x ∷ xs) y = get_last xs y
 

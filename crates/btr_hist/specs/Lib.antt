@@ -6,6 +6,7 @@ pub mod Crowded
 pub mod Legal
 -- what is answered
 pub mod Answer
+pub mod Asked
 pub mod Machine
 -- what holds of all histories
 pub mod Laws

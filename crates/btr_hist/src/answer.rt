@@ -1,6 +1,6 @@
 ghost use Rattle.std.specs.Prelude.{◌≡◌, List};
 
-use btr_base::Point;
+use btr_base::{Agg, Cell, Point, Ranges};
 use std::marker::Model;
 
 /// Points as a list, as an answer has them.
@@ -42,11 +42,94 @@ impl PointList {
     }
 }
 
+/// Windows of time as a list, as an answer has them.
+#[derive(Debug, Drop)]
+pub struct CellList {
+    cells: Vec<Cell>,
+}
+
+impl Model for CellList {
+    ghost use Rattle.std.specs.Prelude.{List};
+    ghost use Rattle.btr_base.specs.declared.cell.Cell.{Cell};
+
+    ghost Value = { List Cell };
+
+    ghost view = { λ l. l.cells.items };
+}
+
+impl CellList {
+    /// The list of these windows. It takes no memory.
+    pub fn from_cells(cells: Vec<Cell>) -> CellList
+        ensures { result ≡ cells.items }
+    {
+        CellList { cells }
+    }
+
+    /// The windows, in order.
+    pub fn as_slice(&self) -> &[Cell]
+        ensures { result.now ≡ self.now }
+    {
+        self.cells.as_slice()
+    }
+}
+
+/// A stream as a list of all streams has it.
+#[derive(Clone, Copy, Debug, PartialEq, Eq)]
+pub struct StreamRow {
+    pub id: u128,
+
+    /// The latest version: the number of its commits.
+    pub latest: u64,
+}
+
+/// Streams as a list, as an answer has them.
+#[derive(Debug, Drop)]
+pub struct StreamList {
+    rows: Vec<StreamRow>,
+}
+
+impl Model for StreamList {
+    ghost use Rattle.std.specs.Prelude.{List};
+    ghost use Rattle.btr_hist.specs.declared.answer.StreamRow.{StreamRow};
+
+    ghost Value = { List StreamRow };
+
+    ghost view = { λ l. l.rows.items };
+}
+
+impl StreamList {
+    /// The list of these streams. It takes no memory.
+    pub fn from_rows(rows: Vec<StreamRow>) -> StreamList
+        ensures { result ≡ rows.items }
+    {
+        StreamList { rows }
+    }
+
+    /// The streams, in order.
+    pub fn as_slice(&self) -> &[StreamRow]
+        ensures { result.now ≡ self.now }
+    {
+        self.rows.as_slice()
+    }
+}
+
 /// What was found.
 #[derive(Debug, Drop)]
 pub enum Rows {
-    /// Points by time and value.
+    /// Points by time and value; at most one where the nearest was asked.
     Points(PointList),
+
+    /// Windows in order, each with a point.
+    Cells(CellList),
+
+    /// Changed ranges in order.
+    Ranges(Ranges),
+
+    /// The aggregate of all points.
+    Info { agg: Agg },
+
+    /// Streams in order of creation.
+    Streams(StreamList),
 }
 
 /// Why a question has no answer. Where several causes stand together the first in this order is told.
@@ -58,14 +141,15 @@ pub enum Refusal {
     /// The stream has no such version yet. The one that was asked and the latest are told.
     NoVersion { asked: u64, latest: u64 },
 
-    /// The range is empty, or a bound lies outside the domain.
+    /// The range is empty, or a bound lies outside the domain; or windows or slots of such a width cannot be asked; or the
+    /// first of two versions is behind the second.
     BadRange,
 }
 
 /// The answer to a question.
 #[derive(Debug, Drop)]
 pub enum Answer {
-    /// The version that was asked, and what it holds of what was asked.
+    /// The version that was asked, the second of two, or the number of entries where streams were asked; and what was found.
     Found { version: u64, rows: Rows },
 
     Refused(Refusal),

@@ -3,17 +3,20 @@ ghost use Rattle.std.specs.List.{list_any};
 ghost use Rattle.std.specs.Option.{option_map};
 ghost use Rattle.btr_base.specs.declared.domain.TheConstants.{FIRST, END};
 ghost use Rattle.btr_base.specs.Bag.{IsInOrder, within};
-ghost use Rattle.btr_hist.specs.declared.query.Query.TheVariants.{Points as AskPoints};
 ghost use Rattle.btr_hist.specs.Commit.{after};
 ghost use Rattle.btr_hist.specs.History.{ids, stream_of, latest, bag};
 ghost use Rattle.btr_hist.specs.Legal.{rejection, create_rejection, change_rejection, points_rejection, commit_rejection, stray};
 ghost use Rattle.btr_hist.specs.Answer.{answer};
 
-use crate::answer::{Answer, PointList, Refusal, Rows};
+use crate::answer::Answer;
+use crate::answering::{
+    aligned_answer, changes_answer, info_answer, nearest_answer, points_answer, streams_answer,
+    windows_answer,
+};
 use crate::crowded::first_crowded;
 use crate::entry::Entry;
 use crate::limits::{MAX_POINTS, MAX_POINTS_IN_COMMIT, MAX_STREAMS, MAX_VERSIONS};
-use crate::query::{At, Query};
+use crate::query::Query;
 use crate::rejection::Rejection;
 use btr_base::{Bag, END, FIRST, Point, Range, Ranges};
 use std::alloc::{AllocError, Global};
@@ -61,6 +64,13 @@ impl History {
         self.entries.pop()
     }
 
+    /// How many entries there are, in constant time. It takes no memory.
+    pub fn entries(&self) -> usize
+        ensures { result ≡ length self.now }
+    {
+        self.entries.len()
+    }
+
     /// The number of the stream with this id, the first one in order of creation, if there is one. It goes through all
     /// entries, and takes no memory.
     pub fn find(&self, id: u128) -> Option<usize>
@@ -80,20 +90,49 @@ impl History {
     pub fn latest(&self, stream: u32) -> usize
         ensures { result ≡ latest self.now stream }
     {
-        latest_of(&self.entries, stream)
+        latest_of(&self.entries, stream as usize)
     }
 
     /// The answer to a question, by filters and folds over all entries. It costs the whole history, each time.
     pub fn answer(&self, alloc: Global, query: &Query) -> Result<Answer, AllocError>
         ensures { IfOk result (λ a. a ≡ answer self.now query.now) }
     {
+        let entries = &self.entries;
         match *query {
             Query::Points {
                 stream,
                 from,
                 to,
                 at,
-            } => points_answer(alloc, &self.entries, stream, from, to, at),
+            } => points_answer(alloc, entries, stream, from, to, at),
+            Query::Nearest {
+                stream,
+                time,
+                toward,
+                at,
+            } => nearest_answer(alloc, entries, stream, time, toward, at),
+            Query::Aligned {
+                stream,
+                from,
+                to,
+                p,
+                at,
+            } => aligned_answer(alloc, entries, stream, from, to, p, at),
+            Query::Windows {
+                stream,
+                from,
+                to,
+                width,
+                at,
+            } => windows_answer(alloc, entries, stream, from, to, width, at),
+            Query::Changes {
+                stream,
+                old,
+                new,
+                p,
+            } => changes_answer(alloc, entries, stream, old, new, p),
+            Query::Info { stream, at } => info_answer(alloc, entries, stream, at),
+            Query::Streams => streams_answer(alloc, entries),
         }
     }
 
@@ -112,42 +151,6 @@ impl History {
             ),
         }
     }
-}
-
-/// The answer to a question for points.
-fn points_answer(
-    alloc: Global,
-    entries: &[Entry],
-    stream: u32,
-    from: i64,
-    to: i64,
-    at: At,
-) -> Result<Answer, AllocError>
-    ensures { IfOk result (λ a. a ≡ answer entries.now (AskPoints stream from to at)) }
-{
-    if stream as usize >= stream_count(entries) {
-        return Ok(Answer::Refused(Refusal::NoStream));
-    }
-    let latest = latest_of(entries, stream) as u64;
-    let version = match at {
-        At::Number(number) => number,
-        At::Latest => latest,
-    };
-    if version > latest {
-        return Ok(Answer::Refused(Refusal::NoVersion {
-            asked: version,
-            latest,
-        }));
-    }
-    if Range::new(from, to).is_none() {
-        return Ok(Answer::Refused(Refusal::BadRange));
-    }
-    let bag = bag_of(alloc, entries, stream, version)?;
-    let points = points_within(alloc, bag.as_slice(), from, to)?;
-    Ok(Answer::Found {
-        version,
-        rows: Rows::Points(PointList::from_points(points)),
-    })
 }
 
 /// Why a stream with this id may not be created.
@@ -179,7 +182,7 @@ fn commit(
     if let Some(found) = change_rejection(cut.as_slice(), added.as_slice()) {
         return Ok(Some(found));
     }
-    let latest = latest_of(entries, stream);
+    let latest = latest_of(entries, stream as usize);
     if latest >= MAX_VERSIONS {
         return Ok(Some(Rejection::VersionLimit));
     }
@@ -225,7 +228,7 @@ pub fn points_rejection(points: &[Point]) -> Option<Rejection>
 }
 
 /// How many streams there are.
-fn stream_count(entries: &[Entry]) -> usize
+pub(crate) fn stream_count(entries: &[Entry]) -> usize
     ensures { result ≡ length (ids entries.now) }
 {
     let mut count = 0;
@@ -268,13 +271,13 @@ fn has_id(entries: &[Entry], id: u128) -> bool
 }
 
 /// How many commits a stream has.
-fn latest_of(entries: &[Entry], stream: u32) -> usize
+pub(crate) fn latest_of(entries: &[Entry], stream: usize) -> usize
     ensures { result ≡ latest entries.now stream }
 {
     let mut count = 0;
     for entry in entries {
         if let Entry::Commit { stream: of, .. } = entry {
-            if *of == stream {
+            if *of as usize == stream {
                 count += 1;
             }
         }

@@ -2,7 +2,7 @@
 
 ghost use Rattle.btr_hist.specs.Laws.{OldVersionsStay, HoldsWhatWasPutIn, FrontsAreLegal, PointsLieInTheDomain, MachineStaysLegal};
 
-/// What is answered at a version that a stream has is answered for good, whatever is committed later.
+/// What is answered of versions that are there, and named by their numbers, is answered for good, whatever is committed later.
 pub fn old_versions_stay()
     ensures { OldVersionsStay }
 {}

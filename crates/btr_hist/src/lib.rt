@@ -17,10 +17,13 @@ mod rejection;
 mod answer;
 mod query;
 // the plain program, and what holds of all histories
+mod answering;
+mod cells;
+mod changed;
 mod history;
 mod laws;
 
-pub use answer::{Answer, PointList, Refusal, Rows};
+pub use answer::{Answer, CellList, PointList, Refusal, Rows, StreamList, StreamRow};
 pub use crowded::first_crowded;
 pub use entry::Entry;
 pub use history::{

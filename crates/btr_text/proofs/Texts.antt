@@ -3,6 +3,9 @@ use Rattle.std.proofs.Common.{◌≡◌, ℕ, ◌≤◌, List, [], ◌∷◌, �
 use Rattle.std.specs.List.{flat_map, join_with_byte}
 use Rattle.std.proofs.lemmas.List.{take-take}
 use mathlib.Core.List.{append-nil}
+use Rattle.std.specs.Int.{to_be_bytes, w128}
+use Rattle.uuid.specs.Text.{hyphenated_text, lower}
+use Rattle.btr_text.specs.Text.{id_text}
 
 -- what holds after any answer holds after an `Err`
 pub on_any_err : {T E P : Type 0} (r : Result T E) → P → OnErr r P
@@ -23,3 +26,7 @@ kept_behind old a mid new e h =
 pub join_words : {X : Type 0} (f : X → List ℕ) (w : List ℕ) (xs : List X) → join_with_byte 32 (w ∷ map f xs) ≡ w ++ flat_map (λ x. 32 ∷ f x) xs
 join_words f w [] = sym (append-nil w)
 join_words f w (x ∷ xs) = ap (λ t. w ++ (32 ∷ t)) (join_words f (f x) xs)
+
+-- the text of an id is that of its bytes
+pub text_of_id : (text bytes form : List ℕ) (id : ℕ) → text ≡ hyphenated_text lower form → form ≡ bytes → bytes ≡ to_be_bytes w128 id → text ≡ id_text id
+text_of_id text bytes form id t f b = t ∙ ap (hyphenated_text lower) (f ∙ b)

@@ -1,12 +1,20 @@
 -- The text of a reply: a line of words and numbers, and a line for each row.
-use Rattle.std.specs.Prelude.{ℕ, List, [], ◌∷◌, ◌++◌, length, flat_map, codes, decimal}
+use Rattle.std.specs.Prelude.{ℕ, ℤ, List, [], ◌∷◌, ◌++◌, length, flat_map, codes, decimal, Option, Some, None}
+use Rattle.std.specs.Int.{to_be_bytes, w128}
 use Rattle.std.specs.Fmt.{signed_decimal}
 use Rattle.std.specs.List.{join_with_byte}
+use Rattle.uuid.specs.Text.{hyphenated_text, lower}
 use Rattle.btr_base.specs.declared.point.Point.{Point}
+use Rattle.btr_base.specs.declared.cell.Cell.{Cell}
+use Rattle.btr_base.specs.Range.{Interval}
+use Rattle.btr_base.specs.Agg.{Summary}
+use Rattle.btr_hist.specs.declared.answer.Rows.{Rows}
+use Rattle.btr_hist.specs.declared.answer.Rows.TheVariants as rows
+use Rattle.btr_hist.specs.declared.answer.StreamRow.{StreamRow}
 use Rattle.btr_hist.specs.declared.limits.TheConstants.{MAX_STREAMS, MAX_VERSIONS}
 use Rattle.btr_text.specs.declared.word.TheConstants.{SPACE, LINE_FEED}
 use Rattle.btr_text.specs.declared.reply.LineReply.{LineReply}
-use Rattle.btr_text.specs.declared.reply.LineReply.TheVariants.{Done, Points, No}
+use Rattle.btr_text.specs.declared.reply.LineReply.TheVariants.{Done, Found, No}
 use Rattle.btr_text.specs.declared.reply.Reason.{Reason}
 use Rattle.btr_text.specs.declared.reply.Reason.TheVariants as reasons
 
@@ -37,12 +45,53 @@ reason_words (reasons.Stopped entries) = codes "stopped" ∷ decimal entries ∷
 abbrev pub ok_text : ℕ → ℕ → List ℕ
 ok_text version rows = line_text (codes "ok" ∷ decimal version ∷ decimal rows ∷ [])
 
--- the row of a point
+-- the words of an aggregate: how many points, their sum, and with a point the least and the greatest value
+abbrev pub ends_words : Option (ℤ × ℤ) → List (List ℕ)
+ends_words None = []
+ends_words (Some e) = signed_decimal e.0 ∷ signed_decimal e.1 ∷ []
+
+abbrev pub agg_words : Summary → List (List ℕ)
+agg_words a = decimal a.count ∷ signed_decimal a.total ∷ ends_words a.ends
+
+-- the id of a stream, hyphenated and in lower case
+abbrev pub id_text : ℕ → List ℕ
+id_text id = hyphenated_text lower (to_be_bytes w128 id)
+
+-- the row of a point, of a window, of a changed range, and of a stream
 abbrev pub point_row : Point → List ℕ
 point_row p = line_text (signed_decimal p.time ∷ signed_decimal p.value ∷ [])
+
+abbrev pub cell_row : Cell → List ℕ
+cell_row c = line_text (signed_decimal c.start ∷ agg_words c.agg)
+
+abbrev pub range_row : Interval → List ℕ
+range_row r = line_text (signed_decimal r.from ∷ signed_decimal r.to ∷ [])
+
+abbrev pub stream_row : StreamRow → List ℕ
+stream_row s = line_text (id_text s.id ∷ decimal s.latest ∷ codes "plain" ∷ [])
+
+-- the row of a version as a whole
+abbrev pub info_row : Summary → List ℕ
+info_row a = line_text (codes "plain" ∷ agg_words a)
+
+-- how many rows there are
+abbrev pub row_count : Rows → ℕ
+row_count (rows.Points ps) = length ps
+row_count (rows.Cells cs) = length cs
+row_count (rows.Ranges rs) = length rs
+row_count (rows.Info a) = 1
+row_count (rows.Streams ss) = length ss
+
+-- the rows, one after the other
+abbrev pub rows_text : Rows → List ℕ
+rows_text (rows.Points ps) = flat_map point_row ps
+rows_text (rows.Cells cs) = flat_map cell_row cs
+rows_text (rows.Ranges rs) = flat_map range_row rs
+rows_text (rows.Info a) = info_row a
+rows_text (rows.Streams ss) = flat_map stream_row ss
 
 -- the text of a reply
 abbrev pub text : LineReply → List ℕ
 text (Done version) = ok_text version 0
-text (Points version points) = ok_text version (length points) ++ flat_map point_row points
+text (Found version r) = ok_text version (row_count r) ++ rows_text r
 text (No reason) = line_text (codes "no" ∷ reason_words reason)

@@ -5,6 +5,8 @@ use Rattle.std.specs.Char.{is_ascii_digit, digit_value}
 use Rattle.std.specs.Str.Parse.{digits_value}
 use Rattle.std.specs.Int.{from_be_bytes, w128}
 use Rattle.uuid.specs.Text.{parsed}
+use Rattle.btr_base.specs.declared.toward.Toward.{Toward}
+use Rattle.btr_base.specs.declared.toward.Toward.TheVariants.{Forward, Backward}
 use Rattle.btr_hist.specs.declared.query.At.{At}
 use Rattle.btr_hist.specs.declared.query.At.TheVariants.{Number, Latest}
 use Rattle.btr_text.specs.declared.word.TheConstants.{SPACE, MINUS}
@@ -21,6 +23,15 @@ number_up_to most w =
 -- a count: digits within `u64`
 abbrev pub unsigned_of : List ℕ → Option ℕ
 unsigned_of w = number_up_to (2 ^ 64 - 1) w
+
+-- a power of two: digits, at most 255
+abbrev pub power_of : List ℕ → Option ℕ
+power_of w = number_up_to 255 w
+
+-- a direction
+abbrev pub toward_of : List ℕ → Option Toward
+toward_of w =
+    if bytes_eq w (codes "next") then Some Forward else if bytes_eq w (codes "prev") then Some Backward else None
 
 -- a time or a value: digits, behind a minus or alone, within `i64`
 abbrev pub signed_of : List ℕ → Option ℤ

@@ -12,6 +12,7 @@ mod script;
 mod word;
 // what is written
 mod reply;
+mod row;
 mod text;
 
 pub use input::read_script;

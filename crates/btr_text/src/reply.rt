@@ -1,7 +1,7 @@
 ghost use Rattle.std.specs.Prelude.{◌≡◌};
 ghost use Rattle.btr_text.specs.Refused.{reason_of_rejection, reason_of_refusal};
 
-use btr_hist::{PointList, Refusal, Rejection};
+use btr_hist::{Refusal, Rejection, Rows};
 
 /// Why a line is refused.
 #[derive(Clone, Copy, Debug, PartialEq, Eq)]
@@ -91,8 +91,8 @@ pub enum LineReply {
     /// It was done. The version is that which it made, 0 for a new stream.
     Done { version: u64 },
 
-    /// The points of a version that were asked.
-    Points { version: u64, points: PointList },
+    /// What was asked: the version, of two the second, or the number of entries where streams were asked; and the rows.
+    Found { version: u64, rows: Rows },
 
     /// It was refused.
     No(Reason),

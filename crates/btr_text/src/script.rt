@@ -1,6 +1,6 @@
 ghost use Rattle.std.specs.Prelude.{◌≡◌};
 
-use btr_base::Bag;
+use btr_base::{Bag, Toward};
 use btr_hist::At;
 use std::marker::Model;
 
@@ -18,6 +18,13 @@ pub enum Line {
         added: Bag,
     },
 
+    /// `delete ID S E`: one commit that removes the points with `from <= time < to`.
+    Delete {
+        id: u128,
+        from: i64,
+        to: i64,
+    },
+
     /// `range ID S E AT`: the points with `from <= time < to` of a version.
     Range {
         id: u128,
@@ -25,6 +32,49 @@ pub enum Line {
         to: i64,
         at: At,
     },
+
+    /// `nearest ID T next AT`, or `prev`: the point of a version that is nearest to a time in one direction.
+    Nearest {
+        id: u128,
+        time: i64,
+        toward: Toward,
+        at: At,
+    },
+
+    /// `aligned ID S E P AT`: the aligned windows of `2^p` ns that meet a range and have a point.
+    Aligned {
+        id: u128,
+        from: i64,
+        to: i64,
+        p: u8,
+        at: At,
+    },
+
+    /// `windows ID S E W AT`: the windows of a width from the begin of a range on that end in it and have a point.
+    Windows {
+        id: u128,
+        from: i64,
+        to: i64,
+        width: u64,
+        at: At,
+    },
+
+    /// `changes ID V1 V2 P`: the longest runs of aligned slots of `2^p` ns in which two versions differ.
+    Changes {
+        id: u128,
+        old: u64,
+        new: u64,
+        p: u8,
+    },
+
+    /// `info ID AT`: what there is to say of a version as a whole.
+    Info {
+        id: u128,
+        at: At,
+    },
+
+    /// `streams`: all streams.
+    Streams,
 }
 
 /// A line that has a reply.

@@ -1,10 +1,10 @@
 ghost use Rattle.std.specs.Prelude.{◌≡◌, [], ◌∷◌, ◌++◌, length, take, map, flat_map, codes, decimal, OnOk, OnErr};
 ghost use Rattle.std.specs.List.{join_with_byte};
-ghost use Rattle.btr_text.specs.Text.{text, line_text, ok_text, point_row, reason_words};
+ghost use Rattle.btr_text.specs.Text.{text, line_text, ok_text, reason_words};
 
 use crate::reply::{LineReply, Reason};
+use crate::row::{append_rows, row_count};
 use crate::word::{LINE_FEED, SPACE};
-use btr_base::Point;
 use btr_hist::{MAX_STREAMS, MAX_VERSIONS};
 use itoa::{Buffer, Integer};
 use std::alloc::AllocError;
@@ -12,8 +12,10 @@ use std::alloc::AllocError;
 /// Appends the text of a reply. An `Err` leaves the text as it was. It takes time linear in the text, and no memory but
 /// what the text needs to grow.
 ///
-/// A reply is `ok VERSION ROWS` and its rows, `TIME VALUE` each, or `no WORD` with numbers. Each line ends with a line
-/// feed, its words are one space apart, and numbers are plain decimal.
+/// A reply is `ok VERSION ROWS` and its rows, or `no WORD` with numbers. A row is `TIME VALUE` for a point, `START COUNT
+/// SUM LEAST GREATEST` for a window, `FROM TO` for a changed range, `plain COUNT SUM [LEAST GREATEST]` for a version as a
+/// whole, and `ID LATEST plain` for a stream. Each line ends with a line feed, its words are one space apart, numbers are
+/// plain decimal, and an id is hyphenated and in lower case (RFC 9562).
 pub fn write_reply(reply: &LineReply, out: &mut Vec<u8>) -> Result<(), AllocError>
     ensures ok { OnOk result (out.new.items ≡ out.old.items ++ text reply.now) }
     ensures err { OnErr result (out.new.items ≡ out.old.items) }
@@ -33,9 +35,9 @@ fn append_reply(reply: &LineReply, out: &mut Vec<u8>) -> Result<(), AllocError>
 {
     match reply {
         LineReply::Done { version } => append_ok(out, *version, 0),
-        LineReply::Points { version, points } => {
-            append_ok(out, *version, points.as_slice().len())?;
-            append_rows(out, points.as_slice())
+        LineReply::Found { version, rows } => {
+            append_ok(out, *version, row_count(rows))?;
+            append_rows(out, rows)
         }
         LineReply::No(reason) => append_reason(out, *reason),
     }
@@ -55,31 +57,6 @@ fn append_ok(out: &mut Vec<u8>, version: u64, rows: usize) -> Result<(), AllocEr
             first.format(version).as_bytes(),
             second.format(rows).as_bytes(),
         ],
-    )
-}
-
-/// Appends the rows of points, or a part of them.
-fn append_rows(out: &mut Vec<u8>, points: &[Point]) -> Result<(), AllocError>
-    ensures ok { OnOk result (out.new.items ≡ out.old.items ++ flat_map point_row points.now) }
-    ensures err { OnErr result (take (length out.old.items) out.new.items ≡ out.old.items) }
-{
-    for point in points {
-        append_row(out, *point)?;
-    }
-    Ok(())
-}
-
-/// Appends the row of a point, or a part of it.
-fn append_row(out: &mut Vec<u8>, point: Point) -> Result<(), AllocError>
-    ensures ok { OnOk result (out.new.items ≡ out.old.items ++ point_row point) }
-    ensures err { OnErr result (take (length out.old.items) out.new.items ≡ out.old.items) }
-{
-    let mut first = Buffer::new();
-    let mut second = Buffer::new();
-    append_line(
-        out,
-        first.format(point.time).as_bytes(),
-        &[second.format(point.value).as_bytes()],
     )
 }
 

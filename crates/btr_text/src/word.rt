@@ -1,7 +1,8 @@
 ghost use Rattle.std.specs.Prelude.{◌≡◌, ◌<◌, ◌≤◌, ◌^◌, pos, neg_ℤ, ◌==◌, not, [], ◌∷◌, length, MatchOption, IfSome};
 ghost use Rattle.std.specs.List.{prefix_len};
-ghost use Rattle.btr_text.specs.Word.{words_of, number_up_to, next_number, unsigned_of, signed_of, id_of, at_of};
+ghost use Rattle.btr_text.specs.Word.{words_of, number_up_to, next_number, unsigned_of, power_of, toward_of, signed_of, id_of, at_of};
 
+use btr_base::Toward;
 use btr_hist::At;
 use uuid::Uuid;
 
@@ -58,6 +59,26 @@ pub fn read_unsigned(word: &[u8]) -> Option<u64>
     ensures { result ≡ unsigned_of word.now }
 {
     read_number(word, u64::MAX)
+}
+
+/// The power of two that decimal digits write, at most 255.
+pub fn read_power(word: &[u8]) -> Option<u8>
+    ensures { result ≡ power_of word.now }
+{
+    Some(read_number(word, 255)? as u8)
+}
+
+/// A direction: `next` is forward, and `prev` backward.
+pub fn read_toward(word: &[u8]) -> Option<Toward>
+    ensures { result ≡ toward_of word.now }
+{
+    if word == b"next".as_slice() {
+        Some(Toward::Forward)
+    } else if word == b"prev".as_slice() {
+        Some(Toward::Backward)
+    } else {
+        None
+    }
 }
 
 /// The number that decimal digits write, behind a minus or alone, within `i64`.

@@ -1,6 +1,5 @@
-use crate::{Line, ScriptLine, read_script};
-use btr_hist::At;
-use std::process::Abort;
+use super::shown::{check, shown};
+use crate::read_script;
 use std::test::Fail;
 
 #[test]
@@ -123,47 +122,4 @@ fn a_script_gives_its_lines_back(rt: HostRuntime) -> Result<(), Fail> {
     assert_eq!(rt; lines.len(), 2);
     assert_eq!(rt; crate::Script::from_lines(lines).as_slice().len(), 2);
     Ok(())
-}
-
-// Each row of the table is a line and what it says.
-fn check(rt: &(impl Abort + AllocGlobal), table: &str) -> Result<(), Fail> {
-    for row in table.split('\n') {
-        let (line, want) = row.split_once(" => ").unwrap_or(("", row));
-        let found = shown(rt, line.as_bytes())?;
-        assert_eq!(rt; found.as_str(), want, "at {line}");
-    }
-    Ok(())
-}
-
-// The lines of an input in words of this test: the lane, the form, the id in hexadecimal, and the other values.
-fn shown(rt: &impl AllocGlobal, input: &[u8]) -> Result<String, Fail> {
-    let script = read_script(rt.alloc(), input)?;
-    let mut text = String::new(rt.alloc());
-    for said in script.as_slice() {
-        text.push_str(line_shown(rt, said)?.as_str())?;
-    }
-    Ok(text)
-}
-
-fn line_shown(rt: &impl AllocGlobal, said: &ScriptLine) -> Result<String, Fail> {
-    let lane = said.lane;
-    let text = match &said.line {
-        None => format!(in rt.alloc(); "{lane} none;")?,
-        Some(Line::Create { id }) => format!(in rt.alloc(); "{lane} create {id:x};")?,
-        Some(Line::Insert { id, added }) => {
-            let mut text = format!(in rt.alloc(); "{lane} insert {id:x}")?;
-            for point in added.as_slice() {
-                text.push_str(format!(in rt.alloc(); " {}:{}", point.time, point.value)?.as_str())?;
-            }
-            text.push(';')?;
-            text
-        }
-        Some(Line::Range { id, from, to, at }) => match at {
-            At::Latest => format!(in rt.alloc(); "{lane} range {id:x} {from} {to} latest;")?,
-            At::Number(number) => format!(in rt.alloc();
-                "{lane} range {id:x} {from} {to} {number};"
-            )?,
-        },
-    };
-    Ok(text)
 }

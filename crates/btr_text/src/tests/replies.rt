@@ -1,6 +1,7 @@
 use crate::{LineReply, Reason, write_reply};
-use btr_base::Point;
-use btr_hist::{PointList, Refusal, Rejection};
+use btr_base::{Agg, Cell, Point, Range, Ranges};
+use btr_hist::{CellList, PointList, Refusal, Rejection, Rows, StreamList, StreamRow};
+use std::process::Abort;
 use std::test::Fail;
 
 #[test]
@@ -110,16 +111,16 @@ fn replies_stand_one_behind_the_other(rt: HostRuntime) -> Result<(), Fail> {
         ],
     )?;
     write_reply(
-        &LineReply::Points {
+        &LineReply::Found {
             version: 3,
-            points: PointList::from_points(points),
+            rows: Rows::Points(PointList::from_points(points)),
         },
         &mut out,
     )?;
     write_reply(
-        &LineReply::Points {
+        &LineReply::Found {
             version: 1,
-            points: PointList::from_points(Vec::new(rt.alloc())),
+            rows: Rows::Points(PointList::from_points(Vec::new(rt.alloc()))),
         },
         &mut out,
     )?;
@@ -127,4 +128,99 @@ fn replies_stand_one_behind_the_other(rt: HostRuntime) -> Result<(), Fail> {
     let want = b"ok 0 0\nok 12 0\nok 3 2\n-9223372036854775808 0\n1000 -25\nok 1 0\nno line\n";
     assert_eq!(rt; out.as_slice(), want.as_slice());
     Ok(())
+}
+
+// The reply of these rows at version 1 is this text.
+fn is_written(rt: &(impl Abort + AllocGlobal), rows: Rows, want: &str) -> Result<(), Fail> {
+    let mut out = Vec::new(rt.alloc());
+    write_reply(&LineReply::Found { version: 1, rows }, &mut out)?;
+    assert_eq!(rt; out.as_slice(), want.as_bytes());
+    Ok(())
+}
+
+#[test]
+fn windows_are_written(rt: HostRuntime) -> Result<(), Fail> {
+    let alloc = rt.alloc();
+    let cells = Vec::from_slice(
+        alloc,
+        &[
+            Cell {
+                start: 0,
+                agg: Agg {
+                    count: 2,
+                    sum: 12,
+                    ends: Some((5, 7)),
+                },
+            },
+            Cell {
+                start: 4,
+                agg: Agg::of(-2),
+            },
+        ],
+    )?;
+    is_written(
+        &rt,
+        Rows::Cells(CellList::from_cells(cells)),
+        "ok 1 2\n0 2 12 5 7\n4 1 -2 -2 -2\n",
+    )?;
+    is_written(
+        &rt,
+        Rows::Cells(CellList::from_cells(Vec::new(alloc))),
+        "ok 1 0\n",
+    )
+}
+
+#[test]
+fn a_version_as_a_whole_is_written(rt: HostRuntime) -> Result<(), Fail> {
+    let agg = Agg {
+        count: 252,
+        sum: 31626,
+        ends: Some((0, 251)),
+    };
+    is_written(&rt, Rows::Info { agg }, "ok 1 1\nplain 252 31626 0 251\n")?;
+    is_written(&rt, Rows::Info { agg: Agg::none() }, "ok 1 1\nplain 0 0\n")?;
+    let greatest = Agg::of(i64::MAX);
+    is_written(
+        &rt,
+        Rows::Info {
+            agg: greatest.join(&greatest),
+        },
+        "ok 1 1\nplain 2 18446744073709551614 9223372036854775807 9223372036854775807\n",
+    )?;
+    let least = Agg::of(i64::MIN);
+    is_written(
+        &rt,
+        Rows::Info {
+            agg: least.join(&least),
+        },
+        "ok 1 1\nplain 2 -18446744073709551616 -9223372036854775808 -9223372036854775808\n",
+    )
+}
+
+#[test]
+fn ranges_and_streams_are_written(rt: HostRuntime) -> Result<(), Fail> {
+    let alloc = rt.alloc();
+    let mut ranges = Ranges::none(alloc);
+    ranges.add(Range::new(-8, -4).ok_or("no range")?)?;
+    ranges.add(Range::new(0, 8).ok_or("no range")?)?;
+    is_written(&rt, Rows::Ranges(ranges), "ok 1 2\n-8 -4\n0 8\n")?;
+    let rows = Vec::from_slice(
+        alloc,
+        &[
+            StreamRow {
+                id: 0x11111111_1111_4111_8111_111111111111,
+                latest: 1,
+            },
+            StreamRow {
+                id: 0xABCDEF,
+                latest: 18446744073709551615,
+            },
+        ],
+    )?;
+    is_written(
+        &rt,
+        Rows::Streams(StreamList::from_rows(rows)),
+        "ok 1 2\n11111111-1111-4111-8111-111111111111 1 plain\n\
+         00000000-0000-0000-0000-000000abcdef 18446744073709551615 plain\n",
+    )
 }

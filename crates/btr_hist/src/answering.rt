@@ -1,0 +1,262 @@
+//! What each question answers, by filters and folds over all entries.
+ghost use Rattle.std.specs.Prelude.{◌≡◌, Bool, List, [], ◌&&◌, nat_le, max, length, true, MatchResult, IfOk};
+ghost use Rattle.btr_base.specs.Bag.{IsInOrder, within};
+ghost use Rattle.btr_base.specs.Nearest.{nearest};
+ghost use Rattle.btr_hist.specs.declared.query.Query.TheVariants.{Points as AskPoints, Nearest as AskNearest, Aligned as AskAligned, Windows as AskWindows, Changes as AskChanges, Info as AskInfo, Streams as AskStreams};
+ghost use Rattle.btr_hist.specs.History.{ids};
+ghost use Rattle.btr_hist.specs.Answer.{answer, version_of, is_range, is_power, is_width, rows_from, list_of};
+ghost use Rattle.btr_hist.specs.Asked.{IsAsked};
+
+use crate::answer::{Answer, CellList, PointList, Refusal, Rows, StreamList, StreamRow};
+use crate::cells::{aggregate, aligned_cells, whole_cells};
+use crate::changed::changed_ranges;
+use crate::entry::Entry;
+use crate::history::{bag_of, latest_of, points_within, stream_count};
+use crate::query::{At, Query};
+use btr_base::{Bag, END, FIRST, Point, Toward, parted, points_between};
+use std::alloc::{AllocError, Global};
+
+/// The version that is asked, or why the question is refused. `good` says that the other numbers of the question are good.
+fn version_asked(entries: &[Entry], stream: u32, at: At, good: bool) -> Result<u64, Refusal>
+    ensures { IsAsked entries.now stream (version_of entries.now stream at) good result }
+{
+    if stream as usize >= stream_count(entries) {
+        return Err(Refusal::NoStream);
+    }
+    let latest = latest_of(entries, stream as usize) as u64;
+    let version = match at {
+        At::Number(number) => number,
+        At::Latest => latest,
+    };
+    if version > latest {
+        return Err(Refusal::NoVersion {
+            asked: version,
+            latest,
+        });
+    }
+    if good {
+        Ok(version)
+    } else {
+        Err(Refusal::BadRange)
+    }
+}
+
+/// The answer to a question for points.
+pub(crate) fn points_answer(
+    alloc: Global,
+    entries: &[Entry],
+    stream: u32,
+    from: i64,
+    to: i64,
+    at: At,
+) -> Result<Answer, AllocError>
+    ensures { IfOk result (λ a. a ≡ answer entries.now (AskPoints stream from to at)) }
+{
+    let version = match version_asked(entries, stream, at, is_range(from, to)) {
+        Ok(version) => version,
+        Err(refusal) => return Ok(Answer::Refused(refusal)),
+    };
+    let bag = bag_of(alloc, entries, stream, version)?;
+    let points = points_within(alloc, bag.as_slice(), from, to)?;
+    Ok(Answer::Found {
+        version,
+        rows: Rows::Points(PointList::from_points(points)),
+    })
+}
+
+/// The answer to a question for the nearest point.
+pub(crate) fn nearest_answer(
+    alloc: Global,
+    entries: &[Entry],
+    stream: u32,
+    time: i64,
+    toward: Toward,
+    at: At,
+) -> Result<Answer, AllocError>
+    ensures { IfOk result (λ a. a ≡ answer entries.now (AskNearest stream time toward at)) }
+{
+    let version = match version_asked(entries, stream, at, true) {
+        Ok(version) => version,
+        Err(refusal) => return Ok(Answer::Refused(refusal)),
+    };
+    let bag = bag_of(alloc, entries, stream, version)?;
+    let points = list_of(alloc, nearest_point(bag.as_slice(), time, toward))?;
+    Ok(Answer::Found {
+        version,
+        rows: Rows::Points(PointList::from_points(points)),
+    })
+}
+
+/// The answer to a question for aligned windows.
+pub(crate) fn aligned_answer(
+    alloc: Global,
+    entries: &[Entry],
+    stream: u32,
+    from: i64,
+    to: i64,
+    p: u8,
+    at: At,
+) -> Result<Answer, AllocError>
+    ensures { IfOk result (λ a. a ≡ answer entries.now (AskAligned stream from to p at)) }
+{
+    let version = match version_asked(entries, stream, at, can_align(from, to, p)) {
+        Ok(version) => version,
+        Err(refusal) => return Ok(Answer::Refused(refusal)),
+    };
+    let bag = bag_of(alloc, entries, stream, version)?;
+    let cells = aligned_cells(alloc, bag.as_slice(), from, to, p)?;
+    Ok(Answer::Found {
+        version,
+        rows: Rows::Cells(CellList::from_cells(cells)),
+    })
+}
+
+/// The answer to a question for windows of any width.
+pub(crate) fn windows_answer(
+    alloc: Global,
+    entries: &[Entry],
+    stream: u32,
+    from: i64,
+    to: i64,
+    width: u64,
+    at: At,
+) -> Result<Answer, AllocError>
+    ensures { IfOk result (λ a. a ≡ answer entries.now (AskWindows stream from to width at)) }
+{
+    let version = match version_asked(entries, stream, at, can_divide(from, to, width)) {
+        Ok(version) => version,
+        Err(refusal) => return Ok(Answer::Refused(refusal)),
+    };
+    let bag = bag_of(alloc, entries, stream, version)?;
+    let cells = whole_cells(alloc, bag.as_slice(), from, to, width)?;
+    Ok(Answer::Found {
+        version,
+        rows: Rows::Cells(CellList::from_cells(cells)),
+    })
+}
+
+/// The answer to a question for the changes from one version to another.
+pub(crate) fn changes_answer(
+    alloc: Global,
+    entries: &[Entry],
+    stream: u32,
+    old: u64,
+    new: u64,
+    p: u8,
+) -> Result<Answer, AllocError>
+    ensures { IfOk result (λ a. a ≡ answer entries.now (AskChanges stream old new p)) }
+{
+    let at = At::Number(old.max(new));
+    let version = match version_asked(entries, stream, at, can_compare(old, new, p)) {
+        Ok(version) => version,
+        Err(refusal) => return Ok(Answer::Refused(refusal)),
+    };
+    let before = bag_of(alloc, entries, stream, old)?;
+    let after = bag_of(alloc, entries, stream, version)?;
+    let ranges = changed_ranges(alloc, before.as_slice(), after.as_slice(), p)?;
+    Ok(Answer::Found {
+        version,
+        rows: Rows::Ranges(ranges),
+    })
+}
+
+/// The answer to a question for a version as a whole.
+pub(crate) fn info_answer(
+    alloc: Global,
+    entries: &[Entry],
+    stream: u32,
+    at: At,
+) -> Result<Answer, AllocError>
+    ensures { IfOk result (λ a. a ≡ answer entries.now (AskInfo stream at)) }
+{
+    let version = match version_asked(entries, stream, at, true) {
+        Ok(version) => version,
+        Err(refusal) => return Ok(Answer::Refused(refusal)),
+    };
+    let bag = bag_of(alloc, entries, stream, version)?;
+    let agg = aggregate(points_between(bag.as_slice(), FIRST, END));
+    Ok(Answer::Found {
+        version,
+        rows: Rows::Info { agg },
+    })
+}
+
+/// The answer to a question for all streams.
+pub(crate) fn streams_answer(alloc: Global, entries: &[Entry]) -> Result<Answer, AllocError>
+    ensures { IfOk result (λ a. a ≡ answer entries.now AskStreams) }
+{
+    let rows = stream_rows(alloc, entries)?;
+    Ok(Answer::Found {
+        version: entries.len() as u64,
+        rows: Rows::Streams(StreamList::from_rows(rows)),
+    })
+}
+
+/// All streams, each with its latest version.
+fn stream_rows(alloc: Global, entries: &[Entry]) -> Result<Vec<StreamRow>, AllocError>
+    ensures { IfOk result (λ v. v.items ≡ rows_from entries.now 0 (ids entries.now)) }
+{
+    let mut rows = Vec::new(alloc);
+    let mut number = 0;
+    for entry in entries {
+        if let Entry::Create { id } = entry {
+            rows.push(StreamRow {
+                id: *id,
+                latest: latest_of(entries, number) as u64,
+            })?;
+            number += 1;
+        }
+    }
+    Ok(rows)
+}
+
+/// The point of a list in order that is nearest to a time.
+fn nearest_point(points: &[Point], time: i64, toward: Toward) -> Option<Point>
+    requires { IsInOrder points.now }
+    ensures { result ≡ nearest toward time points.now }
+{
+    let (before, from) = parted(points, time);
+    match toward {
+        Toward::Forward => from.first().copied(),
+        Toward::Backward => before.last().copied(),
+    }
+}
+
+/// One point or none as a list.
+fn list_of(alloc: Global, point: Option<Point>) -> Result<Vec<Point>, AllocError>
+    ensures { IfOk result (λ v. v.items ≡ list_of point) }
+{
+    let mut points = Vec::new(alloc);
+    if let Some(point) = point {
+        points.push(point)?;
+    }
+    Ok(points)
+}
+
+/// Whether the bounds are those of a range: it is not empty, and lies in the domain.
+fn is_range(from: i64, to: i64) -> bool
+    ensures { result ≡ is_range from to }
+{
+    FIRST <= from && from < to && to <= END
+}
+
+/// Whether aligned windows of `2^p` ns that meet the range can be asked.
+fn can_align(from: i64, to: i64, p: u8) -> bool
+    ensures { result ≡ (is_range from to && is_power p) }
+{
+    is_range(from, to) && p <= 62
+}
+
+/// Whether windows of a width in nanoseconds in the range can be asked.
+fn can_divide(from: i64, to: i64, width: u64) -> bool
+    ensures { result ≡ (is_range from to && is_width width) }
+{
+    is_range(from, to) && 1 <= width && width <= 1 << 62
+}
+
+/// Whether the changes from one version to another in slots of `2^p` ns can be asked.
+fn can_compare(old: u64, new: u64, p: u8) -> bool
+    ensures { result ≡ (nat_le old new && is_power p) }
+{
+    old <= new && p <= 62
+}

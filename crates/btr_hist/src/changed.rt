@@ -1,0 +1,58 @@
+//! What differs between two lists of points.
+ghost use Rattle.std.specs.Prelude.{◌≡◌, ◌≤◌, IfOk};
+ghost use Rattle.btr_base.specs.Bag.{IsInOrder};
+ghost use Rattle.btr_base.specs.Changes.{differ_at, slot_around, changes};
+ghost use Rattle.btr_base.specs.Point.{InDomain};
+
+use crate::cells::{width_of, window_end, window_of, window_start};
+use btr_base::{END, FIRST, Point, Range, Ranges, merged, points_between};
+use std::alloc::{AllocError, Global};
+
+/// The longest runs of aligned slots of `2^p` ns in which two lists of points in order differ. It looks at both lists for each
+/// point.
+pub(crate) fn changed_ranges(
+    alloc: Global,
+    old: &[Point],
+    new: &[Point],
+    p: u8,
+) -> Result<Ranges, AllocError>
+    requires old_order { IsInOrder old.now }
+    requires new_order { IsInOrder new.now }
+    requires power { p ≤ 62 }
+    ensures { IfOk result (λ r. r ≡ changes p old.now new.now) }
+{
+    let both = merged(alloc, old, new)?;
+    let mut found = Ranges::none(alloc);
+    for point in points_between(&both, FIRST, END) {
+        if differ_at(old, new, point.time) {
+            found.add(slot_around(point.time, p))?;
+        }
+    }
+    // it shows that the ranges stand apart
+    let _ = found.as_slice();
+    Ok(found)
+}
+
+/// Whether two lists of points in order have other points at a time.
+fn differ_at(a: &[Point], b: &[Point], time: i64) -> bool
+    requires a_order { IsInOrder a.now }
+    requires b_order { IsInOrder b.now }
+    requires domain { InDomain time }
+    ensures { result ≡ differ_at a.now b.now time }
+{
+    points_between(a, time, time + 1) != points_between(b, time, time + 1)
+}
+
+/// The aligned slot of `2^p` ns that a time of the domain lies in.
+fn slot_around(time: i64, p: u8) -> Range
+    requires power { p ≤ 62 }
+    requires domain { InDomain time }
+    ensures { result ≡ slot_around p time }
+{
+    let width = width_of(p);
+    let number = window_of(FIRST, width, time);
+    Range {
+        from: window_start(FIRST, width, number),
+        to: window_end(FIRST, width, number),
+    }
+}

@@ -1,0 +1,144 @@
+ghost use Rattle.std.specs.Prelude.{◌≡◌, ◌≤◌, ℕ, List, ◌∷◌, ◌++◌, length, take, flat_map, OnOk, OnErr};
+ghost use Rattle.btr_text.specs.Text.{line_text, id_text, agg_words, point_row, cell_row, range_row, stream_row, row_count, rows_text};
+
+use crate::text::append_line;
+use btr_base::{Agg, Cell, Point, Range};
+use btr_hist::{Rows, StreamRow};
+use itoa::Buffer;
+use std::alloc::AllocError;
+use uuid::Uuid;
+
+/// How many rows there are.
+pub fn row_count(rows: &Rows) -> usize
+    ensures { result ≡ row_count rows.now }
+{
+    match rows {
+        Rows::Points(points) => points.as_slice().len(),
+        Rows::Cells(cells) => cells.as_slice().len(),
+        Rows::Ranges(ranges) => ranges.as_slice().len(),
+        Rows::Info { .. } => 1,
+        Rows::Streams(streams) => streams.as_slice().len(),
+    }
+}
+
+/// Appends the rows one after the other, or a part of them.
+pub fn append_rows(out: &mut Vec<u8>, rows: &Rows) -> Result<(), AllocError>
+    ensures ok { OnOk result (out.new.items ≡ out.old.items ++ rows_text rows.now) }
+    ensures err { OnErr result (take (length out.old.items) out.new.items ≡ out.old.items) }
+{
+    match rows {
+        Rows::Points(points) => append_each(out, points.as_slice()),
+        Rows::Cells(cells) => append_each(out, cells.as_slice()),
+        Rows::Ranges(ranges) => append_each(out, ranges.as_slice()),
+        Rows::Info { agg } => append_agg(out, b"plain", agg),
+        Rows::Streams(streams) => append_each(out, streams.as_slice()),
+    }
+}
+
+/// What stands in a reply on a line of its own, behind the first line.
+trait Row {
+    ghost row_text: { Self → List ℕ };
+
+    /// Appends the row, or a part of it.
+    fn append(&self, out: &mut Vec<u8>) -> Result<(), AllocError>
+        ensures ok { OnOk result (out.new.items ≡ out.old.items ++ row_text self.now) }
+        ensures err { OnErr result (take (length out.old.items) out.new.items ≡ out.old.items) };
+}
+
+/// Appends rows one after the other, or a part of them.
+fn append_each<R: Row>(out: &mut Vec<u8>, rows: &[R]) -> Result<(), AllocError>
+    ensures ok { OnOk result (out.new.items ≡ out.old.items ++ flat_map R.row_text rows.now) }
+    ensures err { OnErr result (take (length out.old.items) out.new.items ≡ out.old.items) }
+{
+    for row in rows {
+        row.append(out)?;
+    }
+    Ok(())
+}
+
+impl Row for Point {
+    ghost row_text = { point_row };
+
+    fn append(&self, out: &mut Vec<u8>) -> Result<(), AllocError> {
+        let mut time = Buffer::new();
+        let mut value = Buffer::new();
+        append_line(
+            out,
+            time.format(self.time).as_bytes(),
+            &[value.format(self.value).as_bytes()],
+        )
+    }
+}
+
+impl Row for Cell {
+    ghost row_text = { cell_row };
+
+    fn append(&self, out: &mut Vec<u8>) -> Result<(), AllocError> {
+        let mut start = Buffer::new();
+        append_agg(out, start.format(self.start).as_bytes(), &self.agg)
+    }
+}
+
+impl Row for Range {
+    ghost row_text = { range_row };
+
+    fn append(&self, out: &mut Vec<u8>) -> Result<(), AllocError> {
+        let mut from = Buffer::new();
+        let mut to = Buffer::new();
+        append_line(
+            out,
+            from.format(self.from).as_bytes(),
+            &[to.format(self.to).as_bytes()],
+        )
+    }
+}
+
+impl Row for StreamRow {
+    ghost row_text = { stream_row };
+
+    fn append(&self, out: &mut Vec<u8>) -> Result<(), AllocError> {
+        let mut id = Uuid::encode_buffer();
+        let mut latest = Buffer::new();
+        append_line(
+            out,
+            id_text(self.id, &mut id).as_bytes(),
+            &[latest.format(self.latest).as_bytes(), b"plain"],
+        )
+    }
+}
+
+/// The text of an id, hyphenated and in lower case.
+fn id_text(id: u128, buffer: &mut [u8]) -> &str
+    requires { 36 ≤ length buffer.old }
+    ensures { result.now ≡ id_text id }
+{
+    Uuid::from_u128(id).hyphenated().encode_lower(buffer)
+}
+
+/// Appends a line of a word and an aggregate, or a part of it.
+fn append_agg(out: &mut Vec<u8>, first: &[u8], agg: &Agg) -> Result<(), AllocError>
+    ensures ok { OnOk result (out.new.items ≡ out.old.items ++ line_text (first.now ∷ agg_words agg.now)) }
+    ensures err { OnErr result (take (length out.old.items) out.new.items ≡ out.old.items) }
+{
+    let mut count = Buffer::new();
+    let mut sum = Buffer::new();
+    let count = count.format(agg.count).as_bytes();
+    let sum = sum.format(agg.sum).as_bytes();
+    match agg.ends {
+        None => append_line(out, first, &[count, sum]),
+        Some((least, greatest)) => {
+            let mut low = Buffer::new();
+            let mut high = Buffer::new();
+            append_line(
+                out,
+                first,
+                &[
+                    count,
+                    sum,
+                    low.format(least).as_bytes(),
+                    high.format(greatest).as_bytes(),
+                ],
+            )
+        }
+    }
+}
