@@ -17,20 +17,20 @@ use Rattle.btr_hist.specs.History.{ids, latest}
 use Rattle.btr_hist.specs.Legal.{first_some, when, stray, next_bag, change_rejection, points_rejection, rejection}
 use Rattle.btr_entry.specs.Grammar.{AreInDomain, IsBounded, IsWithinBounds}
 
-first_none : {A : Type 0} (o : Option A) (os : List (Option A)) → first_some (o ∷ os) ≡ None → o ≡ None
+pub first_none : {A : Type 0} (o : Option A) (os : List (Option A)) → first_some (o ∷ os) ≡ None → o ≡ None
 first_none None os h = refl
 first_none (Some a) os h = absurd (cc)
 
-rest_none : {A : Type 0} (o : Option A) (os : List (Option A)) → first_some (o ∷ os) ≡ None → first_some os ≡ None
+pub rest_none : {A : Type 0} (o : Option A) (os : List (Option A)) → first_some (o ∷ os) ≡ None → first_some os ≡ None
 rest_none None os h = h
 rest_none (Some a) os h = absurd (cc)
 
-map_none : {A B : Type 0} (f : A → B) (o : Option A) → option_map f o ≡ None → o ≡ None
+pub map_none : {A B : Type 0} (f : A → B) (o : Option A) → option_map f o ≡ None → o ≡ None
 map_none f None h = refl
 map_none f (Some a) h = absurd (cc)
 
 -- a test that gives no rejection fails
-when_none : (b : Bool) (r : Rejection) → when b r ≡ None → b ≡ false
+pub when_none : (b : Bool) (r : Rejection) → when b r ≡ None → b ≡ false
 when_none false r h = refl
 when_none true r h = absurd (cc)
 
@@ -38,7 +38,7 @@ when_none true r h = absurd (cc)
 in_domain-true : (t : ℤ) → not (int_le FIRST t && int_lt t END) ≡ false → InDomain t
 in_domain-true t h = grind (arith, ints)
 
-no_stray : (b : List Point) → stray b ≡ None → AreInDomain b
+pub no_stray : (b : List Point) → stray b ≡ None → AreInDomain b
 no_stray [] h = tt
 no_stray (p ∷ b) h =
     elim (not (int_le FIRST p.time && int_lt p.time END)) as (λ t. not (int_le FIRST p.time && int_lt p.time END) ≡ t → cond t (Some p) (stray b) ≡ None → AreInDomain (p ∷ b)) [

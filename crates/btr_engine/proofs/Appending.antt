@@ -16,6 +16,7 @@ use Rattle.btr_log.specs.Append as append
 use Rattle.btr_log.specs.Log as log
 use Rattle.btr_hist.specs.declared.entry.Entry.{Entry}
 use Rattle.btr_hist.specs.Legal.{rejection}
+use Rattle.btr_hist.specs.Machine as machine
 use Rattle.btr_entry.specs.Grammar.{IsSpelled}
 use Rattle.btr_engine.specs.declared.engine.Engine.{Engine}
 use Rattle.btr_engine.specs.declared.step.Receipt.{Receipt}
@@ -26,16 +27,25 @@ use Rattle.btr_engine.specs.Stands.{StandsTo}
 use Rattle.btr_engine.specs.Engine.{device, history_of, blocks_of, tail_of, room_of, is_stopped, IsAtRest}
 use Rattle.btr_engine.specs.Step.{IsBeforeOrAfter, IsReceipt, IsStepped, StepCause}
 use Rattle.btr_engine.proofs.Standing.{stands_with, before_or_after}
-use Rattle.btr_engine.proofs.Stepping.{same_engine, no_moment, brings, needs}
+use Rattle.btr_engine.proofs.Stepping.{number_of_receipt, same_engine, no_moment, brings, needs}
 
 -- what an append answers
 abbrev pub Answer : Type 0
 Answer = Result (Unit {0}) AppendFault
 
--- the run is that of the entry, as the next one of the history
+-- the run is that of the entry, which may follow the history, as the next one of it
 pub record IsRunOf (h : List Entry) (e : Entry) (run : List ℕ) : Type 0 where
+  pub allowed : rejection h e ≡ None
   pub spelled : IsSpelled e
   pub bytes : run ≡ body_of (length h + 1) e ++ zeros 4096
+
+-- a copy of the entry was added to the history, and the run was made with the number of its receipt
+pub run_of_entry : (h : List Entry) (e copy : Entry) (number : ℕ) (made run : List ℕ) → copy ≡ e → rejection h copy ≡ None → number ≡ (machine.receipt h e).number → IsSpelled e → made ≡ body_of number e ++ zeros 4096 → run ≡ made → IsRunOf h e run
+run_of_entry h e copy number made run copied allowed numbered spelled made_is run_is = record {
+  allowed = subst (λ c. rejection h c ≡ None) copied allowed;
+  spelled = spelled;
+  bytes = run_is ∙ made_is ∙ ap (λ n. body_of n e ++ zeros 4096) (numbered ∙ number_of_receipt h e);
+}
 
 module _ {D : Type 0} {disk : Ghosts D} (old : Engine D disk) (e : Entry) (run : List ℕ) (is : IsRunOf (history_of old) e run) where
   -- the answer of an append of the run to a log that is too short for it
@@ -57,17 +67,17 @@ module _ {D : Type 0} {disk : Ghosts D} (old : Engine D disk) (e : Entry) (run :
 
   -- ---- where it fails
 
-  pub refused : (new : Engine D disk) (fault : AppendFault) (answer : StepFault) → IsFalse (is_stopped old) → rejection (history_of old) e ≡ None → TellsFull (Err fault) → append.AppendCause old.log new.log run fault → history_of new ≡ history_of old → ((n left : ℕ) → fault ≡ Full n left → answer ≡ DeviceFull n left) → (fault ≡ Fault → answer ≡ DeviceFault) → StepCause old new e answer
-  refused new (Full n room) answer runs allowed tells_full cause same is_full is_fault =
+  pub refused : (new : Engine D disk) (fault : AppendFault) (answer : StepFault) → IsFalse (is_stopped old) → TellsFull (Err fault) → append.AppendCause old.log new.log run fault → history_of new ≡ history_of old → new.opened_with ≡ old.opened_with → new.synced ≡ old.synced → ((n left : ℕ) → fault ≡ Full n left → answer ≡ DeviceFull n left) → (fault ≡ Fault → answer ≡ DeviceFault) → StepCause old new e answer
+  refused new (Full n room) answer runs tells_full cause same began synced is_full is_fault =
       let short : room < n = omega (arith, cause.1, cause.2, cause.3) in
-      subst (StepCause old new e) (sym (is_full n room refl)) (runs, allowed, cause.2 ∙ needed, cause.3, short, same_engine new old cause.4 same)
-  refused new Fault answer runs allowed tells_full cause same is_full is_fault =
+      subst (StepCause old new e) (sym (is_full n room refl)) (runs, is.allowed, cause.2 ∙ needed, cause.3, short, same_engine new old cause.4 same began synced)
+  refused new Fault answer runs tells_full cause same began synced is_full is_fault =
       let fits = fits_unless_full (Err Fault) runs tells_full (λ no. absurd (cc)) in
       subst (StepCause old new e) (sym (is_fault refl)) (
-        record { runs = runs; allowed = allowed; fits = fits },
+        record { runs = runs; allowed = is.allowed; fits = fits },
         record { rose = cause.1.rose; stopped = cause.1.stopped; history = same; tail = cause.1.tail },
       )
-  refused new (AlreadyStopped n) answer runs allowed tells_full cause same is_full is_fault =
+  refused new (AlreadyStopped n) answer runs tells_full cause same began synced is_full is_fault =
       let stopped = cause.0 in absurd (cc)
 
   -- ---- at each moment of it
@@ -87,7 +97,7 @@ module _ {D : Type 0} {disk : Ghosts D} (old : Engine D disk) (e : Entry) (run :
       let h = history_of old in
       let contents = disk.contents (device old) in
       weakens disk.calls disk.since (device old) (log.device after) (append.IsMoment contents (tail_of old) (bodies h) (append.body_of run)) (IsBeforeOrAfter (disk.size (device old)) h e)
-      (before_or_after (disk.size (device old)) contents (blocks_of old) (tail_of old) h rest.stands e is.spelled (inside fits) (append.body_of run) its_body)
+      (before_or_after (disk.size (device old)) contents (blocks_of old) (tail_of old) h rest.stands e is.spelled is.allowed (inside fits) (append.body_of run) its_body)
       leaves
 
   -- where it fails: without a call of the device, or by the device
@@ -105,9 +115,9 @@ module _ {D : Type 0} {disk : Ghosts D} (old : Engine D disk) (e : Entry) (run :
     tail_after : tail_of new ≡ tail_of old + need_of e
     tail_after = appended.tail ∙ ap (λ n. tail_of old + n) needed
 
-    pub stepped : (receipt : Receipt) → need_of e ≤ room_of old → rejection (history_of old) e ≡ None → IsReceipt (history_of old) e receipt → IsStepped old new e receipt
-    stepped receipt fits allowed is_receipt = record {
-      could = record { runs = appended.ran; allowed = allowed; fits = fits };
+    pub stepped : (receipt : Receipt) → need_of e ≤ room_of old → IsReceipt (history_of old) e receipt → IsStepped old new e receipt
+    stepped receipt fits is_receipt = record {
+      could = record { runs = appended.ran; allowed = is.allowed; fits = fits };
       history = history;
       tail = tail_after;
       runs = appended.runs;
@@ -121,7 +131,7 @@ module _ {D : Type 0} {disk : Ghosts D} (old : Engine D disk) (e : Entry) (run :
         let now = disk.contents (device new) in
         let below : (k : ℕ) → k < 4096 * tail_of old → now k ≡ disk.contents (device old) k = λ k lt. written.elsewhere k (λ le. absurd (omega arith)) (λ le. absurd (omega arith)) in
         let its_log = AtRest-IsLog now (disk.image (device new)) (tail_of new) (bodies h ++ append.body_of run ∷ []) log_rests in
-        let stands : StandsTo size now (blocks_of old) (tail_of old + need_of e) (h ++ e ∷ []) = stands_with size (disk.contents (device old)) (blocks_of old) (tail_of old) h rest.stands e is.spelled (inside fits) now below (subst (λ b. IsLog now first_gate (bodies h ++ b ∷ [])) its_body its_log) in
+        let stands : StandsTo size now (blocks_of old) (tail_of old + need_of e) (h ++ e ∷ []) = stands_with size (disk.contents (device old)) (blocks_of old) (tail_of old) h rest.stands e is.spelled is.allowed (inside fits) now below (subst (λ b. IsLog now first_gate (bodies h ++ b ∷ [])) its_body its_log) in
         let sized = subst (λ n. StandsTo n now (blocks_of old) (tail_of old + need_of e) (h ++ e ∷ [])) (sym kept.device_kept.same_size) stands in
         let blocked = subst (λ n. StandsTo (disk.size (device new)) now n (tail_of old + need_of e) (h ++ e ∷ [])) (sym kept.blocks) sized in
         let tailed = subst (λ n. StandsTo (disk.size (device new)) now (blocks_of new) n (h ++ e ∷ [])) (sym tail_after) blocked in
@@ -136,3 +146,7 @@ module _ {D : Type 0} {disk : Ghosts D} (old : Engine D disk) (e : Entry) (run :
   ends_after after h history appended =
       let tail : log.tail_of after ≡ tail_of old + need_of e = appended.tail ∙ ap (λ n. tail_of old + n) needed in
       omega (arith, ap (length {A = Entry}) history, length-append (history_of old) (e ∷ []), old.ends)
+
+  pub began_after : (h : List Entry) → h ≡ history_of old ++ e ∷ [] → old.opened_with ≤ length h
+  began_after h history =
+      omega (arith, ap (length {A = Entry}) history, length-append (history_of old) (e ∷ []), old.began)

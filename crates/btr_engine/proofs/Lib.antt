@@ -4,6 +4,7 @@ mod Allowed
 mod Standing
 mod Stepping
 mod Appending
+mod Durable
 mod Contents
 mod Reasons
 mod Synced
@@ -12,5 +13,8 @@ mod Opened
 mod Sound
 mod BoardKeys
 mod BoardNumbers
-mod BoardRecent
+mod BoardTrees
+mod Crowded
+mod BoardCommits
 mod BoardIndex
+mod Questions

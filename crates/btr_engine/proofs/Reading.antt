@@ -1,5 +1,5 @@
 -- Reading a log: what holds so far, and one extent more.
-use Rattle.std.specs.Prelude.{◌≡◌, ℕ, ◌+◌, ◌*◌, ◌<◌, ◌≤◌, List, [], ◌∷◌, ◌++◌, length}
+use Rattle.std.specs.Prelude.{◌≡◌, ℕ, ◌+◌, ◌*◌, ◌<◌, ◌≤◌, List, [], ◌∷◌, ◌++◌, length, None}
 use Rattle.std.specs.List.{AllByRecursion}
 use Rattle.std.proofs.Common.{refl, sym, ◌∙◌, ap, subst, arith, length-append}
 use Rattle.btr_disk.specs.declared.disk.Disk.{Ghosts}
@@ -15,6 +15,8 @@ use Rattle.btr_log.specs.ExtentLaws.{Extents-push}
 use Rattle.btr_log.specs.Found.{IsWholeExtent}
 use Rattle.btr_log.specs.FoundLaws.{next-IsWholeExtent, IsExtent-found}
 use Rattle.btr_hist.specs.declared.entry.Entry.{Entry}
+use Rattle.btr_hist.specs.Legal.{rejection, Legal}
+use Rattle.btr_hist.specs.Lemmas.{legal-none, legal-push}
 use Rattle.btr_entry.specs.Grammar.{IsSpelled}
 use Rattle.btr_engine.specs.declared.opening.OpenCause.{OpenCause}
 use Rattle.btr_engine.specs.Body.{body_of, need_of, bodies}
@@ -75,6 +77,7 @@ module _ {D : Type 0} {disk : Ghosts D} where
     pub ends : 2 * length h + 4 ≤ gate
     pub inside : gate < blocks_of old
     pub spelled : AllByRecursion IsSpelled h
+    pub legal : Legal h
     pub extents : disk.tells → Extents (disk.contents (device old)) first_gate (bodies h) gate
 
   -- none: `only_now` is the device's law
@@ -87,6 +90,7 @@ module _ {D : Type 0} {disk : Ghosts D} where
     ends = let e : length h ≡ 0 = ap length none in omega arith;
     inside = least;
     spelled = subst (AllByRecursion IsSpelled) (sym none) tt;
+    legal = subst Legal (sym none) legal-none;
     extents = λ tells. subst (λ l. Extents (disk.contents (device log)) first_gate (bodies l) 4) (sym none) refl;
   }
 
@@ -108,12 +112,13 @@ module _ {D : Type 0} {disk : Ghosts D} where
       ends = so_far.ends;
       inside = so_far.inside;
       spelled = so_far.spelled;
+      legal = so_far.legal;
       extents = so_far.extents;
     }
 
   -- an entry more
-  pub read_more : (old mid new : Log D disk) (h : List Entry) (gate entries : ℕ) → IsRead old mid h gate entries → KeepsLog mid new → KeepsDevice mid new → (disk.tells → LogWroteNothing mid new) → (e : Entry) (more : List Entry) (next : ℕ) → IsSpelled e → more ≡ h ++ e ∷ [] → next ≡ gate + need_of e → next < blocks_of mid → (disk.tells → (head : Head) × IsExtent (disk.contents (device mid)) gate (body_of (entries + 1) e) head) → IsRead old new more next (entries + 1)
-  read_more old mid new h gate entries so_far kept device_kept unwritten e more next is pushed at inside extent =
+  pub read_more : (old mid new : Log D disk) (h : List Entry) (gate entries : ℕ) → IsRead old mid h gate entries → KeepsLog mid new → KeepsDevice mid new → (disk.tells → LogWroteNothing mid new) → (e : Entry) (more : List Entry) (next : ℕ) → IsSpelled e → more ≡ h ++ e ∷ [] → rejection h e ≡ None → next ≡ gate + need_of e → next < blocks_of mid → (disk.tells → (head : Head) × IsExtent (disk.contents (device mid)) gate (body_of (entries + 1) e) head) → IsRead old new more next (entries + 1)
+  read_more old mid new h gate entries so_far kept device_kept unwritten e more next is pushed allowed at inside extent =
       let on = read_on old mid h gate entries so_far new kept device_kept unwritten in
       let long : length more ≡ length h + 1 = ap length pushed ∙ length-append h (e ∷ []) in
       record {
@@ -124,6 +129,7 @@ module _ {D : Type 0} {disk : Ghosts D} where
         ends = omega (arith, long, at, so_far.ends);
         inside = omega (arith, inside, so_far.kept.blocks);
         spelled = subst (AllByRecursion IsSpelled) (sym pushed) (spelled-push h e so_far.spelled is);
+        legal = subst Legal (sym pushed) (legal-push h e so_far.legal allowed);
         extents = λ tells.
             let image = disk.contents (device old) in
             let stands = extent tells in

@@ -1,13 +1,13 @@
 -- Why an opening fails: from the log's faults to those of a store.
-use Rattle.std.specs.Prelude.{◌≡◌, ℕ, ◌+◌, ◌*◌, ◌≤◌, ◌↔◌, List, length, Result, Err}
-use Rattle.std.proofs.Common.{refl, sym, subst, arith, inl, inr}
+use Rattle.std.specs.Prelude.{◌≡◌, ℕ, ◌+◌, ◌*◌, ◌<◌, ◌≤◌, ◌↔◌, List, length, Some, Result, Err}
+use Rattle.std.proofs.Common.{refl, sym, ◌∙◌, ap, subst, arith, inl, inr}
 use Rattle.std.specs.List.{AllByRecursion}
 use Rattle.btr_disk.specs.Bytes.{Image, Has}
 use Rattle.btr_disk.specs.Gate.{IsOpen}
 use Rattle.btr_log.specs.declared.head.Head.{Head}
 use Rattle.btr_log.specs.declared.found.ExtentFault.{ExtentFault}
 use Rattle.btr_log.specs.declared.found.ExtentFault.TheVariants as log
-use Rattle.btr_log.specs.Extents.{Extents, first_gate}
+use Rattle.btr_log.specs.Extents.{need, IsExtent, Extents, first_gate}
 use Rattle.btr_log.specs.Found.{IsWholeExtent, IsDamagedExtent, FindCause}
 use Rattle.btr_log.specs.FoundLaws.{next-IsWholeExtent, IsExtent-found}
 use Rattle.btr_super.specs.declared.superblock.Super.{Super}
@@ -16,10 +16,13 @@ use Rattle.btr_super.specs.Unwritten.{CausesFault}
 use Rattle.btr_super.specs.declared.choosing.ChooseFault.{ChooseFault}
 use Rattle.btr_super.specs.declared.choosing.ChooseFault.TheVariants as chosen
 use Rattle.btr_hist.specs.declared.entry.Entry.{Entry}
+use Rattle.btr_hist.specs.declared.rejection.Rejection.{Rejection}
+use Rattle.btr_hist.specs.Legal.{rejection}
 use Rattle.btr_entry.specs.Grammar.{IsSpelled}
 use Rattle.btr_engine.specs.declared.opening.OpenCause.{OpenCause}
 use Rattle.btr_engine.specs.declared.opening.OpenCause.TheVariants.{NotAStore, Damaged, Fault, Want}
-use Rattle.btr_engine.specs.Body.{bodies}
+use Rattle.btr_engine.specs.Body.{body_of, bodies}
+use Rattle.btr_engine.specs.BodyLaws.{need-body_of}
 use Rattle.btr_engine.specs.Damage.{IsNoEntryBody, IsDamagedEntry, IsDamagedLog, IsDamaged}
 use Rattle.btr_engine.specs.Opening.{IsCause}
 
@@ -34,21 +37,40 @@ IsReadTo tells size image blocks gate h =
 
 module _ (size : ℕ) (image : Image) (blocks gate : ℕ) (h : List Entry) where
   -- the next extent is damaged in this block
-  pub damaged_next : (block : ℕ) → IsDamagedEntry image blocks gate (length h + 1) block → AllByRecursion IsSpelled h → Extents image first_gate (bodies h) gate → IsStoreOf size image blocks → IsDamaged size image block
+  pub damaged_next : (block : ℕ) → IsDamagedEntry image blocks gate h block → AllByRecursion IsSpelled h → Extents image first_gate (bodies h) gate → IsStoreOf size image blocks → IsDamaged size image block
   damaged_next block damage spelled extents store =
       let log : IsDamagedLog image blocks block = record { entries = h; gate = gate; spelled = spelled; extents = extents; damage = damage } in
       inr (store.0, store.1, subst (λ b. IsDamagedLog image b block) (sym store.2) log)
 
-  -- the next extent holds no entry
-  pub no_entry_next : (number : ℕ) (head : Head) (body : List ℕ) (next : ℕ) → number ≡ length h + 1 → IsWholeExtent blocks gate head body next → IsOpen image gate × Has image (4096 * (gate + 1)) body → IsNoEntryBody number body → IsDamagedEntry image blocks gate (length h + 1) (gate + 1)
-  no_entry_next number head body next at whole stands none = inr (record {
-    head = head;
-    body = body;
-    extent = IsExtent-found image blocks gate head body next whole stands;
-    inside = omega (arith, whole.inside, next-IsWholeExtent image blocks gate head body next whole);
-    no_entry = subst (λ n. IsNoEntryBody n body) at none;
-    first = refl;
-  })
+  module _ (number : ℕ) (at : number ≡ length h + 1) (head : Head) (body : List ℕ) (next : ℕ) (whole : IsWholeExtent blocks gate head body next) (stands : IsOpen image gate × Has image (4096 * (gate + 1)) body) where
+    inside : gate + need body < blocks
+    inside = omega (arith, whole.inside, next-IsWholeExtent image blocks gate head body next whole)
+
+    -- the next extent holds no entry
+    pub no_entry_next : IsNoEntryBody number body → IsDamagedEntry image blocks gate h (gate + 1)
+    no_entry_next none = inr (inl (record {
+      head = head;
+      body = body;
+      extent = IsExtent-found image blocks gate head body next whole stands;
+      inside = inside;
+      no_entry = subst (λ n. IsNoEntryBody n body) at none;
+      first = refl;
+    }))
+
+    -- the next extent holds an entry that may not follow
+    pub refused_next : (e : Entry) (why : Rejection) → IsSpelled e → body ≡ body_of number e → rejection h e ≡ Some why → IsDamagedEntry image blocks gate h (gate + 1)
+    refused_next e why spelled is refused =
+        let same : body ≡ body_of (length h + 1) e = is ∙ ap (λ n. body_of n e) at in
+        inr (inr (record {
+          entry = e;
+          spelled = spelled;
+          head = head;
+          extent = subst (λ b. IsExtent image gate b head) same (IsExtent-found image blocks gate head body next whole stands);
+          inside = omega (arith, inside, ap need same, need-body_of (length h + 1) e);
+          why = why;
+          refused = refused;
+          first = refl;
+        }))
 
 module _ (tells read : Type 0) (size : ℕ) (image : Image) (blocks gate before after : ℕ) (told : read → tells) (damages : read → (block : ℕ) → IsDamagedExtent image blocks gate block → IsDamaged size image block) where
   -- the log's fault as an opening's

@@ -1,7 +1,8 @@
 -- At most one history stands on a device, and what stands is damaged nowhere.
-use Rattle.std.specs.Prelude.{◌≡◌, ℕ, ◌+◌, ◌*◌, ◌<◌, ◌≤◌, ◌^◌, List, [], ◌∷◌, length}
+use Rattle.std.specs.Prelude.{◌≡◌, ℕ, ◌+◌, ◌*◌, ◌<◌, ◌≤◌, ◌^◌, List, [], ◌∷◌, ◌++◌, length, None}
 use Rattle.std.specs.List.{AllByRecursion}
-use Rattle.std.proofs.Common.{suc, refl, sym, ◌∙◌, ap, subst, arith, ⊎_elim}
+use Rattle.std.proofs.Common.{suc, refl, sym, ◌∙◌, ap, subst, arith, ⊎_elim, length-append, append_assoc}
+use Rattle.std.proofs.lemmas.List.{append-nil}
 use Rattle.btr_disk.specs.Bytes.{Image, Has}
 use Rattle.btr_disk.specs.Gate.{IsOpen, IsClosed}
 use Rattle.btr_disk.specs.Addresses.{Has-one}
@@ -15,11 +16,13 @@ use Rattle.btr_log.specs.Found.{SpellsAt, IsDamagedExtent}
 use Rattle.btr_super.specs.declared.superblock.Super.{Super}
 use Rattle.btr_super.specs.OneChosen.{one_chosen, chosen_not_none, chosen_not_damaged}
 use Rattle.btr_hist.specs.declared.entry.Entry.{Entry}
+use Rattle.btr_hist.specs.Legal.{rejection, Legal}
+use Rattle.btr_hist.specs.Lemmas.{legal-front, legal-last}
 use Rattle.btr_entry.specs.Grammar.{IsSpelled}
-use Rattle.btr_engine.specs.Body.{body_of, bodies_from, bodies}
+use Rattle.btr_engine.specs.Body.{body_of, need_of, bodies_from, bodies}
 use Rattle.btr_engine.specs.BodyLaws.{need-body_of, body_of-one}
 use Rattle.btr_engine.specs.Stands.{StandsTo, Stands}
-use Rattle.btr_engine.specs.Damage.{IsDamagedEntry, IsDamagedLog, IsDamaged}
+use Rattle.btr_engine.specs.Damage.{IsRefusedExtent, IsDamagedEntry, IsDamagedLog, IsDamaged}
 use Rattle.btr_engine.specs.Laws.{OneHistoryStands, WhatStandsIsSound}
 
 -- ---- one history
@@ -57,15 +60,18 @@ one_history size image h k first second =
 -- ---- no damage
 
 -- the gate of a damaged entry is open
-damaged_open : (image : Image) (blocks gate number block : ℕ) → IsDamagedEntry image blocks gate number block → IsOpen image gate
-damaged_open image blocks gate number block damage =
-    ⊎_elim (λ d. d.is_open) (λ n. n.extent.is_open) damage
+damaged_open : (image : Image) (blocks gate : ℕ) (entries : List Entry) (block : ℕ) → IsDamagedEntry image blocks gate entries block → IsOpen image gate
+damaged_open image blocks gate entries block damage =
+    ⊎_elim (λ d. d.is_open) (λ n. ⊎_elim (λ o. o.extent.is_open) (λ r. r.extent.is_open) n) damage
 
--- an extent that holds its entry, inside the blocks, is not damaged
-module _ (image : Image) (blocks gate number block : ℕ) (e : Entry) (head : Head) (spelled : IsSpelled e) (extent : IsExtent image gate (body_of number e) head) (inside : gate + need (body_of number e) < blocks) where
+-- an extent that holds its entry, inside the blocks, is not damaged where the entry may follow those before it
+module _ (image : Image) (blocks gate block : ℕ) (before : List Entry) (e : Entry) (head : Head) (few : length before + 1 < 2 ^ 64) (spelled : IsSpelled e) (allowed : rejection before e ≡ None) (extent : IsExtent image gate (body_of (length before + 1) e) head) (inside : gate + need_of e < blocks) where
+  abbrev body : List ℕ
+  body = body_of (length before + 1) e
+
   head_stands : Has image (4096 * (gate + 1)) (head_bytes head)
   head_stands =
-      subst (Has image (4096 * (gate + 1))) extent.is_body.spells.spelling (Has-take image (4096 * (gate + 1)) 64 (body_of number e) extent.stands)
+      subst (Has image (4096 * (gate + 1))) extent.is_body.spells.spelling (Has-take image (4096 * (gate + 1)) 64 body extent.stands)
 
   -- the head there is the body's
   one_head : (other : Head) → SpellsAt image (gate + 1) other → other ≡ head
@@ -76,41 +82,52 @@ module _ (image : Image) (blocks gate number block : ℕ) (e : Entry) (head : He
   room : (other : Head) → SpellsAt image (gate + 1) other → blocks ≤ gate + other.n + 1 → ⊥
   room other at much =
       let n : other.n ≡ head.n = ap (λ (h : Head). h.n) (one_head other at) in
-      omega (arith, n, much, inside, IsBody-blocks (body_of number e) head extent.is_body)
+      omega (arith, n, much, inside, need-body_of (length before + 1) e, IsBody-blocks body head extent.is_body)
 
   extent_sound : IsDamagedExtent image blocks gate block → ⊥
   extent_sound damaged =
       ⊎_elim
-      (λ end. let at = end.0 in omega (arith, at, inside, need-body_of number e))
-      (λ body. ⊎_elim (λ none. none head (record { is_head = extent.is_body.spells.is_head; stands = head_stands })) (λ few. room few.0 few.1 few.2) body.2)
+      (λ end. let at = end.0 in omega (arith, at, inside))
+      (λ cause. ⊎_elim (λ none. none head (record { is_head = extent.is_body.spells.is_head; stands = head_stands })) (λ much. room much.0 much.1 much.2) cause.2)
       damaged.damage
 
-  entry_sound : IsDamagedEntry image blocks gate number block → ⊥
+  refusal_sound : IsRefusedExtent image blocks gate before block → ⊥
+  refusal_sound r =
+      let other = body_of (length before + 1) r.entry in
+      let same = IsBody-one image (4096 * (gate + 1)) other body r.head head r.extent.is_body extent.is_body r.extent.stands extent.stands in
+      let entry : r.entry ≡ e = body_of-one (length before + 1) r.entry e (omega arith) few r.spelled spelled same in
+      let none : rejection before r.entry ≡ None = ap (rejection before) entry ∙ allowed in
+      let some = r.refused in
+      absurd (cc)
+
+  entry_sound : IsDamagedEntry image blocks gate before block → ⊥
   entry_sound damage =
       ⊎_elim extent_sound
-      (λ n. n.no_entry e spelled (IsBody-one image (4096 * (gate + 1)) n.body (body_of number e) n.head head n.extent.is_body extent.is_body n.extent.stands extent.stands))
+      (λ n. ⊎_elim (λ o. o.no_entry e spelled (IsBody-one image (4096 * (gate + 1)) o.body body o.head head o.extent.is_body extent.is_body o.extent.stands extent.stands)) refusal_sound n)
       damage
 
--- two walks from one gate, of which one comes to a closed gate, and the other to a damaged entry
-walk_sound : (image : Image) (blocks block gate number : ℕ) (h k : List Entry) (tail other : ℕ) → AllByRecursion IsSpelled h → Extents image gate (bodies_from number h) tail → IsClosed image tail → tail < blocks → Extents image gate (bodies_from number k) other → IsDamagedEntry image blocks other (length k + number) block → ⊥
-walk_sound image blocks block gate number [] [] tail other all x closed inside y damage =
-    closed (subst (IsOpen image) (sym y ∙ x) (damaged_open image blocks other (length {A = Entry} [] + number) block damage))
-walk_sound image blocks block gate number [] (f ∷ k) tail other all x closed inside y damage =
+-- two walks from one gate behind the same entries, of which one comes to a closed gate, and the other to a damaged entry
+walk_sound : (image : Image) (blocks block gate number : ℕ) (before h k : List Entry) (tail other : ℕ) → number ≡ length before + 1 → number + length h < 2 ^ 64 → AllByRecursion IsSpelled h → AllByRecursion IsSpelled k → Legal (before ++ h) → Extents image gate (bodies_from number h) tail → IsClosed image tail → tail < blocks → Extents image gate (bodies_from number k) other → IsDamagedEntry image blocks other (before ++ k) block → ⊥
+walk_sound image blocks block gate number before [] [] tail other at few all all_too legal x closed inside y damage =
+    closed (subst (IsOpen image) (sym y ∙ x) (damaged_open image blocks other (before ++ []) block damage))
+walk_sound image blocks block gate number before [] (f ∷ k) tail other at few all all_too legal x closed inside y damage =
     closed (subst (IsOpen image) x y.0.1.is_open)
-walk_sound image blocks block gate number (e ∷ h) [] tail other all x closed inside y damage =
+walk_sound image blocks block gate number before (e ∷ h) [] tail other at few all all_too legal x closed inside y damage =
     let le = Extents-le image (gate + need (body_of number e)) (bodies_from (suc number) h) tail x.1 in
-    let at : length {A = Entry} [] + number ≡ number = omega arith in
-    let here = subst (λ g. IsDamagedEntry image blocks g number block) (sym y) (subst (λ n. IsDamagedEntry image blocks other n block) at damage) in
-    entry_sound image blocks gate number block e x.0.0 all.0 x.0.1 (omega (arith, le, inside)) here
-walk_sound image blocks block gate number (e ∷ h) (f ∷ k) tail other all x closed inside y damage =
+    let here = subst (λ g. IsDamagedEntry image blocks g before block) (sym y) (subst (λ l. IsDamagedEntry image blocks other l block) (append-nil before) damage) in
+    let allowed = legal-last before e (legal-front (before ++ e ∷ []) h (subst Legal (sym (append_assoc before (e ∷ []) h)) legal)) in
+    let extent = subst (λ n. IsExtent image gate (body_of n e) x.0.0) at x.0.1 in
+    entry_sound image blocks gate block before e x.0.0 (omega (arith, at, few)) all.0 allowed extent (omega (arith, le, inside, need-body_of number e)) here
+walk_sound image blocks block gate number before (e ∷ h) (f ∷ k) tail other at few all all_too legal x closed inside y damage =
     let same = IsBody-one image (4096 * (gate + 1)) (body_of number e) (body_of number f) x.0.0 y.0.0 x.0.1.is_body y.0.1.is_body x.0.1.stands y.0.1.stands in
+    let entry : e ≡ f = body_of-one number e f (omega (arith, at)) (omega (arith, few)) all.0 all_too.0 same in
     let rest = subst (λ b. Extents image (gate + need b) (bodies_from (suc number) k) other) (sym same) y.1 in
-    let at : length (f ∷ k) + number ≡ length k + suc number = omega arith in
-    walk_sound image blocks block (gate + need (body_of number e)) (suc number) h k tail other all.1 x.1 closed inside rest (subst (λ n. IsDamagedEntry image blocks other n block) at damage)
+    let behind = subst (λ l. IsDamagedEntry image blocks other l block) (sym (append_assoc before (e ∷ []) k)) (subst (λ g. IsDamagedEntry image blocks other (before ++ g ∷ k) block) (sym entry) damage) in
+    walk_sound image blocks block (gate + need (body_of number e)) (suc number) (before ++ e ∷ []) h k tail other (omega (arith, at, length-append before (e ∷ []))) (omega (arith, few)) all.1 all_too.1 (subst Legal (sym (append_assoc before (e ∷ []) h)) legal) x.1 closed inside rest behind
 
 log_sound : (size block : ℕ) (image : Image) (blocks tail : ℕ) (h : List Entry) → StandsTo size image blocks tail h → IsDamagedLog image blocks block → ⊥
 log_sound size block image blocks tail h st log =
-    walk_sound image blocks block first_gate 1 h log.entries tail log.gate st.spelled st.extents st.closed st.inside log.extents log.damage
+    walk_sound image blocks block first_gate 1 [] h log.entries tail log.gate refl (short size image blocks tail h st) st.spelled log.spelled st.legal st.extents st.closed st.inside log.extents log.damage
 
 damage_none : (size block : ℕ) (image : Image) (h : List Entry) → Stands size image h → IsDamaged size image block → ⊥
 damage_none size block image h first damaged =

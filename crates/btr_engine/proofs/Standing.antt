@@ -1,5 +1,5 @@
 -- Where a history stands: along images that agree, and with one entry more.
-use Rattle.std.specs.Prelude.{◌≡◌, ℕ, ◌+◌, ◌-◌, ◌*◌, ◌<◌, ◌≤◌, List, [], ◌∷◌, ◌++◌, length}
+use Rattle.std.specs.Prelude.{◌≡◌, ℕ, ◌+◌, ◌-◌, ◌*◌, ◌<◌, ◌≤◌, List, [], ◌∷◌, ◌++◌, length, None}
 use Rattle.std.proofs.Common.{sym, ◌∙◌, ap, subst, inl, inr, ⊎_elim, arith}
 use Rattle.btr_base.specs.Order.{each-append}
 use Rattle.btr_disk.specs.Bytes.{Image, Same}
@@ -13,6 +13,8 @@ use Rattle.btr_super.specs.Super.{super_bytes}
 use Rattle.btr_super.specs.SuperBytes.{length-super_bytes}
 use Rattle.btr_super.specs.Choose.{HasSuper, IsChosen}
 use Rattle.btr_hist.specs.declared.entry.Entry.{Entry}
+use Rattle.btr_hist.specs.Legal.{rejection}
+use Rattle.btr_hist.specs.Lemmas.{legal-push}
 use Rattle.btr_entry.specs.Grammar.{IsSpelled}
 use Rattle.btr_engine.specs.Body.{body_of, need_of, bodies}
 use Rattle.btr_engine.specs.BodyLaws.{bodies-push, need-body_of}
@@ -76,6 +78,7 @@ module _ (size : ℕ) (old : Image) (blocks tail : ℕ) (h : List Entry) (at : S
         extents = subst (Extents new first_gate (bodies h)) same log.1;
         closed = subst (IsClosed new) same log.2;
         inside = at.inside;
+        legal = at.legal;
       }
 
   -- the same image
@@ -83,7 +86,7 @@ module _ (size : ℕ) (old : Image) (blocks tail : ℕ) (h : List Entry) (at : S
   stands_still new same =
       stands_as_before new (λ k lt. same k) (IsLog-Same old new first_gate (bodies h) same (tail, at.extents, at.closed))
 
-  module _ (e : Entry) (spelled : IsSpelled e) (fits : tail + need_of e < blocks) where
+  module _ (e : Entry) (spelled : IsSpelled e) (allowed : rejection h e ≡ None) (fits : tail + need_of e < blocks) where
     -- all below the tail is as it was, and behind it is the log with this entry
     pub stands_with : (new : Image) → ((k : ℕ) → k < 4096 * tail → new k ≡ old k) → IsLog new first_gate (bodies h ++ body_of (length h + 1) e ∷ []) → StandsTo size new blocks (tail + need_of e) (h ++ e ∷ [])
     stands_with new below log =
@@ -98,6 +101,7 @@ module _ (size : ℕ) (old : Image) (blocks tail : ℕ) (h : List Entry) (at : S
           extents = subst (λ list. Extents new first_gate list (tail + need_of e)) (sym (bodies-push h e)) (subst (Extents new first_gate (bodies h ++ body ∷ [])) end log.1);
           closed = subst (IsClosed new) end log.2;
           inside = fits;
+          legal = legal-push h e at.legal allowed;
         }
 
     -- at a moment of an append

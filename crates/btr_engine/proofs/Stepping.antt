@@ -6,7 +6,7 @@ use Rattle.std.proofs.Common.{refl, sym, ◌∙◌, ap, subst, inl, arith, lengt
 use Rattle.std.proofs.Math.Nat.{ℕ_set}
 use mathlib.Core.HLevel.{is_prop→PathP}
 use Rattle.btr_disk.specs.declared.disk.Disk.{Ghosts}
-use Rattle.btr_disk.specs.Bytes.{Image}
+use Rattle.btr_disk.specs.Bytes.{Image, Same}
 use Rattle.btr_disk.specs.Gate.{zeros, length-zeros}
 use Rattle.btr_disk.specs.Runs.{begins}
 use Rattle.btr_log.specs.Extents.{need}
@@ -15,15 +15,20 @@ use Rattle.btr_log.specs.AppendLaws.{body_of-append, IsAppendRun-from}
 use Rattle.btr_log.specs.Log as log
 use Rattle.btr_hist.specs.declared.entry.Entry.{Entry}
 use Rattle.btr_hist.specs.declared.entry.Entry.TheVariants.{Create, Commit}
+use Rattle.btr_hist.specs.Legal.{rejection}
 use Rattle.btr_hist.specs.Machine as machine
 use Rattle.btr_entry.specs.Grammar.{spelling, IsSpelled}
 use Rattle.btr_engine.specs.declared.engine.Engine.{Engine}
 use Rattle.btr_engine.specs.declared.step.Receipt.{Receipt}
 use Rattle.btr_engine.specs.declared.step.StepFault.{StepFault}
-use Rattle.btr_engine.specs.declared.step.StepFault.TheVariants.{Want}
+use Rattle.btr_engine.specs.declared.step.StepFault.TheVariants as step
+use Rattle.btr_engine.specs.declared.board.PushFault.{PushFault}
+use Rattle.btr_engine.specs.declared.board.PushFault.TheVariants.{Rejected, Want}
 use Rattle.btr_engine.specs.Body.{body_of, head_of, need_of, bodies}
 use Rattle.btr_engine.specs.BodyLaws.{length-body_of, IsBody-body_of, need-body_of}
 use Rattle.btr_engine.specs.Engine.{device, history_of, blocks_of, tail_of, is_stopped, IsAtRest, EngineLeaves}
+use Rattle.btr_engine.specs.Push.{PushCause, step_fault}
+use Rattle.btr_engine.specs.Stands.{Stands}
 use Rattle.btr_engine.specs.Step.{IsBeforeOrAfter, StepCause}
 use Rattle.btr_engine.proofs.Standing.{stands_still}
 
@@ -41,12 +46,12 @@ module _ (number : ℕ) (e : Entry) (run : List ℕ) (is : run ≡ body_of numbe
   is_append_run some few spelled =
       subst append.IsAppendRun (sym is) (IsAppendRun-from (body_of number e) (head_of number (length (spelling e))) (IsBody-body_of number e some few spelled))
 
--- the number of a receipt
 -- the blocks of a run are those that the entry needs
 pub blocks_of_run : (number : ℕ) (e : Entry) (n : ℕ) → n ≡ length (body_of number e ++ zeros 4096) → n / 4096 ≡ need_of e
 blocks_of_run number e n is =
     omega (arith, is, length-append (body_of number e) (zeros 4096), length-body_of number e, length-zeros 4096)
 
+-- the number of a receipt
 pub number_of_receipt : (h : List Entry) (e : Entry) → (machine.receipt h e).number ≡ length h + 1
 number_of_receipt h (Create id) = refl
 number_of_receipt h (Commit s cut added) = refl
@@ -73,20 +78,19 @@ popped None h pushed k e grown last none =
     let empty : pushed ≡ [] = (none refl).0 in
     absurd (omega (arith, ap (length {A = Entry}) grown, ap (length {A = Entry}) empty, length-append h (e ∷ [])))
 
--- what is not some is none
-pub none_from : {A : Type 0} (o : Option A) → ((x : A) → o ≡ Some x → ⊥) → o ≡ None
-none_from None other = refl
-none_from (Some x) other = absurd (other x refl)
-
 module _ {D : Type 0} {disk : Ghosts D} where
   -- ---- where nothing was done
 
-  pub same_engine : (a b : Engine D disk) → a.log ≡ b.log → a.history ≡ b.history → a ≡ b
-  same_engine a b logs histories = λ i. record {
+  pub same_engine : (a b : Engine D disk) → a.log ≡ b.log → a.history ≡ b.history → a.opened_with ≡ b.opened_with → a.synced ≡ b.synced → a ≡ b
+  same_engine a b logs histories began synced = λ i. record {
     log = logs i;
     history = histories i;
+    opened_with = began i;
+    synced = synced i;
     counted = is_prop→PathP (λ j. (logs j).extents ≡ length (histories j)) (λ j. ℕ_set (logs j).extents (length (histories j))) a.counted b.counted i;
     ends = is_prop→PathP (λ j. 2 * length (histories j) + 4 ≤ (logs j).tail) (λ j. le_prop) a.ends b.ends i;
+    began = is_prop→PathP (λ j. began j ≤ length (histories j)) (λ j. le_prop) a.began b.began i;
+    called = is_prop→PathP (λ j. disk.calls (synced j).value ≤ disk.calls (log.device (logs j))) (λ j. le_prop) a.called b.called i;
   }
 
   -- what stands on the device is the log of the bodies, at rest
@@ -94,17 +98,22 @@ module _ {D : Type 0} {disk : Ghosts D} where
   log_at_rest engine rest =
       record { extents = rest.stands.extents; closed = rest.stands.closed; only = rest.only }
 
+  -- the history stands in each image that is what a read gives
+  pub stands_in : (engine : Engine D disk) → IsAtRest engine → (c : Image) → Same (disk.contents (device engine)) c → Stands (disk.size (device engine)) c (history_of engine)
+  stands_in engine rest c same = record {
+    blocks = blocks_of engine;
+    tail = tail_of engine;
+    stands = stands_still (disk.size (device engine)) (disk.contents (device engine)) (blocks_of engine) (tail_of engine) (history_of engine) rest.stands c same;
+  }
+
   -- no call of the device was made: `only_now` is its law
   pub no_moment : (engine : Engine D disk) (e : Entry) → ((c : Image) → disk.since (device engine) (disk.calls (device engine)) c → disk.image (device engine) c) → IsAtRest engine → EngineLeaves engine engine (IsBeforeOrAfter (disk.size (device engine)) (history_of engine) e)
   no_moment engine e only_now rest =
-      begins disk.calls disk.since (device engine) (IsBeforeOrAfter (disk.size (device engine)) (history_of engine) e) (λ c now. inl (record {
-        blocks = blocks_of engine;
-        tail = tail_of engine;
-        stands = stands_still (disk.size (device engine)) (disk.contents (device engine)) (blocks_of engine) (tail_of engine) (history_of engine) rest.stands c (rest.only.each c (only_now c now));
-      }))
+      begins disk.calls disk.since (device engine) (IsBeforeOrAfter (disk.size (device engine)) (history_of engine) e) (λ c now. inl (stands_in engine rest c (rest.only.each c (only_now c now))))
 
-  -- there was no memory
-  pub no_memory : (old new : Engine D disk) (e : Entry) (answer : Result Receipt StepFault) → IsErr answer × IsErrAnd answer (λ fault. fault ≡ Want) → IsFalse (is_stopped old) → new.log ≡ old.log → history_of new ≡ history_of old → IfErr answer (StepCause old new e)
-  no_memory old new e (Ok receipt) is runs logs histories = absurd (cc)
-  no_memory old new e (Err fault) is runs logs histories =
-      subst (StepCause old new e) (sym is.1) (runs, same_engine new old logs histories)
+  -- the entry was not added to the history
+  pub not_pushed : (old new : Engine D disk) (e copy : Entry) (fault : PushFault) (answer : Result Receipt StepFault) → IsErr answer × IsErrAnd answer (λ f. f ≡ step_fault fault) → IsFalse (is_stopped old) → copy ≡ e → PushCause (rejection (history_of old) copy) fault → new ≡ old → IfErr answer (StepCause old new e)
+  not_pushed old new e copy fault (Ok receipt) is runs copied cause same = absurd (cc)
+  not_pushed old new e copy Want (Err f) is runs copied cause same = subst (StepCause old new e) (sym is.1) (runs, same)
+  not_pushed old new e copy (Rejected why) (Err f) is runs copied cause same =
+      subst (StepCause old new e) (sym is.1) (runs, subst (λ c. rejection (history_of old) c ≡ Some why) copied cause, same)

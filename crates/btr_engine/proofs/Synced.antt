@@ -1,5 +1,5 @@
 -- A sync, and then calls that only read.
-use Rattle.std.specs.Prelude.{ℕ}
+use Rattle.std.specs.Prelude.{ℕ, ◌≤◌}
 use Rattle.std.proofs.Common.{sym, subst, arith, ⊎_elim}
 use Rattle.btr_disk.specs.declared.disk.Disk.{Ghosts}
 use Rattle.btr_disk.specs.Bytes.{Image, Same}
@@ -10,7 +10,7 @@ use Rattle.btr_disk.specs.Addresses.{Same-trans, Same-sym, Same-is}
 use Rattle.btr_disk.specs.ImageSets.{Only-along}
 use Rattle.btr_disk.specs.Runs.{begins, goes_on, composes, weakens}
 use Rattle.btr_super.specs.Unwritten.{IsUnwritten}
-use Rattle.btr_engine.specs.Opening.{SyncedFirst}
+use Rattle.btr_engine.specs.Opening.{IsFirst, SyncedFirst}
 
 -- after a sync that succeeded a crash leaves what it might have left before
 synced_back : (contents mid : Image) (old new : Image → Type 0) → old contents → Same contents mid → Only mid new → (c : Image) → new c → old c
@@ -41,27 +41,20 @@ module _ {D : Type 0} (calls : D → ℕ) (contents : D → Image) (image : D �
     moments = composes calls since old mid new (image old) so_far.moments (weakens calls since mid new (image mid) (image old) back nothing.moments);
   }
 
-module _ {D : Type 0} (disk : Ghosts D) (old mid new : D) where
-  -- a crash since the sync left what a read gives
-  pub synced_first : Counted (disk.calls old) (disk.calls mid) → Only (disk.contents mid) (disk.image mid) → WroteNothing disk.calls disk.contents disk.image disk.since mid new → SyncedFirst disk old new
-  synced_first counted only nothing = record {
-    synced = disk.calls mid;
-    counted = counted;
-    past = nothing.moments.later;
-    each = λ c left. Same-trans (disk.contents new) (disk.contents mid) c (Same-sym (disk.contents mid) (disk.contents new) nothing.same) (only.each c (nothing.moments.each c left));
-  }
+module _ {D : Type 0} (disk : Ghosts D) (old mid new : D) (synced : ℕ) where
+  -- the first call was a sync, whatever was called since
+  pub first_on : IsFirst disk old mid synced → disk.calls mid ≤ disk.calls new → IsFirst disk old new synced
+  first_on first later = record { counted = first.counted; past = omega (arith, first.past, later) }
 
-  -- and still does where nothing was written since
-  pub synced_on : SyncedFirst disk old mid → Only (disk.contents mid) (disk.image mid) → WroteNothing disk.calls disk.contents disk.image disk.since mid new → SyncedFirst disk old new
+  -- a crash since the sync left what a read gives, and still does where nothing was written since
+  pub synced_on : SyncedFirst disk old mid synced → Only (disk.contents mid) (disk.image mid) → WroteNothing disk.calls disk.contents disk.image disk.since mid new → SyncedFirst disk old new synced
   synced_on so_far only nothing =
       let back : Same (disk.contents new) (disk.contents mid) = Same-sym (disk.contents mid) (disk.contents new) nothing.same in
       record {
-        synced = so_far.synced;
-        counted = so_far.counted;
-        past = omega (arith, so_far.past, nothing.moments.later);
+        first = first_on so_far.first nothing.moments.later;
         each = λ c left.
             ⊎_elim
             (λ earlier. Same-trans (disk.contents new) (disk.contents mid) c back (so_far.each c earlier))
             (λ now. Same-trans (disk.contents new) (disk.contents mid) c back (only.each c now))
-            (nothing.moments.before so_far.synced c so_far.past left);
+            (nothing.moments.before synced c so_far.first.past left);
       }

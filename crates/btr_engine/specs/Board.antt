@@ -1,27 +1,38 @@
--- What a board keeps beside its history: the number of each id, and the latest version of each stream.
-use Rattle.std.specs.Prelude.{◌≡◌, ℕ, List, length, Some, None, IfSome}
+-- What a board keeps beside its entries: the number of each id, and of each stream the trees of all its versions.
+use Rattle.std.specs.Prelude.{◌≡◌, ℕ, ◌+◌, ◌<◌, ◌≤◌, List, [], ◌∷◌, length, take, slice_get, slice_index_or, Some}
 use Rattle.std.specs.Ordering.{nat_cmp}
 use Rattle.std.specs.BTreeMap.{BTreeMap, get}
+use Rattle.btr_tree.specs.History as tree
+use Rattle.btr_tree.specs.Root.{Root, IsTree}
 use Rattle.btr_hist.specs.declared.entry.Entry.{Entry}
-use Rattle.btr_hist.specs.History.{ids, stream_of, latest, bag}
-use Rattle.btr_engine.specs.declared.board.Recent.{Recent}
-
--- the latest version of a stream, and what it holds, where that is kept
-pub record IsRecent (h : List Entry) (stream : ℕ) (r : Recent) : Type 0 where
-  pub version : r.version ≡ latest h stream
-  pub points : IfSome r.points (λ b. b ≡ bag h stream (latest h stream))
+use Rattle.btr_hist.specs.Commit.{Change}
+use Rattle.btr_hist.specs.History.{ids, stream_of, commits, latest}
+use Rattle.btr_hist.specs.Legal.{Legal}
+use Rattle.btr_engine.specs.declared.board.Stream.{Stream}
 
 -- each id has the number of its stream, and no other id has one
 abbrev pub AreNumbers : List Entry → BTreeMap ℕ ℕ → Type 0
 AreNumbers h numbers = (id : ℕ) → get nat_cmp numbers id ≡ stream_of h id
 
--- the latest version of each stream is kept, and a stream of which none is kept has no commit
-pub record AreRecent (h : List Entry) (recent : BTreeMap ℕ Recent) : Type 0 where
-  pub none : (stream : ℕ) → get nat_cmp recent stream ≡ None → latest h stream ≡ 0
-  pub some : (stream : ℕ) (r : Recent) → get nat_cmp recent stream ≡ Some r → IsRecent h stream r
+-- commits as a tree has them, the newest first: each has the version that it made, behind `made` versions before
+abbrev pub newest_first : ℕ → List tree.Commit → List Change → List tree.Commit
+newest_first made before [] = before
+newest_first made before (c ∷ cs) =
+    newest_first (made + 1) (record { version = made + 1; cut = c.cut; added = c.added } ∷ before) cs
 
--- what is kept is that of the history
-pub record IsIndexed (h : List Entry) (streams : ℕ) (numbers : BTreeMap ℕ ℕ) (recent : BTreeMap ℕ Recent) : Type 0 where
-  pub counted : streams ≡ length (ids h)
+-- the commits of a version of a stream, as its tree has them
+abbrev pub commits_to : List Entry → ℕ → ℕ → List tree.Commit
+commits_to h stream version = newest_first 0 [] (take version (commits h stream))
+
+-- the trees of a stream's versions, from version 0 on
+pub record HasTrees (h : List Entry) (stream : ℕ) (trees : List Root) : Type 0 where
+  pub counted : length trees ≡ latest h stream + 1
+  pub each : (version : ℕ) (d : Root) → version ≤ latest h stream → IsTree (commits_to h stream version) (slice_index_or trees version d)
+
+-- what is kept is that of the entries, each of which is allowed after those before it
+pub record IsIndexed (h : List Entry) (streams : List Stream) (numbers : BTreeMap ℕ ℕ) : Type 0 where
+  pub counted : length streams ≡ length (ids h)
   pub numbered : AreNumbers h numbers
-  pub kept : AreRecent h recent
+  pub named : (stream : ℕ) (d : Stream) → stream < length (ids h) → slice_get (ids h) stream ≡ Some (slice_index_or streams stream d).id
+  pub kept : (stream : ℕ) (d : Stream) → stream < length (ids h) → HasTrees h stream (slice_index_or streams stream d).trees.items
+  pub legal : Legal h

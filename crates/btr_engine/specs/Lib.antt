@@ -6,6 +6,7 @@ pub mod Stands
 pub mod Damage
 -- a history with an index
 pub mod Board
+pub mod Push
 -- what contracts see of an engine, and what its calls do
 pub mod Engine
 pub mod Step

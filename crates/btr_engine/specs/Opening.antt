@@ -1,5 +1,5 @@
 -- What an opening promises: the engine that it gives, and why there is none.
-use Rattle.std.specs.Prelude.{◌≡◌, ℕ, ◌≤◌, false}
+use Rattle.std.specs.Prelude.{◌≡◌, ℕ, ◌≤◌, false, [], length}
 use Rattle.btr_disk.specs.declared.disk.Disk.{Ghosts}
 use Rattle.btr_disk.specs.Bytes.{Image, Same}
 use Rattle.btr_disk.specs.Causes.{Counted, Rose}
@@ -11,7 +11,7 @@ use Rattle.btr_engine.specs.declared.opening.OpenCause.{OpenCause}
 use Rattle.btr_engine.specs.declared.opening.OpenCause.TheVariants.{NotAStore, Damaged, Fault, Want}
 use Rattle.btr_engine.specs.declared.opening.OpenFault.{OpenFault}
 use Rattle.btr_engine.specs.Damage.{IsDamaged}
-use Rattle.btr_engine.specs.Engine.{device, is_stopped, faults_at, IsAtRest}
+use Rattle.btr_engine.specs.Engine.{device, history_of, is_stopped, entries_at, faults_at, calls_at, IsAtRest, IsDurable}
 
 -- why a device with these bytes is not opened, where it tells what it holds or not
 abbrev pub IsCause : Type 0 → ℕ → Image → ℕ → ℕ → OpenCause → Type 0
@@ -26,11 +26,14 @@ module _ {D : Type 0} (disk : Ghosts D) where
     pub counts : KeepsCounts disk.size disk.calls disk.faults old new
     pub unwritten : disk.tells → IsUnwritten disk.calls disk.contents disk.image disk.since old new
 
-  -- the first call was a sync that succeeded, and a crash since it returned left what a read gives
-  pub record SyncedFirst (old new : D) : Type 0 where
-    pub synced : ℕ
+  -- the first call was a sync, which returned at this call number
+  pub record IsFirst (old new : D) (synced : ℕ) : Type 0 where
     pub counted : Counted (disk.calls old) synced
     pub past : synced ≤ disk.calls new
+
+  -- it succeeded, and a crash since it returned left what a read gives
+  pub record SyncedFirst (old new : D) (synced : ℕ) : Type 0 where
+    pub first : IsFirst old new synced
     pub each : (c : Image) → disk.since new synced c → Same (disk.contents new) c
 
   -- the engine runs, on this device, whose bytes are its history's
@@ -39,8 +42,11 @@ module _ {D : Type 0} (disk : Ghosts D) where
     pub runs : is_stopped engine ≡ false
     pub faults : faults_at engine ≤ disk.faults (device engine)
     pub later : disk.faults old ≤ faults_at engine
+    pub entries : entries_at engine ≡ length (history_of engine)
+    pub first : IsFirst old (device engine) (calls_at engine)
     pub at_rest : disk.tells → IsAtRest engine
-    pub moments : disk.tells → SyncedFirst old (device engine)
+    pub moments : disk.tells → SyncedFirst old (device engine) (calls_at engine)
+    pub durable : disk.tells → IsDurable engine []
 
   -- the device is handed back, with the cause
   pub record IsNotOpened (old : D) (fault : OpenFault D) : Type 0 where

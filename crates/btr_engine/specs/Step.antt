@@ -1,5 +1,5 @@
 -- What a step promises: when each answer comes, and what the engine is then.
-use Rattle.std.specs.Prelude.{◌≡◌, ◌⊎◌, ℕ, ◌+◌, ◌<◌, ◌≤◌, false, true, List, [], ◌∷◌, ◌++◌, length, Some, None, IsTrue, IsFalse}
+use Rattle.std.specs.Prelude.{◌≡◌, ◌⊎◌, ℕ, ◌+◌, ◌<◌, ◌≤◌, false, true, List, [], ◌∷◌, ◌++◌, length, Some, None, IsTrue, IsFalse, Result, Ok, Err}
 use Rattle.btr_disk.specs.declared.disk.Disk.{Ghosts}
 use Rattle.btr_disk.specs.Bytes.{Image}
 use Rattle.btr_disk.specs.Causes.{Rose}
@@ -23,6 +23,15 @@ pub record IsReceipt (h : List Entry) (e : Entry) (receipt : Receipt) : Type 0 w
 -- an image at a moment of a step: the history stands there, or the history with this entry
 abbrev pub IsBeforeOrAfter : ℕ → List Entry → Entry → Image → Type 0
 IsBeforeOrAfter size h e image = Stands size image h ⊎ Stands size image (h ++ e ∷ [])
+
+-- the entry that a crash may leave behind the history after a step: this one where the device failed, and else what it was
+abbrev pub left_over : Result Receipt StepFault → List Entry → Entry → List Entry
+left_over (Ok receipt) more e = more
+left_over (Err (Stopped entries)) more e = more
+left_over (Err (Rejected why)) more e = more
+left_over (Err Want) more e = more
+left_over (Err (DeviceFull need left)) more e = more
+left_over (Err DeviceFault) more e = e ∷ []
 
 module _ {D : Type 0} {disk : Ghosts D} where
   -- the engine runs, the entry may follow its history, and there is room for it

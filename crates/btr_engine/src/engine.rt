@@ -1,12 +1,13 @@
 // The engine: a history, and the log that holds its entries.
 ghost use Rattle.std.specs.Prelude.{◌≡◌, ◌+◌, ◌*◌, ◌≤◌, length};
-ghost use Rattle.btr_log.specs.Log.{tail_of, extents_of};
+ghost use Rattle.btr_log.specs.Log.{device as device_of, tail_of, extents_of};
 
 use crate::board::Board;
 use btr_disk::Disk;
 use btr_hist::{Answer, Query};
 use btr_log::Log;
 use std::alloc::{AllocError, Global};
+use std::snapshot::Snapshot;
 
 /// An open store: its history, and its device.
 ///
@@ -16,9 +17,15 @@ use std::alloc::{AllocError, Global};
 pub struct Engine<D: Disk> {
     pub(crate) log: Log<D>,
     pub(crate) history: Board,
+    // the number of entries as the store was opened
+    pub(crate) opened_with: u64,
+    // the device as the first sync of the opening returned, for its number of calls; without bytes
+    pub(crate) synced: Snapshot<D>,
     ghost counted: { extents_of log ≡ length history },
     // the first gate is block 4, and each extent has two blocks or more
     ghost ends: { 2 * length history + 4 ≤ tail_of log },
+    ghost began: { opened_with ≤ length history },
+    ghost called: { D.calls synced.value ≤ D.calls (device_of log) },
 }
 
 impl<D: Disk> Engine<D> {
@@ -27,8 +34,8 @@ impl<D: Disk> Engine<D> {
     ghost use Rattle.btr_hist.specs.Answer.{answer};
     ghost use Rattle.btr_engine.specs.Engine.{device, history_of, is_stopped};
 
-    /// The answer to a question about the history, as far as it was acknowledged. It makes no call of the device. The latest
-    /// version of a stream costs its points, an older one the whole history. An `Err` is want of memory.
+    /// The answer to a question about the history, as far as it was acknowledged. It makes no call of the device, and costs the
+    /// nodes of the tree that the question needs, and its rows. An `Err` is want of memory.
     pub fn answer(&self, alloc: Global, query: &Query) -> Result<Answer, AllocError>
         ensures { IfOk result (λ a. a ≡ answer (history_of self.now) query.now) }
     {

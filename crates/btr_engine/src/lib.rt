@@ -9,6 +9,7 @@
 mod extent;
 mod run;
 // the history in memory
+mod answering;
 mod board;
 // the engine
 mod engine;

@@ -1,5 +1,5 @@
 // Opening: which history stands on a device.
-ghost use Rattle.std.specs.Prelude.{◌≡◌, ℕ, ◌+◌, ◌*◌, ◌<◌, ◌≤◌, ◌^◌, [], ◌∷◌, ◌++◌, length, false, IfErr, IfOk, IfSome, IfNone, OnOk};
+ghost use Rattle.std.specs.Prelude.{◌≡◌, ℕ, ◌+◌, ◌*◌, ◌<◌, ◌≤◌, ◌^◌, [], ◌∷◌, ◌++◌, length, false, None, IfErr, IfOk, IfSome, IfNone, OnOk};
 ghost use Rattle.std.specs.List.{AllByRecursion};
 ghost use Rattle.btr_disk.specs.Gate.{IsClosed};
 ghost use Rattle.btr_disk.specs.Images.{Only};
@@ -15,16 +15,18 @@ ghost use Rattle.btr_super.specs.Unwritten.{IsUnwritten};
 ghost use Rattle.btr_hist.specs.declared.entry.Entry.{Entry as AnEntry};
 ghost use Rattle.btr_entry.specs.Grammar.{IsSpelled};
 ghost use Rattle.btr_engine.specs.Body.{body_of, need_of, bodies};
-ghost use Rattle.btr_engine.specs.Engine.{device, is_stopped, faults_at, IsAtRest};
-ghost use Rattle.btr_engine.specs.Opening.{IsCause, SyncedFirst, IsOpened, IsNotOpened};
+ghost use Rattle.btr_hist.specs.Legal.{rejection, Legal};
+ghost use Rattle.btr_engine.specs.Engine.{device, history_of, is_stopped, entries_at, faults_at, calls_at, IsAtRest};
+ghost use Rattle.btr_engine.specs.Opening.{IsCause, IsFirst, SyncedFirst, IsOpened, IsNotOpened};
 
-use crate::board::Board;
+use crate::board::{Board, PushFault};
 use crate::engine::Engine;
 use crate::extent::entry_in;
 use btr_disk::{Disk, Failed};
 use btr_log::{ExtentFault, Found, Log};
 use btr_super::{ChooseFault, LOG_START, Super, choose};
 use std::alloc::{AllocError, Global};
+use std::snapshot::Snapshot;
 
 /// Why a device was not opened.
 #[derive(Clone, Copy, Debug, PartialEq, Eq)]
@@ -54,14 +56,15 @@ pub struct OpenFault<D> {
 /// The engine of the history that stands on a device. It syncs first, and writes nothing.
 ///
 /// The superblock is chosen, and the extents are read from block 4 on to the first closed gate, each in one call of the
-/// device where its body is one block, else in two. Whether an entry may follow those before it is not tested.
+/// device where its body is one block, else in two. Each entry is tested against those before it: one that may not follow
+/// damages the first block of its body. It takes time linear in the log.
 pub fn open_store<D: Disk>(alloc: Global, disk: D) -> Result<Engine<D>, OpenFault<D>>
     ensures opened { IfOk result (IsOpened ⟦<D as Disk>⟧ disk) }
     ensures refused { IfErr result (IsNotOpened ⟦<D as Disk>⟧ disk) }
 {
     let mut disk = disk;
     match read_super(&mut disk) {
-        Ok(found) => open_log(alloc, disk, found.blocks),
+        Ok((found, synced)) => open_log(alloc, disk, synced, found.blocks),
         Err(cause) => Err(OpenFault { cause, disk }),
     }
 }
@@ -89,18 +92,20 @@ impl From<Failed> for OpenCause {
 }
 
 /// The superblock of the store that stands on the device, which is synced before.
-fn read_super<D: Disk>(disk: &mut D) -> Result<Super, OpenCause>
+fn read_super<D: Disk>(disk: &mut D) -> Result<(Super, Snapshot<D>), OpenCause>
     ensures counts { KeepsCounts D.size D.calls D.faults disk.old disk.new }
     ensures unwritten { D.tells → IsUnwritten D.calls D.contents D.image D.since disk.old disk.new }
-    ensures table { IfOk result (IsSuper (D.size disk.old)) }
-    ensures chosen { D.tells → IfOk result (IsChosen (D.size disk.old) (D.contents disk.old)) }
+    ensures table { IfOk result (λ r. IsSuper (D.size disk.old) r.0) }
+    ensures chosen { D.tells → IfOk result (λ r. IsChosen (D.size disk.old) (D.contents disk.old) r.0) }
     ensures only { D.tells → OnOk result (Only (D.contents disk.new) (D.image disk.new)) }
-    ensures first { D.tells → OnOk result (SyncedFirst ⟦<D as Disk>⟧ disk.old disk.new) }
+    ensures first { IfOk result (λ r. IsFirst ⟦<D as Disk>⟧ disk.old disk.new (D.calls r.1.value)) }
+    ensures moments { D.tells → IfOk result (λ r. SyncedFirst ⟦<D as Disk>⟧ disk.old disk.new (D.calls r.1.value)) }
     ensures cause { IfErr result (IsCause D.tells (D.size disk.old) (D.contents disk.old) (D.faults disk.old) (D.faults disk.new)) }
 {
     disk.sync()?;
+    let synced = Snapshot::of(&*disk);
     match choose(disk) {
-        Ok(found) => Ok(found),
+        Ok(found) => Ok((found, synced)),
         Err(fault) => Err(cause_of_choice(fault)),
     }
 }
@@ -119,13 +124,20 @@ fn cause_of_choice(fault: ChooseFault) -> OpenCause
 }
 
 /// The engine of the history in a log of so many blocks, on a device that is synced.
-fn open_log<D: Disk>(alloc: Global, disk: D, blocks: u64) -> Result<Engine<D>, OpenFault<D>>
+fn open_log<D: Disk>(
+    alloc: Global,
+    disk: D,
+    synced: Snapshot<D>,
+    blocks: u64,
+) -> Result<Engine<D>, OpenFault<D>>
     requires least { 4 < blocks }
+    requires synced { D.calls synced.value ≤ D.calls disk }
     requires inside { blocks ≤ D.size disk }
     requires addressable { blocks ≤ 2 ^ 32 }
     ensures counts { IfOk result (λ e. KeepsCounts D.size D.calls D.faults disk (device e)) }
     ensures unwritten { D.tells → IfOk result (λ e. WroteNothing D.calls D.contents D.image D.since disk (device e)) }
     ensures runs { IfOk result (λ e. (is_stopped e ≡ false) × (faults_at e ≤ D.faults (device e)) × (D.faults disk ≤ faults_at e)) }
+    ensures numbers { IfOk result (λ e. (entries_at e ≡ length (history_of e)) × (calls_at e ≡ D.calls synced.value)) }
     ensures at_rest { D.tells → Only (D.contents disk) (D.image disk) → (s : ASuper) → IsChosen (D.size disk) (D.contents disk) s → s.blocks ≡ blocks
         → IfOk result IsAtRest }
     ensures refused { IfErr result (λ f. KeepsCounts D.size D.calls D.faults disk f.disk) }
@@ -139,6 +151,8 @@ fn open_log<D: Disk>(alloc: Global, disk: D, blocks: u64) -> Result<Engine<D>, O
         Ok(end) => Ok(Engine {
             log: Log::at(log.into_disk(), end.tail, blocks, end.entries),
             history,
+            opened_with: end.entries,
+            synced,
         }),
         Err(cause) => Err(OpenFault {
             cause,
@@ -164,6 +178,7 @@ fn read_log<D: Disk>(alloc: Global, log: &mut Log<D>, history: &mut Board) -> Re
     ensures counted { IfOk result (λ end. end.entries ≡ length history.new) }
     ensures ends { IfOk result (λ end. (2 * length history.new + 4 ≤ end.tail) × (end.tail < blocks_of log.old)) }
     ensures spelled { OnOk result (AllByRecursion IsSpelled history.new) }
+    ensures legal { OnOk result (Legal history.new) }
     ensures stands { D.tells → IfOk result (λ end. Extents (D.contents (disk_of log.old)) first_gate (bodies history.new) end.tail
         × IsClosed (D.contents (disk_of log.old)) end.tail) }
     ensures cause { IfErr result (IsCause
@@ -199,7 +214,7 @@ fn read_next<D: Disk>(
     ensures same { IfOk result (λ o. IfNone o (history.new ≡ history.old)) }
     ensures closed { D.tells → IfOk result (λ o. IfNone o (IsClosed (D.contents (disk_of log.old)) gate)) }
     ensures next { IfOk result (λ o. IfSome o (λ next. (e : AnEntry) × IsSpelled e × (history.new ≡ history.old ++ e ∷ [])
-        × (next ≡ gate + need_of e) × (next < blocks_of log.old)
+        × (rejection history.old e ≡ None) × (next ≡ gate + need_of e) × (next < blocks_of log.old)
         × (D.tells → (h : AHead) × IsExtent (D.contents (disk_of log.old)) gate (body_of number e) h))) }
     ensures cause { IfErr result (IsCause
         (D.tells × AllByRecursion IsSpelled history.old × Extents (D.contents (disk_of log.old)) first_gate (bodies history.old) gate
@@ -216,8 +231,11 @@ fn read_next<D: Disk>(
     let Some(entry) = entry_in(alloc, &body, &head, number)? else {
         return Err(OpenCause::Damaged { block: gate + 1 });
     };
-    history.push(alloc, entry)?;
-    Ok(Some(next))
+    match history.push(alloc, entry) {
+        Ok(()) => Ok(Some(next)),
+        Err(PushFault::Rejected(_)) => Err(OpenCause::Damaged { block: gate + 1 }),
+        Err(PushFault::Want) => Err(OpenCause::Want),
+    }
 }
 
 /// The cause that a fault of the log is.

@@ -1,11 +1,12 @@
 // A step: one entry more, durable before it is acknowledged.
-ghost use Rattle.std.specs.Prelude.{◌≡◌, ℕ, ◌+◌, ◌<◌, ◌^◌, IfErr, IfOk, OnOk, IsTrue, length};
+ghost use Rattle.std.specs.Prelude.{◌≡◌, ℕ, ◌+◌, ◌<◌, ◌^◌, List, false, IfErr, IfOk, OnOk, IsTrue, length};
 ghost use Rattle.btr_log.specs.declared.append.AppendFault.TheVariants.{Full, Fault, Stopped as AlreadyStopped};
-ghost use Rattle.btr_engine.specs.Engine.{device, history_of, is_stopped, IsAtRest, EngineLeaves, KeepsOpening};
+ghost use Rattle.btr_engine.specs.Engine.{device, history_of, is_stopped, IsAtRest, IsDurable, EngineLeaves, KeepsOpening};
 ghost use Rattle.btr_engine.specs.declared.step.StepFault.TheVariants.{Stopped, DeviceFull, DeviceFault};
-ghost use Rattle.btr_engine.specs.Step.{IsBeforeOrAfter, IsReceipt, IsStepped, StepCause};
+ghost use Rattle.btr_hist.specs.declared.entry.Entry.{Entry as AnEntry};
+ghost use Rattle.btr_engine.specs.Step.{IsBeforeOrAfter, IsReceipt, IsStepped, StepCause, left_over};
 
-use crate::board::Board;
+use crate::board::{Board, PushFault};
 use crate::engine::Engine;
 use crate::run::run_of;
 use btr_disk::{BLOCK, Disk};
@@ -52,7 +53,8 @@ impl<D: Disk> Engine<D> {
     /// for a `DeviceFault`, which stops it: it answers `Stopped` from then on.
     ///
     /// It makes four calls of the device, a write and a sync for the entry and then for the gate before it, or none. All
-    /// memory is taken before the first of them. It costs the points of the entry's stream, and no walk over the history.
+    /// memory is taken before the first of them. It costs the bytes of the entry and the nodes of its stream's tree that it
+    /// touches.
     pub fn step(&mut self, alloc: Global, entry: &Entry) -> Result<Receipt, StepFault>
         ensures stopped { IsTrue (is_stopped self.old) → result ≡ Err (Stopped (length (history_of self.old))) }
         ensures cause { IfErr result (StepCause self.old self.new entry.now) }
@@ -61,24 +63,27 @@ impl<D: Disk> Engine<D> {
         ensures at_rest { D.tells → IsAtRest self.old → OnOk result (IsAtRest self.new) }
         ensures moments { D.tells → IsAtRest self.old
             → EngineLeaves self.old self.new (IsBeforeOrAfter (D.size (device self.old)) (history_of self.old) entry.now) }
+        ensures durable { D.tells → (more : List AnEntry) → (is_stopped self.old ≡ false → IsAtRest self.old) → IsDurable self.old more
+            → IsDurable self.new (left_over result more entry.now) }
     {
         if self.log.is_stopped() {
             return Err(StepFault::Stopped {
                 entries: self.log.extents(),
             });
         }
-        if let Some(why) = self.history.rejection(alloc, entry)? {
-            return Err(StepFault::Rejected(why));
-        }
         let receipt = receipt_of(self.log.extents() + 1, &self.history, entry);
-        let run = run_of(alloc, entry, receipt.number)?;
+        let copy = copy_of(alloc, entry)?;
+        self.history.push(alloc, copy)?;
+        let Ok(run) = run_of(alloc, entry, receipt.number) else {
+            self.history.pop();
+            return Err(StepFault::Want);
+        };
         let need = (run.as_slice().len() / BLOCK) as u64;
         let left = self.log.room();
         if need > left {
+            self.history.pop();
             return Err(StepFault::DeviceFull { need, left });
         }
-        let copy = copy_of(alloc, entry)?;
-        self.history.push(alloc, copy)?;
         if let Err(fault) = self.log.append(&run) {
             self.history.pop();
             return Err(fault_of(fault));
@@ -143,5 +148,19 @@ impl From<AllocError> for StepFault {
 
     fn from(_error: AllocError) -> StepFault {
         StepFault::Want
+    }
+}
+
+impl From<PushFault> for StepFault {
+    ghost use Rattle.std.specs.Prelude.{◌≡◌};
+    ghost use Rattle.btr_engine.specs.Push.{step_fault};
+
+    ghost from_gives = { λ f e. e ≡ step_fault f };
+
+    fn from(fault: PushFault) -> StepFault {
+        match fault {
+            PushFault::Rejected(why) => StepFault::Rejected(why),
+            PushFault::Want => StepFault::Want,
+        }
     }
 }

@@ -2,9 +2,9 @@
 ghost use Rattle.std.specs.Prelude.{◌≡◌, IfOk};
 
 use super::*;
-use btr_base::{Bag, Point, Ranges};
+use btr_base::{Bag, END, FIRST, Point, Range, Ranges, Toward};
 use btr_disk::{Disk, MemDisk, Room};
-use btr_hist::{Answer, At, Entry, Query, Rejection, Rows};
+use btr_hist::{Answer, At, Entry, History, Query, Rejection, Rows};
 use btr_super::format;
 use std::alloc::{AllocError, Global};
 use std::process::Abort;
@@ -59,7 +59,9 @@ fn latest(rt: &impl Abort, alloc: Global, engine: &Engine<MemDisk>) -> Result<(u
     };
     match engine.answer(alloc, &query)? {
         Answer::Found { version, rows } => {
-            let Rows::Points(points) = rows;
+            let Rows::Points(points) = rows else {
+                return Err("no points were answered".into());
+            };
             Ok((version, points.as_slice().len()))
         }
         Answer::Refused(_) => Err("it was refused".into()),
@@ -163,5 +165,226 @@ fn what_is_not_opened_is_handed_back(rt: HostRuntime) -> Result<(), Fail> {
     }
     one_history_stands();
     what_stands_is_sound();
+    Ok(())
+}
+
+// A commit of these ranges and points.
+fn commit(
+    alloc: Global,
+    stream: u32,
+    ranges: &[(i64, i64)],
+    points: Vec<Point>,
+) -> Result<Entry, Fail> {
+    let mut cut = Ranges::none(alloc);
+    for (from, to) in ranges {
+        cut.add(Range::new(*from, *to).ok_or("no range")?)?;
+    }
+    Ok(Entry::Commit {
+        stream,
+        cut,
+        added: Bag::from_points(points),
+    })
+}
+
+// Points with these times and values.
+fn points(alloc: Global, pairs: &[(i64, i64)]) -> Result<Vec<Point>, AllocError> {
+    let mut points = Vec::new(alloc);
+    for (time, value) in pairs {
+        points.push(Point {
+            time: *time,
+            value: *value,
+        })?;
+    }
+    Ok(points)
+}
+
+// So many points, one every seven nanoseconds from a time on, with the values from 0 on.
+fn points_from(alloc: Global, first: i64, count: u32) -> Result<Vec<Point>, AllocError> {
+    let mut points = Vec::new(alloc);
+    for place in 0..count {
+        points.push(Point {
+            time: first.wrapping_add(7 * i64::from(place)),
+            value: i64::from(place),
+        })?;
+    }
+    Ok(points)
+}
+
+// The entries of two streams: one with more points than a leaf has, which are replaced and deleted in part, and one with a
+// point at each end of the domain.
+fn entry_at(alloc: Global, place: u32) -> Result<Entry, Fail> {
+    match place {
+        0 => Ok(Entry::Create { id: 7 }),
+        1 => Ok(Entry::Create { id: 8 }),
+        2 => commit(alloc, 0, &[], points_from(alloc, -700, 300)?),
+        3 => commit(alloc, 1, &[], points(alloc, &[(FIRST, 5), (END - 1, -5)])?),
+        4 => commit(
+            alloc,
+            0,
+            &[(0, 70)],
+            points(alloc, &[(64, -1), (3, 9), (3, 9)])?,
+        ),
+        _ => commit(alloc, 0, &[(-350, -7), (1000, 2000)], Vec::new(alloc)),
+    }
+}
+
+// Adds the questions about a version with a range.
+fn ask_range(
+    asked: &mut Vec<Query>,
+    stream: u32,
+    at: At,
+    from: i64,
+    to: i64,
+) -> Result<(), AllocError> {
+    asked.push(Query::Points {
+        stream,
+        from,
+        to,
+        at,
+    })?;
+    for p in [0, 3, 40, 62, 63] {
+        asked.push(Query::Aligned {
+            stream,
+            from,
+            to,
+            p,
+            at,
+        })?;
+    }
+    for width in [0, 1, 50, 4611686018427387904, 4611686018427387905] {
+        asked.push(Query::Windows {
+            stream,
+            from,
+            to,
+            width,
+            at,
+        })?;
+    }
+    Ok(())
+}
+
+// Adds the questions about a version with a time, and about it as a whole.
+fn ask_times(asked: &mut Vec<Query>, stream: u32, at: At) -> Result<(), AllocError> {
+    asked.push(Query::Info { stream, at })?;
+    for time in [i64::MIN, FIRST, -350, 3, 4, 2000, i64::MAX] {
+        for toward in [Toward::Forward, Toward::Backward] {
+            asked.push(Query::Nearest {
+                stream,
+                time,
+                toward,
+                at,
+            })?;
+        }
+    }
+    Ok(())
+}
+
+// Adds the questions about two versions.
+fn ask_changes(asked: &mut Vec<Query>, stream: u32) -> Result<(), AllocError> {
+    for (old, new) in [
+        (0, 0),
+        (0, 1),
+        (0, 3),
+        (1, 2),
+        (2, 3),
+        (3, 1),
+        (3, 4),
+        (4, 3),
+    ] {
+        for p in [0, 3, 40, 62, 63] {
+            asked.push(Query::Changes {
+                stream,
+                old,
+                new,
+                p,
+            })?;
+        }
+    }
+    Ok(())
+}
+
+// Questions of all kinds about three streams, of which the last one is not there.
+fn questions(alloc: Global) -> Result<Vec<Query>, AllocError> {
+    let mut asked = Vec::new(alloc);
+    asked.push(Query::Streams)?;
+    for stream in 0..3u32 {
+        ask_changes(&mut asked, stream)?;
+        for at in [
+            At::Latest,
+            At::Number(0),
+            At::Number(1),
+            At::Number(2),
+            At::Number(3),
+            At::Number(4),
+        ] {
+            ask_times(&mut asked, stream, at)?;
+            for (from, to) in [
+                (FIRST, END),
+                (-351, 64),
+                (3, 4),
+                (5, 5),
+                (FIRST - 1, 0),
+                (0, END + 1),
+            ] {
+                ask_range(&mut asked, stream, at, from, to)?;
+            }
+        }
+    }
+    Ok(asked)
+}
+
+// Whether two answers have the same rows.
+fn are_same_rows(a: &Rows, b: &Rows) -> bool {
+    match (a, b) {
+        (Rows::Points(a), Rows::Points(b)) => a.as_slice() == b.as_slice(),
+        (Rows::Cells(a), Rows::Cells(b)) => a.as_slice() == b.as_slice(),
+        (Rows::Ranges(a), Rows::Ranges(b)) => a.as_slice() == b.as_slice(),
+        (Rows::Info { agg: a }, Rows::Info { agg: b }) => a == b,
+        (Rows::Streams(a), Rows::Streams(b)) => a.as_slice() == b.as_slice(),
+        _ => false,
+    }
+}
+
+// Whether two answers are the same.
+fn are_same(a: &Answer, b: &Answer) -> bool {
+    match (a, b) {
+        (
+            Answer::Found { version, rows },
+            Answer::Found {
+                version: other,
+                rows: others,
+            },
+        ) => version == other && are_same_rows(rows, others),
+        (Answer::Refused(a), Answer::Refused(b)) => a == b,
+        _ => false,
+    }
+}
+
+#[test]
+fn the_engine_answers_as_the_history(rt: HostRuntime) -> Result<(), Fail> {
+    let alloc = rt.alloc();
+    let room = Room {
+        calls: 64,
+        blocks: 256,
+    };
+    let mut disk = MemDisk::new(alloc, 64, room, Vec::new(alloc))?;
+    assert!(rt; format(&mut disk, 64).is_ok());
+    let mut engine = opened(alloc, disk)?;
+    let mut history = History::empty(alloc);
+    for place in 0..6 {
+        history.push(entry_at(alloc, place)?)?;
+        assert!(rt;
+            engine.step(alloc, &entry_at(alloc, place)?).is_ok(),
+            "entry {place}"
+        );
+    }
+    for query in &questions(alloc)? {
+        let found = engine.answer(alloc, query)?;
+        let want = history.answer(alloc, query)?;
+        assert!(rt;
+            are_same(&found, &want),
+            "{query:?}: {found:?}, not {want:?}"
+        );
+    }
     Ok(())
 }

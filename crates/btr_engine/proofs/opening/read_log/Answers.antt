@@ -1,4 +1,4 @@
-use Rattle.std.specs.Prelude.{◌≡◌, ◌+◌, ◌<◌, ◌++◌, ◌∷◌, []}
+use Rattle.std.specs.Prelude.{◌≡◌, ◌+◌, ◌<◌, ◌++◌, ◌∷◌, [], None}
 use Rattle.std.specs.Option.{IfSome}
 use Rattle.std.proofs.Common.{subst}
 use Rattle.std.proofs.lemmas.Result.{err_from_is_err_and}
@@ -7,6 +7,7 @@ use Rattle.btr_log.specs.Log.{device as disk_of}
 use Rattle.btr_log.specs.Log.{blocks_of}
 use Rattle.btr_log.specs.Extents.{IsExtent}
 use Rattle.btr_hist.specs.declared.entry.Entry.{Entry}
+use Rattle.btr_hist.specs.Legal.{rejection}
 use Rattle.btr_entry.specs.Grammar.{IsSpelled}
 use Rattle.btr_engine.specs.Body.{body_of, need_of}
 use Rattle.btr_engine.proofs.Reading.{read_more, cause_so_far}
@@ -22,7 +23,7 @@ pub loop-next-preserved : goal.loop-next-preserved
 loop-next-preserved g c =
     let disk = g.D.Disk in
     let l = c.loop-next in
-    let n = subst (λ o. IfSome o (λ next. (e : Entry) × IsSpelled e × (c.read_next.new.history ≡ l.history ++ e ∷ []) × (next ≡ l.gate + need_of e) × (next < blocks_of l.log) × (disk.tells → (h : Head) × IsExtent (disk.contents (disk_of l.log)) l.gate (body_of (l.entries + 1) e) h)))
+    let n = subst (λ o. IfSome o (λ next. (e : Entry) × IsSpelled e × (c.read_next.new.history ≡ l.history ++ e ∷ []) × (rejection l.history e ≡ None) × (next ≡ l.gate + need_of e) × (next < blocks_of l.log) × (disk.tells → (h : Head) × IsExtent (disk.contents (disk_of l.log)) l.gate (body_of (l.entries + 1) e) h)))
     c.in-Some.is c.in_ok-next.ensures.next in
     read_more c.args.log.now l.log c.read_next.new.log l.history l.gate l.entries l.invariant c.read_next.ensures.kept c.read_next.ensures.device c.read_next.ensures.unwritten
-    n.0 c.read_next.new.history c.in-Some.next n.1 n.2 n.3 n.4 n.5
+    n.0 c.read_next.new.history c.in-Some.next n.1 n.2 n.3 n.4 n.5 n.6

@@ -1,14 +1,16 @@
-use Rattle.std.specs.Prelude.{◌≡◌}
+use Rattle.std.specs.Prelude.{◌≡◌, Some}
 use Rattle.std.specs.Option.{IfSome, IfNone}
 use Rattle.std.proofs.Common.{sym, ◌∙◌, subst, inl}
 use Rattle.btr_log.specs.Log.{device as disk_of}
 use Rattle.btr_log.specs.Log.{blocks_of}
 use Rattle.btr_log.specs.Found.{IsWhole, Stands}
+use Rattle.btr_hist.specs.Legal.{rejection}
 use Rattle.btr_entry.specs.Grammar.{IsSpelled}
 use Rattle.btr_engine.specs.Body.{body_of}
 use Rattle.btr_engine.specs.Damage.{IsNoEntryBody}
+use Rattle.btr_engine.specs.Push.{PushCause}
 use Rattle.btr_engine.proofs.Reading.{gate_behind, extent_of}
-use Rattle.btr_engine.proofs.Reasons.{IsReadTo, damaged_next, no_entry_next, cause_along}
+use Rattle.btr_engine.proofs.Reasons.{IsReadTo, damaged_next, no_entry_next, refused_next, cause_along}
 use Rattle.btr_engine.proofs.opening.read_next.Goals as goal
 
 pub returns-in-Err-clause-cause : goal.returns-in-Err-clause-cause
@@ -36,14 +38,14 @@ returns-in_default-2-clause-cause g c r =
     let x = c.in-Extent in
     let none : IsNoEntryBody c.args.number c.deref.result.now = subst (λ o. IfNone o (IsNoEntryBody c.args.number c.deref.result.now)) c.in_default-2.is c.in_ok-entry.ensures.none in
     damaged_next size image blocks c.args.gate h _
-    (no_entry_next size image blocks c.args.gate h c.args.number x.head x.body.items x.next c.requires.number
+    (no_entry_next size image blocks c.args.gate h c.args.number c.requires.number x.head x.body.items x.next
     (subst (IsWhole blocks c.args.gate) x.is c.in-Ok.ensures.whole)
     (subst (Stands image c.args.gate) x.is (c.in-Ok.ensures.stands r.0))
     (subst (IsNoEntryBody c.args.number) c.deref.ensures.value none))
     r.1 r.2 r.3
 
-pub returns-clause-next : goal.returns-clause-next
-returns-clause-next g c =
+pub returns-in-Ok-push-clause-next : goal.returns-in-Ok-push-clause-next
+returns-in-Ok-push-clause-next g c =
     let disk = g.D.Disk in
     let d0 = disk_of c.args.log.now in
     let image = disk.contents d0 in
@@ -55,8 +57,29 @@ returns-clause-next g c =
     let whole = subst (IsWhole blocks c.args.gate) x.is c.in-Ok.ensures.whole in (
       e,
       found.0,
-      c.in_ok-push.ensures.ok,
+      c.in-Ok-push.ensures.ok,
+      c.in-Ok-push.ensures.allowed,
       gate_behind blocks c.args.gate x.head x.body.items x.next whole c.args.number e same,
       whole.inside,
       λ tells. (x.head, extent_of blocks c.args.gate x.head x.body.items x.next whole c.args.number e same image (subst (Stands image c.args.gate) x.is (c.in-Ok.ensures.stands tells))),
     )
+
+pub returns-in-Err-Rejected-clause-cause : goal.returns-in-Err-Rejected-clause-cause
+returns-in-Err-Rejected-clause-cause g c r =
+    let disk = g.D.Disk in
+    let d0 = disk_of c.args.log.now in
+    let size = disk.size d0 in
+    let image = disk.contents d0 in
+    let blocks = blocks_of c.args.log.now in
+    let h = c.args.history.now in
+    let x = c.in-Extent in
+    let e = c.in-Some.entry in
+    let why = c.in-Err-Rejected.field-0-0 in
+    let found = subst (λ o. IfSome o (λ f. IsSpelled f × (c.deref.result.now ≡ body_of c.args.number f))) c.in-Some.is c.in_ok-entry.ensures.found in
+    let refused : rejection h e ≡ Some why = subst (PushCause (rejection h e)) c.in-Err-Rejected.field-0-is c.in-Err-Rejected.ensures.cause in
+    damaged_next size image blocks c.args.gate h _
+    (refused_next size image blocks c.args.gate h c.args.number c.requires.number x.head x.body.items x.next
+    (subst (IsWhole blocks c.args.gate) x.is c.in-Ok.ensures.whole)
+    (subst (Stands image c.args.gate) x.is (c.in-Ok.ensures.stands r.0))
+    e why found.0 (sym c.deref.ensures.value ∙ found.1) refused)
+    r.1 r.2 r.3

@@ -2,7 +2,7 @@ use Rattle.std.specs.Prelude.{◌≡◌}
 use Rattle.std.proofs.Common.{refl, subst, arith}
 use Rattle.btr_disk.specs.Addresses.{Same-is}
 use Rattle.btr_super.specs.Choose.{IsChosen}
-use Rattle.btr_engine.proofs.Synced.{synced_unwritten, synced_first}
+use Rattle.btr_engine.proofs.Synced.{synced_unwritten}
 use Rattle.btr_engine.proofs.Reasons.{choice_along, IsCause-along}
 use Rattle.btr_engine.proofs.opening.read_super.Goals as goal
 
@@ -42,7 +42,3 @@ returns-in-Err-clause-cause g c =
     IsCause-along disk.tells disk.tells (disk.size d1) (disk.size d0) (disk.contents d1) (disk.contents d0) (disk.faults d0) (disk.faults d1) (disk.faults d2) (disk.faults d2) c.cause_of_choice.result
     (λ tells. tells) (λ tells. (c.sync.ensures.size, Same-is (disk.contents d0) (disk.contents d1) (c.sync.ensures.contents tells)))
     c.sync.ensures.cause.later (omega arith) here
-
-pub returns-in-Ok-clause-first : goal.returns-in-Ok-clause-first
-returns-in-Ok-clause-first g c tells =
-    synced_first g.D.Disk c.args.disk.now c.sync.new.self c.choose.new.device c.sync.ensures.calls (c.in_ok-sync.ensures.synced tells) (c.choose.ensures.nothing tells)

@@ -11,21 +11,21 @@ pub returns-then-contains_key : goal.returns-then-contains_key
 returns-then-contains_key c =
     let h = c.self.inside.history in
     let any : list_any (nat_eq c.args.id) (ids h) ≡ true =
-    sym (stream-any h c.args.id) ∙ sym (ap is_some (c.self.invariant.0.numbered c.args.id)) ∙ sym c.contains_key.ensures ∙ c.if-contains_key.true in
+    sym (stream-any h c.args.id) ∙ sym (ap is_some (c.self.invariant.numbered c.args.id)) ∙ sym c.contains_key.ensures ∙ c.if-contains_key.true in
     rw (← c.self.view_is) (creation_is h c.args.id true _ any refl)
 
-pub returns-then-self-ge-MAX_STREAMS : goal.returns-then-self-ge-MAX_STREAMS
-returns-then-self-ge-MAX_STREAMS c =
+pub returns-then-len-ge-MAX_STREAMS : goal.returns-then-len-ge-MAX_STREAMS
+returns-then-len-ge-MAX_STREAMS c =
     let h = c.self.inside.history in
     let any : list_any (nat_eq c.args.id) (ids h) ≡ false =
-    sym (stream-any h c.args.id) ∙ sym (ap is_some (c.self.invariant.0.numbered c.args.id)) ∙ sym c.contains_key.ensures ∙ c.if-contains_key.false in
-    let full : MAX_STREAMS ≤ length (ids h) = omega arith in
+    sym (stream-any h c.args.id) ∙ sym (ap is_some (c.self.invariant.numbered c.args.id)) ∙ sym c.contains_key.ensures ∙ c.if-contains_key.false in
+    let full : MAX_STREAMS ≤ length (ids h) = omega (arith, c.self.invariant.counted) in
     rw (← c.self.view_is) (creation_is h c.args.id false true any (le-leb MAX_STREAMS (length (ids h)) full))
 
 pub returns : goal.returns
 returns c =
     let h = c.self.inside.history in
     let any : list_any (nat_eq c.args.id) (ids h) ≡ false =
-    sym (stream-any h c.args.id) ∙ sym (ap is_some (c.self.invariant.0.numbered c.args.id)) ∙ sym c.contains_key.ensures ∙ c.if-contains_key.false in
-    let few : length (ids h) < MAX_STREAMS = omega arith in
+    sym (stream-any h c.args.id) ∙ sym (ap is_some (c.self.invariant.numbered c.args.id)) ∙ sym c.contains_key.ensures ∙ c.if-contains_key.false in
+    let few : length (ids h) < MAX_STREAMS = omega (arith, c.self.invariant.counted) in
     rw (← c.self.view_is) (creation_is h c.args.id false false any (lt-leb MAX_STREAMS (length (ids h)) few))

@@ -1,17 +1,11 @@
-use Rattle.std.proofs.Common.{◌≡◌, ◌-◌, [], ◌∷◌, ◌++◌, length, ap, ◌∙◌, arith}
+use Rattle.std.proofs.Common.{◌≡◌, ◌-◌, [], ◌∷◌, ◌++◌, length, take, sym, ap, ◌∙◌, arith}
+use Rattle.std.proofs.lemmas.List.{length-take-le}
 use Rattle.btr_hist.specs.declared.entry.Entry.{Entry}
 use Rattle.btr_hist.specs.declared.entry.Entry.TheVariants.{Create, Commit}
 use Rattle.btr_hist.specs.History.{ids}
-use Rattle.btr_engine.proofs.BoardIndex.{pop-long, pop-numbered, pop-create, pop-kept, pop-commit}
+use Rattle.btr_engine.specs.declared.board.Stream.{Stream}
+use Rattle.btr_engine.proofs.BoardIndex.{pop-long, pop-numbered, pop-create, pop-known, pop-commit}
 use Rattle.btr_engine.proofs.board.Board.pop.Goals as goal
-
-pub overflow_sub-self : goal.overflow_sub-self
-overflow_sub-self c =
-    let h = c.pop.new.self in
-    let was = c.self.inside in
-    let is : was.history ≡ h ++ Create c.in-Create.id ∷ [] = c.in_ok-entry.ensures.last ∙ ap (λ (e : Entry). h ++ e ∷ []) c.in-Create.is in
-    let long = pop-long h was.history was.streams was.numbers was.recent c.in-Create.id is c.self.invariant.0 in
-    omega (arith, long)
 
 pub invariant_of-self-in-Create : goal.invariant_of-self-in-Create
 invariant_of-self-in-Create c =
@@ -19,18 +13,24 @@ invariant_of-self-in-Create c =
     let was = c.self.inside in
     let id = c.in-Create.id in
     let is : was.history ≡ h ++ Create id ∷ [] = c.in_ok-entry.ensures.last ∙ ap (λ (e : Entry). h ++ e ∷ []) c.in-Create.is in
-    let long = pop-long h was.history was.streams was.numbers was.recent id is c.self.invariant.0 in
-    let few : was.streams - 1 ≡ length (ids h) = omega (arith, long) in
-    let now = c.take_number.ensures h few (pop-numbered h was.history was.streams was.numbers was.recent id is c.self.invariant.0) in
-    (pop-create h was.history was.streams was.numbers was.recent id is (was.streams - 1) c.take_number.new.numbers c.self.invariant.0 few now, c.self.invariant.1)
+    let size : length was.streams.items ≡ was.streams.len = sym was.streams.ok.0 in
+    let fewer = c.pop-in-Create.ensures.rest ∙ ap (λ n. take (n - 1) was.streams.items) (sym size) in
+    let left = c.pop-in-Create.new.self.items in
+    let long = pop-long h was.history was.streams.items left was.numbers id is c.self.invariant in
+    let few : length left ≡ length was.streams.items - 1 = ap (length {A = Stream}) fewer ∙ length-take-le (length was.streams.items - 1) was.streams.items (omega arith) in
+    let now = c.take_number.ensures h (omega (arith, long, few, c.pop-in-Create.new.self.ok.0)) (pop-numbered h was.history was.streams.items left was.numbers id is c.self.invariant) in
+    pop-create h was.history was.streams.items left was.numbers id is c.take_number.new.numbers fewer c.self.invariant now
+
+pub forget-requires : goal.forget-requires
+forget-requires c =
+    let h = c.pop.new.self in
+    let was = c.self.inside in
+    let is : was.history ≡ h ++ Commit c.in-Commit.stream c.in-Commit.cut c.in-Commit.added ∷ [] = c.in_ok-entry.ensures.last ∙ ap (λ (e : Entry). h ++ e ∷ []) c.in-Commit.is in
+    pop-known h was.history was.streams.items was.streams.items was.numbers c.in-Commit.stream c.in-Commit.cut c.in-Commit.added is c.self.invariant c.self.invariant.legal
 
 pub invariant_of-self-in-Commit : goal.invariant_of-self-in-Commit
 invariant_of-self-in-Commit c =
     let h = c.pop.new.self in
     let was = c.self.inside in
-    let s = c.in-Commit.stream in
-    let cut = c.in-Commit.cut in
-    let added = c.in-Commit.added in
-    let is : was.history ≡ h ++ Commit s cut added ∷ [] = c.in_ok-entry.ensures.last ∙ ap (λ (e : Entry). h ++ e ∷ []) c.in-Commit.is in
-    let now = c.forget.ensures h cut added (pop-kept h was.history was.streams was.numbers was.recent s cut added is c.self.invariant.0) in
-    (pop-commit h was.history was.streams was.numbers was.recent s cut added is c.forget.new.recent c.self.invariant.0 now, c.self.invariant.1)
+    let is : was.history ≡ h ++ Commit c.in-Commit.stream c.in-Commit.cut c.in-Commit.added ∷ [] = c.in_ok-entry.ensures.last ∙ ap (λ (e : Entry). h ++ e ∷ []) c.in-Commit.is in
+    pop-commit h was.history was.streams.items c.forget.new.streams.items was.numbers c.in-Commit.stream c.in-Commit.cut c.in-Commit.added is c.forget.ensures c.self.invariant

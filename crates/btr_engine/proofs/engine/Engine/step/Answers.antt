@@ -1,35 +1,62 @@
 use Rattle.std.specs.Prelude.{◌≡◌, ◌+◌, ◌/◌, ◌≤◌, [], ◌∷◌, ◌++◌, length, Ok, None, IsFalse}
-use Rattle.std.proofs.Common.{refl, sym, ◌∙◌, ap, arith}
-use Rattle.btr_disk.specs.Gate.{zeros}
+use Rattle.std.proofs.Common.{refl, sym, ◌∙◌, ap, subst, arith}
+use Rattle.btr_log.specs.Log as log
 use Rattle.btr_hist.specs.Legal.{rejection}
-use Rattle.btr_engine.specs.Body.{body_of, need_of}
-use Rattle.btr_engine.specs.Engine.{history_of, is_stopped, room_of}
+use Rattle.btr_engine.specs.Body.{need_of}
+use Rattle.btr_engine.specs.Engine.{device, history_of, is_stopped, room_of, IsAtRest, IsDurable}
+use Rattle.btr_engine.specs.Step.{IsBeforeOrAfter}
 use Rattle.btr_engine.proofs.Allowed.{within_bounds}
-use Rattle.btr_engine.proofs.Stepping.{blocks_of_run, is_append_run, number_of_receipt, popped, none_from, log_at_rest, no_moment, no_memory}
-use Rattle.btr_engine.proofs.Appending.{IsRunOf, fits_unless_full, refused, moments, moments_of_fault, stepped, at_rest, counted_after, ends_after}
+use Rattle.btr_engine.proofs.Stepping.{blocks_of_run, is_append_run, popped, same_engine, log_at_rest, no_moment, not_pushed}
+use Rattle.btr_engine.proofs.Appending.{IsRunOf, run_of_entry, fits_unless_full, refused, moments, moments_of_fault, stepped, at_rest, counted_after, ends_after, began_after}
+use Rattle.btr_engine.proofs.Durable.{opening_kept, durable_taken, durable_of_fault}
+use Rattle.btr_engine.proofs.engine.Engine.step.Given.{Over}
+use Rattle.btr_engine.proofs.engine.Engine.step.Goals.{After-push, In_ok-push, After-deref, In-Err, In_default-append}
 use Rattle.btr_engine.proofs.engine.Engine.step.Goals as goal
+
+-- ---- what several goals share
+
+-- the engine ran
+ran : (g : Over) (c : After-push g) → IsFalse (is_stopped c.args.self.now)
+ran g c = sym c.is_stopped.ensures ∙ c.if-is_stopped.false
+
+-- the entry was allowed
+entry_allowed : (g : Over) (c : In_ok-push g) → rejection (history_of c.args.self.now) c.args.entry.now ≡ None
+entry_allowed g c =
+    subst (λ f. rejection (history_of c.args.self.now) f ≡ None) c.in_ok-copy.ensures c.in_ok-push.ensures.allowed
+
+-- and added to the history
+pushed : (g : Over) (c : In_ok-push g) → c.push.new.self ≡ history_of c.args.self.now ++ c.args.entry.now ∷ []
+pushed g c =
+    c.in_ok-push.ensures.ok ∙ ap (λ f. history_of c.args.self.now ++ f ∷ []) c.in_ok-copy.ensures
+
+-- the run is the entry's
+its_run : (g : Over) (c : After-deref g) → IsRunOf (history_of c.args.self.now) c.args.entry.now c.deref.result.now
+its_run g c =
+    run_of_entry (history_of c.args.self.now) c.args.entry.now c.in_ok-copy.copy c.receipt_of-receipt.result.number c.in-Ok.run'.items c.deref.result.now
+    c.in_ok-copy.ensures c.in_ok-push.ensures.allowed c.receipt_of-receipt.ensures.number c.in-Ok.ensures.spelled c.in-Ok.ensures.run c.deref.ensures.value
+
+-- the append failed, and left at each moment the history with the entry or without it
+left_by_fault : (g : Over) (c : In-Err g) → g.D.Disk.tells → IsAtRest c.args.self.now → log.LogLeaves c.args.self.now.log c.append.new.self (IsBeforeOrAfter (g.D.Disk.size (device c.args.self.now)) (history_of c.args.self.now) c.args.entry.now)
+left_by_fault g c tells rest =
+    let old = c.args.self.now in
+    moments_of_fault old c.args.entry.now c.deref.result.now (its_run g (goal.at.In-Err g c).After-deref) c.append.new.self c.in-Err.fault (ran g (goal.at.In-Err g c).After-push)
+    c.in-Err.ensures.full c.in-Err.ensures.cause (g.met.D.Disk.only_now tells old.log.disk) rest (c.in-Err.ensures.moments tells _ (log_at_rest old rest))
+
+-- the append succeeded: there was room
+fits : (g : Over) (c : In_default-append g) → need_of c.args.entry.now ≤ room_of c.args.self.now
+fits g c =
+    fits_unless_full c.args.self.now c.args.entry.now c.deref.result.now (its_run g (goal.at.In_default-append g c).After-deref) (Ok tt) (ran g (goal.at.In_default-append g c).After-push)
+    c.in_default-append.ensures.full (λ no. absurd (cc))
+
+left_by_append : (g : Over) (c : In_default-append g) → g.D.Disk.tells → IsAtRest c.args.self.now → log.LogLeaves c.args.self.now.log c.append.new.self (IsBeforeOrAfter (g.D.Disk.size (device c.args.self.now)) (history_of c.args.self.now) c.args.entry.now)
+left_by_append g c tells rest =
+    let old = c.args.self.now in
+    moments old c.args.entry.now c.deref.result.now (its_run g (goal.at.In_default-append g c).After-deref) c.append.new.self (fits g c) rest (c.in_default-append.ensures.moments tells _ (log_at_rest old rest))
+
+-- ---- without a call of the device
 
 pub returns-then-is_stopped-clause-moments : goal.returns-then-is_stopped-clause-moments
 returns-then-is_stopped-clause-moments g c tells rest =
-    no_moment c.args.self.now c.args.entry.now (g.met.D.Disk.only_now tells c.args.self.now.log.disk) rest
-
-pub returns-in_err-why-clause-moments : goal.returns-in_err-why-clause-moments
-returns-in_err-why-clause-moments g c tells rest =
-    no_moment c.args.self.now c.args.entry.now (g.met.D.Disk.only_now tells c.args.self.now.log.disk) rest
-
-pub returns-in-Some-clause-moments : goal.returns-in-Some-clause-moments
-returns-in-Some-clause-moments g c tells rest =
-    no_moment c.args.self.now c.args.entry.now (g.met.D.Disk.only_now tells c.args.self.now.log.disk) rest
-
-pub run_of-requires-clause-bounds : goal.run_of-requires-clause-bounds
-run_of-requires-clause-bounds g c =
-    let old = c.args.self.now in
-    let e = c.args.entry.now in
-    let allowed : rejection (history_of old) e ≡ None = sym c.in_ok-why.ensures ∙ none_from c.in_ok-why.field-0 c.in_default.not-Some in
-    within_bounds (history_of old) e allowed
-
-pub returns-in_err-run-clause-moments : goal.returns-in_err-run-clause-moments
-returns-in_err-run-clause-moments g c tells rest =
     no_moment c.args.self.now c.args.entry.now (g.met.D.Disk.only_now tells c.args.self.now.log.disk) rest
 
 pub returns-in_err-copy-clause-moments : goal.returns-in_err-copy-clause-moments
@@ -39,98 +66,114 @@ returns-in_err-copy-clause-moments g c tells rest =
 pub returns-in_err-push-clause-cause : goal.returns-in_err-push-clause-cause
 returns-in_err-push-clause-cause g c =
     let old = c.args.self.now in
-    let runs : IsFalse (is_stopped old) = sym c.is_stopped.ensures ∙ c.if-is_stopped.false in
-    no_memory old _ c.args.entry.now c.from_residual-in_err-push.result c.from_residual-in_err-push.ensures runs refl c.in_err-push.ensures.err
+    not_pushed old _ c.args.entry.now c.in_ok-copy.copy c.in_err-push.field-0.0 c.from_residual-in_err-push.result c.from_residual-in_err-push.ensures (ran g (goal.at.returns-in_err-push-clause-cause g c).After-push) c.in_ok-copy.ensures c.in_err-push.ensures.cause (same_engine _ old refl c.in_err-push.ensures.err refl refl)
 
 pub returns-in_err-push-clause-moments : goal.returns-in_err-push-clause-moments
 returns-in_err-push-clause-moments g c tells rest =
     no_moment c.args.self.now c.args.entry.now (g.met.D.Disk.only_now tells c.args.self.now.log.disk) rest
 
+pub run_of-requires-clause-bounds : goal.run_of-requires-clause-bounds
+run_of-requires-clause-bounds g c =
+    within_bounds (history_of c.args.self.now) c.args.entry.now (entry_allowed g (goal.at.run_of-requires-clause-bounds g c).In_ok-push)
+
+pub returns-in_default-clause-cause : goal.returns-in_default-clause-cause
+returns-in_default-clause-cause g c =
+    let old = c.args.self.now in
+    let same : c.pop.new.self ≡ history_of old = popped c.pop.result (history_of old) c.push.new.self c.pop.new.self c.in_ok-copy.copy c.in_ok-push.ensures.ok c.pop.ensures.last c.pop.ensures.none in
+    (ran g (goal.at.returns-in_default-clause-cause g c).After-push, same_engine _ old refl same refl refl)
+
+pub returns-in_default-clause-moments : goal.returns-in_default-clause-moments
+returns-in_default-clause-moments g c tells rest =
+    no_moment c.args.self.now c.args.entry.now (g.met.D.Disk.only_now tells c.args.self.now.log.disk) rest
+
+pub returns-in_default-clause-durable : goal.returns-in_default-clause-durable
+returns-in_default-clause-durable g c tells more rests so_far =
+    let old = c.args.self.now in
+    let same : c.pop.new.self ≡ history_of old = popped c.pop.result (history_of old) c.push.new.self c.pop.new.self c.in_ok-copy.copy c.in_ok-push.ensures.ok c.pop.ensures.last c.pop.ensures.none in
+    subst (λ engine. IsDurable engine more) (sym (same_engine _ old refl same refl refl)) so_far
+
+pub returns-then-need-left-clause-cause : goal.returns-then-need-left-clause-cause
+returns-then-need-left-clause-cause g c =
+    let old = c.args.self.now in
+    let same : c.pop-then-need-left.new.self ≡ history_of old = popped c.pop-then-need-left.result (history_of old) c.push.new.self c.pop-then-need-left.new.self c.in_ok-copy.copy c.in_ok-push.ensures.ok c.pop-then-need-left.ensures.last c.pop-then-need-left.ensures.none in
+    let run = c.as_slice.result.now in
+    let size : length run / 4096 ≡ need_of c.args.entry.now = blocks_of_run c.receipt_of-receipt.result.number c.args.entry.now (length run) (ap length (c.as_slice.ensures.value ∙ c.in-Ok.ensures.run)) in
+    (ran g (goal.at.returns-then-need-left-clause-cause g c).After-push, entry_allowed g (goal.at.returns-then-need-left-clause-cause g c).In_ok-push, size, c.room-left.ensures, c.if-need-left.true, same_engine _ old refl same refl refl)
+
+pub returns-then-need-left-clause-moments : goal.returns-then-need-left-clause-moments
+returns-then-need-left-clause-moments g c tells rest =
+    no_moment c.args.self.now c.args.entry.now (g.met.D.Disk.only_now tells c.args.self.now.log.disk) rest
+
+pub returns-then-need-left-clause-durable : goal.returns-then-need-left-clause-durable
+returns-then-need-left-clause-durable g c tells more rests so_far =
+    let old = c.args.self.now in
+    let same : c.pop-then-need-left.new.self ≡ history_of old = popped c.pop-then-need-left.result (history_of old) c.push.new.self c.pop-then-need-left.new.self c.in_ok-copy.copy c.in_ok-push.ensures.ok c.pop-then-need-left.ensures.last c.pop-then-need-left.ensures.none in
+    subst (λ engine. IsDurable engine more) (sym (same_engine _ old refl same refl refl)) so_far
+
+-- ---- the append
+
 pub append-requires : goal.append-requires
 append-requires g c =
     let old = c.args.self.now in
-    let e = c.args.entry.now in
-    let run = c.deref.result.now in
-    let is : IsRunOf (history_of old) e run = record { spelled = c.in_ok-run.ensures.spelled; bytes = c.deref.ensures.value ∙ c.in_ok-run.ensures.run ∙ ap (λ n. body_of n e ++ zeros 4096) (c.receipt_of-receipt.ensures.number ∙ number_of_receipt (history_of old) e) } in
-    let next = c.receipt_of-receipt.ensures.number ∙ number_of_receipt (history_of old) e in
-    is_append_run (length (history_of old) + 1) e run is.bytes (omega arith) (omega (arith, old.ends, old.log.tail_inside, old.log.addressable)) is.spelled
+    let is = its_run g (goal.at.append-requires g c).After-deref in
+    is_append_run (length (history_of old) + 1) c.args.entry.now c.deref.result.now is.bytes (omega arith) (omega (arith, old.ends, old.log.tail_inside, old.log.addressable)) is.spelled
 
 pub returns-in-Err-clause-cause : goal.returns-in-Err-clause-cause
 returns-in-Err-clause-cause g c =
     let old = c.args.self.now in
-    let e = c.args.entry.now in
-    let run = c.deref.result.now in
-    let is : IsRunOf (history_of old) e run = record { spelled = c.in_ok-run.ensures.spelled; bytes = c.deref.ensures.value ∙ c.in_ok-run.ensures.run ∙ ap (λ n. body_of n e ++ zeros 4096) (c.receipt_of-receipt.ensures.number ∙ number_of_receipt (history_of old) e) } in
-    let runs : IsFalse (is_stopped old) = sym c.is_stopped.ensures ∙ c.if-is_stopped.false in
-    let allowed : rejection (history_of old) e ≡ None = sym c.in_ok-why.ensures ∙ none_from c.in_ok-why.field-0 c.in_default.not-Some in
-    let same : c.pop.new.self ≡ history_of old = popped c.pop.result (history_of old) c.push.new.self c.pop.new.self c.in_ok-copy.copy c.in_ok-push.ensures.ok c.pop.ensures.last c.pop.ensures.none in
-    refused old e run is _ c.in-Err.fault c.fault_of.result runs allowed c.in-Err.ensures.full c.in-Err.ensures.cause same c.fault_of.ensures.full c.fault_of.ensures.failed
+    let same : c.pop-in-Err.new.self ≡ history_of old = popped c.pop-in-Err.result (history_of old) c.push.new.self c.pop-in-Err.new.self c.in_ok-copy.copy c.in_ok-push.ensures.ok c.pop-in-Err.ensures.last c.pop-in-Err.ensures.none in
+    refused old c.args.entry.now c.deref.result.now (its_run g (goal.at.returns-in-Err-clause-cause g c).After-deref) _ c.in-Err.fault c.fault_of.result (ran g (goal.at.returns-in-Err-clause-cause g c).After-push)
+    c.in-Err.ensures.full c.in-Err.ensures.cause same refl refl c.fault_of.ensures.full c.fault_of.ensures.failed
 
 pub returns-in-Err-clause-moments : goal.returns-in-Err-clause-moments
 returns-in-Err-clause-moments g c tells rest =
+    left_by_fault g (goal.at.returns-in-Err-clause-moments g c).In-Err tells rest
+
+pub returns-in-Err-clause-durable : goal.returns-in-Err-clause-durable
+returns-in-Err-clause-durable g c tells more rests so_far =
     let old = c.args.self.now in
-    let e = c.args.entry.now in
-    let run = c.deref.result.now in
-    let is : IsRunOf (history_of old) e run = record { spelled = c.in_ok-run.ensures.spelled; bytes = c.deref.ensures.value ∙ c.in_ok-run.ensures.run ∙ ap (λ n. body_of n e ++ zeros 4096) (c.receipt_of-receipt.ensures.number ∙ number_of_receipt (history_of old) e) } in
-    let runs : IsFalse (is_stopped old) = sym c.is_stopped.ensures ∙ c.if-is_stopped.false in
-    moments_of_fault old e run is c.append.new.self c.in-Err.fault runs c.in-Err.ensures.full c.in-Err.ensures.cause (g.met.D.Disk.only_now tells old.log.disk) rest (c.in-Err.ensures.moments tells _ (log_at_rest old rest))
+    let same : c.pop-in-Err.new.self ≡ history_of old = popped c.pop-in-Err.result (history_of old) c.push.new.self c.pop-in-Err.new.self c.in_ok-copy.copy c.in_ok-push.ensures.ok c.pop-in-Err.ensures.last c.pop-in-Err.ensures.none in
+    let runs = ran g (goal.at.returns-in-Err-clause-durable g c).After-push in
+    durable_of_fault old c.args.entry.now _ c.deref.result.now c.in-Err.fault c.fault_of.result more runs c.in-Err.ensures.cause same refl refl c.fault_of.ensures.full c.fault_of.ensures.failed
+    (opening_kept old _ c.append.ensures.kept refl refl) (g.met.D.Disk.counts_now tells _) (left_by_fault g (goal.at.returns-in-Err-clause-durable g c).In-Err tells (rests runs)) so_far
+
+-- ---- the entry was taken
 
 pub invariant_of-self-in_default-append : goal.invariant_of-self-in_default-append
 invariant_of-self-in_default-append g c =
     let old = c.args.self.now in
     let e = c.args.entry.now in
     let run = c.deref.result.now in
-    let is : IsRunOf (history_of old) e run = record { spelled = c.in_ok-run.ensures.spelled; bytes = c.deref.ensures.value ∙ c.in_ok-run.ensures.run ∙ ap (λ n. body_of n e ++ zeros 4096) (c.receipt_of-receipt.ensures.number ∙ number_of_receipt (history_of old) e) } in
-    let history : c.push.new.self ≡ history_of old ++ e ∷ [] = c.in_ok-push.ensures.ok ∙ ap (λ f. history_of old ++ f ∷ []) c.in_ok-copy.ensures in
+    let is = its_run g (goal.at.invariant_of-self-in_default-append g c).After-deref in
+    let history = pushed g (goal.at.invariant_of-self-in_default-append g c).In_ok-push in
     record {
       counted = counted_after old e run is c.append.new.self c.push.new.self history c.in_default-append.ensures.appended;
       ends = ends_after old e run is c.append.new.self c.push.new.self history c.in_default-append.ensures.appended;
+      began = began_after old e run is c.push.new.self history;
+      called = omega (arith, old.called, c.append.ensures.kept.device_kept.more_calls);
     }
 
 pub returns-clause-stepped : goal.returns-clause-stepped
 returns-clause-stepped g c =
-    let old = c.args.self.now in
-    let e = c.args.entry.now in
-    let run = c.deref.result.now in
-    let is : IsRunOf (history_of old) e run = record { spelled = c.in_ok-run.ensures.spelled; bytes = c.deref.ensures.value ∙ c.in_ok-run.ensures.run ∙ ap (λ n. body_of n e ++ zeros 4096) (c.receipt_of-receipt.ensures.number ∙ number_of_receipt (history_of old) e) } in
-    let runs : IsFalse (is_stopped old) = sym c.is_stopped.ensures ∙ c.if-is_stopped.false in
-    let allowed : rejection (history_of old) e ≡ None = sym c.in_ok-why.ensures ∙ none_from c.in_ok-why.field-0 c.in_default.not-Some in
-    let history : c.push.new.self ≡ history_of old ++ e ∷ [] = c.in_ok-push.ensures.ok ∙ ap (λ f. history_of old ++ f ∷ []) c.in_ok-copy.ensures in
-    let fits : need_of e ≤ room_of old = fits_unless_full old e run is (Ok tt) runs c.in_default-append.ensures.full (λ no. absurd (cc)) in
-    stepped old e run is _ history c.in_default-append.ensures.appended c.receipt_of-receipt.result fits allowed c.receipt_of-receipt.ensures
+    stepped c.args.self.now c.args.entry.now c.deref.result.now (its_run g (goal.at.returns-clause-stepped g c).After-deref) _ (pushed g (goal.at.returns-clause-stepped g c).In_ok-push) c.in_default-append.ensures.appended
+    c.receipt_of-receipt.result (fits g (goal.at.returns-clause-stepped g c).In_default-append) c.receipt_of-receipt.ensures
 
 pub returns-clause-at_rest : goal.returns-clause-at_rest
 returns-clause-at_rest g c tells rest =
     let old = c.args.self.now in
-    let e = c.args.entry.now in
-    let run = c.deref.result.now in
-    let is : IsRunOf (history_of old) e run = record { spelled = c.in_ok-run.ensures.spelled; bytes = c.deref.ensures.value ∙ c.in_ok-run.ensures.run ∙ ap (λ n. body_of n e ++ zeros 4096) (c.receipt_of-receipt.ensures.number ∙ number_of_receipt (history_of old) e) } in
-    let runs : IsFalse (is_stopped old) = sym c.is_stopped.ensures ∙ c.if-is_stopped.false in
-    let history : c.push.new.self ≡ history_of old ++ e ∷ [] = c.in_ok-push.ensures.ok ∙ ap (λ f. history_of old ++ f ∷ []) c.in_ok-copy.ensures in
-    let fits : need_of e ≤ room_of old = fits_unless_full old e run is (Ok tt) runs c.in_default-append.ensures.full (λ no. absurd (cc)) in
-    at_rest old e run is _ history c.in_default-append.ensures.appended fits c.append.ensures.kept rest (c.in_default-append.ensures.written tells) (c.in_default-append.ensures.at_rest tells _ (log_at_rest old rest))
+    at_rest old c.args.entry.now c.deref.result.now (its_run g (goal.at.returns-clause-at_rest g c).After-deref) _ (pushed g (goal.at.returns-clause-at_rest g c).In_ok-push) c.in_default-append.ensures.appended
+    (fits g (goal.at.returns-clause-at_rest g c).In_default-append) c.append.ensures.kept rest (c.in_default-append.ensures.written tells) (c.in_default-append.ensures.at_rest tells _ (log_at_rest old rest))
 
 pub returns-clause-moments : goal.returns-clause-moments
 returns-clause-moments g c tells rest =
-    let old = c.args.self.now in
-    let e = c.args.entry.now in
-    let run = c.deref.result.now in
-    let is : IsRunOf (history_of old) e run = record { spelled = c.in_ok-run.ensures.spelled; bytes = c.deref.ensures.value ∙ c.in_ok-run.ensures.run ∙ ap (λ n. body_of n e ++ zeros 4096) (c.receipt_of-receipt.ensures.number ∙ number_of_receipt (history_of old) e) } in
-    let runs : IsFalse (is_stopped old) = sym c.is_stopped.ensures ∙ c.if-is_stopped.false in
-    let fits : need_of e ≤ room_of old = fits_unless_full old e run is (Ok tt) runs c.in_default-append.ensures.full (λ no. absurd (cc)) in
-    moments old e run is c.append.new.self fits rest (c.in_default-append.ensures.moments tells _ (log_at_rest old rest))
+    left_by_append g (goal.at.returns-clause-moments g c).In_default-append tells rest
 
-pub returns-then-need-left-clause-cause : goal.returns-then-need-left-clause-cause
-returns-then-need-left-clause-cause g c =
+pub returns-clause-durable : goal.returns-clause-durable
+returns-clause-durable g c tells more rests so_far =
     let old = c.args.self.now in
-    let e = c.args.entry.now in
-    let number = c.receipt_of-receipt.result.number in
-    let runs : IsFalse (is_stopped old) = sym c.is_stopped.ensures ∙ c.if-is_stopped.false in
-    let allowed : rejection (history_of old) e ≡ None = sym c.in_ok-why.ensures ∙ none_from c.in_ok-why.field-0 c.in_default.not-Some in
-    let run = c.as_slice.result.now in
-    let size : length run / 4096 ≡ need_of e = blocks_of_run number e (length run) (ap length (c.as_slice.ensures.value ∙ c.in_ok-run.ensures.run)) in
-    (runs, allowed, size, c.room-left.ensures, c.if-need-left.true, refl)
-
-pub returns-then-need-left-clause-moments : goal.returns-then-need-left-clause-moments
-returns-then-need-left-clause-moments g c tells rest =
-    no_moment c.args.self.now c.args.entry.now (g.met.D.Disk.only_now tells c.args.self.now.log.disk) rest
+    let runs = ran g (goal.at.returns-clause-durable g c).After-push in
+    let history = pushed g (goal.at.returns-clause-durable g c).In_ok-push in
+    let rest = rests runs in
+    let rested = at_rest old c.args.entry.now c.deref.result.now (its_run g (goal.at.returns-clause-durable g c).After-deref) _ history c.in_default-append.ensures.appended
+    (fits g (goal.at.returns-clause-durable g c).In_default-append) c.append.ensures.kept rest (c.in_default-append.ensures.written tells) (c.in_default-append.ensures.at_rest tells _ (log_at_rest old rest)) in
+    durable_taken old c.args.entry.now _ more runs history (opening_kept old _ c.append.ensures.kept refl refl) rested (left_by_append g (goal.at.returns-clause-durable g c).In_default-append tells rest) so_far

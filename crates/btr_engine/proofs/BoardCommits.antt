@@ -1,0 +1,94 @@
+-- Why a commit of a stream is rejected, by what the tree of the stream's latest version says of it.
+use Rattle.std.specs.Prelude.{◌≡◌, ℕ, ◌+◌, ◌-◌, ◌<◌, ℤ, nat_le, int_le, int_lt, ◌&&◌, not, cond, Bool, true, false, List, [], ◌∷◌, ◌++◌, length, slice_index_or, Option, Some, None}
+use Rattle.std.specs.Option.{option_map}
+use Rattle.std.proofs.Common.{refl, sym, ap, ◌∙◌, arith, subst}
+use Rattle.std.proofs.lemmas.Bool.{lt-leb}
+use Rattle.std.proofs.lemmas.Int.{ints}
+use Rattle.btr_base.specs.declared.domain.TheConstants.{FIRST, END}
+use Rattle.btr_base.specs.declared.point.Point.{Point}
+use Rattle.btr_base.specs.Point.{InDomain}
+use Rattle.btr_base.specs.Range.{Interval}
+use Rattle.btr_base.specs.Bag.{sort, outside}
+use Rattle.btr_tree.specs.History as tree
+use Rattle.btr_tree.specs.Crowd.{HasRoom}
+use Rattle.btr_tree.specs.Root.{Root, IsTree, AreInDomain}
+use Rattle.btr_hist.specs.declared.entry.Entry.{Entry}
+use Rattle.btr_hist.specs.declared.rejection.Rejection.{Rejection}
+use Rattle.btr_hist.specs.declared.rejection.Rejection.TheVariants.{NoStream, VersionLimit, OutOfDomain}
+use Rattle.btr_hist.specs.declared.limits.TheConstants.{MAX_VERSIONS}
+use Rattle.btr_hist.specs.Commit.{Change}
+use Rattle.btr_hist.specs.History.{ids, latest}
+use Rattle.btr_hist.specs.Legal.{first_some, when, stray, change_rejection, points_rejection, next_bag, commit_rejection}
+use Rattle.btr_hist.specs.Lemmas.{each-after}
+use Rattle.btr_engine.specs.declared.board.PushFault.{PushFault}
+use Rattle.btr_engine.specs.Board.{HasTrees, commits_to}
+use Rattle.btr_engine.specs.Push.{PushCause, IsNext}
+use Rattle.btr_engine.proofs.BoardTrees.{made_by, bag-commits_to}
+use Rattle.btr_engine.proofs.Allowed.{first_none, map_none, no_stray}
+use Rattle.btr_engine.proofs.Crowded.{room-allowed}
+
+-- ---- the tests of a commit
+
+last_some : {A : Type 0} (o : Option A) → first_some (o ∷ []) ≡ o
+last_some None = refl
+last_some (Some a) = refl
+
+-- a commit of a stream that may have a version more is rejected for the points that it leaves alone
+pub rejection-points : (h : List Entry) (stream : ℕ) (c : Change) → stream < length (ids h) → change_rejection c ≡ None → latest h stream < MAX_VERSIONS → commit_rejection h stream c ≡ points_rejection (next_bag h stream c)
+rejection-points h stream c is_there change few =
+    let points = points_rejection (next_bag h stream c) in
+    let last : Bool = nat_le MAX_VERSIONS (latest h stream) in
+    ap (λ t. first_some (when t NoStream ∷ change_rejection c ∷ when last VersionLimit ∷ points ∷ [])) (lt-leb (length (ids h)) stream is_there)
+    ∙ ap (λ o. first_some (o ∷ when last VersionLimit ∷ points ∷ [])) change
+    ∙ ap (λ t. first_some (when t VersionLimit ∷ points ∷ [])) (lt-leb MAX_VERSIONS (latest h stream) few)
+    ∙ last_some points
+
+-- the points of a commit that is not rejected whatever the stream holds
+pub change-times : (c : Change) → change_rejection c ≡ None → AreInDomain c.added
+change-times c h = no_stray c.added (map_none (λ (p : Point). OutOfDomain p.time) (stray c.added) (first_none _ _ h))
+
+-- what is said of a commit is said of an equal one
+pub change-passes : (cut ranges : List Interval) (added points : List Point) (found : Option Rejection) → ranges ≡ cut → points ≡ added → found ≡ change_rejection (record { cut = ranges; added = points }) → found ≡ None → change_rejection (record { cut = cut; added = added }) ≡ None
+change-passes cut ranges added points found same_cut same_points is none =
+    ap (λ (l : List Interval). change_rejection (record { cut = l; added = added })) (sym same_cut)
+    ∙ ap (λ (l : List Point). change_rejection (record { cut = ranges; added = l })) (sym same_points)
+    ∙ sym is ∙ none
+
+-- ---- the next version
+
+module _ (h : List Entry) (stream : ℕ) (trees : List Root) (kept : HasTrees h stream trees) where
+  pub latest-is : length trees - 1 ≡ latest h stream
+  latest-is = let counted = kept.counted in omega arith
+
+  -- the last tree
+  pub last-tree : (t : Root) → t ≡ slice_index_or trees (length trees - 1) t → IsTree (commits_to h stream (latest h stream)) t
+  last-tree t is =
+      let version = latest h stream in
+      subst (IsTree (commits_to h stream version)) (ap (λ (v : ℕ). slice_index_or trees v t) (sym latest-is) ∙ sym is) (kept.each version t (omega arith))
+
+  module _ (c : Change) where
+    abbrev pub next : ℕ → List tree.Commit
+    next version = made_by version c ∷ commits_to h stream (latest h stream)
+
+    pub next-bag : (version : ℕ) → tree.bag (next version) ≡ next_bag h stream c
+    next-bag version = ap (λ b. sort (outside b c.cut ++ c.added)) (bag-commits_to h stream (latest h stream))
+
+    pub next-tree : (t : Root) (version : ℕ) → version ≡ length trees - 1 + 1 → IsTree (next version) t → IsNext h stream c t
+    next-tree t version is k =
+        let same : version ≡ latest h stream + 1 = is ∙ ap (λ (n : ℕ). n + 1) latest-is in
+        subst (λ v. IsTree (next v) t) same k
+
+    module _ (is_there : stream < length (ids h)) (change : change_rejection c ≡ None) (few : length trees - 1 < MAX_VERSIONS) where
+      by_points : commit_rejection h stream c ≡ points_rejection (next_bag h stream c)
+      by_points = rejection-points h stream c is_there change (subst (λ n. n < MAX_VERSIONS) latest-is few)
+
+      pub next-allowed : (t : Root) (version : ℕ) → IsTree (next version) t → HasRoom FIRST END (tree.bag (next version)) → commit_rejection h stream c ≡ None
+      next-allowed t version k room =
+          by_points ∙ ap points_rejection (sym (next-bag version)) ∙ room-allowed (tree.bag (next version)) k.times room k.few
+
+      pub next-cause : (version : ℕ) (fault : PushFault) → PushCause (points_rejection (tree.bag (next version))) fault → PushCause (commit_rejection h stream c) fault
+      next-cause version fault k =
+          subst (λ o. PushCause o fault) (ap points_rejection (next-bag version) ∙ sym by_points) k
+
+    pub next-times : (t : Root) (version : ℕ) → IsTree (commits_to h stream (latest h stream)) t → AreInDomain c.added → AreInDomain (tree.bag (next version))
+    next-times t version k inside = each-after (λ p. InDomain p.time) (tree.bag (commits_to h stream (latest h stream))) c k.times inside
