@@ -27,6 +27,19 @@ never : (b : Bool) → (b ≡ true → ⊥) → b ≡ false
 never true not = absurd (not refl)
 never false not = refl
 
+-- what is written does not make it another status
+module _ (tells : Type 0) (before now : List ℕ) (faults_before faults_now : ℕ) (no_sink_fault : StreamRose faults_before faults_now → ⊥) where
+  mild_written : (text : List ℕ) (wanted status : ℕ) → Mild wanted → WritesText tells before now faults_before faults_now text wanted status → Mild status
+  mild_written text wanted status mild writes =
+      ⊎_elim (λ done. subst Mild (sym done.0) mild) (λ failed. absurd (no_sink_fault failed.1)) writes
+
+  pub mild_shown : (e : Ending) (status : ℕ) → Mild (status_of e) → Shows tells before now faults_before faults_now e status → Mild status
+  mild_shown e status mild shows =
+      ⊎_elim
+      (λ writes. mild_written (text_of e) (status_of e) status mild writes)
+      (λ short. mild_written (text_of NoMemory) 9 status (inr (inr refl)) short.1)
+      shows
+
 module _ {S D : Type 0} (source : SourceGhosts S) (disk : Ghosts D) (given rest : S) (old new : D) (sound : WhatStandsIsSound) (can : CanLive source disk given old) (source_told : source.tells) (told : disk.tells) (no_source_fault : StreamRose (source.faults given) (source.faults rest) → ⊥) (no_fault : Rose (disk.faults old) (disk.faults new) → ⊥) where
   stands : Stands (disk.size old) (disk.contents old) can.history
   stands = record { blocks = can.blocks; tail = can.tail; stands = can.stands }
@@ -48,7 +61,7 @@ module _ {S D : Type 0} (source : SourceGhosts S) (disk : Ghosts D) (given rest 
       let same : plays.first.left ≡ left can.blocks can.tail = same_room plays.first (plays.stood told) in
       mild_status replies (are_mild plays.first plays.last (script_of input) replies plays.lives (omega (arith, needs, same, can.room)) runs)
 
-  mild_ending : (e : Ending) → LiveCause source disk given rest old new e → Mild (status_of e)
+  pub mild_ending : (e : Ending) → LiveCause source disk given rest old new e → Mild (status_of e)
   mild_ending Usage why = absurd why.2
   mild_ending NoSource why = absurd (no_source_fault why.0)
   mild_ending TooLong why = absurd (omega (arith, why.0 source_told, can.within))
@@ -62,16 +75,3 @@ module _ {S D : Type 0} (source : SourceGhosts S) (disk : Ghosts D) (given rest 
   mild_ending (Formatted blocks) why = absurd why.2
   mild_ending (Played status text) why =
       subst Mild (sym why.5) (mild_played why.0 why.2 (why.1.all source_told) why.3)
-
-  -- what is written does not make it another status
-  module _ (tells : Type 0) (before now : List ℕ) (faults_before faults_now : ℕ) (no_sink_fault : StreamRose faults_before faults_now → ⊥) where
-    mild_written : (text : List ℕ) (wanted status : ℕ) → Mild wanted → WritesText tells before now faults_before faults_now text wanted status → Mild status
-    mild_written text wanted status mild writes =
-        ⊎_elim (λ done. subst Mild (sym done.0) mild) (λ failed. absurd (no_sink_fault failed.1)) writes
-
-    pub mild_run : (e : Ending) (status : ℕ) → LiveCause source disk given rest old new e → Shows tells before now faults_before faults_now e status → Mild status
-    mild_run e status why shows =
-        ⊎_elim
-        (λ writes. mild_written (text_of e) (status_of e) status (mild_ending e why) writes)
-        (λ short. mild_written (text_of NoMemory) 9 status (inr (inr refl)) short.1)
-        shows

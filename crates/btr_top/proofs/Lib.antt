@@ -9,7 +9,10 @@ mod Openings
 mod Legality
 -- why a script ends so
 mod Opened
+mod Asked
 -- where nothing fails
 mod Room
 mod Mild
 mod Completes
+mod Answering
+mod Meanings

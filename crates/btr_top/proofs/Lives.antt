@@ -26,7 +26,7 @@ Lives-push s m t (l ∷ lines) [] line reply lives replied = absurd lives
 Lives-push s m t (l ∷ lines) (r ∷ replies) line reply lives replied =
     (lives.0, lives.1, Lives-push lives.0 m t lines replies line reply lives.2 replied)
 
-text-push : (replies : List LineReply) (reply : LineReply) → text_of_replies (replies ++ reply ∷ []) ≡ text_of_replies replies ++ text reply
+pub text-push : (replies : List LineReply) (reply : LineReply) → text_of_replies (replies ++ reply ∷ []) ≡ text_of_replies replies ++ text reply
 text-push replies reply = flat_map-append text replies (reply ∷ []) ∙ ap (λ (x : List ℕ). text_of_replies replies ++ x) (append-nil (text reply))
 
 -- the status of whether there is one that asks for 5, for 9, for 8 and for 1
@@ -50,7 +50,7 @@ any-push : (status : ℕ) (replies : List LineReply) (reply : LineReply) → lis
 any-push status replies reply =
     list_any-append (asks_for status) replies (reply ∷ []) ∙ or_one (list_any (asks_for status) replies) (status_of_reply reply == status)
 
-status-push : (replies : List LineReply) (reply : LineReply) → status_of_replies (replies ++ reply ∷ []) ≡ worse_of (status_of_replies replies) (status_of_reply reply)
+pub status-push : (replies : List LineReply) (reply : LineReply) → status_of_replies (replies ++ reply ∷ []) ≡ worse_of (status_of_replies replies) (status_of_reply reply)
 unfolding chosen
 status-push replies reply =
     let any : ℕ → Bool = λ n. list_any (asks_for n) replies in

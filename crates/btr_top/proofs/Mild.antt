@@ -1,24 +1,25 @@
 -- Where there is room and no device fails, each reply is the model's or tells of want of memory.
-use Rattle.std.specs.Prelude.{◌≡◌, ◌⊎◌, ℕ, ◌+◌, ◌≤◌, ◌==◌, ◌||◌, Bool, true, false, List, [], ◌∷◌, if◌then◌else◌, Option, Some, None}
+use Rattle.std.specs.Prelude.{◌≡◌, ◌⊎◌, ℕ, ◌+◌, ◌≤◌, ◌==◌, ◌||◌, Bool, true, false, List, [], ◌∷◌, if◌then◌else◌, cond, ℤ, Option, Some, None}
 use Rattle.std.specs.List.{list_any}
 use Rattle.std.proofs.Common.{refl, sym, ◌∙◌, ap, subst, arith, inl, inr, ⊎_elim}
 use Rattle.btr_hist.specs.declared.entry.Entry.{Entry}
 use Rattle.btr_hist.specs.declared.entry.Entry.TheVariants as entries
-use Rattle.btr_hist.specs.declared.query.Query.TheVariants as queries
+use Rattle.btr_hist.specs.declared.query.Query.{Query}
 use Rattle.btr_hist.specs.declared.answer.Answer.{Answer}
 use Rattle.btr_hist.specs.declared.answer.Answer.TheVariants.{Found, Refused}
-use Rattle.btr_hist.specs.declared.answer.Rows.TheVariants as rows
 use Rattle.btr_hist.specs.declared.answer.Refusal.TheVariants as refusals
 use Rattle.btr_hist.specs.declared.rejection.Rejection.{Rejection}
 use Rattle.btr_hist.specs.declared.rejection.Rejection.TheVariants as rejections
 use Rattle.btr_hist.specs.History.{stream_of}
 use Rattle.btr_hist.specs.Legal.{rejection}
-use Rattle.btr_hist.specs.Answer.{answer}
+use Rattle.btr_hist.specs.Answer.{is_range, answer}
 use Rattle.btr_text.specs.declared.script.Line.{Line}
 use Rattle.btr_text.specs.declared.script.Line.TheVariants as lines
 use Rattle.btr_text.specs.declared.script.ScriptLine.{ScriptLine}
 use Rattle.btr_text.specs.declared.reply.LineReply.{LineReply}
-use Rattle.btr_top.specs.Live.{Store, Meaning, Commits, Asks, Fails, on_stream, meaning, reply_of_answer, reply_of_commit, reply_to, IsHindered, Replies, Lives, need_of_line, needs_of, asks_for, status_of_reply, status_of_replies}
+use Rattle.btr_text.specs.declared.reply.Reason.TheVariants as reasons
+use Rattle.btr_top.specs.Live.{Store, Meaning, Commits, Asks, Fails, on_stream, asks, on_named, query_of, named, asked, delete, meaning, reply_of_answer, reply_of_commit, reply_to, IsHindered, Replies, Lives, need_of_line, needs_of, asks_for, status_of_reply, status_of_replies}
+use Rattle.btr_top.specs.Asking.{AsksAll}
 use Rattle.btr_top.proofs.Replies.{ran_before}
 use Rattle.btr_top.proofs.Room.{need_of_meaning, need_of_meaning-le, left_after}
 
@@ -44,7 +45,7 @@ mild_commit h e None = inl refl
 mild_commit h e (Some why) = mild_rejection h e why
 
 mild_answer : (a : Answer) → Mild (status_of_reply (reply_of_answer a))
-mild_answer (Found version (rows.Points points)) = inl refl
+mild_answer (Found version rows) = inl refl
 mild_answer (Refused refusals.NoStream) = inr (inl refl)
 mild_answer (Refused (refusals.NoVersion asked latest)) = inr (inl refl)
 mild_answer (Refused refusals.BadRange) = inr (inl refl)
@@ -53,13 +54,36 @@ mild_on_stream : (h : List Entry) (found : Option ℕ) (asked : ℕ → Meaning)
 mild_on_stream h None asked each = inr (inl refl)
 mild_on_stream h (Some stream) asked each = each stream
 
+mild_asks : (h : List Entry) (query : Option Query) → Mild (status_of_reply (reply_to h (asks query)))
+mild_asks h None = inr (inl refl)
+mild_asks h (Some query) = mild_answer (answer h query)
+
+mild_on_named : (h : List Entry) (id : Option ℕ) (line : Line) → Mild (status_of_reply (reply_to h (on_named h id (λ stream. asks (query_of line stream)))))
+mild_on_named h None line = mild_asks h (query_of line 0)
+mild_on_named h (Some id) line = mild_on_stream h (stream_of h id) (λ stream. asks (query_of line stream)) (λ stream. mild_asks h (query_of line stream))
+
+mild_delete : (h : List Entry) (stream : ℕ) (from to : ℤ) → Mild (status_of_reply (reply_to h (delete stream from to)))
+mild_delete h stream from to =
+    let e = entries.Commit stream (record { from = from; to = to } ∷ []) [] in
+    elim (is_range from to) as (λ t. Mild (status_of_reply (reply_to h (cond t (Commits e) (Fails reasons.Range))))) [
+      | true ↦ mild_commit h e (rejection h e)
+      | false ↦ inr (inl refl)
+    ]
+
 mild_model : (h : List Entry) (line : Option Line) → Mild (status_of_reply (reply_to h (meaning h line)))
 mild_model h None = inr (inl refl)
 mild_model h (Some (lines.Create id)) = mild_commit h (entries.Create id) (rejection h (entries.Create id))
 mild_model h (Some (lines.Insert id added)) =
     mild_on_stream h (stream_of h id) (λ stream. Commits (entries.Commit stream [] added)) (λ stream. mild_commit h (entries.Commit stream [] added) (rejection h (entries.Commit stream [] added)))
-mild_model h (Some (lines.Range id from to at)) =
-    mild_on_stream h (stream_of h id) (λ stream. Asks (queries.Points stream from to at)) (λ stream. mild_answer (answer h (queries.Points stream from to at)))
+mild_model h (Some (lines.Delete id from to)) =
+    mild_on_stream h (stream_of h id) (λ stream. delete stream from to) (λ stream. mild_delete h stream from to)
+mild_model h (Some (lines.Range id from to at)) = mild_on_named h (Some id) (lines.Range id from to at)
+mild_model h (Some (lines.Nearest id time way at)) = mild_on_named h (Some id) (lines.Nearest id time way at)
+mild_model h (Some (lines.Aligned id from to p at)) = mild_on_named h (Some id) (lines.Aligned id from to p at)
+mild_model h (Some (lines.Windows id from to width at)) = mild_on_named h (Some id) (lines.Windows id from to width at)
+mild_model h (Some (lines.Changes id old new p)) = mild_on_named h (Some id) (lines.Changes id old new p)
+mild_model h (Some (lines.Info id at)) = mild_on_named h (Some id) (lines.Info id at)
+mild_model h (Some lines.Streams) = mild_on_named h None lines.Streams
 
 -- ---- nothing else keeps a store from it
 
@@ -137,3 +161,22 @@ mild_status replies mild =
     let d = list_any (asks_for 1) replies in
     let e8 = subst (λ (x : Bool). Mild (if false then 5 else if b then 9 else if x then 8 else if d then 1 else 0)) (sym mild.none_full) (chosen_mild b d) in
     subst (λ (x : Bool). Mild (if x then 5 else if b then 9 else if list_any (asks_for 8) replies then 8 else if d then 1 else 0)) (sym mild.no_fault) e8
+
+-- ---- questions alone
+
+mild_asked : (h : List Entry) (line : Option Line) → Mild (status_of_reply (reply_to h (asked h line)))
+mild_asked h None = inr (inl refl)
+mild_asked h (Some line) = mild_on_named h (named line) line
+
+pub asked_mild : (h : List Entry) (lines : List ScriptLine) (replies : List LineReply) → AsksAll h lines replies → AreMild replies
+asked_mild h [] [] asks = record { no_fault = refl; none_full = refl }
+asked_mild h [] (reply ∷ replies) asks = absurd asks
+asked_mild h (line ∷ lines) [] asks = absurd asks
+asked_mild h (line ∷ lines) (reply ∷ replies) asks =
+    let mild : Mild (status_of_reply reply) = ⊎_elim (λ model. along reply _ model (mild_asked h line.line)) (λ want. along reply _ want (inr (inr refl))) asks.0 in
+    let one = mild_not (status_of_reply reply) mild in
+    let rest = asked_mild h lines replies asks.1 in
+    record {
+      no_fault = neither (asks_for 5 reply) (list_any (asks_for 5) replies) one.0 rest.no_fault;
+      none_full = neither (asks_for 8 reply) (list_any (asks_for 8) replies) one.1 rest.none_full;
+    }

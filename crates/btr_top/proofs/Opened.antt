@@ -9,7 +9,7 @@ use Rattle.btr_text.specs.declared.script.ScriptLine.{ScriptLine}
 use Rattle.btr_text.specs.declared.reply.LineReply.{LineReply}
 use Rattle.btr_log.specs.LogLaws.{holds_of_log}
 use Rattle.btr_engine.specs.declared.engine.Engine.{Engine}
-use Rattle.btr_engine.specs.Engine.{device, history_of, blocks_of, tail_of, is_stopped, faults_at, IsAtRest, KeepsOpening}
+use Rattle.btr_engine.specs.Engine.{device, history_of, blocks_of, tail_of, is_stopped, faults_at, IsAtRest, KeepsOpening, calls_at}
 use Rattle.btr_engine.specs.Opening.{IsOpened}
 use Rattle.btr_engine.specs.Stands.{Stands, StandsTo}
 use Rattle.btr_top.specs.Crashes.{LeavesFronts}
@@ -56,15 +56,14 @@ module _ {D : Type 0} (disk : Ghosts D) (old : D) (first : Engine D disk) (opene
         rose-from (disk.faults old) (faults_at last) (disk.faults (device last)) (omega (arith, opened.later, kept.faults)) ((holds_of_log last.log).rose stopped)
 
     -- since the opening's sync a crash left the first engine's history
-    stood_since : (told : disk.tells) (c : Image) → disk.since (device first) (opened.moments told).synced c → Stands (disk.size (device first)) c (history_of first)
+    stood_since : (told : disk.tells) (c : Image) → disk.since (device first) (calls_at first) c → Stands (disk.size (device first)) c (history_of first)
     stood_since told c left =
         let still : c ≡ disk.contents (device first) = Same-is (disk.contents (device first)) c ((opened.moments told).each c left) in
         subst (λ (i : Image). Stands (disk.size (device first)) i (history_of first)) (sym still) (record { blocks = blocks_of first; tail = tail_of first; stands = (opened.at_rest told).stands })
 
     crashes : (lines : List ScriptLine) (replies : List LineReply) → LinesLeave first lines replies last → disk.tells → LeavesFronts disk lines replies (length (history_of first)) (history_of last) old (device last)
     crashes lines replies leaves told =
-        let synced = opened.moments told in
-        leaves_fronts first last lines replies synced.synced old synced.counted kept.device_kept.same_size (leaves told (opened.at_rest told) synced.synced synced.past (stood_since told))
+        leaves_fronts first last lines replies (calls_at first) old opened.first.counted kept.device_kept.same_size (leaves told (opened.at_rest told) (calls_at first) opened.first.past (stood_since told))
 
     plays : (lines : List ScriptLine) (replies : List LineReply) → Lives (store_of first) lines replies (store_of last) → LinesLeave first lines replies last → Plays disk lines replies old (device last)
     plays lines replies lives leaves = record {

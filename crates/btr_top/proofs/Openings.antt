@@ -8,6 +8,8 @@ use Rattle.btr_engine.specs.Engine.{KeepsOpening}
 pub KeepsOpening-trans : {D : Type 0} {disk : Ghosts D} (old mid new : Engine D disk) → KeepsOpening old mid → KeepsOpening mid new → KeepsOpening old new
 KeepsOpening-trans old mid new first second = record {
   blocks = second.blocks ∙ first.blocks;
+  entries = second.entries ∙ first.entries;
+  calls = second.calls ∙ first.calls;
   faults = second.faults ∙ first.faults;
   device_kept = record {
     same_size = second.device_kept.same_size ∙ first.device_kept.same_size;

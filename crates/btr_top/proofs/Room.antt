@@ -1,7 +1,10 @@
 -- The room that lines take: each entry that is taken has at most the blocks that its line needs.
-use Rattle.std.specs.Prelude.{◌≡◌, ℕ, ◌+◌, ◌≤◌, List, [], Option, Some, None}
+use Rattle.std.specs.Prelude.{◌≡◌, ℕ, ◌+◌, ◌≤◌, List, [], ◌∷◌, ℤ, true, false, cond, Option, Some, None}
 use Rattle.std.proofs.Common.{refl, ap, arith, ⊎_elim}
 use Rattle.btr_base.specs.declared.point.Point.{Point}
+use Rattle.btr_base.specs.Range.{Interval}
+use Rattle.btr_hist.specs.declared.query.Query.{Query}
+use Rattle.btr_hist.specs.Answer.{is_range}
 use Rattle.btr_hist.specs.declared.entry.Entry.{Entry}
 use Rattle.btr_hist.specs.declared.entry.Entry.TheVariants as entries
 use Rattle.btr_hist.specs.declared.rejection.Rejection.{Rejection}
@@ -11,13 +14,18 @@ use Rattle.btr_entry.specs.Grammar.{number}
 use Rattle.btr_text.specs.declared.script.Line.{Line}
 use Rattle.btr_text.specs.declared.script.Line.TheVariants as lines
 use Rattle.btr_text.specs.declared.reply.LineReply.{LineReply}
+use Rattle.btr_text.specs.declared.reply.Reason.TheVariants as reasons
 use Rattle.btr_engine.specs.Body.{need_of}
-use Rattle.btr_top.specs.Live.{Store, Meaning, Commits, Asks, Fails, on_stream, meaning, after, after_commit, IsHindered, Replies, need_of_line}
+use Rattle.btr_top.specs.Live.{Store, Meaning, Commits, Asks, Fails, on_stream, asks, on_named, query_of, delete, meaning, after, after_commit, IsHindered, Replies, need_of_line}
 
 -- the number of a stream has four bytes, whatever it is
 need_of_any : (stream other : ℕ) (added : List Point) → need_of (entries.Commit stream [] added) ≡ need_of (entries.Commit other [] added)
 unfolding number
 need_of_any stream other added = refl
+
+need_of_cut : (stream other : ℕ) (cut : List Interval) → need_of (entries.Commit stream cut []) ≡ need_of (entries.Commit other cut [])
+unfolding number
+need_of_cut stream other cut = refl
 
 -- the blocks that what is asked for needs
 abbrev pub need_of_meaning : Meaning → ℕ
@@ -29,14 +37,37 @@ need_on_stream : (found : Option ℕ) (asked : ℕ → Meaning) (most : ℕ) →
 need_on_stream None asked most each = omega arith
 need_on_stream (Some stream) asked most each = each stream
 
+need_asks : (query : Option Query) → need_of_meaning (asks query) ≤ 0
+need_asks None = omega arith
+need_asks (Some query) = omega arith
+
+need_on_named : (h : List Entry) (id : Option ℕ) (line : Line) → need_of_meaning (on_named h id (λ stream. asks (query_of line stream))) ≤ 0
+need_on_named h None line = need_asks (query_of line 0)
+need_on_named h (Some id) line = need_on_stream (stream_of h id) _ 0 (λ stream. need_asks (query_of line stream))
+
+need_delete : (stream : ℕ) (from to : ℤ) → need_of_meaning (delete stream from to) ≤ need_of (entries.Commit 0 (record { from = from; to = to } ∷ []) [])
+need_delete stream from to =
+    let e = entries.Commit stream (record { from = from; to = to } ∷ []) [] in
+    elim (is_range from to) as (λ t. need_of_meaning (cond t (Commits e) (Fails reasons.Range)) ≤ need_of (entries.Commit 0 (record { from = from; to = to } ∷ []) [])) [
+      | true ↦ omega (arith, need_of_cut stream 0 (record { from = from; to = to } ∷ []))
+      | false ↦ omega arith
+    ]
+
 pub need_of_meaning-le : (h : List Entry) (line : Option Line) → need_of_meaning (meaning h line) ≤ need_of_line line
 need_of_meaning-le h None = omega arith
 need_of_meaning-le h (Some (lines.Create id)) = omega arith
 need_of_meaning-le h (Some (lines.Insert id added)) =
     need_on_stream (stream_of h id) (λ stream. Commits (entries.Commit stream [] added)) (need_of (entries.Commit 0 [] added)) (λ stream.
     omega (arith, need_of_any stream 0 added))
-need_of_meaning-le h (Some (lines.Range id from to at)) =
-    need_on_stream (stream_of h id) _ 0 (λ stream. omega arith)
+need_of_meaning-le h (Some (lines.Delete id from to)) =
+    need_on_stream (stream_of h id) (λ stream. delete stream from to) (need_of (entries.Commit 0 (record { from = from; to = to } ∷ []) [])) (λ stream. need_delete stream from to)
+need_of_meaning-le h (Some (lines.Range id from to at)) = need_on_named h (Some id) (lines.Range id from to at)
+need_of_meaning-le h (Some (lines.Nearest id time way at)) = need_on_named h (Some id) (lines.Nearest id time way at)
+need_of_meaning-le h (Some (lines.Aligned id from to p at)) = need_on_named h (Some id) (lines.Aligned id from to p at)
+need_of_meaning-le h (Some (lines.Windows id from to width at)) = need_on_named h (Some id) (lines.Windows id from to width at)
+need_of_meaning-le h (Some (lines.Changes id old new p)) = need_on_named h (Some id) (lines.Changes id old new p)
+need_of_meaning-le h (Some (lines.Info id at)) = need_on_named h (Some id) (lines.Info id at)
+need_of_meaning-le h (Some lines.Streams) = need_on_named h None lines.Streams
 
 left_after_commit : (s : Store) (e : Entry) (why : Option Rejection) → s.left ≤ (after_commit s e why).left + need_of e
 left_after_commit s e None = omega arith

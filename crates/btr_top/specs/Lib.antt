@@ -6,6 +6,7 @@ pub mod Crashes
 pub mod Leaving
 pub mod StoreOf
 pub mod Playing
+pub mod Asking
 -- how a run ends, what it writes, and why
 pub mod Ending
 pub mod Showing

@@ -1,5 +1,5 @@
 -- What the lines of a script do, one after the other: the reply to each, and the store after it.
-use Rattle.std.specs.Prelude.{◌≡◌, ◌⊎◌, ℕ, ◌+◌, ◌-◌, ◌<◌, ◌≤◌, ◌==◌, Bool, true, false, List, [], ◌∷◌, ◌++◌, length, flat_map, if◌then◌else◌, Option, Some, None}
+use Rattle.std.specs.Prelude.{◌≡◌, ◌⊎◌, ℕ, ℤ, ◌+◌, ◌-◌, ◌<◌, ◌≤◌, ◌==◌, Bool, true, false, List, [], ◌∷◌, ◌++◌, length, flat_map, if◌then◌else◌, Option, Some, None}
 use Rattle.std.specs.List.{list_any}
 use Rattle.btr_hist.specs.declared.entry.Entry.{Entry}
 use Rattle.btr_hist.specs.declared.entry.Entry.TheVariants as entries
@@ -7,17 +7,17 @@ use Rattle.btr_hist.specs.declared.query.Query.{Query}
 use Rattle.btr_hist.specs.declared.query.Query.TheVariants as queries
 use Rattle.btr_hist.specs.declared.answer.Answer.{Answer}
 use Rattle.btr_hist.specs.declared.answer.Answer.TheVariants.{Found, Refused}
-use Rattle.btr_hist.specs.declared.answer.Rows.TheVariants as rows
 use Rattle.btr_hist.specs.declared.rejection.Rejection.{Rejection}
 use Rattle.btr_hist.specs.History.{stream_of}
 use Rattle.btr_hist.specs.Legal.{rejection}
-use Rattle.btr_hist.specs.Answer.{answer}
+use Rattle.btr_hist.specs.Answer.{is_range, answer}
 use Rattle.btr_hist.specs.Machine.{receipt}
 use Rattle.btr_text.specs.declared.script.Line.{Line}
 use Rattle.btr_text.specs.declared.script.Line.TheVariants as lines
 use Rattle.btr_text.specs.declared.script.ScriptLine.{ScriptLine}
 use Rattle.btr_text.specs.declared.reply.LineReply.{LineReply}
-use Rattle.btr_text.specs.declared.reply.LineReply.TheVariants.{Done, Points, No}
+use Rattle.btr_text.specs.declared.reply.LineReply.TheVariants.{Done, No}
+use Rattle.btr_text.specs.declared.reply.LineReply.TheVariants as replies
 use Rattle.btr_text.specs.declared.reply.Reason.{Reason}
 use Rattle.btr_text.specs.declared.reply.Reason.TheVariants as reasons
 use Rattle.btr_text.specs.Refused.{reason_of_rejection, reason_of_refusal}
@@ -38,17 +38,63 @@ abbrev pub on_stream : Option ℕ → (ℕ → Meaning) → Meaning
 on_stream None asked = Fails reasons.Stream
 on_stream (Some stream) asked = asked stream
 
+-- the id of the stream that a question names, if it names one
+abbrev pub named : Line → Option ℕ
+named (lines.Range id from to at) = Some id
+named (lines.Nearest id time way at) = Some id
+named (lines.Aligned id from to p at) = Some id
+named (lines.Windows id from to width at) = Some id
+named (lines.Changes id old new p) = Some id
+named (lines.Info id at) = Some id
+named line = None
+
+-- what a question asks, of the stream with this number if it names one
+abbrev pub query_of : Line → ℕ → Option Query
+query_of (lines.Range id from to at) stream = Some (queries.Points stream from to at)
+query_of (lines.Nearest id time way at) stream = Some (queries.Nearest stream time way at)
+query_of (lines.Aligned id from to p at) stream = Some (queries.Aligned stream from to p at)
+query_of (lines.Windows id from to width at) stream = Some (queries.Windows stream from to width at)
+query_of (lines.Changes id old new p) stream = Some (queries.Changes stream old new p)
+query_of (lines.Info id at) stream = Some (queries.Info stream at)
+query_of lines.Streams stream = Some queries.Streams
+query_of line stream = None
+
+-- a line that is no question is none of those that may be asked
+abbrev pub asks : Option Query → Meaning
+asks None = Fails reasons.Line
+asks (Some query) = Asks query
+
+-- what is asked of the stream that is named, or of none
+abbrev pub on_named : List Entry → Option ℕ → (ℕ → Meaning) → Meaning
+on_named h None asked = asked 0
+on_named h (Some id) asked = on_stream (stream_of h id) asked
+
+-- what a question asks for, by the streams of a history
+abbrev pub question : List Entry → Line → Meaning
+question h line = on_named h (named line) (λ stream. asks (query_of line stream))
+
+-- what a line asks for where only questions are lines
+abbrev pub asked : List Entry → Option Line → Meaning
+asked h None = Fails reasons.Line
+asked h (Some line) = question h line
+
+-- a commit that removes the points of a range, if it is one
+abbrev pub delete : ℕ → ℤ → ℤ → Meaning
+delete stream from to =
+    if is_range from to then Commits (entries.Commit stream (record { from = from; to = to } ∷ []) []) else Fails reasons.Range
+
 -- what a line asks for, by the streams of a history
 abbrev pub meaning : List Entry → Option Line → Meaning
 meaning h None = Fails reasons.Line
 meaning h (Some (lines.Create id)) = Commits (entries.Create id)
 meaning h (Some (lines.Insert id added)) = on_stream (stream_of h id) (λ stream. Commits (entries.Commit stream [] added))
-meaning h (Some (lines.Range id from to at)) = on_stream (stream_of h id) (λ stream. Asks (queries.Points stream from to at))
+meaning h (Some (lines.Delete id from to)) = on_stream (stream_of h id) (λ stream. delete stream from to)
+meaning h (Some line) = question h line
 
 -- ---- what the model replies
 
 abbrev pub reply_of_answer : Answer → LineReply
-reply_of_answer (Found version (rows.Points points)) = Points version points
+reply_of_answer (Found version rows) = replies.Found version rows
 reply_of_answer (Refused refusal) = No (reason_of_refusal refusal)
 
 abbrev pub reply_of_commit : List Entry → Entry → Option Rejection → LineReply
@@ -150,7 +196,8 @@ abbrev pub need_of_line : Option Line → ℕ
 need_of_line None = 0
 need_of_line (Some (lines.Create id)) = need_of (entries.Create id)
 need_of_line (Some (lines.Insert id added)) = need_of (entries.Commit 0 [] added)
-need_of_line (Some (lines.Range id from to at)) = 0
+need_of_line (Some (lines.Delete id from to)) = need_of (entries.Commit 0 (record { from = from; to = to } ∷ []) [])
+need_of_line (Some line) = 0
 
 -- the blocks that lines need at most
 abbrev pub needs_of : List ScriptLine → ℕ
@@ -164,7 +211,7 @@ text_of_replies replies = flat_map text replies
 -- the status that a reply asks for: 0, or that of its refusal
 abbrev pub status_of_reply : LineReply → ℕ
 status_of_reply (Done version) = 0
-status_of_reply (Points version points) = 0
+status_of_reply (replies.Found version rows) = 0
 status_of_reply (No reasons.Device) = 5
 status_of_reply (No reasons.Memory) = 9
 status_of_reply (No (reasons.Full need left)) = 8

@@ -13,14 +13,15 @@ use Rattle.btr_text.specs.declared.reply.LineReply.{LineReply}
 use Rattle.btr_hist.specs.declared.entry.Entry.{Entry}
 use Rattle.btr_log.specs.Extents.{left}
 use Rattle.btr_engine.specs.Damage.{IsDamaged}
-use Rattle.btr_engine.specs.Stands.{StandsTo}
+use Rattle.btr_engine.specs.Stands.{Stands, StandsTo}
 use Rattle.btr_top.specs.declared.words.Command.{Command}
-use Rattle.btr_top.specs.declared.words.Command.TheVariants.{Format, Live}
+use Rattle.btr_top.specs.declared.words.Command.TheVariants.{Format, Live, Ask}
 use Rattle.btr_top.specs.declared.ending.Ending.{Ending}
 use Rattle.btr_top.specs.declared.ending.Ending.TheVariants.{Usage, NoSource, TooLong, NoMemory, NoDevice, NoStore, Damaged, Occupied, TooSmall, Formatted, Played}
 use Rattle.btr_top.specs.declared.scripting.TheConstants.{MOST_INPUT}
 use Rattle.btr_top.specs.Live.{needs_of, text_of_replies, status_of_replies}
 use Rattle.btr_top.specs.Playing.{HasRead, GaveTooMuch, Plays}
+use Rattle.btr_top.specs.Asking.{HasAsked}
 
 module _ {D : Type 0} (disk : Ghosts D) where
   -- nothing was written, and no crash leaves what it might not have left before
@@ -89,12 +90,27 @@ module _ {S D : Type 0} (source : SourceGhosts S) (disk : Ghosts D) where
       (input : List ℕ) × HasRead source input given rest
       × OpeningCause disk old new e × (disk.tells → KeepsAll disk old new)
 
+  -- why `ask` ends so
+  abbrev pub AskCause : S → S → D → D → Ending → Type 0
+  AskCause given rest old new NoSource = SourceRose (source.faults given) (source.faults rest) × (new ≡ old)
+  AskCause given rest old new TooLong = GaveTooMuch source given rest × (new ≡ old)
+  AskCause given rest old new NoMemory =
+      (new ≡ old) ⊎ ((input : List ℕ) × HasRead source input given rest × (disk.tells → KeepsAll disk old new))
+  AskCause given rest old new (Played status text) =
+      (input : List ℕ) × HasRead source input given rest
+      × (replies : List LineReply) × HasAsked disk (script_of input) replies old new
+      × (text.items ≡ text_of_replies replies) × (status ≡ status_of_replies replies)
+  AskCause given rest old new e =
+      (input : List ℕ) × HasRead source input given rest
+      × OpeningCause disk old new e × (disk.tells → KeepsAll disk old new)
+
   -- Why a run with this command ends so: `given` and `rest` are the source before and after it, `old` and `new` the device.
   -- What is said of bytes holds of a source and a device that tell what they hold.
   abbrev pub Cause : Option Command → S → S → D → D → Ending → Type 0
   Cause None given rest old new e = (e ≡ Usage) × (rest ≡ given) × (new ≡ old)
   Cause (Some (Format blocks)) given rest old new e = (rest ≡ given) × FormatCause disk blocks old new e
   Cause (Some Live) given rest old new e = LiveCause given rest old new e
+  Cause (Some Ask) given rest old new e = AskCause given rest old new e
 
   -- a store stands on the device, and there is room for what all lines need, which are not more bytes than may be read
   pub record CanLive (given : S) (old : D) : Type 0 where
@@ -104,3 +120,9 @@ module _ {S D : Type 0} (source : SourceGhosts S) (disk : Ghosts D) where
     pub stands : StandsTo (disk.size old) (disk.contents old) blocks tail history
     pub within : length (source.left given) ≤ MOST_INPUT
     pub room : needs_of (script_of (source.left given)) ≤ left blocks tail
+
+  -- a store stands on the device, and the input is not more bytes than may be read
+  pub record CanAsk (given : S) (old : D) : Type 0 where
+    pub history : List Entry
+    pub stands : Stands (disk.size old) (disk.contents old) history
+    pub within : length (source.left given) ≤ MOST_INPUT

@@ -2,16 +2,17 @@
 use Rattle.std.specs.Prelude.{ℕ, nat_le, ◌&&◌, List, [], ◌∷◌, if◌then◌else◌, codes, bytes_eq, Option, Some, None, option_and_then}
 use Rattle.btr_text.specs.Word.{unsigned_of}
 use Rattle.btr_top.specs.declared.words.Command.{Command}
-use Rattle.btr_top.specs.declared.words.Command.TheVariants.{Format, Live}
+use Rattle.btr_top.specs.declared.words.Command.TheVariants.{Format, Live, Ask}
 use Rattle.btr_top.specs.declared.words.TheConstants.{LEAST_BLOCKS, MOST_BLOCKS}
 
 -- a store of so many blocks, if it may have them
 abbrev pub format_of : ℕ → Option Command
 format_of blocks = if nat_le LEAST_BLOCKS blocks && nat_le blocks MOST_BLOCKS then Some (Format blocks) else None
 
--- `live`, or `format --blocks N`, each word by itself; no other list of words is a command
+-- `live`, `ask`, or `format --blocks N`, each word by itself; no other list of words is a command
 abbrev pub command_of : List (List ℕ) → Option Command
-command_of (name ∷ []) = if bytes_eq name (codes "live") then Some Live else None
+command_of (name ∷ []) =
+    if bytes_eq name (codes "live") then Some Live else if bytes_eq name (codes "ask") then Some Ask else None
 command_of (name ∷ option ∷ number ∷ []) =
     if bytes_eq name (codes "format") && bytes_eq option (codes "--blocks") then option_and_then format_of (unsigned_of number) else None
 command_of _ = None

@@ -7,6 +7,7 @@
 // what is typed
 mod words;
 // the commands
+mod asking;
 mod formatting;
 mod lines;
 mod playing;

@@ -63,7 +63,7 @@ fn play_line<D: Disk>(
 }
 
 /// Of two statuses the one that counts.
-fn worse(first: u8, second: u8) -> u8
+pub(crate) fn worse(first: u8, second: u8) -> u8
     ensures { result ≡ worse_of first second }
 {
     if first == 5 || second == 5 {
@@ -80,11 +80,11 @@ fn worse(first: u8, second: u8) -> u8
 }
 
 /// The status that a reply asks for.
-fn reply_status(reply: &LineReply) -> u8
+pub(crate) fn reply_status(reply: &LineReply) -> u8
     ensures { result ≡ status_of_reply reply.now }
 {
     match reply {
-        LineReply::Done { .. } | LineReply::Points { .. } => 0,
+        LineReply::Done { .. } | LineReply::Found { .. } => 0,
         LineReply::No(reason) => reason_status(*reason),
     }
 }

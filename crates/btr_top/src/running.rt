@@ -2,15 +2,16 @@
 ghost use Rattle.std.specs.Prelude.{◌≡◌, ◌⊎◌, ℕ, ◌≤◌, ◌^◌, map, string_bytes, Some};
 ghost use Rattle.btr_disk.specs.Causes.{Rose};
 ghost use Rattle.btr_io.specs.Faults.{Rose as SinkRose};
-ghost use Rattle.btr_top.specs.declared.words.Command.TheVariants.{Format, Live};
+ghost use Rattle.btr_super.specs.Unwritten.{IsUnwritten};
+ghost use Rattle.btr_top.specs.declared.words.Command.TheVariants.{Ask, Format, Live};
 ghost use Rattle.btr_top.specs.declared.ending.Ending.{Ending as AnEnding};
 ghost use Rattle.btr_top.specs.Words.{command_of};
-ghost use Rattle.btr_top.specs.Run.{CanFormat, CanLive, Cause, FormatCause, FormatLeaves};
+ghost use Rattle.btr_top.specs.Run.{CanAsk, CanFormat, CanLive, Cause, FormatCause, FormatLeaves};
 ghost use Rattle.btr_top.specs.Showing.{Shows};
 
 use crate::ending::Ending;
 use crate::formatting::format_device;
-use crate::scripting::{Ended, end_with, run_script};
+use crate::scripting::{Ended, ask_script, end_with, run_script};
 use crate::showing::show;
 use crate::words::{Command, read_words};
 use btr_disk::Disk;
@@ -28,8 +29,8 @@ pub struct Outcome<D> {
     pub disk: D,
 }
 
-/// Runs the command that the words are: works on the device, and writes what it has to say to the sink. `live` reads the
-/// source to its end first; `format` reads nothing. Of `rt` nothing is used.
+/// Runs the command that the words are: works on the device, and writes what it has to say to the sink. `live` and
+/// `ask` read the source to its end first; `format` reads nothing. Of `rt` nothing is used.
 pub fn run<R, S: Source, K: Sink, D: Disk + Send>(
     _rt: &R,
     alloc: Global,
@@ -58,6 +59,16 @@ pub fn run<R, S: Source, K: Sink, D: Disk + Send>(
         → (Rose (D.faults disk) (D.faults result.disk) → ⊥)
         → (SinkRose (K.faults sink.old) (K.faults sink.new) → ⊥)
         → (result.status ≡ 0) ⊎ (result.status ≡ 1) ⊎ (result.status ≡ 9) }
+    // whatever comes of `ask`, nothing is written, and no crash leaves what it might not have left before
+    ensures unwritten { D.tells → command_of (map string_bytes words.now) ≡ Some Ask
+        → IsUnwritten D.calls D.contents D.image D.since disk result.disk }
+    // where a store stands and nothing fails, each question is answered, and what is none is refused
+    ensures asks { S.tells → D.tells → command_of (map string_bytes words.now) ≡ Some Ask
+        → CanAsk ⟦<S as Source>⟧ ⟦<D as Disk>⟧ source.old disk
+        → (SinkRose (S.faults source.old) (S.faults source.new) → ⊥)
+        → (Rose (D.faults disk) (D.faults result.disk) → ⊥)
+        → (SinkRose (K.faults sink.old) (K.faults sink.new) → ⊥)
+        → (result.status ≡ 0) ⊎ (result.status ≡ 1) ⊎ (result.status ≡ 9) }
 {
     let Ended { ending, disk } = perform(alloc, words, source, disk);
     let status = show(alloc, sink, &ending);
@@ -72,11 +83,14 @@ fn perform<S: Source, D: Disk>(alloc: Global, words: &[String], source: &mut S, 
     ensures cause { Cause ⟦<S as Source>⟧ ⟦<D as Disk>⟧ (command_of (map string_bytes words.now)) source.old source.new disk result.disk result.ending }
     ensures moments { D.tells → (blocks : ℕ) → command_of (map string_bytes words.now) ≡ Some (Format blocks)
         → FormatLeaves ⟦<D as Disk>⟧ blocks disk result.disk }
+    ensures unwritten { D.tells → command_of (map string_bytes words.now) ≡ Some Ask
+        → IsUnwritten D.calls D.contents D.image D.since disk result.disk }
 {
     match read_words(words) {
         None => end_with(Ending::Usage, disk),
         Some(Command::Format { blocks }) => make_store(disk, blocks),
         Some(Command::Live) => run_script(alloc, source, disk),
+        Some(Command::Ask) => ask_script(alloc, source, disk),
     }
 }
 

@@ -1,11 +1,13 @@
-// The command that plays a script on a store.
+// The commands that play a script on a store, or answer its questions.
 ghost use Rattle.std.specs.Prelude.{◌≡◌, List};
 ghost use Rattle.btr_text.specs.declared.script.ScriptLine.{ScriptLine};
 ghost use Rattle.btr_text.specs.Input.{script_of};
+ghost use Rattle.btr_super.specs.Unwritten.{IsUnwritten};
 ghost use Rattle.btr_engine.specs.Opening.{IsOpened, IsNotOpened};
-ghost use Rattle.btr_top.specs.Run.{LiveCause};
-ghost use Rattle.btr_top.specs.Scripting.{ScriptCause};
+ghost use Rattle.btr_top.specs.Run.{AskCause, LiveCause};
+ghost use Rattle.btr_top.specs.Scripting.{QuestionsCause, ScriptCause};
 
+use crate::asking::ask_all;
 use crate::ending::Ending;
 use crate::playing::{Told, play};
 use btr_disk::Disk;
@@ -83,10 +85,61 @@ fn play_opened<D: Disk>(alloc: Global, lines: Vec<ScriptLine>, engine: Engine<D>
     }
 }
 
-/// Why no line was played.
+/// `ask`: reads the source to its end, opens the store, and answers the lines that were read, of which only questions are
+/// answered. Of the device nothing is called before all input and its lines are read, and nothing after the opening.
+pub(crate) fn ask_script<S: Source, D: Disk>(alloc: Global, source: &mut S, disk: D) -> Ended<D>
+    ensures size { D.size result.disk ≡ D.size disk }
+    ensures cause { AskCause ⟦<S as Source>⟧ ⟦<D as Disk>⟧ source.old source.new disk result.disk result.ending }
+    ensures unwritten { D.tells → IsUnwritten D.calls D.contents D.image D.since disk result.disk }
+{
+    match read_all(alloc, source, MOST_INPUT) {
+        Ok(input) => ask_input(alloc, &input, disk),
+        Err(ReadAllFault::Fault) => end_with(Ending::NoSource, disk),
+        Err(ReadAllFault::TooLong) => end_with(Ending::TooLong, disk),
+        Err(ReadAllFault::Want) => end_with(Ending::NoMemory, disk),
+    }
+}
+
+/// Answers the questions that an input is.
+fn ask_input<D: Disk>(alloc: Global, input: &[u8], disk: D) -> Ended<D>
+    ensures size { D.size result.disk ≡ D.size disk }
+    ensures cause { QuestionsCause ⟦<D as Disk>⟧ (script_of input.now) disk result.disk result.ending }
+{
+    match read_script(alloc, input) {
+        Ok(script) => ask_lines(alloc, script.into_lines(), disk),
+        Err(_) => end_with(Ending::NoMemory, disk),
+    }
+}
+
+/// Answers lines from the store of a device.
+fn ask_lines<D: Disk>(alloc: Global, lines: Vec<ScriptLine>, disk: D) -> Ended<D>
+    ensures size { D.size result.disk ≡ D.size disk }
+    ensures cause { QuestionsCause ⟦<D as Disk>⟧ lines.items disk result.disk result.ending }
+{
+    match open_store(alloc, disk) {
+        Ok(engine) => ask_opened(alloc, lines, engine),
+        Err(fault) => not_opened(fault),
+    }
+}
+
+/// Answers lines from a store that was opened.
+fn ask_opened<D: Disk>(alloc: Global, lines: Vec<ScriptLine>, engine: Engine<D>) -> Ended<D>
+    ensures size { (old : D) → IsOpened ⟦<D as Disk>⟧ old engine → D.size result.disk ≡ D.size old }
+    ensures cause { (old : D) → IsOpened ⟦<D as Disk>⟧ old engine → QuestionsCause ⟦<D as Disk>⟧ lines.items old result.disk result.ending }
+{
+    let told = ask_all(alloc, &engine, lines);
+    let disk = engine.into_disk();
+    match told {
+        Ok(Told { status, text }) => end_with(Ending::Played { status, text }, disk),
+        Err(_) => end_with(Ending::NoMemory, disk),
+    }
+}
+
+/// Why no line was played, or answered.
 fn not_opened<D: Disk>(fault: OpenFault<D>) -> Ended<D>
     ensures size { (old : D) → IsNotOpened ⟦<D as Disk>⟧ old fault → D.size result.disk ≡ D.size old }
     ensures cause { (old : D) (lines : List ScriptLine) → IsNotOpened ⟦<D as Disk>⟧ old fault → ScriptCause ⟦<D as Disk>⟧ lines old result.disk result.ending }
+    ensures asked { (old : D) (lines : List ScriptLine) → IsNotOpened ⟦<D as Disk>⟧ old fault → QuestionsCause ⟦<D as Disk>⟧ lines old result.disk result.ending }
 {
     match fault.cause {
         OpenCause::NotAStore => end_with(Ending::NoStore, fault.disk),

@@ -7,6 +7,7 @@ use btr_io::{MemSink, MemSource};
 use std::alloc::Global;
 use std::test::Fail;
 
+mod asking;
 mod crashes;
 mod live;
 
@@ -77,6 +78,11 @@ fn each_run_says_how_it_ends(rt: HostRuntime) -> Result<(), Fail> {
         (["format -b 64"].as_slice(), "no usage\n2;"),
         (["Format --blocks 64"].as_slice(), "no usage\n2;"),
         (["live "].as_slice(), "no usage\n2;"),
+        (["ask"].as_slice(), "no store\n6;"),
+        (["format --blocks 8", "ask"].as_slice(), "formatted 8\n0;0;"),
+        (["ask "].as_slice(), "no usage\n2;"),
+        (["ask x"].as_slice(), "no usage\n2;"),
+        (["Ask"].as_slice(), "no usage\n2;"),
         (["live live"].as_slice(), "no usage\n2;"),
         (["Live"].as_slice(), "no usage\n2;"),
         ([""].as_slice(), "no usage\n2;"),

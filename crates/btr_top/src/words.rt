@@ -16,6 +16,9 @@ pub enum Command {
     /// `live`: play the script that the input is on the store of the device.
     Live,
 
+    /// `ask`: answer the questions that the input is, on the store of the device.
+    Ask,
+
     /// `format --blocks N`: make an empty store of so many blocks.
     Format { blocks: u64 },
 }
@@ -26,6 +29,7 @@ pub fn read_words(words: &[String]) -> Option<Command>
 {
     match words {
         [name] if name.as_bytes() == b"live".as_slice() => Some(Command::Live),
+        [name] if name.as_bytes() == b"ask".as_slice() => Some(Command::Ask),
         [name, option, number]
             if name.as_bytes() == b"format".as_slice()
                 && option.as_bytes() == b"--blocks".as_slice() => {

@@ -46,10 +46,20 @@ pub(super) fn played_on(
     script: &[u8],
     disk: MemDisk,
 ) -> Result<(String, MemDisk), Fail> {
+    written_on(rt, "live", script, disk)
+}
+
+/// What a command writes that reads a script, with the status behind it, and the device.
+pub(super) fn written_on(
+    rt: &impl AllocGlobal,
+    words: &str,
+    script: &[u8],
+    disk: MemDisk,
+) -> Result<(String, MemDisk), Fail> {
     let alloc = rt.alloc();
     let mut source = MemSource::new(with_ids(alloc, script)?, 7, Vec::new(alloc));
     let mut sink = MemSink::new(alloc, 1000, 11, Vec::new(alloc))?;
-    let (status, disk) = ran(rt, "live", &mut source, &mut sink, disk)?;
+    let (status, disk) = ran(rt, words, &mut source, &mut sink, disk)?;
     let mut text = String::new(alloc);
     text.push_str(String::from_utf8_lossy(alloc, sink.written())?.as_str())?;
     text.push_str(format!(in alloc; "{status};")?.as_str())?;
@@ -169,11 +179,60 @@ fn a_bottom_span_is_crowded(rt: HostRuntime) -> Result<(), Fail> {
     for value in 0..252 {
         script.push_str(format!(in alloc; " 0 {value}")?.as_str())?;
     }
-    script.push_str("\ninsert U 0 0\n")?;
+    script.push_str("\ninsert U 0 0\ninfo U latest\ndelete U 0 1\ninfo U latest\ninfo U 1\n")?;
     assert_eq!(rt;
         played(&rt, script.as_bytes(), "64", &[])?.as_str(),
-        "ok 0 0\nok 1 0\nno crowded 0\n1;"
+        "ok 0 0\nok 1 0\nno crowded 0\nok 1 1\nplain 252 31626 0 251\nok 2 0\nok 2 1\nplain 0 0\nok 1 1\nplain 252 31626 0 251\n1;"
     );
+    Ok(())
+}
+
+/// What comes before each script of the next test: three points, one of them removed and put again, and one more added
+/// and removed.
+const BEFORE: &str =
+    "create U\ninsert U 0 5 3 7 4 -2\ndelete U 3 4\ninsert U 4 -2\ninsert U 9 1\ndelete U 9 10\n";
+
+#[test]
+fn each_question_has_its_reply(rt: HostRuntime) -> Result<(), Fail> {
+    let alloc = rt.alloc();
+    for (line, want) in [
+        ("aligned U 0 8 2 1", "ok 1 2\n0 2 12 5 7\n4 1 -2 -2 -2\n0;"),
+        (
+            "aligned U 0 1 62 1",
+            "ok 1 1\n-1152921504606846976 3 10 -2 7\n0;",
+        ),
+        // the window at 7 does not end in the range
+        ("windows U 1 8 3 1", "ok 1 2\n1 1 7 7 7\n4 1 -2 -2 -2\n0;"),
+        ("nearest U 4 prev 1", "ok 1 1\n3 7\n0;"),
+        ("nearest U 5 next 1", "ok 1 0\n0;"),
+        ("nearest U 3 next 2", "ok 2 1\n4 -2\n0;"),
+        ("changes U 1 3 2", "ok 3 1\n0 8\n0;"),
+        ("changes U 1 2 0", "ok 2 1\n3 4\n0;"),
+        ("changes U 3 5 0", "ok 5 0\n0;"),
+        ("range U 0 9 2", "ok 2 2\n0 5\n4 -2\n0;"),
+        ("info U 0", "ok 0 1\nplain 0 0\n0;"),
+        (
+            "streams",
+            "ok 6 1\n11111111-1111-4111-8111-111111111111 5 plain\n0;",
+        ),
+        ("delete V 0 1", "no stream\n1;"),
+        ("delete U 5 5", "no range\n1;"),
+        ("aligned U 0 8 63 1", "no range\n1;"),
+        ("aligned U 0 8 256 1", "no line\n1;"),
+        ("windows U 0 8 0 1", "no range\n1;"),
+        ("changes U 3 1 0", "no range\n1;"),
+        ("changes U 9 0 0", "no version 9 5\n1;"),
+        ("nearest U 4 up 1", "no line\n1;"),
+        ("streams U", "no line\n1;"),
+    ] {
+        let script = format!(in alloc; "{BEFORE}{line}\n")?;
+        let wanted = format!(in alloc; "ok 0 0\nok 1 0\nok 2 0\nok 3 0\nok 4 0\nok 5 0\n{want}")?;
+        assert_eq!(rt;
+            played(&rt, script.as_bytes(), "64", &[])?.as_str(),
+            wanted.as_str(),
+            "{line}"
+        );
+    }
     Ok(())
 }
 
@@ -316,8 +375,20 @@ fn what_is_no_store_is_not_opened(rt: HostRuntime) -> Result<(), Fail> {
         let (text, _) = played_on(&rt, b"range V 0 1 latest\n", device(alloc, bytes)?)?;
         assert_eq!(rt; text.as_str(), want, "byte {at}");
     }
+    // the second entry creates the first one's stream again, which may not follow
+    let mut bytes = whole.clone()?;
+    for place in 0..17usize {
+        if let Some(byte) = bytes.get_mut((7 * 4096 + 64usize).saturating_add(place)) {
+            *byte = CREATE.get(place).copied().unwrap_or(0);
+        }
+    }
+    let (text, _) = played_on(&rt, b"range U 0 1 latest\n", device(alloc, bytes)?)?;
+    assert_eq!(rt; text.as_str(), "no damaged 7\n7;");
     Ok(())
 }
+
+/// The bytes of an entry that creates a stream.
+const CREATE: &[u8] = b"\x01\x11\x11\x11\x11\x11\x11\x41\x11\x81\x11\x11\x11\x11\x11\x11\x11";
 
 /// The bytes of a gate that is open, of a superblock's body and of the bodies of two entries, by hand: where they stand, and
 /// what they are. All else is zeros.

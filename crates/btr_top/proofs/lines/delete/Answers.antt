@@ -1,0 +1,26 @@
+use Rattle.std.proofs.Common.{◌≡◌, sym, subst, ap, ◌∙◌, [], ◌∷◌, w64, to_z, of_z, ℤ, refl}
+use Rattle.std.proofs.lemmas.Int.{to_z-of_z}
+use Rattle.btr_base.specs.Range.{Interval, IsRange}
+use Rattle.btr_hist.specs.declared.entry.Entry.TheVariants.{Commit}
+use Rattle.btr_hist.specs.History.{stream_of}
+use Rattle.btr_engine.specs.Engine.{history_of}
+use Rattle.btr_top.specs.Live.{Commits, Replies}
+use Rattle.btr_top.specs.StoreOf.{store_of}
+use Rattle.btr_top.proofs.Meanings.{delete-there}
+use Rattle.btr_top.proofs.lines.delete.Goals as goal
+
+interval-by : (a b c d : ℤ) → a ≡ c → b ≡ d → (let r : Interval = record { from = a; to = b } in r) ≡ record { from = c; to = d }
+interval-by a b c d e f = cc
+
+pub returns-clause-replies : goal.returns-clause-replies
+returns-clause-replies g c =
+    let from = c.args.from in
+    let to = c.args.to in
+    let range = c.in-Some-new.range in
+    let whole : Interval = record { from = to_z w64 (of_z w64 from); to = to_z w64 (of_z w64 to) } in
+    let same : whole ≡ record { from = from; to = to } = interval-by _ _ _ _ (to_z-of_z w64 from c.ranges.from) (to_z-of_z w64 to c.ranges.to) in
+    let value : range ≡ whole = c.in-Some-new.ensures.value in
+    let is_range = subst IsRange same (c.in-Some-new.ensures.some.0 refl) in
+    let means = delete-there (stream_of (history_of c.args.engine.now) c.args.id) c.in-Some.stream from to (sym c.find.ensures ∙ c.in-Some.is) is_range in
+    let commits : Commits (Commit c.in-Some.stream (range ∷ []) []) ≡ Commits (Commit c.in-Some.stream (record { from = from; to = to } ∷ []) []) = ap (λ r. Commits (Commit c.in-Some.stream (r ∷ []) [])) (value ∙ same) in
+    subst (λ m. Replies (store_of c.args.engine.now) m c.cut.result (store_of c.cut.new.engine)) (commits ∙ sym means) c.cut.ensures.replies
