@@ -107,7 +107,22 @@ fn each_line_has_its_reply(rt: HostRuntime) -> Result<(), Fail> {
             "64",
             "ok 0 0\nok 0 0\nok 1 0\nok 1 0\nok 2 0\nok 2 2\n2 9\n2 9\nok 1 1\n2 9\nok 1 1\n1 1\n0;",
         ),
-        // the least store has room for one entry
+        (
+            "create U\ninsert U 0 9223372036854775807 1 9223372036854775807\naligned U 0 1 62 1\n",
+            "64",
+            "ok 0 0\nok 1 0\nok 1 1\n-1152921504606846976 2 18446744073709551614 9223372036854775807 9223372036854775807\n0;",
+        ),
+        (
+            "create U\ninsert U 0 5 3 7 4 -2\ninsert U 3 9\nnearest U 3 next 2\nnearest U 4 prev 2\nnearest U 4 prev 1\n",
+            "64",
+            "ok 0 0\nok 1 0\nok 2 0\nok 2 1\n3 7\nok 2 1\n3 9\nok 1 1\n3 7\n0;",
+        ),
+        // the least store has room for one entry; of two causes the status is the first of 5, 9, 8, 1
+        (
+            "create U\ninsert V 0 5\ninsert U 0 5\n",
+            "8",
+            "ok 0 0\nno stream\nno full 2 1\n8;",
+        ),
         (
             "create U\ninsert U 0 5\nrange U 0 9 latest\n",
             "8",
