@@ -1,6 +1,6 @@
 -- What lines mean: a delete of a stream that is there, and a question.
-use Rattle.std.specs.Prelude.{◌≡◌, ℕ, ℤ, true, cond, List, [], ◌∷◌, Option, Some}
-use Rattle.std.proofs.Common.{refl, ap, ◌∙◌, arith}
+use Rattle.std.specs.Prelude.{◌≡◌, ◌⊎◌, None, ℕ, ℤ, true, cond, List, [], ◌∷◌, Option, Some}
+use Rattle.std.proofs.Common.{refl, ap, ◌∙◌, arith, inl, inr, ⊎_elim}
 use Rattle.std.proofs.lemmas.Int.{ints}
 use Rattle.btr_base.specs.Range.{IsRange}
 use Rattle.btr_base.specs.declared.bag.Bag.{Bag}
@@ -10,7 +10,11 @@ use Rattle.btr_hist.specs.Answer.{is_range}
 use Rattle.btr_text.specs.declared.script.Line.{Line}
 use Rattle.btr_text.specs.declared.script.Line.TheVariants as lines
 use Rattle.btr_text.specs.declared.reply.Reason.TheVariants as reasons
-use Rattle.btr_top.specs.Live.{Commits, Fails, on_stream, question, delete, meaning}
+use Rattle.btr_hist.specs.History.{stream_of}
+use Rattle.btr_hist.specs.declared.query.Query.{Query}
+use Rattle.btr_text.specs.declared.reply.LineReply.{LineReply}
+use Rattle.btr_text.specs.declared.reply.LineReply.TheVariants.{No}
+use Rattle.btr_top.specs.Live.{Store, Meaning, Commits, Fails, on_stream, on_named, asks, query_of, named, question, delete, meaning, reply_to, after, Allows, Replies}
 
 -- ---- a delete
 
@@ -40,3 +44,32 @@ asked h (lines.Windows id from to width at) _ _ _ = refl
 asked h (lines.Changes id old new p) _ _ _ = refl
 asked h (lines.Info id at) _ _ _ = refl
 asked h lines.Streams _ _ _ = refl
+
+-- ---- a question is always allowed, and changes nothing
+
+IsIdle : Store → Meaning → Type 0
+IsIdle s m = Allows s m × (s ≡ after s m)
+
+idle-asks : (s : Store) (query : Option Query) → IsIdle s (asks query)
+unfolding IsIdle
+idle-asks s None = (tt, refl)
+idle-asks s (Some query) = (tt, refl)
+
+idle-stream : (s : Store) (found : Option ℕ) (line : Line) → IsIdle s (on_stream found (λ n. asks (query_of line n)))
+unfolding IsIdle
+idle-stream s None line = (tt, refl)
+idle-stream s (Some n) line = idle-asks s (query_of line n)
+
+idle-named : (s : Store) (id : Option ℕ) (line : Line) → IsIdle s (on_named s.history id (λ n. asks (query_of line n)))
+idle-named s None line = idle-asks s (query_of line 0)
+idle-named s (Some id) line = idle-stream s (stream_of s.history id) line
+
+-- the reply to a question, or that there was no memory for it
+pub replies-question : (s : Store) (line : Line) (reply : LineReply) → (reply ≡ reply_to s.history (question s.history line)) ⊎ (reply ≡ No reasons.Memory) → Replies s (question s.history line) reply s
+unfolding IsIdle
+replies-question s line reply answered =
+    let idle = idle-named s (named line) line in
+    ⊎_elim
+    (λ e. inl (record { allowed = idle.0; replied = e; store = idle.1 }))
+    (λ e. inr (inr (record { replied = e; store = refl })))
+    answered

@@ -48,16 +48,20 @@ named (lines.Changes id old new p) = Some id
 named (lines.Info id at) = Some id
 named line = None
 
+-- what a question about a range of time asks of a stream
+abbrev pub range_query_of : Line → ℕ → Option Query
+range_query_of (lines.Range id from to at) stream = Some (queries.Points stream from to at)
+range_query_of (lines.Aligned id from to p at) stream = Some (queries.Aligned stream from to p at)
+range_query_of (lines.Windows id from to width at) stream = Some (queries.Windows stream from to width at)
+range_query_of line stream = None
+
 -- what a question asks, of the stream with this number if it names one
 abbrev pub query_of : Line → ℕ → Option Query
-query_of (lines.Range id from to at) stream = Some (queries.Points stream from to at)
 query_of (lines.Nearest id time way at) stream = Some (queries.Nearest stream time way at)
-query_of (lines.Aligned id from to p at) stream = Some (queries.Aligned stream from to p at)
-query_of (lines.Windows id from to width at) stream = Some (queries.Windows stream from to width at)
 query_of (lines.Changes id old new p) stream = Some (queries.Changes stream old new p)
 query_of (lines.Info id at) stream = Some (queries.Info stream at)
 query_of lines.Streams stream = Some queries.Streams
-query_of line stream = None
+query_of line stream = range_query_of line stream
 
 -- a line that is no question is none of those that may be asked
 abbrev pub asks : Option Query → Meaning

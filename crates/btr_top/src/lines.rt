@@ -7,7 +7,7 @@ ghost use Rattle.btr_text.specs.declared.reply.Reason.TheVariants as reasons;
 ghost use Rattle.btr_engine.specs.Engine.{history_of, is_stopped, IsAtRest, KeepsOpening};
 ghost use Rattle.btr_top.specs.Leaving.{LineLeaves};
 ghost use Rattle.btr_hist.specs.declared.entry.Entry.TheVariants.{Commit as ACommit};
-ghost use Rattle.btr_top.specs.Live.{Commits, meaning, named as id_of, query_of as asked_by, question, reply_to, reply_of_answer, Replies};
+ghost use Rattle.btr_top.specs.Live.{Commits, meaning, named as id_of, query_of as asked_by, range_query_of as range_asked_by, question, reply_to, reply_of_answer, Replies};
 ghost use Rattle.btr_top.specs.StoreOf.{store_of};
 
 use btr_base::{Bag, Range, Ranges};
@@ -29,81 +29,22 @@ pub(crate) fn answer_line<D: Disk>(
     ensures idle { is_stopped engine.old ≡ true → engine.new ≡ engine.old }
     ensures leaves { D.tells → IsAtRest engine.old → LineLeaves engine.old engine.new (meaning (history_of engine.old) line) result }
 {
+    let Some(line) = line else {
+        return LineReply::No(Reason::Line);
+    };
     match line {
-        None => LineReply::No(Reason::Line),
-        Some(Line::Create { id }) => commit(alloc, engine, &Entry::Create { id }),
-        Some(Line::Insert { id, added }) => insert(alloc, engine, id, added),
-        Some(Line::Delete { id, from, to }) => delete(alloc, engine, id, from, to),
-        Some(Line::Range { id, from, to, at }) => {
-            answer_question(alloc, engine, &Line::Range { id, from, to, at })
-        }
-        Some(
-            Line::Nearest {
-                id,
-                time,
-                toward,
-                at,
-            },
-        ) => {
-            answer_question(
-                alloc,
-                engine,
-                &Line::Nearest {
-                    id,
-                    time,
-                    toward,
-                    at,
-                },
-            )
-        }
-        Some(
-            Line::Aligned {
-                id,
-                from,
-                to,
-                p,
-                at,
-            },
-        ) => {
-            answer_question(
-                alloc,
-                engine,
-                &Line::Aligned {
-                    id,
-                    from,
-                    to,
-                    p,
-                    at,
-                },
-            )
-        }
-        Some(
-            Line::Windows {
-                id,
-                from,
-                to,
-                width,
-                at,
-            },
-        ) => {
-            answer_question(
-                alloc,
-                engine,
-                &Line::Windows {
-                    id,
-                    from,
-                    to,
-                    width,
-                    at,
-                },
-            )
-        }
-        Some(Line::Changes { id, old, new, p }) => {
-            answer_question(alloc, engine, &Line::Changes { id, old, new, p })
-        }
-        Some(Line::Info { id, at }) => answer_question(alloc, engine, &Line::Info { id, at }),
-        Some(Line::Streams) => answer_question(alloc, engine, &Line::Streams),
+        Line::Create { id } => commit(alloc, engine, &Entry::Create { id }),
+        Line::Insert { id, added } => insert(alloc, engine, id, added),
+        Line::Delete { id, from, to } => delete(alloc, engine, id, from, to),
+        other => answer_other(alloc, engine, other),
     }
+}
+
+/// The reply to a line that is a question, which it takes; another one is none that may be asked.
+fn answer_other<D: Disk>(alloc: Global, engine: &Engine<D>, line: Line) -> LineReply
+    ensures { (result ≡ reply_to (history_of engine.now) (question (history_of engine.now) line)) ⊎ (result ≡ replies.No reasons.Memory) }
+{
+    answer_question(alloc, engine, &line)
 }
 
 /// Commits points to the stream with this id.
@@ -209,12 +150,6 @@ fn query_of(line: &Line, stream: u32) -> Option<Query>
     ensures { result ≡ asked_by line.now stream }
 {
     match *line {
-        Line::Range { from, to, at, .. } => Some(Query::Points {
-            stream,
-            from,
-            to,
-            at,
-        }),
         Line::Nearest {
             time,
             toward,
@@ -224,6 +159,29 @@ fn query_of(line: &Line, stream: u32) -> Option<Query>
             stream,
             time,
             toward,
+            at,
+        }),
+        Line::Changes { old, new, p, .. } => Some(Query::Changes {
+            stream,
+            old,
+            new,
+            p,
+        }),
+        Line::Info { at, .. } => Some(Query::Info { stream, at }),
+        Line::Streams => Some(Query::Streams),
+        _ => range_query_of(line, stream),
+    }
+}
+
+/// What a question about a range of time asks of a stream.
+fn range_query_of(line: &Line, stream: u32) -> Option<Query>
+    ensures { result ≡ range_asked_by line.now stream }
+{
+    match *line {
+        Line::Range { from, to, at, .. } => Some(Query::Points {
+            stream,
+            from,
+            to,
             at,
         }),
         Line::Aligned {
@@ -252,14 +210,6 @@ fn query_of(line: &Line, stream: u32) -> Option<Query>
             width,
             at,
         }),
-        Line::Changes { old, new, p, .. } => Some(Query::Changes {
-            stream,
-            old,
-            new,
-            p,
-        }),
-        Line::Info { at, .. } => Some(Query::Info { stream, at }),
-        Line::Streams => Some(Query::Streams),
         _ => None,
     }
 }
