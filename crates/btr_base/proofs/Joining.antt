@@ -2,12 +2,12 @@
 use Rattle.std.proofs.Common.{◌≡◌, ℤ, ◌<ℤ◌, inl, inr, Bool, true, false, ◌||◌, List, [], ◌∷◌, ◌++◌, ◌∙◌, refl, sym, ap, arith}
 use Rattle.std.proofs.lemmas.Bool.{or_cases}
 use Rattle.std.proofs.lemmas.Int.{ints}
-use Rattle.btr_base.specs.Range.{Interval, IsRange, IsCut, covered, spans}
-use Rattle.btr_base.specs.Order.{each-weaker}
-use Rattle.btr_base.specs.Cover.{EndBefore, AllBefore, IsCut-none, all_before-none, IsCut-rest, IsCut-push, first_ends, each-push, all_before-push, covered-push, spans-from}
+use Rattle.btr_base.specs.Range.{RangeValue, IsRange, IsCut, covered, spans}
+use Rattle.btr_base.proofs.ListLemmas.{each-weaker}
+use Rattle.btr_base.proofs.RangeLemmas.{EndBefore, AllBefore, IsCut-none, all_before-none, IsCut-rest, IsCut-push, first_ends, each-push, all_before-push, covered-push, spans-from}
 
 -- done and current cover, with the rest, what range and ranges cover
-pub record IsJoining (done : List Interval) (current : Interval) (rest : List Interval) (range : Interval) (ranges : List Interval) : Type 0 where
+pub record IsJoining (done : List RangeValue) (current : RangeValue) (rest : List RangeValue) (range : RangeValue) (ranges : List RangeValue) : Type 0 where
   pub done_cut : IsCut done
   pub current_range : IsRange current
   pub rest_cut : IsCut rest
@@ -27,7 +27,7 @@ or_union d c n m = grind arith
 or_end : (d c : Bool) → (d || c) ≡ (d || (c || false))
 or_end d c = grind arith
 
-module _ (done : List Interval) (current next : Interval) (rest : List Interval) (range : Interval) (ranges : List Interval) (h : IsJoining done current (next ∷ rest) range ranges) where
+module _ (done : List RangeValue) (current next : RangeValue) (rest : List RangeValue) (range : RangeValue) (ranges : List RangeValue) (h : IsJoining done current (next ∷ rest) range ranges) where
   pub joining-skip : next.to <ℤ current.from → IsJoining (done ++ next ∷ []) current rest range ranges
   joining-skip lt =
       record {
@@ -51,7 +51,7 @@ module _ (done : List Interval) (current next : Interval) (rest : List Interval)
         times = λ t. ap (λ d. d || (spans next t || covered rest t)) (covered-push done current t) ∙ or_close (covered done t) (spans current t) (spans next t) (covered rest t) ∙ h.times t;
       }
 
-  both_before : (both : Interval) → IsRange both → ((t : ℤ) → spans both t ≡ (spans current t || spans next t)) → EndBefore both.from done
+  both_before : (both : RangeValue) → IsRange both → ((t : ℤ) → spans both t ≡ (spans current t || spans next t)) → EndBefore both.from done
   both_before both k e =
       let full = k.not_empty in
       let here : spans both both.from ≡ true = grind (arith, ints) in
@@ -60,7 +60,7 @@ module _ (done : List Interval) (current next : Interval) (rest : List Interval)
         | inr in_next ↦ let low = (spans-from next both.from in_next).0 in each-weaker (λ r. r.to <ℤ next.from) (λ r. r.to <ℤ both.from) (λ r j. omega (arith, ints)) done h.before_rest.0
       ]
 
-  pub joining-union : (both : Interval) → IsRange both → ((t : ℤ) → spans both t ≡ (spans current t || spans next t)) → IsJoining done both rest range ranges
+  pub joining-union : (both : RangeValue) → IsRange both → ((t : ℤ) → spans both t ≡ (spans current t || spans next t)) → IsJoining done both rest range ranges
   joining-union both k e =
       record {
         done_cut = h.done_cut;
@@ -71,14 +71,14 @@ module _ (done : List Interval) (current next : Interval) (rest : List Interval)
         times = λ t. ap (λ c. covered done t || (c || covered rest t)) (e t) ∙ or_union (covered done t) (spans current t) (spans next t) (covered rest t) ∙ h.times t;
       }
 
-module _ (done : List Interval) (current range : Interval) (ranges : List Interval) (h : IsJoining done current [] range ranges) where
+module _ (done : List RangeValue) (current range : RangeValue) (ranges : List RangeValue) (h : IsJoining done current [] range ranges) where
   pub joined-cut : IsCut (done ++ current ∷ [])
   joined-cut = IsCut-push done current h.done_cut h.current_range h.before_current
 
   pub joined-times : (t : ℤ) → covered (done ++ current ∷ []) t ≡ (spans range t || covered ranges t)
   joined-times t = covered-push done current t ∙ or_end (covered done t) (spans current t) ∙ h.times t
 
-pub joining-start : (range : Interval) (ranges : List Interval) → IsRange range → IsCut ranges → IsJoining [] range ranges range ranges
+pub joining-start : (range : RangeValue) (ranges : List RangeValue) → IsRange range → IsCut ranges → IsJoining [] range ranges range ranges
 joining-start range ranges h k =
     record {
       done_cut = IsCut-none;

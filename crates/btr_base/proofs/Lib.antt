@@ -1,3 +1,10 @@
+pub mod AggLemmas
+pub mod ChangesLemmas
 pub mod Joining
 pub mod Last
+pub mod ListLemmas
 pub mod Places
+pub mod PointLemmas
+pub mod RangeLemmas
+pub mod SpanLemmas
+pub mod WithinLemmas

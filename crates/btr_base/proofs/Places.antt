@@ -2,8 +2,8 @@
 use Rattle.std.proofs.Common.{◌≡◌, true, false, ℤ, ◌≤ℤ◌, ◌<ℤ◌, List, get_or, int_le, int_lt, arith}
 use Rattle.std.specs.List.Sorted.{IsPartitionedBy}
 use Rattle.std.proofs.lemmas.Int.{ints}
-use Rattle.btr_base.specs.Range.{Interval, IsCut}
-use Rattle.btr_base.specs.Cover.{begins-rise, ends-rise}
+use Rattle.btr_base.specs.Range.{RangeValue, IsCut}
+use Rattle.btr_base.proofs.RangeLemmas.{begins-rise, ends-rise}
 
 pub le-true : (x y : ℤ) → int_le x y ≡ true → x ≤ℤ y
 le-true x y h = grind (arith, ints)
@@ -24,10 +24,10 @@ true-lt : (x y z : ℤ) → x ≤ℤ y → int_lt y z ≡ true → int_lt x z �
 true-lt x y z h k = grind (arith, ints)
 
 -- those that end by the time come first
-pub ends-parted : (rs : List Interval) (t : ℤ) → IsCut rs → IsPartitionedBy (λ r. int_le r.to t) rs
+pub ends-parted : (rs : List RangeValue) (t : ℤ) → IsCut rs → IsPartitionedBy (λ r. int_le r.to t) rs
 ends-parted rs t cut i j d le lt h = true-le (get_or rs i d).to (get_or rs j d).to t (ends-rise rs i j d cut le lt) h
 
 -- those that begin before the time come first
-pub begins-parted : (rs : List Interval) (t : ℤ) → IsCut rs → IsPartitionedBy (λ r. int_lt r.from t) rs
+pub begins-parted : (rs : List RangeValue) (t : ℤ) → IsCut rs → IsPartitionedBy (λ r. int_lt r.from t) rs
 begins-parted rs t cut i j d le lt h =
     true-lt (get_or rs i d).from (get_or rs j d).from t (begins-rise rs i j d cut le lt) h

@@ -5,7 +5,7 @@ use Rattle.btr_base.specs.declared.point.Point.{Point}
 use Rattle.btr_base.specs.Bag.{within}
 
 -- what is said of points: their count, the sum of their values, and the least and the greatest value, if any
-pub record Summary : Type 0 where
+pub record AggValue : Type 0 where
   pub count : ℕ
   pub total : ℤ
   pub ends : Option (ℤ × ℤ)
@@ -17,25 +17,25 @@ join_ends (Some a) None = Some a
 join_ends (Some a) (Some b) = Some (int_min a.0 b.0, int_max a.1 b.1)
 
 -- the summary of nothing
-abbrev pub no_points : Summary
+abbrev pub no_points : AggValue
 no_points = record { count = 0; total = pos 0; ends = None }
 
 -- the summary of one point with this value
-abbrev pub one_point : ℤ → Summary
+abbrev pub one_point : ℤ → AggValue
 one_point value = record { count = 1; total = value; ends = Some (value, value) }
 
 -- the summary of both together
-abbrev pub joined : Summary → Summary → Summary
+abbrev pub joined : AggValue → AggValue → AggValue
 joined a b =
     record { count = a.count + b.count; total = a.total +ℤ b.total; ends = join_ends a.ends b.ends }
 
 -- the summary of a list of points
-abbrev pub agg : List Point → Summary
+abbrev pub agg : List Point → AggValue
 agg [] = no_points
 agg (p ∷ ps) = joined (one_point p.value) (agg ps)
 
 -- that of the points from a time up to, and without, another
-abbrev pub agg_within : ℤ → ℤ → List Point → Summary
+abbrev pub agg_within : ℤ → ℤ → List Point → AggValue
 agg_within from to b = agg (within from to b)
 
 -- the value is an `i64`
@@ -49,5 +49,5 @@ EndsFit n total (Some e) =
     (0 < n) × ((pos n *ℤ e.0) ≤ℤ total) × (total ≤ℤ (pos n *ℤ e.1)) × IsValue e.0 × IsValue e.1
 
 -- what a summary can be
-abbrev pub IsSummary : Summary → Type 0
+abbrev pub IsSummary : AggValue → Type 0
 IsSummary s = EndsFit s.count s.total s.ends

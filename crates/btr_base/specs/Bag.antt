@@ -1,9 +1,9 @@
 -- Bags: points in order, where equal points each count.
-use Rattle.std.specs.Prelude.{ℕ, ℤ, not, ◌&&◌, int_le, int_lt, List, [], ◌∷◌, if◌then◌else◌, IsTrue}
+use Rattle.std.specs.Prelude.{ℕ, ℤ, not, ◌&&◌, int_le, int_lt, List, [], ◌∷◌, if◌then◌else◌, IsTrue, Bool}
 use Rattle.std.specs.List.{filter, count_by, AllByRecursion}
 use Rattle.btr_base.specs.declared.point.Point.{Point}
 use Rattle.btr_base.specs.Point.{is_not_after, same_point}
-use Rattle.btr_base.specs.Range.{Interval, covered}
+use Rattle.btr_base.specs.Range.{RangeValue, covered}
 
 -- each point may stand before all that come after it
 abbrev pub IsInOrder : List Point → Type 0
@@ -21,7 +21,7 @@ sort [] = []
 sort (p ∷ ps) = put p (sort ps)
 
 -- the points whose time no range covers
-abbrev pub outside : List Point → List Interval → List Point
+abbrev pub outside : List Point → List RangeValue → List Point
 outside b rs = filter (λ p. not (covered rs p.time)) b
 
 -- the points from a time up to, and without, another
@@ -31,3 +31,7 @@ within from to b = filter (λ p. int_le from p.time && int_lt p.time to) b
 -- how often a point stands in a list
 abbrev pub copies : Point → List Point → ℕ
 copies p b = count_by (same_point p) b
+
+-- the point is from the first time on and before the second
+abbrev pub is_within : ℤ → ℤ → Point → Bool
+is_within from to p = int_le from p.time && int_lt p.time to

@@ -5,7 +5,7 @@ use Rattle.std.specs.List.{filter}
 use Rattle.btr_base.specs.declared.domain.TheConstants.{FIRST, END}
 use Rattle.btr_base.specs.declared.point.Point.{Point}
 use Rattle.btr_base.specs.Point.{same_point}
-use Rattle.btr_base.specs.Range.{Interval}
+use Rattle.btr_base.specs.Range.{RangeValue}
 use Rattle.btr_base.specs.Bag.{sort}
 use Rattle.btr_base.specs.Windows.{window_of, window_at}
 
@@ -30,21 +30,21 @@ changed a b =
     filter (λ p. differ_at a b p.time && (int_le FIRST p.time && int_lt p.time END)) (sort (a ++ b))
 
 -- the aligned slot, `2^p` ns wide, that a time lies in
-abbrev pub slot_around : ℕ → ℤ → Interval
+abbrev pub slot_around : ℕ → ℤ → RangeValue
 slot_around p t =
     record { from = window_at FIRST (2 ^ p) (window_of FIRST (2 ^ p) t); to = window_at FIRST (2 ^ p) (window_of FIRST (2 ^ p) t + 1) }
 
 -- a range before others, one with the first of them where the two touch
-abbrev pub joined_before : Interval → List Interval → List Interval
+abbrev pub joined_before : RangeValue → List RangeValue → List RangeValue
 joined_before r [] = r ∷ []
 joined_before r (s ∷ rs) =
     if int_le s.from r.to then record { from = r.from; to = s.to } ∷ rs else r ∷ s ∷ rs
 
 -- the longest runs of ranges that stand in order of time
-abbrev pub runs : List Interval → List Interval
+abbrev pub runs : List RangeValue → List RangeValue
 runs [] = []
 runs (r ∷ rs) = joined_before r (runs rs)
 
 -- the longest runs of slots that have a time at which the two bags differ
-abbrev pub changes : ℕ → List Point → List Point → List Interval
+abbrev pub changes : ℕ → List Point → List Point → List RangeValue
 changes p a b = runs (map (λ q. slot_around p q.time) (changed a b))

@@ -11,19 +11,19 @@ abbrev pub at : ℕ → ℤ
 at offset = FIRST +ℤ pos offset
 
 -- the times from `start` on, for the width of this height
-pub record Part : Type 0 where
+pub record SpanValue : Type 0 where
   pub start : ℤ
   pub height : ℕ
 
 -- it begins a whole number of widths behind the first of the domain, and lies in the domain
-pub record IsAligned (s : Part) (index : ℕ) : Type 0 where
+pub record IsAligned (s : SpanValue) (index : ℕ) : Type 0 where
   pub height : s.height ≤ 10
   pub start : s.start ≡ at (index * width s.height)
   pub ends : (s.start +ℤ pos (width s.height)) ≤ℤ END
 
-abbrev pub IsSpan : Part → Type 0
+abbrev pub IsSpan : SpanValue → Type 0
 IsSpan s = (index : ℕ) × IsAligned s index
 
 -- one of the spans of the next lower height that a span is made of, by its place among them
-abbrev pub slot_of : Part → ℕ → Part
+abbrev pub slot_of : SpanValue → ℕ → SpanValue
 slot_of s i = record { start = s.start +ℤ pos (i * width (s.height - 1)); height = s.height - 1 }

@@ -22,9 +22,9 @@ pub struct Agg {
 }
 
 impl Model for Agg {
-    ghost use Rattle.btr_base.specs.Agg.{Summary, IsSummary};
+    ghost use Rattle.btr_base.specs.Agg.{AggValue, IsSummary};
 
-    ghost Value = { Summary };
+    ghost Value = { AggValue };
 
     ghost view = { λ a. record { count = a.count; total = a.sum; ends = a.ends } };
 

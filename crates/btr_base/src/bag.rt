@@ -1,7 +1,7 @@
 ghost use Rattle.std.specs.Prelude.{◌≡◌, ℕ, ◌≤◌, ◌<◌, ℤ, ◌≤ℤ◌, ◌<ℤ◌, List, [], ◌++◌, length, drop, slice_index_or, IfOk, filter, int_lt, not};
 ghost use Rattle.btr_base.specs.declared.point.Point.{Point as APoint};
 ghost use Rattle.btr_base.specs.Bag.{IsInOrder, sort, outside, within};
-ghost use Rattle.btr_base.specs.Range.{Interval, IsCut, covered};
+ghost use Rattle.btr_base.specs.Range.{RangeValue, IsCut, covered};
 
 use crate::point::Point;
 use crate::range::Range;
@@ -131,7 +131,7 @@ pub fn points_between(points: &[Point], from: i64, to: i64) -> &[Point]
 fn skip_ended(ranges: &[Range], first: usize, time: i64) -> usize
     requires { first ≤ length ranges.now }
     ensures within { result ≤ length ranges.now }
-    ensures ahead { (r : Interval) → result < length ranges.now → time <ℤ (slice_index_or ranges.now result r).to }
+    ensures ahead { (r : RangeValue) → result < length ranges.now → time <ℤ (slice_index_or ranges.now result r).to }
     ensures same { (t : ℤ) → time ≤ℤ t → covered (drop result ranges.now) t ≡ covered (drop first ranges.now) t }
 {
     let mut place = first;

@@ -12,9 +12,9 @@ pub struct Range {
 }
 
 impl Model for Range {
-    ghost use Rattle.btr_base.specs.Range.{Interval, IsRange};
+    ghost use Rattle.btr_base.specs.Range.{RangeValue, IsRange};
 
-    ghost Value = { Interval };
+    ghost Value = { RangeValue };
 
     ghost view = { λ r. record { from = r.from; to = r.to } };
 

@@ -1,7 +1,7 @@
 ghost use Rattle.std.specs.Prelude.{◌≡◌, true, false, ◌++◌, ℕ, ◌≤◌, ◌<◌, ℤ, List, [], ◌∷◌, ◌||◌, length, drop, slice_index_or, ◌≤ℤ◌, ◌<ℤ◌, IfOk, IfSome, IsSome, IsTrue, ◌↔◌, OnOk, OnErr};
 ghost use Rattle.std.specs.List.{AllByRecursion};
-ghost use Rattle.btr_base.specs.Apart.{IsBehind};
-ghost use Rattle.btr_base.specs.Range.{Interval, IsRange, IsCut, AreApart, covered, spans};
+ghost use Rattle.btr_base.specs.Range.{IsBehind};
+ghost use Rattle.btr_base.specs.Range.{RangeValue, IsRange, IsCut, AreApart, covered, spans};
 
 use crate::range::Range;
 use std::alloc::{AllocError, Global};
@@ -15,9 +15,9 @@ pub struct Ranges {
 
 impl Model for Ranges {
     ghost use Rattle.std.specs.Prelude.{List};
-    ghost use Rattle.btr_base.specs.Range.{Interval, IsCut};
+    ghost use Rattle.btr_base.specs.Range.{RangeValue, IsCut};
 
-    ghost Value = { List Interval };
+    ghost Value = { List RangeValue };
 
     ghost view = { λ r. r.ranges.items };
 
@@ -217,7 +217,7 @@ pub fn ranges_before(ranges: &[Range], to: i64) -> &[Range]
 /// ends behind the time.
 pub(crate) fn has_begun(ranges: &[Range], place: usize, time: i64) -> bool
     requires cut { IsCut ranges.now }
-    requires ahead { (r : Interval) → place < length ranges.now → time <ℤ (slice_index_or ranges.now place r).to }
+    requires ahead { (r : RangeValue) → place < length ranges.now → time <ℤ (slice_index_or ranges.now place r).to }
     ensures { result ≡ covered (drop place ranges.now) time }
 {
     match ranges.get(place) {

@@ -17,9 +17,9 @@ pub struct Span {
 }
 
 impl Model for Span {
-    ghost use Rattle.btr_base.specs.Span.{Part, IsSpan};
+    ghost use Rattle.btr_base.specs.Span.{SpanValue, IsSpan};
 
-    ghost Value = { Part };
+    ghost Value = { SpanValue };
 
     ghost view = { λ s. record { start = s.start; height = s.height } };
 

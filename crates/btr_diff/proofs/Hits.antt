@@ -8,14 +8,15 @@ use Rattle.std.proofs.lemmas.List.Folds.{list_any-append}
 use Rattle.btr_base.specs.declared.domain.TheConstants.{FIRST, END}
 use Rattle.btr_base.specs.declared.point.Point.{Point}
 use Rattle.btr_base.specs.Point.{is_not_after, InDomain}
-use Rattle.btr_base.specs.Range.{Interval, IsCut, spans, covered}
-use Rattle.btr_base.specs.Bag.{IsInOrder, put, sort, within}
+use Rattle.btr_base.specs.Range.{RangeValue, IsCut, spans, covered}
+use Rattle.btr_base.specs.Bag.{IsInOrder, put, sort, within, is_within}
 use Rattle.btr_base.specs.Changes.{points_at, same_points, differ_at, slot_around, changes}
-use Rattle.btr_base.specs.Order.{each-weaker, filter-append, filter-all, filter-none, filter-passes, same_point-refl, same_point-true}
+use Rattle.btr_base.proofs.ListLemmas.{each-weaker, filter-append, filter-all, filter-none, filter-passes}
+use Rattle.btr_base.proofs.PointLemmas.{same_point-refl, same_point-true}
 use Rattle.std.proofs.Math.Bool.{or-false}
-use Rattle.btr_base.specs.Cover.{same_from-covered}
-use Rattle.btr_base.specs.Within.{is_within, within-split}
-use Rattle.btr_base.specs.Runs.{changes-cut, changes-covered}
+use Rattle.btr_base.proofs.RangeLemmas.{same_from-covered}
+use Rattle.btr_base.proofs.WithinLemmas.{within-split}
+use Rattle.btr_base.proofs.ChangesLemmas.{changes-cut, changes-covered}
 use Rattle.btr_diff.specs.Comparing.{hit, Adds}
 
 -- ---- tests on lists
@@ -216,10 +217,10 @@ hit-time p (q ∷ a) (r ∷ b) t u h k differ inside =
 
 -- ---- what is added, part by part
 
-pub adds-none : (p : ℕ) (was : List Interval) (a : List Point) → Adds p was was a a
+pub adds-none : (p : ℕ) (was : List RangeValue) (a : List Point) → Adds p was was a a
 adds-none p was a = record { times = λ t. sym (ap (λ s. covered was t || s) (hit-same p a t) ∙ or-false (covered was t)) }
 
-pub adds-parts : (p : ℕ) (was mid now : List Interval) (m : ℤ) (a b c d : List Point) → AreParts m a b c d → Adds p was mid a b → Adds p mid now c d → Adds p was now (a ++ c) (b ++ d)
+pub adds-parts : (p : ℕ) (was mid now : List RangeValue) (m : ℤ) (a b c d : List Point) → AreParts m a b c d → Adds p was mid a b → Adds p mid now c d → Adds p was now (a ++ c) (b ++ d)
 adds-parts p was mid now m a b c d h x y =
     record {
       times = λ t.
@@ -247,13 +248,13 @@ within-parts x m y a b =
     }
 
 -- what is added up to a time, and from it on
-pub adds-within : (p : ℕ) (was mid now : List Interval) (x m y : ℤ) (a b : List Point) → x ≤ℤ m → m ≤ℤ y → IsInOrder a → IsInOrder b → Adds p was mid (within x m a) (within x m b) → Adds p mid now (within m y a) (within m y b) → Adds p was now (within x y a) (within x y b)
+pub adds-within : (p : ℕ) (was mid now : List RangeValue) (x m y : ℤ) (a b : List Point) → x ≤ℤ m → m ≤ℤ y → IsInOrder a → IsInOrder b → Adds p was mid (within x m a) (within x m b) → Adds p mid now (within m y a) (within m y b) → Adds p was now (within x y a) (within x y b)
 adds-within p was mid now x m y a b low high first second before here =
     let whole = adds-parts p was mid now m (within x m a) (within x m b) (within m y a) (within m y b) (within-parts x m y a b) before here in
     subst (λ c. Adds p was now c (within x y b)) (sym (within-split x m y a low high first)) (subst (λ d. Adds p was now (within x m a ++ within m y a) d) (sym (within-split x m y b low high second)) whole)
 
 -- all that is added to nothing are the changes
-pub adds-all : (p : ℕ) (now : List Interval) (a b : List Point) → p ≤ 62 → IsCut now → Adds p [] now a b → now ≡ changes p a b
+pub adds-all : (p : ℕ) (now : List RangeValue) (a b : List Point) → p ≤ 62 → IsCut now → Adds p [] now a b → now ≡ changes p a b
 unfolding hit
 adds-all p now a b low cut h =
     same_from-covered now (changes p a b) cut (changes-cut p a b low) (λ t. h.times t ∙ sym (changes-covered p a b t low))

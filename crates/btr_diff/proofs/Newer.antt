@@ -3,13 +3,13 @@ use Rattle.std.specs.Prelude.{◌≡◌, ℕ, zero, suc, ◌+◌, ◌<◌, ◌�
 use Rattle.std.proofs.Common.{refl, sym, ap, ◌∙◌, arith, add-one, add-zero}
 use Rattle.std.proofs.lemmas.Bool.Decides.{nat_tests}
 use Rattle.btr_base.specs.declared.point.Point.{Point}
-use Rattle.btr_base.specs.Span.{Part}
+use Rattle.btr_base.specs.Span.{SpanValue}
 use Rattle.btr_tree.specs.declared.limits.TheConstants.{LEAF_POINTS}
 use Rattle.btr_tree.specs.History.{Commit, bag}
 use Rattle.btr_tree.specs.Nodes.{points_of, has_points, touches, is_inner, is_node, stamp, node_version}
 use Rattle.btr_tree.specs.Newer.{sum_of, newer_one, newer_nodes}
 use Rattle.btr_tree.specs.Shape.{slot_start}
-use Rattle.btr_tree.specs.Stamps.{points-untouched}
+use Rattle.btr_tree.proofs.VersionLemmas.{points-untouched}
 use Rattle.btr_diff.specs.Comparing.{newer_below}
 
 -- ---- the versions of a node and of its slot
@@ -73,10 +73,10 @@ below-sum height below start k since n e inner all =
     ∙ sum-below below start k since n (ap (λ g. is_inner g start (bag k)) (sym e) ∙ inner) all
 
 -- one slot more
-pub few-slot : (below : ℕ) (start : ℤ) (i : ℕ) (part : Part) (k : List Commit) (since first mid last : ℕ) → part ≡ record { start = slot_start below start i; height = below } → mid ≤ first + sum_of i (λ j. newer_nodes below (slot_start below start j) (is_inner (suc below) start) k since) → last ≤ mid + newer_nodes part.height part.start (is_inner (suc below) start) k since → last ≤ first + sum_of (i + 1) (λ j. newer_nodes below (slot_start below start j) (is_inner (suc below) start) k since)
+pub few-slot : (below : ℕ) (start : ℤ) (i : ℕ) (part : SpanValue) (k : List Commit) (since first mid last : ℕ) → part ≡ record { start = slot_start below start i; height = below } → mid ≤ first + sum_of i (λ j. newer_nodes below (slot_start below start j) (is_inner (suc below) start) k since) → last ≤ mid + newer_nodes part.height part.start (is_inner (suc below) start) k since → last ≤ first + sum_of (i + 1) (λ j. newer_nodes below (slot_start below start j) (is_inner (suc below) start) k since)
 few-slot below start i part k since first mid last is before here =
     let f : ℕ → ℕ = λ j. newer_nodes below (slot_start below start j) (is_inner (suc below) start) k since in
-    let same : newer_nodes part.height part.start (is_inner (suc below) start) k since ≡ f i = ap (λ (u : Part). newer_nodes u.height u.start (is_inner (suc below) start) k since) is in
+    let same : newer_nodes part.height part.start (is_inner (suc below) start) k since ≡ f i = ap (λ (u : SpanValue). newer_nodes u.height u.start (is_inner (suc below) start) k since) is in
     let next : sum_of (i + 1) f ≡ sum_of i f + f i = sum-next i f in
     omega arith
 

@@ -6,10 +6,9 @@ use Rattle.std.proofs.lemmas.Int.{ints}
 use Rattle.std.specs.declared.alloc.Global.{Global}
 use Rattle.btr_base.specs.declared.point.Point.{Point}
 use Rattle.btr_base.specs.Point.{InDomain}
-use Rattle.btr_base.specs.Bag.{IsInOrder}
-use Rattle.btr_base.specs.Order.{each-weaker, filter-passes}
-use Rattle.btr_base.specs.Span.{width, Part, slot_of}
-use Rattle.btr_base.specs.Within.{is_within}
+use Rattle.btr_base.specs.Bag.{IsInOrder, is_within}
+use Rattle.btr_base.proofs.ListLemmas.{each-weaker, filter-passes}
+use Rattle.btr_base.specs.Span.{width, SpanValue, slot_of}
 use Rattle.btr_tree.specs.declared.limits.TheConstants.{LEAF_POINTS}
 use Rattle.btr_tree.specs.declared.node.Node.{Node, out-Node}
 use Rattle.btr_tree.specs.declared.node.Node.TheOpen.{Node-F}
@@ -19,9 +18,9 @@ use Rattle.btr_tree.specs.History.{Commit, bag}
 use Rattle.btr_tree.specs.Nodes.{points_of, has_points, is_inner}
 use Rattle.btr_tree.specs.Root.{AreInDomain}
 use Rattle.btr_tree.specs.Shape.{slot_start, IsPlace, Child, HasSlots, HasChildren, IsNode, IsLeaf, IsInner, ByKind}
-use Rattle.btr_tree.specs.Shapes.{leaf-is, inner-is, slot-part, slot-from, slot-inside}
-use Rattle.btr_tree.specs.Making.{slots-as}
-use Rattle.btr_tree.specs.Stamps.{points-in_order}
+use Rattle.btr_tree.proofs.NodeLemmas.{leaf-is, inner-is, slot-part, slot-from, slot-inside}
+use Rattle.btr_tree.proofs.BuiltNodeLemmas.{slots-as}
+use Rattle.btr_tree.proofs.VersionLemmas.{points-in_order}
 use Rattle.btr_diff.specs.Comparing.{IsInside, IsHeld, AreHeld}
 
 -- what a list is after a call that leaves it as it was where it fails
@@ -83,11 +82,11 @@ inner-held k s h ss cs inside body =
 -- ---- a slot's child
 
 -- what is known of a slot's child
-pub record IsChildAt (below : ℕ) (s : ℤ) (h : List Commit) (i : ℕ) (part : Part) (child : Child) : Type 0 where
+pub record IsChildAt (below : ℕ) (s : ℤ) (h : List Commit) (i : ℕ) (part : SpanValue) (child : Child) : Type 0 where
   pub is : part ≡ record { start = slot_start below s i; height = below }
   pub holds : IsPlace part.height part.start (is_inner (suc below) s) h child
 
-pub child-at : (span : Part) (below : ℕ) (h : List Commit) (i j : ℕ) (part : Part) (child : Child) (cs : List Child) → span.height ≡ suc below → HasChildren below span.start h 64 cs → i < 64 → j ≡ i → part ≡ slot_of span i → child ≡ slice_index_or cs j child → IsChildAt below span.start h i part child
+pub child-at : (span : SpanValue) (below : ℕ) (h : List Commit) (i j : ℕ) (part : SpanValue) (child : Child) (cs : List Child) → span.height ≡ suc below → HasChildren below span.start h 64 cs → i < 64 → j ≡ i → part ≡ slot_of span i → child ≡ slice_index_or cs j child → IsChildAt below span.start h i part child
 child-at span below h i j part child cs e each place same p r =
     let is : part ≡ record { start = slot_start below span.start i; height = below } = p ∙ slot-part span below i e in
     let holds : IsPlace below (slot_start below span.start i) (is_inner (suc below) span.start) h child = subst (IsPlace below (slot_start below span.start i) (is_inner (suc below) span.start) h) (ap (λ k. slice_index_or cs k child) (sym same) ∙ sym r) (each i child place) in
@@ -97,17 +96,17 @@ child-at span below h i j part child cs e each place same p r =
     }
 
 -- a slot of a span in the domain is in the domain
-slot-in_domain : (k below : ℕ) (s : ℤ) (i : ℕ) (part : Part) → IsInside k s → k ≡ suc below → i < 64 → part ≡ record { start = slot_start below s i; height = below } → IsInside part.height part.start
+slot-in_domain : (k below : ℕ) (s : ℤ) (i : ℕ) (part : SpanValue) → IsInside k s → k ≡ suc below → i < 64 → part ≡ record { start = slot_start below s i; height = below } → IsInside part.height part.start
 slot-in_domain k below s i part inside e place is =
     let begins = inside.begins in
     let ends = (subst (λ j. IsInside j s) e inside).ends in
     let low = slot-from below s i in
     let high = slot-inside below s i place in
     let at : IsInside below (slot_start below s i) = record { begins = omega (arith, ints); ends = omega (arith, ints) } in
-    subst (λ (u : Part). IsInside u.height u.start) (sym is) at
+    subst (λ (u : SpanValue). IsInside u.height u.start) (sym is) at
 
 -- it is held where the children are
-pub child-held : (span : Part) (i j : ℕ) (part : Part) (child : Child) (cs : List Child) → (held : AreHeld span.height span.start cs) → i < 64 → j ≡ i → part ≡ slot_of span i → child ≡ slice_index_or cs j child → IsHeld part.height part.start child × (suc part.height ≡ span.height)
+pub child-held : (span : SpanValue) (i j : ℕ) (part : SpanValue) (child : Child) (cs : List Child) → (held : AreHeld span.height span.start cs) → i < 64 → j ≡ i → part ≡ slot_of span i → child ≡ slice_index_or cs j child → IsHeld part.height part.start child × (suc part.height ≡ span.height)
 child-held span i j part child cs held place same p r =
     let at = child-at span held.below held.commits i j part child cs held.height_is held.each place same p r in (
       record {

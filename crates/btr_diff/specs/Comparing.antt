@@ -5,7 +5,7 @@ use Rattle.btr_base.specs.declared.domain.TheConstants.{FIRST, END}
 use Rattle.btr_base.specs.declared.point.Point.{Point}
 use Rattle.btr_base.specs.Span.{width}
 use Rattle.btr_base.specs.Point.{InDomain}
-use Rattle.btr_base.specs.Range.{Interval, spans, covered}
+use Rattle.btr_base.specs.Range.{RangeValue, spans, covered}
 use Rattle.btr_base.specs.Changes.{changed, slot_around}
 use Rattle.btr_tree.specs.declared.node.Node.{Node}
 use Rattle.btr_tree.specs.History.{Commit, bag}
@@ -21,7 +21,7 @@ unfoldable pub hit : ℕ → List Point → List Point → ℤ → Bool
 hit p a b t = list_any (λ q. spans (slot_around p q.time) t) (changed a b)
 
 -- to the ranges are added the slots in which the two bags differ
-pub record Adds (p : ℕ) (was now : List Interval) (a b : List Point) : Type 0 where
+pub record Adds (p : ℕ) (was now : List RangeValue) (a b : List Point) : Type 0 where
   pub times : (t : ℤ) → covered now t ≡ (covered was t || hit p a b t)
 
 -- the points from a time on

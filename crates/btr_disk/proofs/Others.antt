@@ -4,7 +4,7 @@ use Rattle.std.proofs.Common.{sym, ◌∙◌, arith, ⊎_elim}
 use Rattle.std.proofs.lemmas.Bool.Decides.{nat_tests}
 use Rattle.btr_disk.specs.Bytes.{Image, Same, SameBut, IsOutside, AreBytes}
 use Rattle.btr_disk.specs.Images.{Only, Torn, MayTear, MayTearTwice, DifferIn, IsUnsynced}
-use Rattle.btr_disk.specs.Addresses.{SameBut-refl, SameBut-trans, SameBut-sym, SameBut-from_Same, SameBut-at, patched, patched-inside, SameBut-patched, AreBytes-patched, cases_range}
+use Rattle.btr_disk.proofs.ByteLemmas.{SameBut-refl, SameBut-trans, SameBut-sym, SameBut-from_Same, SameBut-at, patched, patched-inside, SameBut-patched, AreBytes-patched, cases_range}
 
 unfoldable pub other : ℕ → ℕ → ℕ
 other x y = if (x == 0) || (y == 0) then (if (x == 1) || (y == 1) then 2 else 1) else 0

@@ -5,7 +5,7 @@ use Rattle.std.proofs.lemmas.List.{get_or_append_left, get_or-append_right, reve
 use Rattle.btr_disk.specs.Bytes.{Image, Has, Same, SameBut, AreBytes}
 use Rattle.btr_disk.specs.Images.{Torn, MayTear}
 use Rattle.btr_disk.specs.Moments.{Elapses}
-use Rattle.btr_disk.specs.Addresses.{Has-at, Has-from_each, Same-is, Same-refl, SameBut-refl, SameBut-at, SameBut-sym, SameBut-patched, patched, patched-inside, AreBytes-patched, cases_range}
+use Rattle.btr_disk.proofs.ByteLemmas.{Has-at, Has-from_each, Same-is, Same-refl, SameBut-refl, SameBut-at, SameBut-sym, SameBut-patched, patched, patched-inside, AreBytes-patched, cases_range}
 use Rattle.btr_disk.specs.History.{contents_of, MayLeave, MayHaveLeft, IsBefore, replaced_before, newest_first, call_count, Records, Counts, IsIdle}
 use Rattle.btr_disk.specs.declared.history.Event.{Event}
 use Rattle.btr_disk.specs.declared.history.Event.TheVariants.{Nothing, Wrote, Synced}
@@ -146,11 +146,11 @@ Has-part bytes address n fits =
     sym (get_or-take n (drop address bytes) k 0 few ∙ get_or-drop address bytes k 0))
 
 -- bytes that were put in the middle of a list, of which no more than `size` is kept
-pub Has-placed : (size address : ℕ) (front bytes behind rest : List ℕ) → address ≤ length front → address + length bytes ≤ size → Has (contents_of (take size ((take address front ++ (bytes ++ behind)) ++ rest))) address bytes
-Has-placed size address front bytes behind rest within fits =
-    let start = take address front in
+pub Has-placed : (size address : ℕ) (prefix bytes behind rest : List ℕ) → address ≤ length prefix → address + length bytes ≤ size → Has (contents_of (take size ((take address prefix ++ (bytes ++ behind)) ++ rest))) address bytes
+Has-placed size address prefix bytes behind rest within fits =
+    let start = take address prefix in
     let middle = bytes ++ behind in
-    let length_start : length start ≡ address = omega (arith, length-take address front) in
+    let length_start : length start ≡ address = omega (arith, length-take address prefix) in
     Has-from_each _ address bytes
     (λ k lt.
     let inner : address + k < length (start ++ middle) = omega (arith, length-append start middle, length-append bytes behind) in

@@ -5,7 +5,7 @@ use Rattle.std.proofs.lemmas.Bool.{cases_lt}
 use Rattle.btr_disk.specs.Bytes.{Image, Has, Same, SameBut, IsOutside}
 use Rattle.btr_disk.specs.Images.{Only, SameImages, Torn}
 use Rattle.btr_disk.specs.Publish.{HasBody, IsBeforeOrHasBody, Published}
-use Rattle.btr_disk.specs.Addresses.{Has-along, Has-Same, SameBut-trans, SameBut-from_Same, SameBut-at, SameButTwo-from}
+use Rattle.btr_disk.proofs.ByteLemmas.{Has-along, Has-Same, SameBut-trans, SameBut-from_Same, SameBut-at, SameButTwo-from}
 
 -- the images after a sync, whether it succeeded or failed
 pub after_sync : {T E : Type 0} (result : Result T E) (contents : Image) (old new P : Image → Type 0) → OnOk result (Only contents new) → OnErr result (SameImages old new) → ((c : Image) → Same contents c → P c) → ((c : Image) → old c → P c) → (c : Image) → new c → P c

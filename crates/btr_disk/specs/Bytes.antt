@@ -29,7 +29,7 @@ abbrev pub AreBytes : Image → Type 0
 AreBytes image = (k : ℕ) → image k < 256
 
 -- `length` bytes are a whole positive number of blocks, and from block `first` on they lie inside a device of `size` blocks
-pub record IsRun (size first length : ℕ) : Type 0 where
+pub record IsBlockRange (size first length : ℕ) : Type 0 where
   pub some : 0 < length
   pub whole : length % 4096 ≡ 0
   pub inside : 4096 * first + length ≤ 4096 * size

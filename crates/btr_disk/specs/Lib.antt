@@ -5,10 +5,6 @@ pub mod Causes
 pub mod Publish
 pub mod History
 pub mod Memory
-pub mod Addresses
-pub mod ImageSets
-pub mod Runs
-pub mod Pieces
 pub mod Gate
 pub mod HistoryLaws
 pub mod Fuse

@@ -21,3 +21,8 @@ pub record WroteNothing {D : Type 0} (calls : D → ℕ) (contents : D → Image
   pub same : Same (contents old) (contents new)
   pub images : SameImages (image old) (image new)
   pub moments : Leaves calls since old new (image old)
+
+-- Nothing was written, and some of what was written before may be synced: a read gives the same, and a crash at any moment leaves what it might have left at the beginning.
+pub record IsUnwritten {D : Type 0} (calls : D → ℕ) (contents : D → Image) (image : D → Image → Type 0) (since : D → ℕ → Image → Type 0) (old new : D) : Type 0 where
+  pub same : Same (contents old) (contents new)
+  pub moments : Leaves calls since old new (image old)

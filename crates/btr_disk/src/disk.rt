@@ -1,6 +1,6 @@
 // The device, and what each of its calls does to what a read gives and to what a crash may leave.
 ghost use Rattle.std.specs.Prelude.{◌≡◌, ◌*◌, ◌≤◌, ℕ, length, OnOk, OnErr};
-ghost use Rattle.btr_disk.specs.Bytes.{Image, Has, Same, SameBut, AreBytes, IsRun};
+ghost use Rattle.btr_disk.specs.Bytes.{Image, Has, Same, SameBut, AreBytes, IsBlockRange};
 ghost use Rattle.btr_disk.specs.Images.{Only, SameImages, Torn, MayTear};
 ghost use Rattle.btr_disk.specs.Moments.{Elapses};
 ghost use Rattle.btr_disk.specs.Causes.{Counted, HasCause};
@@ -22,7 +22,7 @@ pub struct Failed;
 /// other block holds what a read gives; a write or sync that fails leaves its blocks so.
 pub trait Disk {
     /// Do the devices of this type tell what they hold?
-    ghost tells: { Type 0 };
+    ghost is_observable: { Type 0 };
 
     /// The number of blocks.
     ghost size: { Self → ℕ };
@@ -31,10 +31,10 @@ pub trait Disk {
     ghost contents: { Self → Image };
 
     /// What a crash may leave now.
-    ghost image: { Self → Image → Type 0 };
+    ghost images_now: { Self → Image → Type 0 };
 
     /// What a crash at some moment from this call number on may have left, inside a call too.
-    ghost since: { Self → ℕ → Image → Type 0 };
+    ghost images_since: { Self → ℕ → Image → Type 0 };
 
     /// How many calls of `read`, `write` and `sync` were made.
     ghost calls: { Self → ℕ };
@@ -50,52 +50,52 @@ pub trait Disk {
     ///
     /// A read changes nothing, whether it succeeds or fails.
     fn read(&mut self, first: u64, buf: &mut [u8]) -> Result<(), Failed>
-        requires { IsRun (size self.old) first (length buf.old) }
+        requires { IsBlockRange (size self.old) first (length buf.old) }
         ensures size { size self.new ≡ size self.old }
         ensures calls { Counted (calls self.old) (calls self.new) }
         ensures cause { HasCause (faults self.old) (faults self.new) result }
-        ensures bytes { tells → OnOk result (Has (contents self.old) (4096 * first) buf.new) }
-        ensures contents { tells → Same (contents self.old) (contents self.new) }
-        ensures images { tells → SameImages (image self.old) (image self.new) }
-        ensures time { tells → Elapses (calls self.old) (since self.old) (since self.new) (image self.new) };
+        ensures bytes { is_observable → OnOk result (Has (contents self.old) (4096 * first) buf.new) }
+        ensures contents { is_observable → Same (contents self.old) (contents self.new) }
+        ensures images { is_observable → SameImages (images_now self.old) (images_now self.new) }
+        ensures time { is_observable → Elapses (calls self.old) (images_since self.old) (images_since self.new) (images_now self.new) };
 
     /// Writes `bytes`, which are whole blocks inside the device, at block `first`.
     ///
     /// Until a sync succeeds a crash may leave any bytes in these blocks. Where the write fails,
     /// these blocks hold any bytes too, and all else is as before.
     fn write(&mut self, first: u64, bytes: &[u8]) -> Result<(), Failed>
-        requires { IsRun (size self.old) first (length bytes.now) }
+        requires { IsBlockRange (size self.old) first (length bytes.now) }
         ensures size { size self.new ≡ size self.old }
         ensures calls { Counted (calls self.old) (calls self.new) }
         ensures cause { HasCause (faults self.old) (faults self.new) result }
-        ensures written { tells → OnOk result (Has (contents self.new) (4096 * first) bytes.now) }
-        ensures elsewhere { tells → SameBut (4096 * first) (length bytes.now) (contents self.old) (contents self.new) }
-        ensures torn { tells → Torn (4096 * first) (length bytes.now) (image self.old) (image self.new) }
-        ensures unsynced { tells → OnOk result (MayTear (4096 * first) (length bytes.now) (image self.old) (image self.new)) }
-        ensures time { tells → Elapses (calls self.old) (since self.old) (since self.new) (image self.new) };
+        ensures written { is_observable → OnOk result (Has (contents self.new) (4096 * first) bytes.now) }
+        ensures elsewhere { is_observable → SameBut (4096 * first) (length bytes.now) (contents self.old) (contents self.new) }
+        ensures torn { is_observable → Torn (4096 * first) (length bytes.now) (images_now self.old) (images_now self.new) }
+        ensures unsynced { is_observable → OnOk result (MayTear (4096 * first) (length bytes.now) (images_now self.old) (images_now self.new)) }
+        ensures time { is_observable → Elapses (calls self.old) (images_since self.old) (images_since self.new) (images_now self.new) };
 
     /// After a sync that succeeds a crash leaves what a read gives. One that fails changes nothing.
     fn sync(&mut self) -> Result<(), Failed>
         ensures size { size self.new ≡ size self.old }
         ensures calls { Counted (calls self.old) (calls self.new) }
         ensures cause { HasCause (faults self.old) (faults self.new) result }
-        ensures contents { tells → Same (contents self.old) (contents self.new) }
-        ensures synced { tells → OnOk result (Only (contents self.new) (image self.new)) }
-        ensures unsynced { tells → OnErr result (SameImages (image self.old) (image self.new)) }
-        ensures time { tells → Elapses (calls self.old) (since self.old) (since self.new) (image self.new) };
+        ensures contents { is_observable → Same (contents self.old) (contents self.new) }
+        ensures synced { is_observable → OnOk result (Only (contents self.new) (images_now self.new)) }
+        ensures unsynced { is_observable → OnErr result (SameImages (images_now self.old) (images_now self.new)) }
+        ensures time { is_observable → Elapses (calls self.old) (images_since self.old) (images_since self.new) (images_now self.new) };
 
     /// An image holds bytes.
-    ghost image_bytes: { tells → (d : Self) (c : Image) → image d c → AreBytes c };
+    ghost image_bytes: { is_observable → (d : Self) (c : Image) → images_now d c → AreBytes c };
 
     /// A device as it reads is one of its images.
-    ghost reads_as_image: { tells → (d : Self) → image d (contents d) };
+    ghost reads_as_image: { is_observable → (d : Self) → images_now d (contents d) };
 
     /// An image now is one since any call number up to now.
-    ghost counts_now: { tells → (d : Self) (t : ℕ) (c : Image) → t ≤ calls d → image d c → since d t c };
+    ghost counts_now: { is_observable → (d : Self) (t : ℕ) (c : Image) → t ≤ calls d → images_now d c → images_since d t c };
 
     /// Since this moment there is no other.
-    ghost only_now: { tells → (d : Self) (c : Image) → since d (calls d) c → image d c };
+    ghost only_now: { is_observable → (d : Self) (c : Image) → images_since d (calls d) c → images_now d c };
 
     /// A later start has no more images than an earlier one.
-    ghost fewer_later: { tells → (d : Self) (s t : ℕ) (c : Image) → s ≤ t → t ≤ calls d → since d t c → since d s c };
+    ghost fewer_later: { is_observable → (d : Self) (s t : ℕ) (c : Image) → s ≤ t → t ≤ calls d → images_since d t c → images_since d s c };
 }

@@ -54,30 +54,30 @@ impl<D: Disk> Disk for FuseDisk<D> {
     ghost use Rattle.std.specs.Prelude.{◌+◌, min};
     ghost use Rattle.btr_disk.specs.Fuse.{min_le, min_rises, at_most};
 
-    ghost tells = { D.tells };
+    ghost is_observable = { D.is_observable };
 
     ghost size = { λ fuse. D.size fuse.disk };
 
     ghost contents = { λ fuse. D.contents fuse.disk };
 
-    ghost image = { λ fuse. D.image fuse.disk };
+    ghost images_now = { λ fuse. D.images_now fuse.disk };
 
     // The calls that were not passed on changed nothing.
-    ghost since = { λ fuse t. D.since fuse.disk (min t (D.calls fuse.disk)) };
+    ghost images_since = { λ fuse t. D.images_since fuse.disk (min t (D.calls fuse.disk)) };
 
     ghost calls = { λ fuse. D.calls fuse.disk + fuse.refused };
 
     ghost faults = { λ fuse. D.faults fuse.disk + fuse.refused };
 
-    ghost image_bytes = { λ tells fuse. D.image_bytes tells fuse.disk };
+    ghost image_bytes = { λ is_observable fuse. D.image_bytes is_observable fuse.disk };
 
-    ghost reads_as_image = { λ tells fuse. D.reads_as_image tells fuse.disk };
+    ghost reads_as_image = { λ is_observable fuse. D.reads_as_image is_observable fuse.disk };
 
-    ghost counts_now = { λ tells fuse t c le. D.counts_now tells fuse.disk (min t (D.calls fuse.disk)) c (min_le t (D.calls fuse.disk)) };
+    ghost counts_now = { λ is_observable fuse t c le. D.counts_now is_observable fuse.disk (min t (D.calls fuse.disk)) c (min_le t (D.calls fuse.disk)) };
 
-    ghost only_now = { λ tells fuse c left. D.only_now tells fuse.disk c (at_most (D.since fuse.disk) (D.calls fuse.disk) fuse.refused c left) };
+    ghost only_now = { λ is_observable fuse c left. D.only_now is_observable fuse.disk c (at_most (D.images_since fuse.disk) (D.calls fuse.disk) fuse.refused c left) };
 
-    ghost fewer_later = { λ tells fuse s t c le _. D.fewer_later tells fuse.disk (min s (D.calls fuse.disk)) (min t (D.calls fuse.disk)) c (min_rises s t (D.calls fuse.disk) le) (min_le t (D.calls fuse.disk)) };
+    ghost fewer_later = { λ is_observable fuse s t c le _. D.fewer_later is_observable fuse.disk (min s (D.calls fuse.disk)) (min t (D.calls fuse.disk)) c (min_rises s t (D.calls fuse.disk) le) (min_le t (D.calls fuse.disk)) };
 
     fn blocks(&self) -> u64 {
         self.disk.blocks()

@@ -1,6 +1,6 @@
 // What follows from the contracts of a device, each as the contract of a small function over any device.
 ghost use Rattle.std.specs.Prelude.{◌≡◌, ◌*◌, ℕ, length, OnOk};
-ghost use Rattle.btr_disk.specs.Bytes.{Has, IsRun, IsOutside};
+ghost use Rattle.btr_disk.specs.Bytes.{Has, IsBlockRange, IsOutside};
 ghost use Rattle.btr_disk.specs.Images.{Only, AllHave, DifferIn, IsUnsynced, MayTearTwice, TornTwice};
 ghost use Rattle.btr_disk.specs.Causes.{HasCause};
 
@@ -15,14 +15,14 @@ pub fn write_two<D: Disk>(
     second: u64,
     others: &[u8],
 ) -> Result<(), Failed>
-    requires first { IsRun (D.size device.old) first (length bytes.now) }
-    requires second { IsRun (D.size device.old) second (length others.now) }
+    requires first { IsBlockRange (D.size device.old) first (length bytes.now) }
+    requires second { IsBlockRange (D.size device.old) second (length others.now) }
     ensures size { D.size device.new ≡ D.size device.old }
     ensures cause { HasCause (D.faults device.old) (D.faults device.new) result }
-    ensures torn { D.tells
-        → TornTwice (4096 * first) (length bytes.now) (4096 * second) (length others.now) (D.image device.old) (D.image device.new) }
-    ensures unsynced { D.tells
-        → OnOk result (MayTearTwice (4096 * first) (length bytes.now) (4096 * second) (length others.now) (D.image device.old) (D.image device.new)) }
+    ensures torn { D.is_observable
+        → TornTwice (4096 * first) (length bytes.now) (4096 * second) (length others.now) (D.images_now device.old) (D.images_now device.new) }
+    ensures unsynced { D.is_observable
+        → OnOk result (MayTearTwice (4096 * first) (length bytes.now) (4096 * second) (length others.now) (D.images_now device.old) (D.images_now device.new)) }
 {
     device.write(first, bytes)?;
     device.write(second, others)
@@ -30,23 +30,23 @@ pub fn write_two<D: Disk>(
 
 /// A write leaves each address outside its blocks as it is in every image, where it fails too.
 pub fn write_elsewhere<D: Disk>(device: &mut D, first: u64, bytes: &[u8]) -> Result<(), Failed>
-    requires { IsRun (D.size device.old) first (length bytes.now) }
+    requires { IsBlockRange (D.size device.old) first (length bytes.now) }
     ensures size { D.size device.new ≡ D.size device.old }
     ensures cause { HasCause (D.faults device.old) (D.faults device.new) result }
-    ensures written { D.tells → OnOk result (Has (D.contents device.new) (4096 * first) bytes.now) }
-    ensures kept { D.tells → (k byte : ℕ) → IsOutside (4096 * first) (length bytes.now) k
-        → AllHave k byte (D.image device.old) → AllHave k byte (D.image device.new) }
+    ensures written { D.is_observable → OnOk result (Has (D.contents device.new) (4096 * first) bytes.now) }
+    ensures kept { D.is_observable → (k byte : ℕ) → IsOutside (4096 * first) (length bytes.now) k
+        → AllHave k byte (D.images_now device.old) → AllHave k byte (D.images_now device.new) }
 {
     device.write(first, bytes)
 }
 
 /// After a sync and one write the images differ in the written blocks alone.
 pub fn sync_and_write<D: Disk>(device: &mut D, first: u64, bytes: &[u8]) -> Result<(), Failed>
-    requires { IsRun (D.size device.old) first (length bytes.now) }
+    requires { IsBlockRange (D.size device.old) first (length bytes.now) }
     ensures size { D.size device.new ≡ D.size device.old }
     ensures cause { HasCause (D.faults device.old) (D.faults device.new) result }
-    ensures differ { D.tells
-        → OnOk result (DifferIn (4096 * first) (length bytes.now) (D.contents device.old) (D.image device.new)) }
+    ensures differ { D.is_observable
+        → OnOk result (DifferIn (4096 * first) (length bytes.now) (D.contents device.old) (D.images_now device.new)) }
 {
     device.sync()?;
     device.write(first, bytes)
@@ -55,11 +55,11 @@ pub fn sync_and_write<D: Disk>(device: &mut D, first: u64, bytes: &[u8]) -> Resu
 /// A written block may be found, until a sync, as it was, as it was written, or with bytes that
 /// are neither.
 pub fn write_unsynced<D: Disk>(device: &mut D, first: u64, bytes: &[u8]) -> Result<(), Failed>
-    requires { IsRun (D.size device.old) first (length bytes.now) }
+    requires { IsBlockRange (D.size device.old) first (length bytes.now) }
     ensures size { D.size device.new ≡ D.size device.old }
     ensures cause { HasCause (D.faults device.old) (D.faults device.new) result }
-    ensures unsynced { D.tells
-        → OnOk result (IsUnsynced (4096 * first) (length bytes.now) (D.contents device.old) (D.contents device.new) (D.image device.new)) }
+    ensures unsynced { D.is_observable
+        → OnOk result (IsUnsynced (4096 * first) (length bytes.now) (D.contents device.old) (D.contents device.new) (D.images_now device.new)) }
 {
     device.write(first, bytes)
 }
@@ -73,12 +73,12 @@ pub fn write_sync_read<D: Disk>(
     bytes: &[u8],
     buf: &mut [u8],
 ) -> Result<(), Failed>
-    requires run { IsRun (D.size device.old) first (length bytes.now) }
+    requires run { IsBlockRange (D.size device.old) first (length bytes.now) }
     requires length { length buf.old ≡ length bytes.now }
     ensures size { D.size device.new ≡ D.size device.old }
     ensures cause { HasCause (D.faults device.old) (D.faults device.new) result }
-    ensures read { D.tells → OnOk result (buf.new ≡ bytes.now) }
-    ensures synced { D.tells → OnOk result (Only (D.contents device.new) (D.image device.new)) }
+    ensures read { D.is_observable → OnOk result (buf.new ≡ bytes.now) }
+    ensures synced { D.is_observable → OnOk result (Only (D.contents device.new) (D.images_now device.new)) }
 {
     device.write(first, bytes)?;
     device.sync()?;

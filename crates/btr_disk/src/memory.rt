@@ -51,7 +51,7 @@ impl MemDisk {
         requires room { room.blocks ≤ 2 ^ 32 }
         ensures size { IfOk result (λ disk. ⟦<MemDisk as Disk>⟧.size disk ≡ blocks) }
         ensures zeros { IfOk result (λ disk. (k : ℕ) → ⟦<MemDisk as Disk>⟧.contents disk k ≡ 0) }
-        ensures settled { IfOk result (λ disk. Only (⟦<MemDisk as Disk>⟧.contents disk) (⟦<MemDisk as Disk>⟧.image disk)) }
+        ensures settled { IfOk result (λ disk. Only (⟦<MemDisk as Disk>⟧.contents disk) (⟦<MemDisk as Disk>⟧.images_now disk)) }
         ensures calls { IfOk result (λ disk. ⟦<MemDisk as Disk>⟧.calls disk ≡ 0) }
         ensures faults { IfOk result (λ disk. ⟦<MemDisk as Disk>⟧.faults disk ≡ 0) }
         ensures failing { IfOk result (λ disk. disk.failing.items ≡ failing.items) }
@@ -73,7 +73,7 @@ impl MemDisk {
         requires room { room.blocks ≤ 2 ^ 32 }
         ensures size { IfOk result (λ disk. 4096 * ⟦<MemDisk as Disk>⟧.size disk ≡ length bytes.items) }
         ensures contents { IfOk result (λ disk. (k : ℕ) → ⟦<MemDisk as Disk>⟧.contents disk k ≡ slice_index bytes.items k) }
-        ensures settled { IfOk result (λ disk. Only (⟦<MemDisk as Disk>⟧.contents disk) (⟦<MemDisk as Disk>⟧.image disk)) }
+        ensures settled { IfOk result (λ disk. Only (⟦<MemDisk as Disk>⟧.contents disk) (⟦<MemDisk as Disk>⟧.images_now disk)) }
         ensures calls { IfOk result (λ disk. ⟦<MemDisk as Disk>⟧.calls disk ≡ 0) }
         ensures faults { IfOk result (λ disk. ⟦<MemDisk as Disk>⟧.faults disk ≡ 0) }
         ensures failing { IfOk result (λ disk. disk.failing.items ≡ failing.items) }
@@ -139,7 +139,7 @@ fn overwrite(file: &mut Vec<u8>, at: usize, bytes: &[u8])
 
 impl Disk for MemDisk {
     ghost use Rattle.std.specs.Prelude.{◌≡◌, ◌*◌, ◌/◌, ◌%◌, length, refl, IsErr, OnOk, OnErr};
-    ghost use Rattle.btr_disk.specs.Bytes.{Has, IsRun, Same, SameBut};
+    ghost use Rattle.btr_disk.specs.Bytes.{Has, IsBlockRange, Same, SameBut};
     ghost use Rattle.btr_disk.specs.Images.{Only, SameImages, Torn, MayTear};
     ghost use Rattle.btr_disk.specs.Moments.{Elapses};
     ghost use Rattle.btr_disk.specs.Causes.{Counted, HasCause};
@@ -147,15 +147,15 @@ impl Disk for MemDisk {
     ghost use Rattle.btr_disk.specs.Memory.{images_of, since_of, FailsAsListed};
     ghost use Rattle.btr_disk.specs.HistoryLaws.{counts_now_of, only_now_of, fewer_later_of};
 
-    ghost tells = { Unit {0} };
+    ghost is_observable = { Unit {0} };
 
     ghost size = { λ disk. length disk.bytes.items / 4096 };
 
     ghost contents = { λ disk. contents_of disk.bytes.items };
 
-    ghost image = { λ disk. images_of disk };
+    ghost images_now = { λ disk. images_of disk };
 
-    ghost since = { λ disk. since_of disk };
+    ghost images_since = { λ disk. since_of disk };
 
     ghost calls = { λ disk. call_count disk.history };
 
@@ -177,7 +177,7 @@ impl Disk for MemDisk {
 
     // The clauses of the trait, and one more: which calls fail.
     fn read(&mut self, first: u64, buf: &mut [u8]) -> Result<(), Failed>
-        requires { IsRun (length self.old.bytes.items / 4096) first (length buf.old) }
+        requires { IsBlockRange (length self.old.bytes.items / 4096) first (length buf.old) }
         ensures size { length self.new.bytes.items / 4096 ≡ length self.old.bytes.items / 4096 }
         ensures calls { Counted (call_count self.old.history) (call_count self.new.history) }
         ensures cause { HasCause self.old.faults self.new.faults result }
@@ -202,7 +202,7 @@ impl Disk for MemDisk {
     // The clauses of the trait, and two more: which calls fail, and that where the record has room a
     // write that fails leaves its blocks unsynced too.
     fn write(&mut self, first: u64, bytes: &[u8]) -> Result<(), Failed>
-        requires { IsRun (length self.old.bytes.items / 4096) first (length bytes.now) }
+        requires { IsBlockRange (length self.old.bytes.items / 4096) first (length bytes.now) }
         ensures size { length self.new.bytes.items / 4096 ≡ length self.old.bytes.items / 4096 }
         ensures calls { Counted (call_count self.old.history) (call_count self.new.history) }
         ensures cause { HasCause self.old.faults self.new.faults result }

@@ -1,6 +1,6 @@
 // Bytes that are made durable first and visible then, in four calls of a device.
 ghost use Rattle.std.specs.Prelude.{◌≡◌, ◌*◌, length, OnOk};
-ghost use Rattle.btr_disk.specs.Bytes.{IsRun, IsOutside};
+ghost use Rattle.btr_disk.specs.Bytes.{IsBlockRange, IsOutside};
 ghost use Rattle.btr_disk.specs.Images.{Only};
 ghost use Rattle.btr_disk.specs.Moments.{Leaves};
 ghost use Rattle.btr_disk.specs.Causes.{Counted, HasCause};
@@ -22,19 +22,19 @@ pub fn publish<D: Disk>(
     at: u64,
     gate: &[u8],
 ) -> Result<(), Failed>
-    requires body { IsRun (D.size device.old) first (length body.now) }
-    requires gate { IsRun (D.size device.old) at (length gate.now) }
+    requires body { IsBlockRange (D.size device.old) first (length body.now) }
+    requires gate { IsBlockRange (D.size device.old) at (length gate.now) }
     requires one_block { length gate.now ≡ 4096 }
     requires apart { IsOutside (4096 * first) (length body.now) (4096 * at) }
     ensures size { D.size device.new ≡ D.size device.old }
     ensures calls { Counted (D.calls device.old) (D.calls device.new) }
     ensures cause { HasCause (D.faults device.old) (D.faults device.new) result }
-    ensures published { D.tells
+    ensures published { D.is_observable
         → OnOk result (Published (D.contents device.old) (4096 * first) body.now (4096 * at) gate.now (D.contents device.new)) }
-    ensures synced { D.tells → OnOk result (Only (D.contents device.new) (D.image device.new)) }
+    ensures synced { D.is_observable → OnOk result (Only (D.contents device.new) (D.images_now device.new)) }
     // where a crash before it left what a read gives
-    ensures moments { D.tells → Only (D.contents device.old) (D.image device.old)
-        → Leaves D.calls D.since device.old device.new (IsBeforeOrHasBody (D.contents device.old) (4096 * first) body.now (4096 * at)) }
+    ensures moments { D.is_observable → Only (D.contents device.old) (D.images_now device.old)
+        → Leaves D.calls D.images_since device.old device.new (IsBeforeOrHasBody (D.contents device.old) (4096 * first) body.now (4096 * at)) }
 {
     device.write(first, body)?;
     device.sync()?;

@@ -6,12 +6,12 @@ use Rattle.btr_disk.specs.declared.disk.Disk.{Ghosts}
 use Rattle.btr_disk.specs.Bytes.{Image}
 use Rattle.btr_disk.specs.Gate.{zeros, gate_block}
 use Rattle.btr_disk.specs.Publish.{Published}
-use Rattle.btr_disk.specs.Runs.{weakens}
+use Rattle.btr_disk.proofs.MomentLemmas.{weakens}
 use Rattle.btr_log.specs.declared.log.Log.{Log}
 use Rattle.btr_log.specs.declared.append.AppendFault.{AppendFault}
 use Rattle.btr_log.specs.declared.append.AppendFault.TheVariants.{Full, Fault, Stopped as AlreadyStopped}
 use Rattle.btr_log.specs.Extents.{need, IsLog, first_gate}
-use Rattle.btr_log.specs.ExtentLaws.{AtRest-IsLog}
+use Rattle.btr_log.proofs.ExtentLemmas.{AtRest-IsLog}
 use Rattle.btr_log.specs.Append as append
 use Rattle.btr_log.specs.Log as log
 use Rattle.btr_hist.specs.declared.entry.Entry.{Entry}
@@ -96,12 +96,12 @@ module _ {D : Type 0} {disk : Ghosts D} (old : Engine D disk) (e : Entry) (run :
   moments after fits rest leaves =
       let h = history_of old in
       let contents = disk.contents (device old) in
-      weakens disk.calls disk.since (device old) (log.device after) (append.IsMoment contents (tail_of old) (bodies h) (append.body_of run)) (IsBeforeOrAfter (disk.size (device old)) h e)
+      weakens disk.calls disk.images_since (device old) (log.device after) (append.IsMoment contents (tail_of old) (bodies h) (append.body_of run)) (IsBeforeOrAfter (disk.size (device old)) h e)
       (before_or_after (disk.size (device old)) contents (blocks_of old) (tail_of old) h rest.stands e is.spelled is.allowed (inside fits) (append.body_of run) its_body)
       leaves
 
   -- where it fails: without a call of the device, or by the device
-  pub moments_of_fault : (after : Log D disk) (fault : AppendFault) → IsFalse (is_stopped old) → TellsFull (Err fault) → append.AppendCause old.log after run fault → ((c : Image) → disk.since (device old) (disk.calls (device old)) c → disk.image (device old) c) → IsAtRest old → log.LogLeaves old.log after (append.IsMoment (disk.contents (device old)) (tail_of old) (bodies (history_of old)) (append.body_of run)) → log.LogLeaves old.log after (IsBeforeOrAfter (disk.size (device old)) (history_of old) e)
+  pub moments_of_fault : (after : Log D disk) (fault : AppendFault) → IsFalse (is_stopped old) → TellsFull (Err fault) → append.AppendCause old.log after run fault → ((c : Image) → disk.images_since (device old) (disk.calls (device old)) c → disk.images_now (device old) c) → IsAtRest old → log.LogLeaves old.log after (append.IsMoment (disk.contents (device old)) (tail_of old) (bodies (history_of old)) (append.body_of run)) → log.LogLeaves old.log after (IsBeforeOrAfter (disk.size (device old)) (history_of old) e)
   moments_of_fault after (Full n room) runs tells_full cause only_now rest leaves =
       subst (λ l. log.LogLeaves old.log l (IsBeforeOrAfter (disk.size (device old)) (history_of old) e)) (sym cause.4) (no_moment old e only_now rest)
   moments_of_fault after Fault runs tells_full cause only_now rest leaves =
@@ -130,7 +130,7 @@ module _ {D : Type 0} {disk : Ghosts D} (old : Engine D disk) (e : Entry) (run :
         let size = disk.size (device old) in
         let now = disk.contents (device new) in
         let below : (k : ℕ) → k < 4096 * tail_of old → now k ≡ disk.contents (device old) k = λ k lt. written.elsewhere k (λ le. absurd (omega arith)) (λ le. absurd (omega arith)) in
-        let its_log = AtRest-IsLog now (disk.image (device new)) (tail_of new) (bodies h ++ append.body_of run ∷ []) log_rests in
+        let its_log = AtRest-IsLog now (disk.images_now (device new)) (tail_of new) (bodies h ++ append.body_of run ∷ []) log_rests in
         let stands : StandsTo size now (blocks_of old) (tail_of old + need_of e) (h ++ e ∷ []) = stands_with size (disk.contents (device old)) (blocks_of old) (tail_of old) h rest.stands e is.spelled is.allowed (inside fits) now below (subst (λ b. IsLog now first_gate (bodies h ++ b ∷ [])) its_body its_log) in
         let sized = subst (λ n. StandsTo n now (blocks_of old) (tail_of old + need_of e) (h ++ e ∷ [])) (sym kept.device_kept.same_size) stands in
         let blocked = subst (λ n. StandsTo (disk.size (device new)) now n (tail_of old + need_of e) (h ++ e ∷ [])) (sym kept.blocks) sized in

@@ -1,17 +1,15 @@
 -- Why a commit of a stream is rejected, by what the tree of the stream's latest version says of it.
-use Rattle.std.specs.Prelude.{◌≡◌, ℕ, ◌+◌, ◌-◌, ◌<◌, ℤ, nat_le, int_le, int_lt, ◌&&◌, not, cond, Bool, true, false, List, [], ◌∷◌, ◌++◌, length, slice_index_or, Option, Some, None}
-use Rattle.std.specs.Option.{option_map}
+use Rattle.std.specs.Prelude.{◌≡◌, ℕ, ◌+◌, ◌-◌, ◌<◌, ℤ, nat_le, Bool, List, [], ◌∷◌, ◌++◌, length, slice_index_or, Option, Some, None}
 use Rattle.std.proofs.Common.{refl, sym, ap, ◌∙◌, arith, subst}
 use Rattle.std.proofs.lemmas.Bool.{lt-leb}
-use Rattle.std.proofs.lemmas.Int.{ints}
 use Rattle.btr_base.specs.declared.domain.TheConstants.{FIRST, END}
 use Rattle.btr_base.specs.declared.point.Point.{Point}
 use Rattle.btr_base.specs.Point.{InDomain}
-use Rattle.btr_base.specs.Range.{Interval}
+use Rattle.btr_base.specs.Range.{RangeValue}
 use Rattle.btr_base.specs.Bag.{sort, outside}
 use Rattle.btr_tree.specs.History as tree
 use Rattle.btr_tree.specs.Crowd.{HasRoom}
-use Rattle.btr_tree.specs.Root.{Root, IsTree, AreInDomain}
+use Rattle.btr_tree.specs.Root.{TreeValue, IsTree, AreInDomain}
 use Rattle.btr_hist.specs.declared.entry.Entry.{Entry}
 use Rattle.btr_hist.specs.declared.rejection.Rejection.{Rejection}
 use Rattle.btr_hist.specs.declared.rejection.Rejection.TheVariants.{NoStream, VersionLimit, OutOfDomain}
@@ -19,7 +17,7 @@ use Rattle.btr_hist.specs.declared.limits.TheConstants.{MAX_VERSIONS}
 use Rattle.btr_hist.specs.Commit.{Change}
 use Rattle.btr_hist.specs.History.{ids, latest}
 use Rattle.btr_hist.specs.Legal.{first_some, when, stray, change_rejection, points_rejection, next_bag, commit_rejection}
-use Rattle.btr_hist.specs.Lemmas.{each-after}
+use Rattle.btr_hist.proofs.HistoryLemmas.{each-after}
 use Rattle.btr_engine.specs.declared.board.PushFault.{PushFault}
 use Rattle.btr_engine.specs.Board.{HasTrees, commits_to}
 use Rattle.btr_engine.specs.Push.{PushCause, IsNext}
@@ -48,20 +46,20 @@ pub change-times : (c : Change) → change_rejection c ≡ None → AreInDomain 
 change-times c h = no_stray c.added (map_none (λ (p : Point). OutOfDomain p.time) (stray c.added) (first_none _ _ h))
 
 -- what is said of a commit is said of an equal one
-pub change-passes : (cut ranges : List Interval) (added points : List Point) (found : Option Rejection) → ranges ≡ cut → points ≡ added → found ≡ change_rejection (record { cut = ranges; added = points }) → found ≡ None → change_rejection (record { cut = cut; added = added }) ≡ None
+pub change-passes : (cut ranges : List RangeValue) (added points : List Point) (found : Option Rejection) → ranges ≡ cut → points ≡ added → found ≡ change_rejection (record { cut = ranges; added = points }) → found ≡ None → change_rejection (record { cut = cut; added = added }) ≡ None
 change-passes cut ranges added points found same_cut same_points is none =
-    ap (λ (l : List Interval). change_rejection (record { cut = l; added = added })) (sym same_cut)
+    ap (λ (l : List RangeValue). change_rejection (record { cut = l; added = added })) (sym same_cut)
     ∙ ap (λ (l : List Point). change_rejection (record { cut = ranges; added = l })) (sym same_points)
     ∙ sym is ∙ none
 
 -- ---- the next version
 
-module _ (h : List Entry) (stream : ℕ) (trees : List Root) (kept : HasTrees h stream trees) where
+module _ (h : List Entry) (stream : ℕ) (trees : List TreeValue) (kept : HasTrees h stream trees) where
   pub latest-is : length trees - 1 ≡ latest h stream
   latest-is = let counted = kept.counted in omega arith
 
   -- the last tree
-  pub last-tree : (t : Root) → t ≡ slice_index_or trees (length trees - 1) t → IsTree (commits_to h stream (latest h stream)) t
+  pub last-tree : (t : TreeValue) → t ≡ slice_index_or trees (length trees - 1) t → IsTree (commits_to h stream (latest h stream)) t
   last-tree t is =
       let version = latest h stream in
       subst (IsTree (commits_to h stream version)) (ap (λ (v : ℕ). slice_index_or trees v t) (sym latest-is) ∙ sym is) (kept.each version t (omega arith))
@@ -73,7 +71,7 @@ module _ (h : List Entry) (stream : ℕ) (trees : List Root) (kept : HasTrees h 
     pub next-bag : (version : ℕ) → tree.bag (next version) ≡ next_bag h stream c
     next-bag version = ap (λ b. sort (outside b c.cut ++ c.added)) (bag-commits_to h stream (latest h stream))
 
-    pub next-tree : (t : Root) (version : ℕ) → version ≡ length trees - 1 + 1 → IsTree (next version) t → IsNext h stream c t
+    pub next-tree : (t : TreeValue) (version : ℕ) → version ≡ length trees - 1 + 1 → IsTree (next version) t → IsNext h stream c t
     next-tree t version is k =
         let same : version ≡ latest h stream + 1 = is ∙ ap (λ (n : ℕ). n + 1) latest-is in
         subst (λ v. IsTree (next v) t) same k
@@ -82,7 +80,7 @@ module _ (h : List Entry) (stream : ℕ) (trees : List Root) (kept : HasTrees h 
       by_points : commit_rejection h stream c ≡ points_rejection (next_bag h stream c)
       by_points = rejection-points h stream c is_there change (subst (λ n. n < MAX_VERSIONS) latest-is few)
 
-      pub next-allowed : (t : Root) (version : ℕ) → IsTree (next version) t → HasRoom FIRST END (tree.bag (next version)) → commit_rejection h stream c ≡ None
+      pub next-allowed : (t : TreeValue) (version : ℕ) → IsTree (next version) t → HasRoom FIRST END (tree.bag (next version)) → commit_rejection h stream c ≡ None
       next-allowed t version k room =
           by_points ∙ ap points_rejection (sym (next-bag version)) ∙ room-allowed (tree.bag (next version)) k.times room k.few
 
@@ -90,5 +88,5 @@ module _ (h : List Entry) (stream : ℕ) (trees : List Root) (kept : HasTrees h 
       next-cause version fault k =
           subst (λ o. PushCause o fault) (ap points_rejection (next-bag version) ∙ sym by_points) k
 
-    pub next-times : (t : Root) (version : ℕ) → IsTree (commits_to h stream (latest h stream)) t → AreInDomain c.added → AreInDomain (tree.bag (next version))
+    pub next-times : (t : TreeValue) (version : ℕ) → IsTree (commits_to h stream (latest h stream)) t → AreInDomain c.added → AreInDomain (tree.bag (next version))
     next-times t version k inside = each-after (λ p. InDomain p.time) (tree.bag (commits_to h stream (latest h stream))) c k.times inside

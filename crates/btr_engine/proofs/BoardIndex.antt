@@ -7,8 +7,8 @@ use Rattle.std.proofs.lemmas.Bool.{cases_lt, cases_eq, eq-eqb, ne_eqb}
 use Rattle.std.proofs.lemmas.Bool.Decides.{nat_tests}
 use Rattle.std.proofs.Math.Seq.{get_or-append_seam}
 use Rattle.btr_base.specs.declared.point.Point.{Point}
-use Rattle.btr_base.specs.Range.{Interval}
-use Rattle.btr_tree.specs.Root.{Root, IsTree}
+use Rattle.btr_base.specs.Range.{RangeValue}
+use Rattle.btr_tree.specs.Root.{TreeValue, IsTree}
 use Rattle.btr_hist.specs.declared.entry.Entry.{Entry}
 use Rattle.btr_hist.specs.declared.entry.Entry.TheVariants.{Create, Commit}
 use Rattle.btr_hist.specs.declared.rejection.Rejection.TheVariants.{NoStream, VersionLimit}
@@ -16,7 +16,7 @@ use Rattle.btr_hist.specs.declared.limits.TheConstants.{MAX_VERSIONS}
 use Rattle.btr_hist.specs.Commit.{Change}
 use Rattle.btr_hist.specs.History.{ids, commits, latest}
 use Rattle.btr_hist.specs.Legal.{when, rejection, change_rejection, commit_rejection, points_rejection, next_bag, Legal}
-use Rattle.btr_hist.specs.Lemmas.{commits-append, ids-append, legal-push, legal-front, get-append, get_back, get_last}
+use Rattle.btr_hist.proofs.HistoryLemmas.{commits-append, ids-append, legal-push, legal-prefix, get-append, get_back, get_last}
 use Rattle.btr_engine.specs.declared.board.Stream.{Stream}
 use Rattle.btr_engine.specs.Board.{AreNumbers, newest_first, commits_to, HasTrees, IsIndexed}
 use Rattle.btr_engine.specs.Push.{IsNext, SameTrees, HasKept, HasForgotten}
@@ -29,7 +29,7 @@ use Rattle.btr_engine.proofs.BoardTrees.{made_by, newest_first-push}
 pub commits-create : (h : List Entry) (id stream : ℕ) → commits (h ++ Create id ∷ []) stream ≡ commits h stream
 commits-create h id stream = commits-append h (Create id ∷ []) stream ∙ append-nil (commits h stream)
 
-module _ (h : List Entry) (s : ℕ) (cut : List Interval) (added : List Point) where
+module _ (h : List Entry) (s : ℕ) (cut : List RangeValue) (added : List Point) where
   pub commits-other : (stream : ℕ) → (s ≡ stream → ⊥) → commits (h ++ Commit s cut added ∷ []) stream ≡ commits h stream
   commits-other stream other =
       commits-append h (Commit s cut added ∷ []) stream ∙ ap (λ t. commits h stream ++ cond t (record { cut = cut; added = added } ∷ []) []) (ne_eqb s stream other) ∙ append-nil (commits h stream)
@@ -67,7 +67,7 @@ unknown h s legal low = ap (length {A = Change}) (none_of [] h s legal low)
 -- ---- the trees of a stream
 
 module _ (g h : List Entry) (s : ℕ) where
-  pub trees-same : (ts : List Root) → commits g s ≡ commits h s → HasTrees h s ts → HasTrees g s ts
+  pub trees-same : (ts : List TreeValue) → commits g s ≡ commits h s → HasTrees h s ts → HasTrees g s ts
   trees-same ts same has = record {
     counted = has.counted ∙ sym (ap (λ (cs : List Change). length cs + 1) same);
     each = λ v d le. subst (λ (cs : List Change). IsTree (newest_first 0 [] (take v cs)) (slice_index_or ts v d)) (sym same) (has.each v d (omega (arith, le, ap (length {A = Change}) same)));
@@ -89,9 +89,9 @@ module _ (g h : List Entry) (s : ℕ) where
         ∙ (let e : 0 + length (commits h s) + 1 ≡ latest h s + 1 = omega arith in ap (λ (v : ℕ). made_by v c ∷ newest_first 0 [] (commits h s)) e)
         ∙ ap (λ cs. record { version = latest h s + 1; cut = c.cut; added = c.added } ∷ newest_first 0 [] cs) (sym (take_all (latest h s) (commits h s) (omega arith)))
 
-    pub trees-push : (ts us : List Root) (t : Root) → us ≡ ts ++ t ∷ [] → IsNext h s c t → HasTrees h s ts → HasTrees g s us
+    pub trees-push : (ts us : List TreeValue) (t : TreeValue) → us ≡ ts ++ t ∷ [] → IsNext h s c t → HasTrees h s ts → HasTrees g s us
     trees-push ts us t is next has =
-        let size : length us ≡ length ts + 1 = ap (length {A = Root}) is ∙ length-append ts (t ∷ []) in
+        let size : length us ≡ length ts + 1 = ap (length {A = TreeValue}) is ∙ length-append ts (t ∷ []) in
         record {
           counted = omega (arith, size, has.counted, long);
           each = λ v d le. elim (cases_lt (latest h s) v) [
@@ -106,9 +106,9 @@ module _ (g h : List Entry) (s : ℕ) where
           ];
         }
 
-    pub trees-pop : (ts us : List Root) → ts ≡ take (length us - 1) us → HasTrees g s us → HasTrees h s ts
+    pub trees-pop : (ts us : List TreeValue) → ts ≡ take (length us - 1) us → HasTrees g s us → HasTrees h s ts
     trees-pop ts us is has =
-        let size : length ts ≡ latest h s + 1 = ap (length {A = Root}) is ∙ length-take-le (length us - 1) us (omega arith) ∙ omega (arith, has.counted, long) in
+        let size : length ts ≡ latest h s + 1 = ap (length {A = TreeValue}) is ∙ length-take-le (length us - 1) us (omega arith) ∙ omega (arith, has.counted, long) in
         record {
           counted = size;
           each = λ v d le.
@@ -120,7 +120,7 @@ module _ (g h : List Entry) (s : ℕ) where
 
 module _ (h g : List Entry) (streams after : List Stream) (numbers : BTreeMap ℕ ℕ) where
   module _ (id : ℕ) (is : g ≡ h ++ Create id ∷ []) where
-    pub push-create : (first : Stream) (given : BTreeMap ℕ ℕ) (t : Root) → first.id ≡ id → IsTree [] t → first.trees.items ≡ t ∷ [] → after ≡ streams ++ first ∷ [] → rejection h (Create id) ≡ None → IsIndexed h streams numbers → AreNumbers (h ++ Create id ∷ []) given → IsIndexed g after given
+    pub push-create : (first : Stream) (given : BTreeMap ℕ ℕ) (t : TreeValue) → first.id ≡ id → IsTree [] t → first.trees.items ≡ t ∷ [] → after ≡ streams ++ first ∷ [] → rejection h (Create id) ≡ None → IsIndexed h streams numbers → AreNumbers (h ++ Create id ∷ []) given → IsIndexed g after given
     push-create first given t called empty one more allowed was now =
         let size = ids-create h id in
         let counted : length after ≡ length streams + 1 = ap (length {A = Stream}) more ∙ length-append streams (first ∷ []) in
@@ -170,7 +170,7 @@ module _ (h g : List Entry) (streams after : List Stream) (numbers : BTreeMap �
           kept = λ s d low.
               let here : slice_index_or after s d ≡ slice_index_or streams s d = ap (λ l. slice_index_or l s d) fewer ∙ get_or-take (length streams - 1) streams s d (omega (arith, all.counted)) in
               subst (λ (x : Stream). HasTrees h s x.trees.items) (sym here) (trees-same h (h ++ Create id ∷ []) s _ (sym (commits-create h id s)) (all.kept s d (omega arith)));
-          legal = legal-front h (Create id ∷ []) all.legal;
+          legal = legal-prefix h (Create id ∷ []) all.legal;
         }
 
     pub pop-long : IsIndexed g streams numbers → length streams ≡ length (ids h) + 1
@@ -179,8 +179,8 @@ module _ (h g : List Entry) (streams after : List Stream) (numbers : BTreeMap �
     pub pop-numbered : IsIndexed g streams numbers → AreNumbers (h ++ Create id ∷ []) numbers
     pop-numbered was = subst (λ (l : List Entry). AreNumbers l numbers) is was.numbered
 
-  module _ (s : ℕ) (cut : List Interval) (added : List Point) (is : g ≡ h ++ Commit s cut added ∷ []) where
-    pub push-commit : (t : Root) → commit_rejection h s (record { cut = cut; added = added }) ≡ None → IsNext h s (record { cut = cut; added = added }) t → HasKept streams s t after → IsIndexed h streams numbers → IsIndexed g after numbers
+  module _ (s : ℕ) (cut : List RangeValue) (added : List Point) (is : g ≡ h ++ Commit s cut added ∷ []) where
+    pub push-commit : (t : TreeValue) → commit_rejection h s (record { cut = cut; added = added }) ≡ None → IsNext h s (record { cut = cut; added = added }) t → HasKept streams s t after → IsIndexed h streams numbers → IsIndexed g after numbers
     push-commit t allowed next keeps was =
         let c : Change = record { cut = cut; added = added } in
         let k = h ++ Commit s cut added ∷ [] in
@@ -215,7 +215,7 @@ module _ (h g : List Entry) (streams after : List Stream) (numbers : BTreeMap �
             | inl here ↦ subst (λ (n : ℕ). HasTrees h n (slice_index_or after n d).trees.items) here (trees-pop k h s c (commits-same h s cut added) _ _ (forgot.here d) (all.kept s d (omega (arith, same, here))))
             | inr other ↦ subst (HasTrees h i) (sym (forgot.others i d (λ e. other (sym e)) (omega (arith, all.counted, same)))) (trees-same h k i _ (sym (commits-other h s cut added i other)) (all.kept i d (omega (arith, same))))
           ];
-          legal = legal-front h (Commit s cut added ∷ []) all.legal;
+          legal = legal-prefix h (Commit s cut added ∷ []) all.legal;
         }
 
     -- the stream of the last commit is there

@@ -6,14 +6,14 @@ use Rattle.std.proofs.Common.{suc, refl, sym, ap, ◌∙◌, arith, inl, inr, su
 use Rattle.std.proofs.lemmas.List.{append-nil, length-append}
 use Rattle.std.proofs.lemmas.Bool.{cases_eq, eq-eqb, ne_eqb}
 use Rattle.btr_base.specs.declared.point.Point.{Point}
-use Rattle.btr_base.specs.Range.{Interval}
+use Rattle.btr_base.specs.Range.{RangeValue}
 use Rattle.btr_hist.specs.declared.entry.Entry.{Entry}
 use Rattle.btr_hist.specs.declared.entry.Entry.TheVariants.{Create, Commit}
 use Rattle.btr_hist.specs.History.{ids, stream_of}
 use Rattle.btr_hist.specs.Legal.{first_some, when, create_rejection}
 use Rattle.btr_hist.specs.declared.limits.TheConstants.{MAX_STREAMS}
 use Rattle.btr_hist.specs.declared.rejection.Rejection.TheVariants.{StreamExists, StreamLimit}
-use Rattle.btr_hist.specs.Lemmas.{ids-append}
+use Rattle.btr_hist.proofs.HistoryLemmas.{ids-append}
 use Rattle.btr_engine.proofs.BoardKeys.{put-same, put-other}
 
 -- ---- the place of a number in a list
@@ -62,10 +62,10 @@ stream-low h id n at = let low = position-low (nat_eq id) 0 (ids h) n at in omeg
 pub ids-create : (h : List Entry) (id : ℕ) → length (ids (h ++ Create id ∷ [])) ≡ length (ids h) + 1
 ids-create h id = grind (arith, ids-append h (Create id ∷ []), length-append)
 
-pub ids-commit : (h : List Entry) (s : ℕ) (cut : List Interval) (added : List Point) → ids (h ++ Commit s cut added ∷ []) ≡ ids h
+pub ids-commit : (h : List Entry) (s : ℕ) (cut : List RangeValue) (added : List Point) → ids (h ++ Commit s cut added ∷ []) ≡ ids h
 ids-commit h s cut added = ids-append h (Commit s cut added ∷ []) ∙ append-nil (ids h)
 
-pub stream-commit : (h : List Entry) (s : ℕ) (cut : List Interval) (added : List Point) (q : ℕ) → stream_of (h ++ Commit s cut added ∷ []) q ≡ stream_of h q
+pub stream-commit : (h : List Entry) (s : ℕ) (cut : List RangeValue) (added : List Point) (q : ℕ) → stream_of (h ++ Commit s cut added ∷ []) q ≡ stream_of h q
 stream-commit h s cut added q = ap (position_from (nat_eq q) 0) (ids-commit h s cut added)
 
 module _ (h : List Entry) (id : ℕ) where

@@ -5,12 +5,12 @@ use Rattle.std.proofs.lemmas.List.{take_at, drop_at, drop-drop, length-take-le, 
 use Rattle.btr_disk.specs.Gate.{zeros}
 use Rattle.btr_log.specs.declared.head.Head.{Head}
 use Rattle.btr_log.specs.Head.{content_blocks, head_bytes, IsHead}
-use Rattle.btr_log.specs.HeadLaws.{length-head_bytes, Spells-one}
+use Rattle.btr_log.proofs.HeadLemmas.{length-head_bytes, Spells-one}
 use Rattle.btr_log.specs.Extents.{IsBody}
 use Rattle.btr_hist.specs.declared.entry.Entry.{Entry}
 use Rattle.btr_entry.specs.Grammar.{spelling, IsSpelled, IsEntry}
 use Rattle.btr_engine.specs.Body.{head_of, padding, body_of}
-use Rattle.btr_engine.specs.BodyLaws.{IsBody-body_of}
+use Rattle.btr_engine.proofs.BodyLemmas.{IsBody-body_of}
 
 -- ---- zeros
 

@@ -9,11 +9,12 @@ use Rattle.std.proofs.lemmas.Bool.{lt-ltb, le-ltb}
 use Rattle.btr_base.specs.declared.point.Point.{Point}
 use Rattle.btr_base.specs.declared.domain.TheConstants.{FIRST, END}
 use Rattle.btr_base.specs.Point.{InDomain, is_not_after}
-use Rattle.btr_base.specs.Bag.{IsInOrder}
-use Rattle.btr_base.specs.Order.{count-cons, each-weaker, is_not_after-times}
+use Rattle.btr_base.specs.Bag.{IsInOrder, is_within}
+use Rattle.btr_base.proofs.ListLemmas.{count-cons, each-weaker}
+use Rattle.btr_base.proofs.PointLemmas.{is_not_after-times}
 use Rattle.btr_base.specs.Span.{width}
-use Rattle.btr_base.specs.Spans.{width-bottom}
-use Rattle.btr_base.specs.Within.{is_within, within-behind}
+use Rattle.btr_base.proofs.SpanLemmas.{width-bottom}
+use Rattle.btr_base.proofs.WithinLemmas.{within-behind}
 use Rattle.btr_tree.specs.declared.limits.TheConstants.{LEAF_POINTS, VERSION_POINTS}
 use Rattle.btr_tree.specs.Nodes.{points_of}
 use Rattle.btr_tree.specs.Crowd.{bottom, HasRoom, IsFirstCrowd}

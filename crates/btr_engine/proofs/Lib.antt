@@ -1,3 +1,4 @@
+pub mod BodyLemmas
 mod Runs
 mod Streams
 mod Allowed

@@ -6,9 +6,9 @@ use Rattle.std.proofs.lemmas.Int.{ints}
 use Rattle.std.proofs.lemmas.Bool.{lt-leb, le-ltb, le-leb, and_from, false_from_ne_true}
 use Rattle.btr_base.specs.declared.domain.TheConstants.{FIRST, END}
 use Rattle.btr_base.specs.declared.point.Point.{Point}
-use Rattle.btr_base.specs.Range.{Interval, IsRange}
+use Rattle.btr_base.specs.Range.{RangeValue, IsRange}
 use Rattle.btr_base.specs.Agg.{agg, agg_within}
-use Rattle.btr_base.specs.Within.{within-all}
+use Rattle.btr_base.proofs.WithinLemmas.{within-all}
 use Rattle.btr_tree.specs.History as tree
 use Rattle.btr_tree.specs.Nodes.{up_to}
 use Rattle.btr_tree.specs.Agree.{AgreeSince}
@@ -52,7 +52,7 @@ module _ (h : List Entry) (stream version asked : ℕ) (there : (stream < length
 
 -- the bounds are those that were asked
 module _ {a b : ℤ} (from to : ℤ) (begins : a ≡ from) (ends : b ≡ to) where
-  pub range_is : (r : Interval) → r ≡ record { from = a; to = b } → r ≡ record { from = from; to = to }
+  pub range_is : (r : RangeValue) → r ≡ record { from = a; to = b } → r ≡ record { from = from; to = to }
   range_is r is = cc
 
   pub range_good : IsRange (record { from = a; to = b }) → is_range from to ≡ true

@@ -4,23 +4,23 @@ use Rattle.std.specs.List.{AllByRecursion}
 use Rattle.std.proofs.Common.{refl, sym, ◌∙◌, ap, subst, arith, length-append}
 use Rattle.btr_disk.specs.declared.disk.Disk.{Ghosts}
 use Rattle.btr_disk.specs.Bytes.{Image, Has}
-use Rattle.btr_disk.specs.Addresses.{Same-is}
-use Rattle.btr_disk.specs.Runs.{none_written, nothing_composes}
+use Rattle.btr_disk.proofs.ByteLemmas.{Same-is}
+use Rattle.btr_disk.proofs.MomentLemmas.{none_written, nothing_composes}
 use Rattle.btr_disk.specs.Gate.{IsOpen}
 use Rattle.btr_log.specs.declared.head.Head.{Head}
 use Rattle.btr_log.specs.declared.log.Log.{Log}
 use Rattle.btr_log.specs.Log.{device, blocks_of, KeepsLog, KeepsDevice, LogWroteNothing}
 use Rattle.btr_log.specs.Extents.{need, IsExtent, Extents, first_gate}
-use Rattle.btr_log.specs.ExtentLaws.{Extents-push}
+use Rattle.btr_log.proofs.ExtentLemmas.{Extents-push}
 use Rattle.btr_log.specs.Found.{IsWholeExtent}
-use Rattle.btr_log.specs.FoundLaws.{next-IsWholeExtent, IsExtent-found}
+use Rattle.btr_log.proofs.FoundLemmas.{next-IsWholeExtent, IsExtent-found}
 use Rattle.btr_hist.specs.declared.entry.Entry.{Entry}
 use Rattle.btr_hist.specs.Legal.{rejection, Legal}
-use Rattle.btr_hist.specs.Lemmas.{legal-none, legal-push}
+use Rattle.btr_hist.proofs.HistoryLemmas.{legal-none, legal-push}
 use Rattle.btr_entry.specs.Grammar.{IsSpelled}
 use Rattle.btr_engine.specs.declared.opening.OpenCause.{OpenCause}
 use Rattle.btr_engine.specs.Body.{body_of, need_of, bodies}
-use Rattle.btr_engine.specs.BodyLaws.{need-body_of, bodies-push}
+use Rattle.btr_engine.proofs.BodyLemmas.{need-body_of, bodies-push}
 use Rattle.btr_engine.specs.Opening.{IsCause}
 use Rattle.btr_engine.proofs.Reasons.{IsStoreOf, IsReadTo, IsCause-along}
 
@@ -66,48 +66,48 @@ module _ {D : Type 0} {disk : Ghosts D} where
   }
 
   pub nothing-trans : (old mid new : Log D disk) → LogWroteNothing old mid → LogWroteNothing mid new → LogWroteNothing old new
-  nothing-trans old mid new = nothing_composes disk.calls disk.since disk.contents disk.image (device old) (device mid) (device new)
+  nothing-trans old mid new = nothing_composes disk.calls disk.images_since disk.contents disk.images_now (device old) (device mid) (device new)
 
   -- these entries are read, in so many extents, from the first gate to this one
   pub record IsRead (old new : Log D disk) (h : List Entry) (gate entries : ℕ) : Type 0 where
     pub kept : KeepsLog old new
     pub device_kept : KeepsDevice old new
-    pub unwritten : disk.tells → LogWroteNothing old new
+    pub unwritten : disk.is_observable → LogWroteNothing old new
     pub counted : entries ≡ length h
     pub ends : 2 * length h + 4 ≤ gate
     pub inside : gate < blocks_of old
     pub spelled : AllByRecursion IsSpelled h
     pub legal : Legal h
-    pub extents : disk.tells → Extents (disk.contents (device old)) first_gate (bodies h) gate
+    pub extents : disk.is_observable → Extents (disk.contents (device old)) first_gate (bodies h) gate
 
   -- none: `only_now` is the device's law
-  pub none_read : (log : Log D disk) (h : List Entry) → (disk.tells → (c : Image) → disk.since (device log) (disk.calls (device log)) c → disk.image (device log) c) → h ≡ [] → 4 < blocks_of log → IsRead log log h 4 0
+  pub none_read : (log : Log D disk) (h : List Entry) → (disk.is_observable → (c : Image) → disk.images_since (device log) (disk.calls (device log)) c → disk.images_now (device log) c) → h ≡ [] → 4 < blocks_of log → IsRead log log h 4 0
   none_read log h only_now none least = record {
     kept = record { tail = refl; blocks = refl; extents = refl; stopped = refl; faults = refl };
     device_kept = record { same_size = refl; more_calls = omega arith; more_faults = omega arith };
-    unwritten = λ tells. none_written disk.calls disk.since disk.contents disk.image (device log) (only_now tells);
+    unwritten = λ is_observable. none_written disk.calls disk.images_since disk.contents disk.images_now (device log) (only_now is_observable);
     counted = ap length (sym none);
     ends = let e : length h ≡ 0 = ap length none in omega arith;
     inside = least;
     spelled = subst (AllByRecursion IsSpelled) (sym none) tt;
     legal = subst Legal (sym none) legal-none;
-    extents = λ tells. subst (λ l. Extents (disk.contents (device log)) first_gate (bodies l) 4) (sym none) refl;
+    extents = λ is_observable. subst (λ l. Extents (disk.contents (device log)) first_gate (bodies l) 4) (sym none) refl;
   }
 
   module _ (old mid : Log D disk) (h : List Entry) (gate entries : ℕ) (so_far : IsRead old mid h gate entries) where
     pub blocks_so_far : blocks_of mid ≡ blocks_of old
     blocks_so_far = so_far.kept.blocks
 
-    pub same_so_far : disk.tells → disk.contents (device mid) ≡ disk.contents (device old)
-    same_so_far tells =
-        Same-is (disk.contents (device old)) (disk.contents (device mid)) (so_far.unwritten tells).same
+    pub same_so_far : disk.is_observable → disk.contents (device mid) ≡ disk.contents (device old)
+    same_so_far is_observable =
+        Same-is (disk.contents (device old)) (disk.contents (device mid)) (so_far.unwritten is_observable).same
 
     -- a call more
-    pub read_on : (new : Log D disk) → KeepsLog mid new → KeepsDevice mid new → (disk.tells → LogWroteNothing mid new) → IsRead old new h gate entries
+    pub read_on : (new : Log D disk) → KeepsLog mid new → KeepsDevice mid new → (disk.is_observable → LogWroteNothing mid new) → IsRead old new h gate entries
     read_on new kept device_kept unwritten = record {
       kept = KeepsLog-trans old mid new so_far.kept kept;
       device_kept = KeepsDevice-trans old mid new so_far.device_kept device_kept;
-      unwritten = λ tells. nothing-trans old mid new (so_far.unwritten tells) (unwritten tells);
+      unwritten = λ is_observable. nothing-trans old mid new (so_far.unwritten is_observable) (unwritten is_observable);
       counted = so_far.counted;
       ends = so_far.ends;
       inside = so_far.inside;
@@ -117,7 +117,7 @@ module _ {D : Type 0} {disk : Ghosts D} where
     }
 
   -- an entry more
-  pub read_more : (old mid new : Log D disk) (h : List Entry) (gate entries : ℕ) → IsRead old mid h gate entries → KeepsLog mid new → KeepsDevice mid new → (disk.tells → LogWroteNothing mid new) → (e : Entry) (more : List Entry) (next : ℕ) → IsSpelled e → more ≡ h ++ e ∷ [] → rejection h e ≡ None → next ≡ gate + need_of e → next < blocks_of mid → (disk.tells → (head : Head) × IsExtent (disk.contents (device mid)) gate (body_of (entries + 1) e) head) → IsRead old new more next (entries + 1)
+  pub read_more : (old mid new : Log D disk) (h : List Entry) (gate entries : ℕ) → IsRead old mid h gate entries → KeepsLog mid new → KeepsDevice mid new → (disk.is_observable → LogWroteNothing mid new) → (e : Entry) (more : List Entry) (next : ℕ) → IsSpelled e → more ≡ h ++ e ∷ [] → rejection h e ≡ None → next ≡ gate + need_of e → next < blocks_of mid → (disk.is_observable → (head : Head) × IsExtent (disk.contents (device mid)) gate (body_of (entries + 1) e) head) → IsRead old new more next (entries + 1)
   read_more old mid new h gate entries so_far kept device_kept unwritten e more next is pushed allowed at inside extent =
       let on = read_on old mid h gate entries so_far new kept device_kept unwritten in
       let long : length more ≡ length h + 1 = ap length pushed ∙ length-append h (e ∷ []) in
@@ -130,20 +130,20 @@ module _ {D : Type 0} {disk : Ghosts D} where
         inside = omega (arith, inside, so_far.kept.blocks);
         spelled = subst (AllByRecursion IsSpelled) (sym pushed) (spelled-push h e so_far.spelled is);
         legal = subst Legal (sym pushed) (legal-push h e so_far.legal allowed);
-        extents = λ tells.
+        extents = λ is_observable.
             let image = disk.contents (device old) in
-            let stands = extent tells in
-            let here : IsExtent image gate (body_of (length h + 1) e) stands.0 = subst (λ n. IsExtent image gate (body_of n e) stands.0) (ap (λ n. n + 1) so_far.counted) (subst (λ i. IsExtent i gate (body_of (entries + 1) e) stands.0) (same_so_far old mid h gate entries so_far tells) stands.1) in
-            subst (λ l. Extents image first_gate (bodies l) next) (sym pushed) (extents-push image gate next h e stands.0 (so_far.extents tells) here at);
+            let stands = extent is_observable in
+            let here : IsExtent image gate (body_of (length h + 1) e) stands.0 = subst (λ n. IsExtent image gate (body_of n e) stands.0) (ap (λ n. n + 1) so_far.counted) (subst (λ i. IsExtent i gate (body_of (entries + 1) e) stands.0) (same_so_far old mid h gate entries so_far is_observable) stands.1) in
+            subst (λ l. Extents image first_gate (bodies l) next) (sym pushed) (extents-push image gate next h e stands.0 (so_far.extents is_observable) here at);
       }
 
   -- why the next one is not read
-  pub cause_so_far : (old mid new : Log D disk) (h : List Entry) (gate entries : ℕ) → IsRead old mid h gate entries → KeepsDevice mid new → (cause : OpenCause) → IsCause (IsReadTo disk.tells (disk.size (device mid)) (disk.contents (device mid)) (blocks_of mid) gate h) (disk.size (device mid)) (disk.contents (device mid)) (disk.faults (device mid)) (disk.faults (device new)) cause → IsCause (disk.tells × IsStoreOf (disk.size (device old)) (disk.contents (device old)) (blocks_of old)) (disk.size (device old)) (disk.contents (device old)) (disk.faults (device old)) (disk.faults (device new)) cause
+  pub cause_so_far : (old mid new : Log D disk) (h : List Entry) (gate entries : ℕ) → IsRead old mid h gate entries → KeepsDevice mid new → (cause : OpenCause) → IsCause (IsReadTo disk.is_observable (disk.size (device mid)) (disk.contents (device mid)) (blocks_of mid) gate h) (disk.size (device mid)) (disk.contents (device mid)) (disk.faults (device mid)) (disk.faults (device new)) cause → IsCause (disk.is_observable × IsStoreOf (disk.size (device old)) (disk.contents (device old)) (blocks_of old)) (disk.size (device old)) (disk.contents (device old)) (disk.faults (device old)) (disk.faults (device new)) cause
   cause_so_far old mid new h gate entries so_far device_kept cause is =
       let d0 = device old in
       let d1 = device mid in
       let same = same_so_far old mid h gate entries so_far in
-      IsCause-along (IsReadTo disk.tells (disk.size d1) (disk.contents d1) (blocks_of mid) gate h) (disk.tells × IsStoreOf (disk.size d0) (disk.contents d0) (blocks_of old))
+      IsCause-along (IsReadTo disk.is_observable (disk.size d1) (disk.contents d1) (blocks_of mid) gate h) (disk.is_observable × IsStoreOf (disk.size d0) (disk.contents d0) (blocks_of old))
       (disk.size d1) (disk.size d0) (disk.contents d1) (disk.contents d0) (disk.faults d0) (disk.faults d1) (disk.faults (device new)) (disk.faults (device new)) cause
       (λ r. (
         r.0,

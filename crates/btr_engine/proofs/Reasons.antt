@@ -9,10 +9,10 @@ use Rattle.btr_log.specs.declared.found.ExtentFault.{ExtentFault}
 use Rattle.btr_log.specs.declared.found.ExtentFault.TheVariants as log
 use Rattle.btr_log.specs.Extents.{need, IsExtent, Extents, first_gate}
 use Rattle.btr_log.specs.Found.{IsWholeExtent, IsDamagedExtent, FindCause}
-use Rattle.btr_log.specs.FoundLaws.{next-IsWholeExtent, IsExtent-found}
+use Rattle.btr_log.proofs.FoundLemmas.{next-IsWholeExtent, IsExtent-found}
 use Rattle.btr_super.specs.declared.superblock.Super.{Super}
 use Rattle.btr_super.specs.Choose.{IsChosen, HasNoSuper, IsDamagedSuper}
-use Rattle.btr_super.specs.Unwritten.{CausesFault}
+use Rattle.btr_disk.specs.Causes.{CausesFault}
 use Rattle.btr_super.specs.declared.choosing.ChooseFault.{ChooseFault}
 use Rattle.btr_super.specs.declared.choosing.ChooseFault.TheVariants as chosen
 use Rattle.btr_hist.specs.declared.entry.Entry.{Entry}
@@ -22,7 +22,7 @@ use Rattle.btr_entry.specs.Grammar.{IsSpelled}
 use Rattle.btr_engine.specs.declared.opening.OpenCause.{OpenCause}
 use Rattle.btr_engine.specs.declared.opening.OpenCause.TheVariants.{NotAStore, Damaged, Fault, Want}
 use Rattle.btr_engine.specs.Body.{body_of, bodies}
-use Rattle.btr_engine.specs.BodyLaws.{need-body_of}
+use Rattle.btr_engine.proofs.BodyLemmas.{need-body_of}
 use Rattle.btr_engine.specs.Damage.{IsNoEntryBody, IsDamagedEntry, IsDamagedLog, IsDamaged}
 use Rattle.btr_engine.specs.Opening.{IsCause}
 
@@ -32,8 +32,8 @@ IsStoreOf size image blocks = (s : Super) × IsChosen size image s × (s.blocks 
 
 -- what was read of the log so far
 abbrev pub IsReadTo : Type 0 → ℕ → Image → ℕ → ℕ → List Entry → Type 0
-IsReadTo tells size image blocks gate h =
-    tells × AllByRecursion IsSpelled h × Extents image first_gate (bodies h) gate × IsStoreOf size image blocks
+IsReadTo is_observable size image blocks gate h =
+    is_observable × AllByRecursion IsSpelled h × Extents image first_gate (bodies h) gate × IsStoreOf size image blocks
 
 module _ (size : ℕ) (image : Image) (blocks gate : ℕ) (h : List Entry) where
   -- the next extent is damaged in this block
@@ -72,9 +72,9 @@ module _ (size : ℕ) (image : Image) (blocks gate : ℕ) (h : List Entry) where
           first = refl;
         }))
 
-module _ (tells read : Type 0) (size : ℕ) (image : Image) (blocks gate before after : ℕ) (told : read → tells) (damages : read → (block : ℕ) → IsDamagedExtent image blocks gate block → IsDamaged size image block) where
+module _ (is_observable read : Type 0) (size : ℕ) (image : Image) (blocks gate before after : ℕ) (told : read → is_observable) (damages : read → (block : ℕ) → IsDamagedExtent image blocks gate block → IsDamaged size image block) where
   -- the log's fault as an opening's
-  pub cause_along : (fault : ExtentFault) (cause : OpenCause) → ((block : ℕ) → fault ≡ log.Damaged block → cause ≡ Damaged block) → (fault ≡ log.Fault → cause ≡ Fault) → (fault ≡ log.Want → cause ≡ Want) → FindCause tells image blocks gate before after fault → IsCause read size image before after cause
+  pub cause_along : (fault : ExtentFault) (cause : OpenCause) → ((block : ℕ) → fault ≡ log.Damaged block → cause ≡ Damaged block) → (fault ≡ log.Fault → cause ≡ Fault) → (fault ≡ log.Want → cause ≡ Want) → FindCause is_observable image blocks gate before after fault → IsCause read size image before after cause
   cause_along (log.Damaged block) cause damaged faulty wanting is =
       subst (IsCause read size image before after) (sym (damaged block refl)) (λ r. damages r block (is (told r)))
   cause_along log.Fault cause damaged faulty wanting is =
@@ -83,19 +83,19 @@ module _ (tells read : Type 0) (size : ℕ) (image : Image) (blocks gate before 
       subst (IsCause read size image before after) (sym (wanting refl)) tt
 
 -- a fault of choosing as an opening's
-pub choice_along : (tells : Type 0) (size : ℕ) (image : Image) (before after : ℕ) (result : Result Super ChooseFault) → CausesFault before after (result ≡ Err chosen.Fault) → (tells → (result ≡ Err chosen.Fault → ⊥) → (result ≡ Err chosen.NotAStore) ↔ HasNoSuper size image) → (tells → (result ≡ Err chosen.Fault → ⊥) → (block : ℕ) → (result ≡ Err (chosen.Damaged block)) ↔ IsDamagedSuper size image block) → (fault : ChooseFault) (cause : OpenCause) → result ≡ Err fault → (fault ≡ chosen.NotAStore → cause ≡ NotAStore) → ((block : ℕ) → fault ≡ chosen.Damaged block → cause ≡ Damaged block) → (fault ≡ chosen.Fault → cause ≡ Fault) → IsCause tells size image before after cause
-choice_along tells size image before after result causes none damaged chosen.NotAStore cause is none_is damaged_is fault_is =
-    subst (IsCause tells size image before after) (sym (none_is refl)) (λ told. (none told (λ other. cc)).0 is)
-choice_along tells size image before after result causes none damaged (chosen.Damaged block) cause is none_is damaged_is fault_is =
-    subst (IsCause tells size image before after) (sym (damaged_is block refl)) (λ told. inl ((damaged told (λ other. cc) block).0 is))
-choice_along tells size image before after result causes none damaged chosen.Fault cause is none_is damaged_is fault_is =
-    subst (IsCause tells size image before after) (sym (fault_is refl)) (causes.rose is)
+pub choice_along : (is_observable : Type 0) (size : ℕ) (image : Image) (before after : ℕ) (result : Result Super ChooseFault) → CausesFault before after (result ≡ Err chosen.Fault) → (is_observable → (result ≡ Err chosen.Fault → ⊥) → (result ≡ Err chosen.NotAStore) ↔ HasNoSuper size image) → (is_observable → (result ≡ Err chosen.Fault → ⊥) → (block : ℕ) → (result ≡ Err (chosen.Damaged block)) ↔ IsDamagedSuper size image block) → (fault : ChooseFault) (cause : OpenCause) → result ≡ Err fault → (fault ≡ chosen.NotAStore → cause ≡ NotAStore) → ((block : ℕ) → fault ≡ chosen.Damaged block → cause ≡ Damaged block) → (fault ≡ chosen.Fault → cause ≡ Fault) → IsCause is_observable size image before after cause
+choice_along is_observable size image before after result causes none damaged chosen.NotAStore cause is none_is damaged_is fault_is =
+    subst (IsCause is_observable size image before after) (sym (none_is refl)) (λ told. (none told (λ other. cc)).0 is)
+choice_along is_observable size image before after result causes none damaged (chosen.Damaged block) cause is none_is damaged_is fault_is =
+    subst (IsCause is_observable size image before after) (sym (damaged_is block refl)) (λ told. inl ((damaged told (λ other. cc) block).0 is))
+choice_along is_observable size image before after result causes none damaged chosen.Fault cause is none_is damaged_is fault_is =
+    subst (IsCause is_observable size image before after) (sym (fault_is refl)) (causes.rose is)
 
 -- an opening's cause, where less is known, and of a longer run on a device with the same bytes
-pub IsCause-along : (tells read : Type 0) (size other : ℕ) (image new : Image) (begin before after end : ℕ) (cause : OpenCause) → (read → tells) → (read → (size ≡ other) × (image ≡ new)) → begin ≤ before → after ≤ end → IsCause tells size image before after cause → IsCause read other new begin end cause
-IsCause-along tells read size other image new begin before after end NotAStore told same low high is =
+pub IsCause-along : (is_observable read : Type 0) (size other : ℕ) (image new : Image) (begin before after end : ℕ) (cause : OpenCause) → (read → is_observable) → (read → (size ≡ other) × (image ≡ new)) → begin ≤ before → after ≤ end → IsCause is_observable size image before after cause → IsCause read other new begin end cause
+IsCause-along is_observable read size other image new begin before after end NotAStore told same low high is =
     λ r. subst (HasNoSuper other) (same r).1 (subst (λ n. HasNoSuper n image) (same r).0 (is (told r)))
-IsCause-along tells read size other image new begin before after end (Damaged block) told same low high is =
+IsCause-along is_observable read size other image new begin before after end (Damaged block) told same low high is =
     λ r. subst (λ i. IsDamaged other i block) (same r).1 (subst (λ n. IsDamaged n image block) (same r).0 (is (told r)))
-IsCause-along tells read size other image new begin before after end Fault told same low high is = omega (arith, is)
-IsCause-along tells read size other image new begin before after end Want told same low high is = tt
+IsCause-along is_observable read size other image new begin before after end Fault told same low high is = omega (arith, is)
+IsCause-along is_observable read size other image new begin before after end Want told same low high is = tt

@@ -4,7 +4,7 @@ use Rattle.std.proofs.Common.{sym, ◌∙◌, ap, subst, arith, length-append, a
 use Rattle.std.proofs.lemmas.List.{take_all, replicate-append-replicate}
 use Rattle.btr_disk.specs.Gate.{zeros}
 use Rattle.btr_log.specs.Head.{content_blocks, head_bytes}
-use Rattle.btr_log.specs.HeadLaws.{length-head_bytes}
+use Rattle.btr_log.proofs.HeadLemmas.{length-head_bytes}
 use Rattle.btr_hist.specs.declared.entry.Entry.{Entry}
 use Rattle.btr_entry.specs.Grammar.{spelling}
 use Rattle.btr_engine.specs.Body.{head_of, padding, body_of}
@@ -23,9 +23,9 @@ assembled number e content written run size filled is written_is size_is filled_
     let head = head_bytes (head_of number (length content)) in
     let pad = zeros (padding (length content)) in
     let long : length written ≡ 64 + length content = omega (arith, ap length written_is, length-append head content, length-head_bytes (head_of number (length content))) in
-    let front : take size written ≡ head ++ content = take_all size written (omega arith) ∙ written_is in
+    let prefix : take size written ≡ head ++ content = take_all size written (omega arith) ∙ written_is in
     let behind : replicate (size - filled) 0 ≡ pad ++ zeros 4096 = zeros_behind (length content) (size - filled) (omega arith) in
-    let whole : run ≡ (head ++ content) ++ (pad ++ zeros 4096) = run_is ∙ ap (λ l. l ++ replicate (size - filled) 0) front ∙ ap (λ l. (head ++ content) ++ l) behind in
+    let whole : run ≡ (head ++ content) ++ (pad ++ zeros 4096) = run_is ∙ ap (λ l. l ++ replicate (size - filled) 0) prefix ∙ ap (λ l. (head ++ content) ++ l) behind in
     let pieces : (head ++ content) ++ (pad ++ zeros 4096) ≡ (head ++ (content ++ pad)) ++ zeros 4096 =
     sym (append_assoc (head ++ content) pad (zeros 4096)) ∙ ap (λ l. l ++ zeros 4096) (append_assoc head content pad) in
     subst (λ l. run ≡ (head_bytes (head_of number (length l)) ++ (l ++ zeros (padding (length l)))) ++ zeros 4096) is (whole ∙ pieces)

@@ -5,22 +5,21 @@ use Rattle.std.proofs.Common.{suc, refl, sym, ◌∙◌, ap, subst, arith, ⊎_e
 use Rattle.std.proofs.lemmas.List.{append-nil}
 use Rattle.btr_disk.specs.Bytes.{Image, Has}
 use Rattle.btr_disk.specs.Gate.{IsOpen, IsClosed}
-use Rattle.btr_disk.specs.Addresses.{Has-one}
-use Rattle.btr_disk.specs.Pieces.{Has-take}
+use Rattle.btr_disk.proofs.ByteLemmas.{Has-one, Has-take}
 use Rattle.btr_log.specs.declared.head.Head.{Head}
 use Rattle.btr_log.specs.Head.{head_bytes}
-use Rattle.btr_log.specs.HeadLaws.{length-head_bytes, head_bytes-one}
+use Rattle.btr_log.proofs.HeadLemmas.{length-head_bytes, head_bytes-one}
 use Rattle.btr_log.specs.Extents.{need, IsExtent, Extents, first_gate}
-use Rattle.btr_log.specs.ExtentLaws.{IsBody-one, IsBody-blocks, Extents-le, Extents-one}
+use Rattle.btr_log.proofs.ExtentLemmas.{IsBody-one, IsBody-blocks, Extents-le, Extents-one}
 use Rattle.btr_log.specs.Found.{SpellsAt, IsDamagedExtent}
 use Rattle.btr_super.specs.declared.superblock.Super.{Super}
-use Rattle.btr_super.specs.OneChosen.{one_chosen, chosen_not_none, chosen_not_damaged}
+use Rattle.btr_super.proofs.ChoiceLemmas.{one_chosen, chosen_not_none, chosen_not_damaged}
 use Rattle.btr_hist.specs.declared.entry.Entry.{Entry}
 use Rattle.btr_hist.specs.Legal.{rejection, Legal}
-use Rattle.btr_hist.specs.Lemmas.{legal-front, legal-last}
+use Rattle.btr_hist.proofs.HistoryLemmas.{legal-prefix, legal-last}
 use Rattle.btr_entry.specs.Grammar.{IsSpelled}
 use Rattle.btr_engine.specs.Body.{body_of, need_of, bodies_from, bodies}
-use Rattle.btr_engine.specs.BodyLaws.{need-body_of, body_of-one}
+use Rattle.btr_engine.proofs.BodyLemmas.{need-body_of, body_of-one}
 use Rattle.btr_engine.specs.Stands.{StandsTo, Stands}
 use Rattle.btr_engine.specs.Damage.{IsRefusedExtent, IsDamagedEntry, IsDamagedLog, IsDamaged}
 use Rattle.btr_engine.specs.Laws.{OneHistoryStands, WhatStandsIsSound}
@@ -115,7 +114,7 @@ walk_sound image blocks block gate number before [] (f ∷ k) tail other at few 
 walk_sound image blocks block gate number before (e ∷ h) [] tail other at few all all_too legal x closed inside y damage =
     let le = Extents-le image (gate + need (body_of number e)) (bodies_from (suc number) h) tail x.1 in
     let here = subst (λ g. IsDamagedEntry image blocks g before block) (sym y) (subst (λ l. IsDamagedEntry image blocks other l block) (append-nil before) damage) in
-    let allowed = legal-last before e (legal-front (before ++ e ∷ []) h (subst Legal (sym (append_assoc before (e ∷ []) h)) legal)) in
+    let allowed = legal-last before e (legal-prefix (before ++ e ∷ []) h (subst Legal (sym (append_assoc before (e ∷ []) h)) legal)) in
     let extent = subst (λ n. IsExtent image gate (body_of n e) x.0.0) at x.0.1 in
     entry_sound image blocks gate block before e x.0.0 (omega (arith, at, few)) all.0 allowed extent (omega (arith, le, inside, need-body_of number e)) here
 walk_sound image blocks block gate number before (e ∷ h) (f ∷ k) tail other at few all all_too legal x closed inside y damage =

@@ -1,33 +1,33 @@
 -- Where a history stands: along images that agree, and with one entry more.
 use Rattle.std.specs.Prelude.{◌≡◌, ℕ, ◌+◌, ◌-◌, ◌*◌, ◌<◌, ◌≤◌, List, [], ◌∷◌, ◌++◌, length, None}
 use Rattle.std.proofs.Common.{sym, ◌∙◌, ap, subst, inl, inr, ⊎_elim, arith}
-use Rattle.btr_base.specs.Order.{each-append}
+use Rattle.btr_base.proofs.ListLemmas.{each-append}
 use Rattle.btr_disk.specs.Bytes.{Image, Same}
 use Rattle.btr_disk.specs.Gate.{IsClosed}
-use Rattle.btr_disk.specs.Addresses.{Has-along}
+use Rattle.btr_disk.proofs.ByteLemmas.{Has-along}
 use Rattle.btr_log.specs.Extents.{need, Extents, IsLog, first_gate}
-use Rattle.btr_log.specs.ExtentLaws.{IsOpen-along, Extents-le, IsLog-Same}
+use Rattle.btr_log.proofs.ExtentLemmas.{IsOpen-along, Extents-le, IsLog-Same}
 use Rattle.btr_log.specs.Append.{IsMoment}
 use Rattle.btr_super.specs.declared.superblock.Super.{Super}
 use Rattle.btr_super.specs.Super.{super_bytes}
-use Rattle.btr_super.specs.SuperBytes.{length-super_bytes}
+use Rattle.btr_super.proofs.SuperLemmas.{length-super_bytes}
 use Rattle.btr_super.specs.Choose.{HasSuper, IsChosen}
 use Rattle.btr_hist.specs.declared.entry.Entry.{Entry}
 use Rattle.btr_hist.specs.Legal.{rejection}
-use Rattle.btr_hist.specs.Lemmas.{legal-push}
+use Rattle.btr_hist.proofs.HistoryLemmas.{legal-push}
 use Rattle.btr_entry.specs.Grammar.{IsSpelled}
 use Rattle.btr_engine.specs.Body.{body_of, need_of, bodies}
-use Rattle.btr_engine.specs.BodyLaws.{bodies-push, need-body_of}
+use Rattle.btr_engine.proofs.BodyLemmas.{bodies-push, need-body_of}
 use Rattle.btr_engine.specs.Stands.{StandsTo}
 use Rattle.btr_engine.specs.Step.{IsBeforeOrAfter}
 
 -- ---- the superblocks, which stand in the first four blocks
 
 -- two images agree on the first four blocks
-abbrev pub AgreeInFront : Image → Image → Type 0
-AgreeInFront old new = (k : ℕ) → k < 16384 → new k ≡ old k
+abbrev pub AgreeInPrefix : Image → Image → Type 0
+AgreeInPrefix old new = (k : ℕ) → k < 16384 → new k ≡ old k
 
-HasSuper-along : (size : ℕ) (old new : Image) (s : Super) → AgreeInFront old new → HasSuper size old s → HasSuper size new s
+HasSuper-along : (size : ℕ) (old new : Image) (s : Super) → AgreeInPrefix old new → HasSuper size old s → HasSuper size new s
 HasSuper-along size old new s agree has =
     let side : s.side ≤ 1 = has.spelled.keeps.has_side in
     record {
@@ -39,7 +39,7 @@ HasSuper-along size old new s agree has =
       };
     }
 
-IsChosen-along : (size : ℕ) (old new : Image) (s : Super) → AgreeInFront old new → IsChosen size old s → IsChosen size new s
+IsChosen-along : (size : ℕ) (old new : Image) (s : Super) → AgreeInPrefix old new → IsChosen size old s → IsChosen size new s
 IsChosen-along size old new s agree chosen = record {
   stands = HasSuper-along size old new s agree chosen.stands;
   newest = λ opened.
@@ -62,14 +62,14 @@ tails-push first second gate (f ∷ list) body tail other x y =
     tails-push first second (gate + need f) list body tail other x.1 y.1
 
 module _ (size : ℕ) (old : Image) (blocks tail : ℕ) (h : List Entry) (at : StandsTo size old blocks tail h) where
-  behind_front : 4 ≤ tail
-  behind_front = Extents-le old first_gate (bodies h) tail at.extents
+  behind_prefix : 4 ≤ tail
+  behind_prefix = Extents-le old first_gate (bodies h) tail at.extents
 
   -- all below the tail is as it was, and behind it is the log of the same entries
   stands_as_before : (new : Image) → ((k : ℕ) → k < 4096 * tail → new k ≡ old k) → IsLog new first_gate (bodies h) → StandsTo size new blocks tail h
   stands_as_before new below log =
       let same : log.0 ≡ tail = tails-one new old first_gate (bodies h) log.0 tail log.1 at.extents in
-      let front : 4 ≤ tail = behind_front in
+      let prefix : 4 ≤ tail = behind_prefix in
       record {
         super = at.super;
         chosen = IsChosen-along size old new at.super (λ k lt. below k (omega arith)) at.chosen;
@@ -92,7 +92,7 @@ module _ (size : ℕ) (old : Image) (blocks tail : ℕ) (h : List Entry) (at : S
     stands_with new below log =
         let body = body_of (length h + 1) e in
         let end : log.0 ≡ tail + need_of e = tails-push old new first_gate (bodies h) body tail log.0 at.extents log.1 ∙ ap (λ n. tail + n) (need-body_of (length h + 1) e) in
-        let front : 4 ≤ tail = behind_front in
+        let prefix : 4 ≤ tail = behind_prefix in
         record {
           super = at.super;
           chosen = IsChosen-along size old new at.super (λ k lt. below k (omega arith)) at.chosen;

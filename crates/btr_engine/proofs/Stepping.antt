@@ -7,11 +7,12 @@ use Rattle.std.proofs.Math.Nat.{ℕ_set}
 use mathlib.Core.HLevel.{is_prop→PathP}
 use Rattle.btr_disk.specs.declared.disk.Disk.{Ghosts}
 use Rattle.btr_disk.specs.Bytes.{Image, Same}
-use Rattle.btr_disk.specs.Gate.{zeros, length-zeros}
-use Rattle.btr_disk.specs.Runs.{begins}
+use Rattle.btr_disk.specs.Gate.{zeros}
+use Rattle.btr_disk.proofs.GateLemmas.{length-zeros}
+use Rattle.btr_disk.proofs.MomentLemmas.{begins}
 use Rattle.btr_log.specs.Extents.{need}
 use Rattle.btr_log.specs.Append as append
-use Rattle.btr_log.specs.AppendLaws.{body_of-append, IsAppendRun-from}
+use Rattle.btr_log.proofs.AppendLemmas.{body_of-append, IsAppendRun-from}
 use Rattle.btr_log.specs.Log as log
 use Rattle.btr_hist.specs.declared.entry.Entry.{Entry}
 use Rattle.btr_hist.specs.declared.entry.Entry.TheVariants.{Create, Commit}
@@ -25,7 +26,7 @@ use Rattle.btr_engine.specs.declared.step.StepFault.TheVariants as step
 use Rattle.btr_engine.specs.declared.board.PushFault.{PushFault}
 use Rattle.btr_engine.specs.declared.board.PushFault.TheVariants.{Rejected, Want}
 use Rattle.btr_engine.specs.Body.{body_of, head_of, need_of, bodies}
-use Rattle.btr_engine.specs.BodyLaws.{length-body_of, IsBody-body_of, need-body_of}
+use Rattle.btr_engine.proofs.BodyLemmas.{length-body_of, IsBody-body_of, need-body_of}
 use Rattle.btr_engine.specs.Engine.{device, history_of, blocks_of, tail_of, is_stopped, IsAtRest, EngineLeaves}
 use Rattle.btr_engine.specs.Push.{PushCause, step_fault}
 use Rattle.btr_engine.specs.Stands.{Stands}
@@ -107,9 +108,9 @@ module _ {D : Type 0} {disk : Ghosts D} where
   }
 
   -- no call of the device was made: `only_now` is its law
-  pub no_moment : (engine : Engine D disk) (e : Entry) → ((c : Image) → disk.since (device engine) (disk.calls (device engine)) c → disk.image (device engine) c) → IsAtRest engine → EngineLeaves engine engine (IsBeforeOrAfter (disk.size (device engine)) (history_of engine) e)
+  pub no_moment : (engine : Engine D disk) (e : Entry) → ((c : Image) → disk.images_since (device engine) (disk.calls (device engine)) c → disk.images_now (device engine) c) → IsAtRest engine → EngineLeaves engine engine (IsBeforeOrAfter (disk.size (device engine)) (history_of engine) e)
   no_moment engine e only_now rest =
-      begins disk.calls disk.since (device engine) (IsBeforeOrAfter (disk.size (device engine)) (history_of engine) e) (λ c now. inl (stands_in engine rest c (rest.only.each c (only_now c now))))
+      begins disk.calls disk.images_since (device engine) (IsBeforeOrAfter (disk.size (device engine)) (history_of engine) e) (λ c now. inl (stands_in engine rest c (rest.only.each c (only_now c now))))
 
   -- the entry was not added to the history
   pub not_pushed : (old new : Engine D disk) (e copy : Entry) (fault : PushFault) (answer : Result Receipt StepFault) → IsErr answer × IsErrAnd answer (λ f. f ≡ step_fault fault) → IsFalse (is_stopped old) → copy ≡ e → PushCause (rejection (history_of old) copy) fault → new ≡ old → IfErr answer (StepCause old new e)

@@ -5,11 +5,10 @@ use Rattle.btr_disk.specs.declared.disk.Disk.{Ghosts}
 use Rattle.btr_disk.specs.Bytes.{Image, Same}
 use Rattle.btr_disk.specs.Causes.{Counted}
 use Rattle.btr_disk.specs.Images.{Only}
-use Rattle.btr_disk.specs.Moments.{Elapses, WroteNothing}
-use Rattle.btr_disk.specs.Addresses.{Same-trans, Same-sym, Same-is}
-use Rattle.btr_disk.specs.ImageSets.{Only-along}
-use Rattle.btr_disk.specs.Runs.{begins, goes_on, composes, weakens}
-use Rattle.btr_super.specs.Unwritten.{IsUnwritten}
+use Rattle.btr_disk.specs.Moments.{Elapses, WroteNothing, IsUnwritten}
+use Rattle.btr_disk.proofs.ByteLemmas.{Same-trans, Same-sym, Same-is}
+use Rattle.btr_disk.proofs.ImageLemmas.{Only-along}
+use Rattle.btr_disk.proofs.MomentLemmas.{begins, goes_on, composes, weakens}
 use Rattle.btr_engine.specs.Opening.{IsFirst, SyncedFirst}
 
 -- after a sync that succeeded a crash leaves what it might have left before
@@ -47,7 +46,7 @@ module _ {D : Type 0} (disk : Ghosts D) (old mid new : D) (synced : ℕ) where
   first_on first later = record { counted = first.counted; past = omega (arith, first.past, later) }
 
   -- a crash since the sync left what a read gives, and still does where nothing was written since
-  pub synced_on : SyncedFirst disk old mid synced → Only (disk.contents mid) (disk.image mid) → WroteNothing disk.calls disk.contents disk.image disk.since mid new → SyncedFirst disk old new synced
+  pub synced_on : SyncedFirst disk old mid synced → Only (disk.contents mid) (disk.images_now mid) → WroteNothing disk.calls disk.contents disk.images_now disk.images_since mid new → SyncedFirst disk old new synced
   synced_on so_far only nothing =
       let back : Same (disk.contents new) (disk.contents mid) = Same-sym (disk.contents mid) (disk.contents new) nothing.same in
       record {

@@ -3,7 +3,7 @@ use Rattle.std.specs.Prelude.{◌≡◌, ℕ, ◌+◌, ◌<◌, ◌≤◌, List,
 use Rattle.std.specs.Ordering.{nat_cmp}
 use Rattle.std.specs.BTreeMap.{BTreeMap, get}
 use Rattle.btr_tree.specs.History as tree
-use Rattle.btr_tree.specs.Root.{Root, IsTree}
+use Rattle.btr_tree.specs.Root.{TreeValue, IsTree}
 use Rattle.btr_hist.specs.declared.entry.Entry.{Entry}
 use Rattle.btr_hist.specs.Commit.{Change}
 use Rattle.btr_hist.specs.History.{ids, stream_of, commits, latest}
@@ -25,9 +25,9 @@ abbrev pub commits_to : List Entry → ℕ → ℕ → List tree.Commit
 commits_to h stream version = newest_first 0 [] (take version (commits h stream))
 
 -- the trees of a stream's versions, from version 0 on
-pub record HasTrees (h : List Entry) (stream : ℕ) (trees : List Root) : Type 0 where
+pub record HasTrees (h : List Entry) (stream : ℕ) (trees : List TreeValue) : Type 0 where
   pub counted : length trees ≡ latest h stream + 1
-  pub each : (version : ℕ) (d : Root) → version ≤ latest h stream → IsTree (commits_to h stream version) (slice_index_or trees version d)
+  pub each : (version : ℕ) (d : TreeValue) → version ≤ latest h stream → IsTree (commits_to h stream version) (slice_index_or trees version d)
 
 -- what is kept is that of the entries, each of which is allowed after those before it
 pub record IsIndexed (h : List Entry) (streams : List Stream) (numbers : BTreeMap ℕ ℕ) : Type 0 where

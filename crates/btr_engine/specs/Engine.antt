@@ -5,7 +5,7 @@ use Rattle.btr_disk.specs.declared.disk.Disk.{Ghosts}
 use Rattle.btr_disk.specs.Bytes.{Image}
 use Rattle.btr_disk.specs.Images.{Only}
 use Rattle.btr_disk.specs.Moments.{Leaves}
-use Rattle.btr_log.specs.Counts.{KeepsCounts}
+use Rattle.btr_disk.specs.Causes.{KeepsCounts}
 use Rattle.btr_log.specs.Extents.{left}
 use Rattle.btr_log.specs.Log as log
 use Rattle.btr_hist.specs.declared.entry.Entry.{Entry}
@@ -52,21 +52,21 @@ module _ {D : Type 0} {disk : Ghosts D} where
   -- the history stands on the device as it reads, and a crash leaves nothing else
   pub record IsAtRest (e : Engine D disk) : Type 0 where
     pub stands : StandsTo (disk.size (device e)) (disk.contents (device e)) (blocks_of e) (tail_of e) (history_of e)
-    pub only : Only (disk.contents (device e)) (disk.image (device e))
+    pub only : Only (disk.contents (device e)) (disk.images_now (device e))
 
   -- a crash at any moment between the two leaves an image that has P
   abbrev pub EngineLeaves : Engine D disk → Engine D disk → (Image → Type 0) → Type 0
-  EngineLeaves old new P = Leaves disk.calls disk.since (device old) (device new) P
+  EngineLeaves old new P = Leaves disk.calls disk.images_since (device old) (device new) P
 
   -- What a crash may have left since the engine was opened, and what it may leave now: the engine's history, of the moments
-  -- before any front of it that holds the entries of the opening. Where the engine is stopped it may be the history with one
+  -- before any prefix of it that holds the entries of the opening. Where the engine is stopped it may be the history with one
   -- entry more, the one whose step stopped it.
   pub record IsDurable (e : Engine D disk) (more : List Entry) : Type 0 where
     pub one : length more ≤ 1
     pub runs : is_stopped e ≡ false → more ≡ []
-    pub since : (c : Image) → disk.since (device e) (calls_at e) c
+    pub since : (c : Image) → disk.images_since (device e) (calls_at e) c
         → (n : ℕ) × (entries_at e ≤ n) × Stands (disk.size (device e)) c (take n (history_of e ++ more))
-    pub now : (c : Image) → disk.image (device e) c
+    pub now : (c : Image) → disk.images_now (device e) c
         → Stands (disk.size (device e)) c (history_of e) ⊎ Stands (disk.size (device e)) c (history_of e ++ more)
 
   -- the three numbers of the opening and the store's blocks stay, and the device is the same one

@@ -1,6 +1,5 @@
 -- the bytes of an entry's extent
 pub mod Body
-pub mod BodyLaws
 -- which history stands on a device, and what breaks its format
 pub mod Stands
 pub mod Damage

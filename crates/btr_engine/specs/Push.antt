@@ -1,6 +1,6 @@
 -- What adding an entry to a board promises: why an entry is not added, and which tree a commit makes.
 use Rattle.std.specs.Prelude.{◌≡◌, ℕ, ◌+◌, ◌-◌, ◌<◌, List, [], ◌∷◌, ◌++◌, length, take, slice_index_or, Option, Some}
-use Rattle.btr_tree.specs.Root.{Root, IsTree}
+use Rattle.btr_tree.specs.Root.{TreeValue, IsTree}
 use Rattle.btr_hist.specs.declared.entry.Entry.{Entry}
 use Rattle.btr_hist.specs.declared.rejection.Rejection.{Rejection}
 use Rattle.btr_hist.specs.Commit.{Change}
@@ -18,7 +18,7 @@ PushCause rejection (Rejected why) = rejection ≡ Some why
 PushCause rejection Want = Unit {0}
 
 -- the tree of the version that a commit makes
-abbrev pub IsNext : List Entry → ℕ → Change → Root → Type 0
+abbrev pub IsNext : List Entry → ℕ → Change → TreeValue → Type 0
 IsNext h stream c t =
     IsTree (record { version = latest h stream + 1; cut = c.cut; added = c.added } ∷ commits_to h stream (latest h stream)) t
 
@@ -34,7 +34,7 @@ pub record SameTrees (old new : List Stream) : Type 0 where
   pub each : (i : ℕ) (d : Stream) → i < length old → (slice_index_or new i d).trees.items ≡ (slice_index_or old i d).trees.items
 
 -- one stream has this tree more, and each other one the trees that it had
-pub record HasKept (old : List Stream) (stream : ℕ) (tree : Root) (new : List Stream) : Type 0 where
+pub record HasKept (old : List Stream) (stream : ℕ) (tree : TreeValue) (new : List Stream) : Type 0 where
   pub counted : length new ≡ length old
   pub ids : SameIds old new
   pub here : (d : Stream) → (slice_index_or new stream d).trees.items ≡ (slice_index_or old stream d).trees.items ++ tree ∷ []

@@ -2,7 +2,7 @@
 ghost use Rattle.std.specs.Prelude.{◌≡◌, ℕ, ◌+◌, ◌<◌, ◌≤◌, List, [], ◌∷◌, ◌++◌, length, slice_index_or, IfOk, IfErr, IfSome, IsNone, OnOk, OnErr, None, Some};
 ghost use Rattle.btr_base.specs.declared.point.Point.{Point};
 ghost use Rattle.btr_base.specs.Bag.{IsInOrder};
-ghost use Rattle.btr_tree.specs.Root.{Root, IsTree, IsTreeFault, AreInDomain};
+ghost use Rattle.btr_tree.specs.Root.{TreeValue, IsTree, IsTreeFault, AreInDomain};
 ghost use Rattle.btr_hist.specs.declared.entry.Entry.{Entry as AnEntry};
 ghost use Rattle.btr_hist.specs.declared.entry.Entry.TheVariants.{Create as ACreate, Commit as ACommit};
 ghost use Rattle.btr_hist.specs.History.{ids, stream_of, latest};
@@ -209,7 +209,7 @@ impl Board {
 
 /// A stream at version 0.
 fn first_version(alloc: Global, id: u128) -> Result<Stream, AllocError>
-    ensures { IfOk result (λ s. (s.id ≡ id) × ((t : Root) × IsTree [] t × (s.trees.items ≡ t ∷ []))) }
+    ensures { IfOk result (λ s. (s.id ≡ id) × ((t : TreeValue) × IsTree [] t × (s.trees.items ≡ t ∷ []))) }
 {
     let mut trees = Vec::new(alloc);
     trees.push(Tree::empty())?;

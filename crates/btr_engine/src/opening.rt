@@ -5,13 +5,13 @@ ghost use Rattle.btr_disk.specs.Gate.{IsClosed};
 ghost use Rattle.btr_disk.specs.Images.{Only};
 ghost use Rattle.btr_disk.specs.Moments.{WroteNothing};
 ghost use Rattle.btr_log.specs.declared.head.Head.{Head as AHead};
-ghost use Rattle.btr_log.specs.Counts.{KeepsCounts};
+ghost use Rattle.btr_disk.specs.Causes.{KeepsCounts};
 ghost use Rattle.btr_log.specs.Extents.{IsExtent, Extents, first_gate};
 ghost use Rattle.btr_log.specs.Log.{device as disk_of, blocks_of, KeepsLog, KeepsDevice, LogWroteNothing};
 ghost use Rattle.btr_super.specs.declared.superblock.Super.{Super as ASuper};
 ghost use Rattle.btr_super.specs.Super.{IsSuper};
 ghost use Rattle.btr_super.specs.Choose.{IsChosen};
-ghost use Rattle.btr_super.specs.Unwritten.{IsUnwritten};
+ghost use Rattle.btr_disk.specs.Moments.{IsUnwritten};
 ghost use Rattle.btr_hist.specs.declared.entry.Entry.{Entry as AnEntry};
 ghost use Rattle.btr_entry.specs.Grammar.{IsSpelled};
 ghost use Rattle.btr_engine.specs.Body.{body_of, need_of, bodies};
@@ -94,13 +94,13 @@ impl From<Failed> for OpenCause {
 /// The superblock of the store that stands on the device, which is synced before.
 fn read_super<D: Disk>(disk: &mut D) -> Result<(Super, Snapshot<D>), OpenCause>
     ensures counts { KeepsCounts D.size D.calls D.faults disk.old disk.new }
-    ensures unwritten { D.tells → IsUnwritten D.calls D.contents D.image D.since disk.old disk.new }
+    ensures unwritten { D.is_observable → IsUnwritten D.calls D.contents D.images_now D.images_since disk.old disk.new }
     ensures table { IfOk result (λ r. IsSuper (D.size disk.old) r.0) }
-    ensures chosen { D.tells → IfOk result (λ r. IsChosen (D.size disk.old) (D.contents disk.old) r.0) }
-    ensures only { D.tells → OnOk result (Only (D.contents disk.new) (D.image disk.new)) }
+    ensures chosen { D.is_observable → IfOk result (λ r. IsChosen (D.size disk.old) (D.contents disk.old) r.0) }
+    ensures only { D.is_observable → OnOk result (Only (D.contents disk.new) (D.images_now disk.new)) }
     ensures first { IfOk result (λ r. IsFirst ⟦<D as Disk>⟧ disk.old disk.new (D.calls r.1.value)) }
-    ensures moments { D.tells → IfOk result (λ r. SyncedFirst ⟦<D as Disk>⟧ disk.old disk.new (D.calls r.1.value)) }
-    ensures cause { IfErr result (IsCause D.tells (D.size disk.old) (D.contents disk.old) (D.faults disk.old) (D.faults disk.new)) }
+    ensures moments { D.is_observable → IfOk result (λ r. SyncedFirst ⟦<D as Disk>⟧ disk.old disk.new (D.calls r.1.value)) }
+    ensures cause { IfErr result (IsCause D.is_observable (D.size disk.old) (D.contents disk.old) (D.faults disk.old) (D.faults disk.new)) }
 {
     disk.sync()?;
     let synced = Snapshot::of(&*disk);
@@ -135,14 +135,14 @@ fn open_log<D: Disk>(
     requires inside { blocks ≤ D.size disk }
     requires addressable { blocks ≤ 2 ^ 32 }
     ensures counts { IfOk result (λ e. KeepsCounts D.size D.calls D.faults disk (device e)) }
-    ensures unwritten { D.tells → IfOk result (λ e. WroteNothing D.calls D.contents D.image D.since disk (device e)) }
+    ensures unwritten { D.is_observable → IfOk result (λ e. WroteNothing D.calls D.contents D.images_now D.images_since disk (device e)) }
     ensures runs { IfOk result (λ e. (is_stopped e ≡ false) × (faults_at e ≤ D.faults (device e)) × (D.faults disk ≤ faults_at e)) }
     ensures numbers { IfOk result (λ e. (entries_at e ≡ length (history_of e)) × (calls_at e ≡ D.calls synced.value)) }
-    ensures at_rest { D.tells → Only (D.contents disk) (D.image disk) → (s : ASuper) → IsChosen (D.size disk) (D.contents disk) s → s.blocks ≡ blocks
+    ensures at_rest { D.is_observable → Only (D.contents disk) (D.images_now disk) → (s : ASuper) → IsChosen (D.size disk) (D.contents disk) s → s.blocks ≡ blocks
         → IfOk result IsAtRest }
     ensures refused { IfErr result (λ f. KeepsCounts D.size D.calls D.faults disk f.disk) }
-    ensures unwritten_too { D.tells → IfErr result (λ f. WroteNothing D.calls D.contents D.image D.since disk f.disk) }
-    ensures cause { IfErr result (λ f. IsCause (D.tells × ((s : ASuper) × IsChosen (D.size disk) (D.contents disk) s × (s.blocks ≡ blocks)))
+    ensures unwritten_too { D.is_observable → IfErr result (λ f. WroteNothing D.calls D.contents D.images_now D.images_since disk f.disk) }
+    ensures cause { IfErr result (λ f. IsCause (D.is_observable × ((s : ASuper) × IsChosen (D.size disk) (D.contents disk) s × (s.blocks ≡ blocks)))
         (D.size disk) (D.contents disk) (D.faults disk) (D.faults f.disk) f.cause) }
 {
     let mut log = Log::at(disk, LOG_START, blocks, 0);
@@ -174,15 +174,15 @@ fn read_log<D: Disk>(alloc: Global, log: &mut Log<D>, history: &mut Board) -> Re
     requires empty { history.old ≡ [] }
     ensures kept { KeepsLog log.old log.new }
     ensures device { KeepsDevice log.old log.new }
-    ensures unwritten { D.tells → LogWroteNothing log.old log.new }
+    ensures unwritten { D.is_observable → LogWroteNothing log.old log.new }
     ensures counted { IfOk result (λ end. end.entries ≡ length history.new) }
     ensures ends { IfOk result (λ end. (2 * length history.new + 4 ≤ end.tail) × (end.tail < blocks_of log.old)) }
     ensures spelled { OnOk result (AllByRecursion IsSpelled history.new) }
     ensures legal { OnOk result (Legal history.new) }
-    ensures stands { D.tells → IfOk result (λ end. Extents (D.contents (disk_of log.old)) first_gate (bodies history.new) end.tail
+    ensures stands { D.is_observable → IfOk result (λ end. Extents (D.contents (disk_of log.old)) first_gate (bodies history.new) end.tail
         × IsClosed (D.contents (disk_of log.old)) end.tail) }
     ensures cause { IfErr result (IsCause
-        (D.tells × ((s : ASuper) × IsChosen (D.size (disk_of log.old)) (D.contents (disk_of log.old)) s × (s.blocks ≡ blocks_of log.old)))
+        (D.is_observable × ((s : ASuper) × IsChosen (D.size (disk_of log.old)) (D.contents (disk_of log.old)) s × (s.blocks ≡ blocks_of log.old)))
         (D.size (disk_of log.old)) (D.contents (disk_of log.old)) (D.faults (disk_of log.old)) (D.faults (disk_of log.new))) }
 {
     let mut gate = LOG_START;
@@ -210,14 +210,14 @@ fn read_next<D: Disk>(
     requires number { number ≡ length history.old + 1 }
     ensures kept { KeepsLog log.old log.new }
     ensures device { KeepsDevice log.old log.new }
-    ensures unwritten { D.tells → LogWroteNothing log.old log.new }
+    ensures unwritten { D.is_observable → LogWroteNothing log.old log.new }
     ensures same { IfOk result (λ o. IfNone o (history.new ≡ history.old)) }
-    ensures closed { D.tells → IfOk result (λ o. IfNone o (IsClosed (D.contents (disk_of log.old)) gate)) }
+    ensures closed { D.is_observable → IfOk result (λ o. IfNone o (IsClosed (D.contents (disk_of log.old)) gate)) }
     ensures next { IfOk result (λ o. IfSome o (λ next. (e : AnEntry) × IsSpelled e × (history.new ≡ history.old ++ e ∷ [])
         × (rejection history.old e ≡ None) × (next ≡ gate + need_of e) × (next < blocks_of log.old)
-        × (D.tells → (h : AHead) × IsExtent (D.contents (disk_of log.old)) gate (body_of number e) h))) }
+        × (D.is_observable → (h : AHead) × IsExtent (D.contents (disk_of log.old)) gate (body_of number e) h))) }
     ensures cause { IfErr result (IsCause
-        (D.tells × AllByRecursion IsSpelled history.old × Extents (D.contents (disk_of log.old)) first_gate (bodies history.old) gate
+        (D.is_observable × AllByRecursion IsSpelled history.old × Extents (D.contents (disk_of log.old)) first_gate (bodies history.old) gate
         × ((s : ASuper) × IsChosen (D.size (disk_of log.old)) (D.contents (disk_of log.old)) s × (s.blocks ≡ blocks_of log.old)))
         (D.size (disk_of log.old)) (D.contents (disk_of log.old)) (D.faults (disk_of log.old)) (D.faults (disk_of log.new))) }
 {

@@ -60,10 +60,10 @@ impl<D: Disk> Engine<D> {
         ensures cause { IfErr result (StepCause self.old self.new entry.now) }
         ensures stepped { IfOk result (IsStepped self.old self.new entry.now) }
         ensures kept { KeepsOpening self.old self.new }
-        ensures at_rest { D.tells → IsAtRest self.old → OnOk result (IsAtRest self.new) }
-        ensures moments { D.tells → IsAtRest self.old
+        ensures at_rest { D.is_observable → IsAtRest self.old → OnOk result (IsAtRest self.new) }
+        ensures moments { D.is_observable → IsAtRest self.old
             → EngineLeaves self.old self.new (IsBeforeOrAfter (D.size (device self.old)) (history_of self.old) entry.now) }
-        ensures durable { D.tells → (more : List AnEntry) → (is_stopped self.old ≡ false → IsAtRest self.old) → IsDurable self.old more
+        ensures durable { D.is_observable → (more : List AnEntry) → (is_stopped self.old ≡ false → IsAtRest self.old) → IsDurable self.old more
             → IsDurable self.new (left_over result more entry.now) }
     {
         if self.log.is_stopped() {

@@ -10,7 +10,7 @@ use Rattle.std.proofs.lemmas.Bool.Decides.{nat_tests}
 use Rattle.std.proofs.lemmas.Int.{ints}
 use Rattle.btr_base.specs.declared.point.Point.{Point}
 use Rattle.btr_base.specs.Point.{InDomain}
-use Rattle.btr_base.specs.Range.{Interval, IsRange}
+use Rattle.btr_base.specs.Range.{RangeValue, IsRange}
 use Rattle.btr_hist.specs.declared.limits.TheConstants.{MAX_POINTS_IN_COMMIT}
 use Rattle.btr_entry.specs.Grammar.{number, signed, range, point, listed, AreInDomain, ValuesFit}
 use Rattle.btr_entry.specs.Fields.{HasRoom}
@@ -23,7 +23,7 @@ pub record IsItem {X : Type 0} (item : X → List ℕ) (Good : X → Type 0) : T
 
 -- ---- ranges and points are such items
 
-pub length-range : (r : Interval) → length (range r) ≡ 16
+pub length-range : (r : RangeValue) → length (range r) ≡ 16
 length-range r = omega (arith, length-append (signed r.from) (signed r.to), length-signed r.from, length-signed r.to)
 
 pub length-point : (p : Point) → length (point p) ≡ 16
@@ -39,14 +39,14 @@ pair_alone : (a b c d : ℤ) → FitsSigned w64 a → FitsSigned w64 b → FitsS
 pair_alone a b c d a_fits b_fits c_fits d_fits same =
     pair_once a b c d [] [] a_fits b_fits c_fits d_fits (ap (λ (l : List ℕ). signed a ++ l) (append-nil (signed b)) ∙ same ∙ ap (λ (l : List ℕ). signed c ++ l) (sym (append-nil (signed d))))
 
-pub from_fits : (r : Interval) → IsRange r → FitsSigned w64 r.from
+pub from_fits : (r : RangeValue) → IsRange r → FitsSigned w64 r.from
 from_fits r h =
     let begins = h.begins in
     let some = h.not_empty in
     let ends = h.ends in
     grind (arith, ints)
 
-pub to_fits : (r : Interval) → IsRange r → FitsSigned w64 r.to
+pub to_fits : (r : RangeValue) → IsRange r → FitsSigned w64 r.to
 to_fits r h =
     let begins = h.begins in
     let some = h.not_empty in
@@ -158,7 +158,7 @@ both_parts rest middle after a b first second =
     first ∙ ap (λ (l : List ℕ). signed a ++ l) second ∙ sym (append_assoc (signed a) (signed b) after)
 
 -- what stands behind the first ranges is a range, if the bytes are those of ranges
-pub next_is_range : (front : List Interval) (r : Interval) (rest : List ℕ) (rs : List Interval) → FitsSigned w64 r.from → FitsSigned w64 r.to → AllByRecursion IsRange rs → flat_map range front ++ (signed r.from ++ (signed r.to ++ rest)) ≡ flat_map range rs → IsRange r
+pub next_is_range : (prefix : List RangeValue) (r : RangeValue) (rest : List ℕ) (rs : List RangeValue) → FitsSigned w64 r.from → FitsSigned w64 r.to → AllByRecursion IsRange rs → flat_map range prefix ++ (signed r.from ++ (signed r.to ++ rest)) ≡ flat_map range rs → IsRange r
 next_is_range [] r rest [] fits_from fits_to h same =
     let long = ap (length {A = ℕ}) same in
     absurd (omega (arith, long, length-append (signed r.from) (signed r.to ++ rest), length-signed r.from))
@@ -166,14 +166,14 @@ next_is_range [] r rest (s ∷ rs) fits_from fits_to h same =
     let both = pair_once r.from r.to s.from s.to rest (flat_map range rs) fits_from fits_to (from_fits s h.0) (to_fits s h.0) (same ∙ flat_map-cons range s rs ∙ append_assoc (signed s.from) (signed s.to) (flat_map range rs)) in
     let is : r ≡ s = λ i. record { from = both.0 i; to = both.1 i } in
     subst IsRange (sym is) h.0
-next_is_range (f ∷ front) r rest [] fits_from fits_to h same =
+next_is_range (f ∷ prefix) r rest [] fits_from fits_to h same =
     let long = ap (length {A = ℕ}) same in
-    absurd (omega (arith, long, length-append (flat_map range (f ∷ front)) (signed r.from ++ (signed r.to ++ rest)), length-items range length-range (f ∷ front)))
-next_is_range (f ∷ front) r rest (s ∷ rs) fits_from fits_to h same =
+    absurd (omega (arith, long, length-append (flat_map range (f ∷ prefix)) (signed r.from ++ (signed r.to ++ rest)), length-items range length-range (f ∷ prefix)))
+next_is_range (f ∷ prefix) r rest (s ∷ rs) fits_from fits_to h same =
     let behind = signed r.from ++ (signed r.to ++ rest) in
-    let apart : range f ++ (flat_map range front ++ behind) ≡ range s ++ flat_map range rs = sym (ap (λ (l : List ℕ). l ++ behind) (flat_map-cons range f front) ∙ append_assoc (range f) (flat_map range front) behind) ∙ same ∙ flat_map-cons range s rs in
-    let parts = same_parts (range f) (range s) (flat_map range front ++ behind) (flat_map range rs) (length-range f ∙ sym (length-range s)) apart in
-    next_is_range front r rest rs fits_from fits_to h.1 parts.1
+    let apart : range f ++ (flat_map range prefix ++ behind) ≡ range s ++ flat_map range rs = sym (ap (λ (l : List ℕ). l ++ behind) (flat_map-cons range f prefix) ∙ append_assoc (range f) (flat_map range prefix) behind) ∙ same ∙ flat_map-cons range s rs in
+    let parts = same_parts (range f) (range s) (flat_map range prefix ++ behind) (flat_map range rs) (length-range f ∙ sym (length-range s)) apart in
+    next_is_range prefix r rest rs fits_from fits_to h.1 parts.1
 
 -- ---- writing them one after the other
 

@@ -14,7 +14,7 @@ IsBytes bytes = (i : ℕ) → get_or bytes i 0 < 256
 
 -- ---- two lists in one
 
--- lists that are equal as wholes, and whose fronts are as long, are equal in both parts
+-- lists that are equal as wholes, and whose prefixes are as long, are equal in both parts
 pub same_parts : {A : Type 0} (a b x y : List A) → length a ≡ length b → a ++ x ≡ b ++ y → (a ≡ b) × (x ≡ y)
 same_parts [] [] x y len same = (refl, same)
 same_parts [] (c ∷ b) x y len same = absurd (omega arith)
@@ -23,7 +23,7 @@ same_parts (c ∷ a) (d ∷ b) x y len same =
     let tails : a ++ x ≡ b ++ y = cc in
     let rest = same_parts a b x y (omega arith) tails in
     let heads : c ≡ d = cc in
-    let fronts : a ≡ b = rest.0 in
+    let prefixes : a ≡ b = rest.0 in
     (cc, rest.1)
 
 -- ---- unsigned numbers
@@ -99,32 +99,32 @@ IsBytes-drop n bytes h i = rw get_or-drop (h (n + i))
 
 back128 : (bytes : List ℕ) → length bytes ≡ 16 → IsBytes bytes → to_be_bytes w128 (from_be_bytes w128 bytes) ≡ bytes
 back128 bytes len fits =
-    let front = take 8 bytes in
+    let prefix = take 8 bytes in
     let rest = drop 8 bytes in
-    let parts = halves (from_be_bytes w64 front) (from_be_bytes w64 rest) (from_be_bytes w128 bytes) (below64 rest (IsBytes-drop 8 bytes fits)) (whole bytes len) in
-    let high : to_be_bytes w64 (from_be_bytes w64 front) ≡ front = be_bytes_8 front _ (omega (arith, length-take 8 bytes)) (IsBytes-take 8 bytes fits) refl in
+    let parts = halves (from_be_bytes w64 prefix) (from_be_bytes w64 rest) (from_be_bytes w128 bytes) (below64 rest (IsBytes-drop 8 bytes fits)) (whole bytes len) in
+    let high : to_be_bytes w64 (from_be_bytes w64 prefix) ≡ prefix = be_bytes_8 prefix _ (omega (arith, length-take 8 bytes)) (IsBytes-take 8 bytes fits) refl in
     let low : to_be_bytes w64 (from_be_bytes w64 rest) ≡ rest = be_bytes_8 rest _ (omega (arith, length-drop 8 bytes)) (IsBytes-drop 8 bytes fits) refl in
-    parts ∙ ap (λ (l : List ℕ). l ++ to_be_bytes w64 (from_be_bytes w64 rest)) high ∙ ap (λ (l : List ℕ). front ++ l) low ∙ take-append-drop 8 bytes
+    parts ∙ ap (λ (l : List ℕ). l ++ to_be_bytes w64 (from_be_bytes w64 rest)) high ∙ ap (λ (l : List ℕ). prefix ++ l) low ∙ take-append-drop 8 bytes
 
 again128 : (n : ℕ) → n < 2 ^ 128 → from_be_bytes w128 (to_be_bytes w128 n) ≡ n
 again128 n lt =
     let high = n / 2 ^ 64 in
     let low = n % 2 ^ 64 in
     let parts = halves high low n (omega arith) (omega arith) in
-    let fronts : from_be_bytes w64 (to_be_bytes w64 high) ≡ high = from_be_bytes-to_be_bytes_8 high (omega arith) in
+    let prefixes : from_be_bytes w64 (to_be_bytes w64 high) ≡ high = from_be_bytes-to_be_bytes_8 high (omega arith) in
     let rests : from_be_bytes w64 (to_be_bytes w64 low) ≡ low = from_be_bytes-to_be_bytes_8 low (omega arith) in
     let both = whole (to_be_bytes w64 high ++ to_be_bytes w64 low) refl in
-    ap (from_be_bytes w128) parts ∙ both ∙ omega (arith, fronts, rests)
+    ap (from_be_bytes w128) parts ∙ both ∙ omega (arith, prefixes, rests)
 
 pub wide128 : IsWide w128 (2 ^ 128)
 unfolding number
 wide128 = record { len = λ n. refl; back = back128; again = again128 }
 
-pub number_read : (w : Width) (limit : ℕ) → IsWide w limit → (bytes front rest : List ℕ) (n : ℕ) → IsBytes bytes → byte_len w ≤ length bytes → front ≡ take (byte_len w) bytes → rest ≡ drop (byte_len w) bytes → n ≡ from_be_bytes w front → bytes ≡ number w n ++ rest
-number_read w limit wide bytes front rest n fits long front_is rest_is n_is =
+pub number_read : (w : Width) (limit : ℕ) → IsWide w limit → (bytes prefix rest : List ℕ) (n : ℕ) → IsBytes bytes → byte_len w ≤ length bytes → prefix ≡ take (byte_len w) bytes → rest ≡ drop (byte_len w) bytes → n ≡ from_be_bytes w prefix → bytes ≡ number w n ++ rest
+number_read w limit wide bytes prefix rest n fits long prefix_is rest_is n_is =
     let small = IsBytes-take (byte_len w) bytes fits in
     let back = wide.back (take (byte_len w) bytes) (omega (arith, length-take (byte_len w) bytes)) small in
-    let value : n ≡ from_be_bytes w (take (byte_len w) bytes) = n_is ∙ ap (from_be_bytes w) front_is in
+    let value : n ≡ from_be_bytes w (take (byte_len w) bytes) = n_is ∙ ap (from_be_bytes w) prefix_is in
     sym (take-append-drop (byte_len w) bytes) ∙ ap (λ (l : List ℕ). l ++ drop (byte_len w) bytes) (sym (ap (number w) value ∙ back)) ∙ ap (λ (l : List ℕ). number w n ++ l) (sym rest_is)
 
 pub number_once : (w : Width) (limit : ℕ) → IsWide w limit → (m n : ℕ) (x y : List ℕ) → m < limit → n < limit → number w m ++ x ≡ number w n ++ y → (m ≡ n) × (x ≡ y)

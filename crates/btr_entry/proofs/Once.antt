@@ -1,4 +1,4 @@
--- Fields at the front of the bytes stand there once.
+-- Fields at the prefix of the bytes stand there once.
 use Rattle.std.proofs.Common.{◌≡◌, ℕ, ◌+◌, ◌*◌, ◌<◌, ◌^◌, List, [], ◌++◌, length, sym, ap, ◌∙◌, subst, arith, length-append}
 use Rattle.std.specs.Int.{w32, w64}
 use Rattle.btr_entry.specs.Grammar.{number}

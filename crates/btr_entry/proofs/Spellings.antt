@@ -4,7 +4,7 @@ use Rattle.std.specs.List.{flat_map}
 use Rattle.std.specs.Int.{w32, w64, w128}
 use Rattle.std.proofs.lemmas.List.{append-nil}
 use Rattle.btr_base.specs.declared.point.Point.{Point}
-use Rattle.btr_base.specs.Range.{Interval, IsCut, IsRange}
+use Rattle.btr_base.specs.Range.{RangeValue, IsCut, IsRange}
 use Rattle.btr_hist.specs.declared.entry.Entry.{Entry}
 use Rattle.btr_hist.specs.declared.entry.Entry.TheVariants.{Create, Commit}
 use Rattle.btr_entry.specs.Grammar.{number, range, point, listed, spelling, IsCommit, IsSpelled, IsEntry}
@@ -23,7 +23,7 @@ counted_from_listed item xs rest bytes len few is = record {
   parts = is ∙ append_assoc (number w64 (length xs)) (flat_map item xs) rest;
 }
 
-pub frame_from_commit : (stream : ℕ) (cut : List Interval) (added : List Point) (bytes : List ℕ) → IsCommit stream cut added → bytes ≡ number w32 stream ++ listed range cut ++ listed point added → IsFrame bytes stream (flat_map range cut) (flat_map point added)
+pub frame_from_commit : (stream : ℕ) (cut : List RangeValue) (added : List Point) (bytes : List ℕ) → IsCommit stream cut added → bytes ≡ number w32 stream ++ listed range cut ++ listed point added → IsFrame bytes stream (flat_map range cut) (flat_map point added)
 frame_from_commit stream cut added bytes h is = record {
   behind_stream = listed range cut ++ listed point added;
   behind_ranges = listed point added;
@@ -37,7 +37,7 @@ frame_from_commit stream cut added bytes h is = record {
 -- the commit that bytes of this first byte spell
 pub record CommitOf (bytes : List ℕ) : Type 0 where
   pub stream : ℕ
-  pub cut : List Interval
+  pub cut : List RangeValue
   pub added : List Point
   pub is_commit : IsCommit stream cut added
   pub frame : IsFrame bytes stream (flat_map range cut) (flat_map point added)
@@ -58,7 +58,7 @@ commit_from_entry bytes (Commit stream cut added) h = record {
   frame = frame_from_commit stream cut added bytes h.is_spelled (tails 2 2 bytes (number w32 stream ++ listed range cut ++ listed point added) h.bytes_are);
 }
 
-pub added_from_commit : (stream : ℕ) (cut : List Interval) (added : List Point) → IsCommit stream cut added → IsAdded added
+pub added_from_commit : (stream : ℕ) (cut : List RangeValue) (added : List Point) → IsCommit stream cut added → IsAdded added
 added_from_commit stream cut added h = record { in_order = h.in_order; in_domain = h.bounded.in_domain; values_fit = h.values_fit }
 
 -- ---- from the parts to an entry
@@ -69,7 +69,7 @@ listed_from_counted item xs bytes items rest len is h =
     let count : h.count ≡ length xs = omega (arith, h.long, long, length-items item len xs) in
     (omega (arith, h.few, count), h.parts ∙ ap (λ (n : ℕ). number w64 n ++ (items ++ rest)) count ∙ ap (λ (l : List ℕ). number w64 (length xs) ++ (l ++ rest)) (sym is) ∙ sym (append_assoc (number w64 (length xs)) (flat_map item xs) rest))
 
-pub entry_from_frame : (bytes : List ℕ) (stream : ℕ) (ranges points : List ℕ) (cut : List Interval) (added : List Point) → IsFrame bytes stream ranges points → IsCut cut → flat_map range cut ≡ ranges → IsAdded added → flat_map point added ≡ points → IsEntry (2 ∷ bytes) (Commit stream cut added)
+pub entry_from_frame : (bytes : List ℕ) (stream : ℕ) (ranges points : List ℕ) (cut : List RangeValue) (added : List Point) → IsFrame bytes stream ranges points → IsCut cut → flat_map range cut ≡ ranges → IsAdded added → flat_map point added ≡ points → IsEntry (2 ∷ bytes) (Commit stream cut added)
 entry_from_frame bytes stream ranges points cut added frame is_cut cut_is is_added added_is =
     let first = listed_from_counted range cut frame.behind_stream ranges frame.behind_ranges length-range cut_is frame.ranges_are in
     let second = listed_from_counted point added frame.behind_ranges points [] length-point added_is frame.points_are in
@@ -106,7 +106,7 @@ same_id : (a b : ℕ) → a < 2 ^ 128 → b < 2 ^ 128 → number w128 a ≡ numb
 same_id a b a_fits b_fits same =
     (number_once w128 (2 ^ 128) wide128 a b [] [] a_fits b_fits (append-nil (number w128 a) ∙ same ∙ sym (append-nil (number w128 b)))).0
 
-same_commit : (s t : ℕ) (cut other : List Interval) (a b : List Point) → IsCommit s cut a → IsCommit t other b → number w32 s ++ listed range cut ++ listed point a ≡ number w32 t ++ listed range other ++ listed point b → (s ≡ t) × (cut ≡ other) × (a ≡ b)
+same_commit : (s t : ℕ) (cut other : List RangeValue) (a b : List Point) → IsCommit s cut a → IsCommit t other b → number w32 s ++ listed range cut ++ listed point a ≡ number w32 t ++ listed range other ++ listed point b → (s ≡ t) × (cut ≡ other) × (a ≡ b)
 same_commit s t cut other a b h k same =
     let bytes = number w32 t ++ listed range other ++ listed point b in
     let frames = frame_once bytes s t (flat_map range cut) (flat_map range other) (flat_map point a) (flat_map point b) (frame_from_commit s cut a bytes h (sym same)) (frame_from_commit t other b bytes k refl) in

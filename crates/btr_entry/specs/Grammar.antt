@@ -5,7 +5,7 @@ use Rattle.std.specs.Int.RustNames.{FitsSigned}
 use Rattle.std.specs.List.{flat_map, AllByRecursion}
 use Rattle.btr_base.specs.declared.point.Point.{Point}
 use Rattle.btr_base.specs.Point.{InDomain}
-use Rattle.btr_base.specs.Range.{Interval, IsCut}
+use Rattle.btr_base.specs.Range.{RangeValue, IsCut}
 use Rattle.btr_base.specs.Bag.{IsInOrder}
 use Rattle.btr_hist.specs.declared.limits.TheConstants.{MAX_POINTS_IN_COMMIT}
 use Rattle.btr_hist.specs.declared.entry.Entry.{Entry}
@@ -21,7 +21,7 @@ number w n = to_be_bytes w n
 unfoldable pub signed : ℤ → List ℕ
 signed z = number w64 (cast_unsigned w64 z)
 
-abbrev pub range : Interval → List ℕ
+abbrev pub range : RangeValue → List ℕ
 range r = signed r.from ++ signed r.to
 
 abbrev pub point : Point → List ℕ
@@ -46,14 +46,14 @@ abbrev pub ValuesFit : List Point → Type 0
 ValuesFit ps = AllByRecursion (λ p. FitsSigned w64 p.value) ps
 
 -- what a commit keeps that has a spelling: it does something, and not too much
-pub record IsBounded (cut : List Interval) (added : List Point) : Type 0 where
+pub record IsBounded (cut : List RangeValue) (added : List Point) : Type 0 where
   pub some : 0 < length cut + length added
   pub few_ranges : length cut ≤ MAX_POINTS_IN_COMMIT
   pub few_points : length added ≤ MAX_POINTS_IN_COMMIT
   pub in_domain : AreInDomain added
 
 -- that, and what every value of the type keeps
-pub record IsCommit (stream : ℕ) (cut : List Interval) (added : List Point) : Type 0 where
+pub record IsCommit (stream : ℕ) (cut : List RangeValue) (added : List Point) : Type 0 where
   pub stream_fits : stream < 2 ^ 32
   pub is_cut : IsCut cut
   pub in_order : IsInOrder added

@@ -1,5 +1,5 @@
 ghost use Rattle.std.specs.Prelude.{◌≡◌, ℕ, ◌*◌, List, ◌++◌, ◌∷◌, length, IfOk, IfSome, IfNone};
-ghost use Rattle.btr_base.specs.Range.{Interval};
+ghost use Rattle.btr_base.specs.Range.{RangeValue};
 ghost use Rattle.btr_base.specs.declared.point.Point.{Point as APoint};
 ghost use Rattle.btr_hist.specs.declared.entry.Entry.{Entry as AnEntry};
 ghost use Rattle.btr_entry.specs.Grammar.{IsCommit, IsEntry};

@@ -23,8 +23,8 @@ pub fn u32_at(bytes: &[u8]) -> Option<(u32, &[u8])>
     if bytes.len() < 4 {
         return None;
     }
-    let (front, rest) = bytes.split_at(4);
-    let number = u32::from_be_bytes([front[0], front[1], front[2], front[3]]);
+    let (prefix, rest) = bytes.split_at(4);
+    let number = u32::from_be_bytes([prefix[0], prefix[1], prefix[2], prefix[3]]);
     Some((number, rest))
 }
 
@@ -37,9 +37,9 @@ fn u64_at(bytes: &[u8]) -> Option<(u64, &[u8])>
     if bytes.len() < 8 {
         return None;
     }
-    let (front, rest) = bytes.split_at(8);
+    let (prefix, rest) = bytes.split_at(8);
     let number = u64::from_be_bytes([
-        front[0], front[1], front[2], front[3], front[4], front[5], front[6], front[7],
+        prefix[0], prefix[1], prefix[2], prefix[3], prefix[4], prefix[5], prefix[6], prefix[7],
     ]);
     Some((number, rest))
 }
@@ -50,9 +50,9 @@ pub fn i64_at(bytes: &[u8]) -> (i64, &[u8])
     requires { 8 ≤ length bytes.now }
     ensures { bytes.now ≡ signed result.0 ++ result.1.now }
 {
-    let (front, rest) = bytes.split_at(8);
+    let (prefix, rest) = bytes.split_at(8);
     let number = i64::from_be_bytes([
-        front[0], front[1], front[2], front[3], front[4], front[5], front[6], front[7],
+        prefix[0], prefix[1], prefix[2], prefix[3], prefix[4], prefix[5], prefix[6], prefix[7],
     ]);
     (number, rest)
 }

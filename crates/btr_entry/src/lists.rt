@@ -1,6 +1,6 @@
 ghost use Rattle.std.specs.Prelude.{◌≡◌, ℕ, ◌%◌, ◌++◌, List, length, ◌↔◌, IsTrue, IfOk, IfSome, IfNone};
 ghost use Rattle.std.specs.List.{flat_map, AllByRecursion};
-ghost use Rattle.btr_base.specs.Range.{Interval, IsRange, IsCut};
+ghost use Rattle.btr_base.specs.Range.{RangeValue, IsRange, IsCut};
 ghost use Rattle.btr_base.specs.declared.point.Point.{Point as APoint};
 ghost use Rattle.btr_base.specs.Bag.{IsInOrder};
 ghost use Rattle.btr_entry.specs.Grammar.{range, point, AreInDomain};
@@ -14,7 +14,7 @@ use std::alloc::{AllocError, Global};
 pub fn ranges_of(alloc: Global, bytes: &[u8]) -> Result<Option<Ranges>, AllocError>
     requires { length bytes.now % 16 ≡ 0 }
     ensures found { IfOk result (λ o. IfSome o (λ rs. IsCut rs × (flat_map range rs ≡ bytes.now))) }
-    ensures none { IfOk result (λ o. IfNone o ((rs : List Interval) → IsCut rs → flat_map range rs ≡ bytes.now → ⊥)) }
+    ensures none { IfOk result (λ o. IfNone o ((rs : List RangeValue) → IsCut rs → flat_map range rs ≡ bytes.now → ⊥)) }
 {
     match each_range(alloc, bytes)? {
         Some(ranges) => Ok(Ranges::from_ranges(ranges)),
@@ -26,7 +26,7 @@ pub fn ranges_of(alloc: Global, bytes: &[u8]) -> Result<Option<Ranges>, AllocErr
 fn each_range(alloc: Global, bytes: &[u8]) -> Result<Option<Vec<Range>>, AllocError>
     requires { length bytes.now % 16 ≡ 0 }
     ensures found { IfOk result (λ o. IfSome o (λ v. AllByRecursion IsRange v.items × (flat_map range v.items ≡ bytes.now))) }
-    ensures none { IfOk result (λ o. IfNone o ((rs : List Interval) → AllByRecursion IsRange rs → flat_map range rs ≡ bytes.now → ⊥)) }
+    ensures none { IfOk result (λ o. IfNone o ((rs : List RangeValue) → AllByRecursion IsRange rs → flat_map range rs ≡ bytes.now → ⊥)) }
 {
     let mut ranges = Vec::with_capacity(alloc, bytes.len() / 16)?;
     let mut rest = bytes;

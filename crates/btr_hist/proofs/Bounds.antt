@@ -8,7 +8,7 @@ use Rattle.std.proofs.Math.Nat.{pow-le-pow_right, div-mul-le_self}
 use Rattle.btr_base.specs.declared.domain.TheConstants.{FIRST, END}
 use Rattle.btr_base.specs.declared.point.Point.{Point}
 use Rattle.btr_base.specs.Bag.{within}
-use Rattle.btr_base.specs.Runs.{slot-fits}
+use Rattle.btr_base.proofs.ChangesLemmas.{slot-fits}
 use Rattle.btr_base.specs.Windows.{window_of, window_at, cells, aligned, windows}
 use Rattle.btr_hist.specs.Answer.{is_range, is_power, is_width}
 use Rattle.btr_hist.specs.Asked.{AreWindows, IsWindow}

@@ -12,7 +12,8 @@ use Rattle.std.proofs.lemmas.Bool.Decides.{Decides-int_eq}
 use Rattle.btr_base.specs.declared.point.Point.{Point}
 use Rattle.btr_base.specs.Point.{is_not_after}
 use Rattle.btr_base.specs.Bag.{IsInOrder}
-use Rattle.btr_base.specs.Order.{is_not_after-true, is_not_after-refl, drop-in_order, each-weaker, count-cons, count-append}
+use Rattle.btr_base.proofs.PointLemmas.{is_not_after-true, is_not_after-refl, drop-in_order}
+use Rattle.btr_base.proofs.ListLemmas.{each-weaker, count-cons, count-append}
 use Rattle.btr_hist.specs.declared.limits.TheConstants.{MAX_POINTS_IN_BOTTOM_SPAN}
 use Rattle.btr_hist.specs.Crowded.{bottom_start, shares_bottom, beside, crowded}
 

@@ -12,13 +12,12 @@ use Rattle.std.proofs.lemmas.List.Elements.{All-from_recursion}
 use Rattle.btr_base.specs.declared.domain.TheConstants.{FIRST, END}
 use Rattle.btr_base.specs.declared.point.Point.{Point}
 use Rattle.btr_base.specs.Point.{same_point, InDomain}
-use Rattle.btr_base.specs.Range.{Interval, IsCut, spans, covered}
-use Rattle.btr_base.specs.Bag.{sort, within}
+use Rattle.btr_base.specs.Range.{RangeValue, IsCut, spans, covered}
+use Rattle.btr_base.specs.Bag.{sort, within, is_within}
 use Rattle.btr_base.specs.Changes.{points_at, same_points, differ_at, changed, slot_around, changes}
-use Rattle.btr_base.specs.Cover.{same_from-covered}
-use Rattle.btr_base.specs.Order.{each-weaker, filter-append, filter-filter, filter-passes}
-use Rattle.btr_base.specs.Runs.{changes-cut, changes-covered}
-use Rattle.btr_base.specs.Within.{is_within, filter-same}
+use Rattle.btr_base.proofs.RangeLemmas.{same_from-covered}
+use Rattle.btr_base.proofs.ListLemmas.{each-weaker, filter-append, filter-filter, filter-passes, filter-same}
+use Rattle.btr_base.proofs.ChangesLemmas.{changes-cut, changes-covered}
 
 -- ---- the points of one time
 
@@ -91,7 +90,7 @@ changed-is a b =
     ∙ filter-same (λ q. is_within FIRST END q && differ_at a b q.time) (λ q. differ_at a b q.time && is_within FIRST END q) (sort (a ++ b)) (λ q. and_comm (is_within FIRST END q) (differ_at a b q.time))
 
 -- all points were passed
-pub changes-found : (p : ℕ) (a b ps : List Point) (i : ℕ) (found : List Interval) → p ≤ 62 → IsCut found → ps ≡ within FIRST END (sort (a ++ b)) → length ps ≤ i → ((t : ℤ) → covered found t ≡ hits p a b t (take i ps)) → found ≡ changes p a b
+pub changes-found : (p : ℕ) (a b ps : List Point) (i : ℕ) (found : List RangeValue) → p ≤ 62 → IsCut found → ps ≡ within FIRST END (sort (a ++ b)) → length ps ≤ i → ((t : ℤ) → covered found t ≡ hits p a b t (take i ps)) → found ≡ changes p a b
 changes-found p a b ps i found low cut is done times =
     same_from-covered found (changes p a b) cut (changes-cut p a b low) (λ t.
     times t

@@ -14,7 +14,7 @@ use Rattle.btr_hist.specs.Commit.{Change}
 use Rattle.btr_hist.specs.History.{ids, commits, latest, bag}
 use Rattle.btr_hist.specs.Legal.{first_some, when, stray, next_bag, change_rejection, points_rejection, rejection, commit_rejection, Legal}
 use Rattle.btr_hist.specs.declared.limits.TheConstants.{MAX_VERSIONS}
-use Rattle.btr_hist.specs.Lemmas.{each-take, each-replay}
+use Rattle.btr_hist.proofs.HistoryLemmas.{each-take, each-replay}
 
 -- the time lies in the domain
 in_domain-true : (t : ℤ) → not (int_le FIRST t && int_lt t END) ≡ false → InDomain t

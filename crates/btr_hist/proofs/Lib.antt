@@ -1,3 +1,4 @@
+pub mod HistoryLemmas
 mod Steps
 mod Crowd
 mod Stays

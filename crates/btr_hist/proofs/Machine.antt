@@ -6,7 +6,7 @@ use Rattle.btr_hist.specs.declared.rejection.Rejection.{Rejection}
 use Rattle.btr_hist.specs.Legal.{rejection, Legal}
 use Rattle.btr_hist.specs.Machine.{Event, Machine, committed, next, run}
 use Rattle.btr_hist.specs.Machine.Event.{Commit, Admit, Ask}
-use Rattle.btr_hist.specs.Lemmas.{legal-push}
+use Rattle.btr_hist.proofs.HistoryLemmas.{legal-push}
 
 committed-legal : (h : List Entry) (e : Entry) → Legal h → Legal (committed h e (rejection h e))
 committed-legal h e legal =

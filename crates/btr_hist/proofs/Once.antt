@@ -10,9 +10,8 @@ use Rattle.std.proofs.lemmas.List.Elements.{All-from_recursion}
 use Rattle.std.proofs.Math.Nat.{div-mul-le_self}
 use Rattle.btr_base.specs.declared.domain.TheConstants.{END}
 use Rattle.btr_base.specs.declared.point.Point.{Point}
-use Rattle.btr_base.specs.Bag.{within}
-use Rattle.btr_base.specs.Order.{filter-passes, each-weaker}
-use Rattle.btr_base.specs.Within.{is_within}
+use Rattle.btr_base.specs.Bag.{within, is_within}
+use Rattle.btr_base.proofs.ListLemmas.{filter-passes, each-weaker}
 use Rattle.btr_base.specs.Windows.{once, window_of}
 use Rattle.btr_hist.specs.Asked.{AreWindows, IsWindow}
 

@@ -23,7 +23,7 @@ use Rattle.btr_hist.specs.declared.answer.Rows.TheVariants.{Points, Cells, Range
 use Rattle.btr_hist.specs.History.{ids, latest, bag}
 use Rattle.btr_hist.specs.Answer.{answer, answer_at, version_of, is_range, is_power, is_width, list_of}
 use Rattle.btr_hist.specs.Laws.{IsThere, IsSettled}
-use Rattle.btr_hist.specs.Lemmas.{ids-append, latest-append, bag-append}
+use Rattle.btr_hist.proofs.HistoryLemmas.{ids-append, latest-append, bag-append}
 
 -- what is answered of a version that is there
 pub answer_at-there : (h : List Entry) (stream version : ℕ) (good : Bool) (rows : List Point → Rows) → stream < length (ids h) → version ≤ latest h stream → answer_at h stream version good rows ≡ cond good (Found version (rows (bag h stream version))) (Refused BadRange)

@@ -6,7 +6,7 @@ use Rattle.std.proofs.lemmas.List.{drop_more}
 use Rattle.std.proofs.lemmas.Bool.{eq-eqb, ne_eqb}
 use Rattle.btr_base.specs.declared.point.Point.{Point}
 use Rattle.btr_base.specs.declared.domain.TheConstants.{FIRST, END}
-use Rattle.btr_base.specs.Range.{Interval}
+use Rattle.btr_base.specs.Range.{RangeValue}
 use Rattle.btr_hist.specs.declared.entry.Entry.{Entry}
 use Rattle.btr_hist.specs.declared.entry.Entry.TheVariants.{Create, Commit}
 use Rattle.btr_hist.specs.Commit.{Change, after, replay}
@@ -21,19 +21,19 @@ module _ (h : List Entry) (i : ℕ) (e : Entry) (low : i < length h) (at : e ≡
   pub ids-create : (id : ℕ) → e ≡ Create id → ids (drop i h) ≡ id ∷ ids (drop (i + 1) h)
   ids-create id is = ap ids (drop_step h i e (Create id) low at is)
 
-  pub ids-commit : (s : ℕ) (cut : List Interval) (added : List Point) → e ≡ Commit s cut added → ids (drop i h) ≡ ids (drop (i + 1) h)
+  pub ids-commit : (s : ℕ) (cut : List RangeValue) (added : List Point) → e ≡ Commit s cut added → ids (drop i h) ≡ ids (drop (i + 1) h)
   ids-commit s cut added is = ap ids (drop_step h i e (Commit s cut added) low at is)
 
   pub commits-create : (id stream : ℕ) → e ≡ Create id → commits (drop i h) stream ≡ commits (drop (i + 1) h) stream
   commits-create id stream is = ap (λ (l : List Entry). commits l stream) (drop_step h i e (Create id) low at is)
 
-  pub commits-same : (s stream : ℕ) (cut : List Interval) (added : List Point) → e ≡ Commit s cut added → s ≡ stream → commits (drop i h) stream ≡ record { cut = cut; added = added } ∷ commits (drop (i + 1) h) stream
+  pub commits-same : (s stream : ℕ) (cut : List RangeValue) (added : List Point) → e ≡ Commit s cut added → s ≡ stream → commits (drop i h) stream ≡ record { cut = cut; added = added } ∷ commits (drop (i + 1) h) stream
   commits-same s stream cut added is same =
       let c : Change = record { cut = cut; added = added } in
       let rest = commits (drop (i + 1) h) stream in
       ap (λ (l : List Entry). commits l stream) (drop_step h i e (Commit s cut added) low at is) ∙ ap (λ t. cond t (c ∷ rest) rest) (eq-eqb s stream same)
 
-  pub commits-other : (s stream : ℕ) (cut : List Interval) (added : List Point) → e ≡ Commit s cut added → (s ≡ stream → ⊥) → commits (drop i h) stream ≡ commits (drop (i + 1) h) stream
+  pub commits-other : (s stream : ℕ) (cut : List RangeValue) (added : List Point) → e ≡ Commit s cut added → (s ≡ stream → ⊥) → commits (drop i h) stream ≡ commits (drop (i + 1) h) stream
   commits-other s stream cut added is other =
       let c : Change = record { cut = cut; added = added } in
       let rest = commits (drop (i + 1) h) stream in

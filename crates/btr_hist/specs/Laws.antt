@@ -47,9 +47,9 @@ HoldsWhatWasPutIn =
     (h : List Entry) (stream version : ℕ) (p : Point)
     → copies p (bag h stream version) ≡ copies_after p 0 (take version (commits h stream))
 
--- a front of a legal history is legal
-abbrev pub FrontsAreLegal : Type 0
-FrontsAreLegal = (h more : List Entry) → Legal (h ++ more) → Legal h
+-- a prefix of a legal history is legal
+abbrev pub PrefixesAreLegal : Type 0
+PrefixesAreLegal = (h more : List Entry) → Legal (h ++ more) → Legal h
 
 -- each point of each version of a legal history lies in the domain
 abbrev pub PointsLieInTheDomain : Type 0

@@ -10,4 +10,3 @@ pub mod Asked
 pub mod Machine
 -- what holds of all histories
 pub mod Laws
-pub mod Lemmas

@@ -1,6 +1,6 @@
 //! What holds of all histories: each function's clause is the law, and its body is empty.
 
-ghost use Rattle.btr_hist.specs.Laws.{OldVersionsStay, HoldsWhatWasPutIn, FrontsAreLegal, PointsLieInTheDomain, MachineStaysLegal};
+ghost use Rattle.btr_hist.specs.Laws.{OldVersionsStay, HoldsWhatWasPutIn, PrefixesAreLegal, PointsLieInTheDomain, MachineStaysLegal};
 
 /// What is answered of versions that are there, and named by their numbers, is answered for good, whatever is committed later.
 pub fn old_versions_stay()
@@ -12,9 +12,9 @@ pub fn versions_hold_what_was_put_in()
     ensures { HoldsWhatWasPutIn }
 {}
 
-/// A front of a legal history is legal.
-pub fn fronts_are_legal()
-    ensures { FrontsAreLegal }
+/// A prefix of a legal history is legal.
+pub fn prefixes_are_legal()
+    ensures { PrefixesAreLegal }
 {}
 
 /// Each point of each version of a legal history lies in the domain.

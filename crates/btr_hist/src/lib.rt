@@ -30,7 +30,7 @@ pub use history::{
     History, bag_of, change_rejection, points_after, points_rejection, points_within,
 };
 pub use laws::{
-    fronts_are_legal, old_versions_stay, points_lie_in_the_domain, the_machine_stays_legal,
+    old_versions_stay, points_lie_in_the_domain, prefixes_are_legal, the_machine_stays_legal,
     versions_hold_what_was_put_in,
 };
 pub use limits::{

@@ -8,7 +8,7 @@ use crate::crowded::first_crowded;
 use crate::entry::Entry;
 use crate::history::History;
 use crate::laws::{
-    fronts_are_legal, old_versions_stay, points_lie_in_the_domain, the_machine_stays_legal,
+    old_versions_stay, points_lie_in_the_domain, prefixes_are_legal, the_machine_stays_legal,
     versions_hold_what_was_put_in,
 };
 use crate::query::{At, Query};
@@ -404,7 +404,7 @@ fn the_other_calls_answer(rt: HostRuntime) -> Result<(), Fail> {
     assert_eq!(rt; list.into_points().len(), 254);
     old_versions_stay();
     versions_hold_what_was_put_in();
-    fronts_are_legal();
+    prefixes_are_legal();
     points_lie_in_the_domain();
     the_machine_stays_legal();
     Ok(())

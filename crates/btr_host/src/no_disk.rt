@@ -38,15 +38,15 @@ impl NoDisk {
 }
 
 impl Disk for NoDisk {
-    ghost tells = { ⊥ };
+    ghost is_observable = { ⊥ };
 
     ghost size = { λ disk. 2 ^ 32 };
 
     ghost contents = { λ disk address. 0 };
 
-    ghost image = { λ disk c. ⊥ };
+    ghost images_now = { λ disk c. ⊥ };
 
-    ghost since = { λ disk t c. ⊥ };
+    ghost images_since = { λ disk t c. ⊥ };
 
     ghost calls = { λ disk. disk.calls };
 

@@ -25,7 +25,7 @@ impl<W: Write> StdSink<W> {
 }
 
 impl<W: Write> Sink for StdSink<W> {
-    ghost tells = { ⊥ };
+    ghost is_observable = { ⊥ };
 
     ghost written = { λ sink. [] };
 

@@ -24,7 +24,7 @@ impl<R: Read> StdSource<R> {
 }
 
 impl<R: Read> Source for StdSource<R> {
-    ghost tells = { ⊥ };
+    ghost is_observable = { ⊥ };
 
     ghost left = { λ source. [] };
 

@@ -7,10 +7,10 @@ use Rattle.std.specs.Prelude.{IsErrOf}
 use Rattle.btr_io.specs.Bytes.{gave, Gives}
 
 -- the next n bytes, and those behind them, are the bytes from here on
-pub front-and-rest : (bytes front : List ℕ) (at n : ℕ) → front ≡ take n (drop at bytes) → drop at bytes ≡ front ++ drop (at + n) bytes
-front-and-rest bytes front at n is =
+pub prefix-and-rest : (bytes prefix : List ℕ) (at n : ℕ) → prefix ≡ take n (drop at bytes) → drop at bytes ≡ prefix ++ drop (at + n) bytes
+prefix-and-rest bytes prefix at n is =
     sym (take-append-drop n (drop at bytes)) ∙ ap (λ xs. xs ++ drop n (drop at bytes)) (sym is)
-    ∙ ap (λ xs. front ++ xs) (drop-drop n at bytes)
+    ∙ ap (λ xs. prefix ++ xs) (drop-drop n at bytes)
 
 -- what was read before counts too
 pub gave-behind : (got before now whole : List ℕ) (most : ℕ) → got ++ before ≡ whole → Gives most before now → gave whole now ≡ length got + gave before now

@@ -1,7 +1,7 @@
 //! Bytes that come in and bytes that go out: the traits `Source` and `Sink`, and the loops over them.
 //!
 //! What the layers above rest on: `read_all` gives exactly the bytes that a source had left, or says
-//! why it does not, and `write_all` hands all bytes to a sink, or a first part of them and an error.
+//! why it does not, and `write_all` hands all bytes to a sink, or a prefix of them and an error.
 //! A call fails only where the count of faults of the source or sink rose.
 //!
 //! Nothing is buffered between calls, no text is decoded, and no call waits for anything but the

@@ -65,7 +65,7 @@ impl MemSink {
 }
 
 impl Sink for MemSink {
-    ghost tells = { Unit {0} };
+    ghost is_observable = { Unit {0} };
 
     ghost written = { λ s. s.written };
 

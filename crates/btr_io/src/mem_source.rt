@@ -47,7 +47,7 @@ impl MemSource {
 }
 
 impl Source for MemSource {
-    ghost tells = { Unit {0} };
+    ghost is_observable = { Unit {0} };
 
     ghost left = { λ s. s.left };
 
@@ -66,14 +66,14 @@ impl Source for MemSource {
         self.calls.begin()?;
         let left = &self.bytes[self.at..];
         let n = buf.len().min(self.piece.min(left.len()));
-        copy_front(left, buf, n);
+        copy_prefix(left, buf, n);
         self.at += n;
         Ok(n)
     }
 }
 
 // Copies the first n bytes of a slice over those of another.
-fn copy_front(from: &[u8], to: &mut [u8], n: usize)
+fn copy_prefix(from: &[u8], to: &mut [u8], n: usize)
     requires source { n ≤ length from.now }
     requires buffer { n ≤ length to.old }
     ensures { take n to.new ≡ take n from.now }

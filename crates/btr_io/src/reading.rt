@@ -54,11 +54,11 @@ pub fn read_all<S: Source>(
     source: &mut S,
     limit: u64,
 ) -> Result<Vec<u8>, ReadAllFault>
-    ensures bytes { S.tells → IfOk result (λ bytes. bytes.items ≡ S.left source.old) }
-    ensures end { S.tells → OnOk result (S.left source.new ≡ []) }
+    ensures bytes { S.is_observable → IfOk result (λ bytes. bytes.items ≡ S.left source.old) }
+    ensures end { S.is_observable → OnOk result (S.left source.new ≡ []) }
     ensures within { IfOk result (λ bytes. length bytes.items ≤ limit) }
-    ensures given { S.tells → Gives (limit + 1) (S.left source.old) (S.left source.new) }
-    ensures too_long { S.tells → (IsErrOf result TooLong ↔ (limit < gave (S.left source.old) (S.left source.new))) }
+    ensures given { S.is_observable → Gives (limit + 1) (S.left source.old) (S.left source.new) }
+    ensures too_long { S.is_observable → (IsErrOf result TooLong ↔ (limit < gave (S.left source.old) (S.left source.new))) }
     ensures fault { IsErrOf result Fault → Rose (S.faults source.old) (S.faults source.new) }
     ensures never_falls { S.faults source.old ≤ S.faults source.new }
 {
@@ -77,12 +77,12 @@ fn read_piece<S: Source>(
 ) -> Result<bool, ReadAllFault>
     requires within { length bytes.old.items ≤ limit }
     requires piece { 0 < length piece.old }
-    ensures kept { S.tells → OnOk result (bytes.new.items ++ S.left source.new ≡ bytes.old.items ++ S.left source.old) }
+    ensures kept { S.is_observable → OnOk result (bytes.new.items ++ S.left source.new ≡ bytes.old.items ++ S.left source.old) }
     ensures more { IfOk result (λ more. IsTrue more → length bytes.old.items < length bytes.new.items) }
-    ensures end { S.tells → IfOk result (λ more. more ≡ false → S.left source.new ≡ []) }
+    ensures end { S.is_observable → IfOk result (λ more. more ≡ false → S.left source.new ≡ []) }
     ensures within { OnOk result (length bytes.new.items ≤ limit) }
-    ensures given { S.tells → Gives (limit + 1 - length bytes.old.items) (S.left source.old) (S.left source.new) }
-    ensures too_long { S.tells → (IsErrOf result TooLong ↔ (limit < length bytes.old.items + gave (S.left source.old) (S.left source.new))) }
+    ensures given { S.is_observable → Gives (limit + 1 - length bytes.old.items) (S.left source.old) (S.left source.new) }
+    ensures too_long { S.is_observable → (IsErrOf result TooLong ↔ (limit < length bytes.old.items + gave (S.left source.old) (S.left source.new))) }
     ensures fault { IsErrOf result Fault → Rose (S.faults source.old) (S.faults source.new) }
     ensures never_falls { S.faults source.old ≤ S.faults source.new }
 {

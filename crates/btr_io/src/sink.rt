@@ -10,7 +10,7 @@ use crate::Failed;
 /// as standard output, promises the number of bytes and the cause of a failure alone.
 pub trait Sink {
     /// Does a sink of this type tell what was written?
-    ghost tells: { Type 0 };
+    ghost is_observable: { Type 0 };
 
     /// The bytes that were written.
     ghost written: { Self → List ℕ };
@@ -26,14 +26,14 @@ pub trait Sink {
     fn write(&mut self, bytes: &[u8]) -> Result<usize, Failed>
         ensures bound { IfOk result (λ n. n ≤ length bytes.now) }
         ensures takes { IfOk result (λ n. 0 < length bytes.now → 0 < n) }
-        ensures written { tells → IfOk result (λ n. written self.new ≡ written self.old ++ take n bytes.now) }
-        ensures unchanged { tells → OnErr result (written self.new ≡ written self.old) }
+        ensures written { is_observable → IfOk result (λ n. written self.new ≡ written self.old ++ take n bytes.now) }
+        ensures unchanged { is_observable → OnErr result (written self.new ≡ written self.old) }
         ensures cause { HasCause (faults self.old) (faults self.new) result };
 
     /// Passes on what was written, where the sink holds any of it back.
     ///
     /// Fails where the sink counts a fault. Takes no memory.
     fn flush(&mut self) -> Result<(), Failed>
-        ensures unchanged { tells → written self.new ≡ written self.old }
+        ensures unchanged { is_observable → written self.new ≡ written self.old }
         ensures cause { HasCause (faults self.old) (faults self.new) result };
 }

@@ -10,9 +10,9 @@ const FIVE: [u8; 5] = [1, 2, 3, 4, 5];
 
 // Reads one byte, or none at the end.
 fn next_byte<S: Source>(source: &mut S) -> Result<Option<u8>, Failed>
-    ensures byte { S.tells → IfOk result (λ byte. S.left source.old ≡ option_to_list byte ++ S.left source.new) }
-    ensures end { S.tells → IfOk result (λ byte. byte ≡ None → S.left source.old ≡ []) }
-    ensures none_lost { S.tells → OnErr result (S.left source.new ≡ S.left source.old) }
+    ensures byte { S.is_observable → IfOk result (λ byte. S.left source.old ≡ option_to_list byte ++ S.left source.new) }
+    ensures end { S.is_observable → IfOk result (λ byte. byte ≡ None → S.left source.old ≡ []) }
+    ensures none_lost { S.is_observable → OnErr result (S.left source.new ≡ S.left source.old) }
     ensures cause { HasCause (S.faults source.old) (S.faults source.new) result }
 {
     let mut buf = [0];
@@ -22,8 +22,8 @@ fn next_byte<S: Source>(source: &mut S) -> Result<Option<u8>, Failed>
 
 // Writes one byte and passes it on.
 fn put_byte<K: Sink>(sink: &mut K, byte: u8) -> Result<(), Failed>
-    ensures written { K.tells → OnOk result (K.written sink.new ≡ K.written sink.old ++ byte ∷ []) }
-    ensures failed { K.tells → OnErr result ((K.written sink.new ≡ K.written sink.old)
+    ensures written { K.is_observable → OnOk result (K.written sink.new ≡ K.written sink.old ++ byte ∷ []) }
+    ensures failed { K.is_observable → OnErr result ((K.written sink.new ≡ K.written sink.old)
         ⊎ (K.written sink.new ≡ K.written sink.old ++ byte ∷ [])) }
     ensures cause { HasCause (K.faults sink.old) (K.faults sink.new) result }
 {

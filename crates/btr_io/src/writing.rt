@@ -7,11 +7,11 @@ use crate::{Failed, Sink};
 
 /// Writes all of these bytes, in as many calls of the sink as it takes for that.
 ///
-/// Fails only where the sink counted a fault; then it took a first part of the bytes, and not all of
+/// Fails only where the sink counted a fault; then it took a prefix of the bytes, and not all of
 /// them. Takes no memory. The cost is that of the sink's calls.
 pub fn write_all<K: Sink>(sink: &mut K, bytes: &[u8]) -> Result<(), Failed>
-    ensures written { K.tells → OnOk result (K.written sink.new ≡ K.written sink.old ++ bytes.now) }
-    ensures part { K.tells → OnErr result (TookPart (K.written sink.old) bytes.now (K.written sink.new)) }
+    ensures written { K.is_observable → OnOk result (K.written sink.new ≡ K.written sink.old ++ bytes.now) }
+    ensures part { K.is_observable → OnErr result (TookPart (K.written sink.old) bytes.now (K.written sink.new)) }
     ensures cause { HasCause (K.faults sink.old) (K.faults sink.new) result }
 {
     let mut rest = bytes;

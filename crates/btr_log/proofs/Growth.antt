@@ -2,15 +2,15 @@
 use Rattle.std.specs.Prelude.{◌≡◌, ℕ, ◌+◌, ◌*◌, ◌/◌, ◌<◌, false, List, [], ◌∷◌, ◌++◌, length, Result, Ok, Err, OnOk, is_err}
 use Rattle.std.proofs.Common.{subst, inl, inr, ⊎_elim, arith}
 use Rattle.btr_disk.specs.Bytes.{Image, Has, Same, SameBut}
-use Rattle.btr_disk.specs.Gate.{IsOpen, IsClosed, gate_block, zeros, zeros_are_closed, open_gate_is_open}
+use Rattle.btr_disk.specs.Gate.{IsOpen, IsClosed, gate_block, zeros}
+use Rattle.btr_disk.proofs.GateLemmas.{zeros_are_closed, open_gate_is_open}
 use Rattle.btr_disk.specs.Images.{Only}
 use Rattle.btr_disk.specs.Publish.{HasBody, IsBeforeOrHasBody, Published}
-use Rattle.btr_disk.specs.Pieces.{Has-append}
-use Rattle.btr_disk.specs.Addresses.{SameBut-from_Same}
+use Rattle.btr_disk.proofs.ByteLemmas.{Has-append, SameBut-from_Same}
 use Rattle.btr_log.specs.Extents.{need, body_blocks, Extents, IsLog, AtRest, first_gate}
-use Rattle.btr_log.specs.ExtentLaws.{open_or_closed, IsBody-whole, Extents-along, Extents-push, IsClosed-along}
+use Rattle.btr_log.proofs.ExtentLemmas.{open_or_closed, IsBody-whole, Extents-along, Extents-push, IsClosed-along}
 use Rattle.btr_log.specs.Append.{body_of, IsAppendRun, IsLogOrMore, IsMoment}
-use Rattle.btr_log.specs.AppendLaws.{length-run}
+use Rattle.btr_log.proofs.AppendLemmas.{length-run}
 
 -- what is promised on success, of a call that succeeded
 pub from_ok : {T E : Type 0} (result : Result T E) (P : Type 0) → is_err result ≡ false → OnOk result P → P

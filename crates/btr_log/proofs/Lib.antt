@@ -1,3 +1,8 @@
+pub mod AppendLemmas
+pub mod ExtentLemmas
+pub mod FoundLemmas
+pub mod HeadLemmas
+pub mod LogLemmas
 mod Pieces
 mod Growth
-mod Fronts
+mod Prefixes

@@ -60,10 +60,10 @@ pub record IsDamagedExtent (image : Image) (blocks gate block : ℕ) : Type 0 wh
 
 -- why nothing is found, on a device that tells what it holds or not
 abbrev pub FindCause : Type 0 → Image → ℕ → ℕ → ℕ → ℕ → ExtentFault → Type 0
-FindCause tells image blocks gate before after (Damaged block) =
-    tells → IsDamagedExtent image blocks gate block
-FindCause tells image blocks gate before after Fault = Rose before after
-FindCause tells image blocks gate before after Want = Unit {0}
+FindCause is_observable image blocks gate before after (Damaged block) =
+    is_observable → IsDamagedExtent image blocks gate block
+FindCause is_observable image blocks gate before after Fault = Rose before after
+FindCause is_observable image blocks gate before after Want = Unit {0}
 
 -- why blocks were not read
 abbrev pub ReadCause : ℕ → ℕ → ExtentFault → Type 0
@@ -74,4 +74,4 @@ ReadCause before after Want = Unit {0}
 -- why a log finds nothing at a gate
 abbrev pub ExtentCause : {D : Type 0} {disk : Ghosts D} → Log D disk → Log D disk → ℕ → ExtentFault → Type 0
 ExtentCause {D} {disk} old new gate fault =
-    FindCause disk.tells (disk.contents (device old)) (blocks_of old) gate (disk.faults (device old)) (disk.faults (device new)) fault
+    FindCause disk.is_observable (disk.contents (device old)) (blocks_of old) gate (disk.faults (device old)) (disk.faults (device new)) fault

@@ -1,11 +1,5 @@
 pub mod Head
-pub mod HeadLaws
 pub mod Extents
-pub mod ExtentLaws
-pub mod Counts
 pub mod Log
-pub mod LogLaws
 pub mod Append
-pub mod AppendLaws
 pub mod Found
-pub mod FoundLaws

@@ -5,7 +5,7 @@ use Rattle.btr_disk.specs.Bytes.{Image}
 use Rattle.btr_disk.specs.Moments.{Leaves, WroteNothing}
 use Rattle.btr_log.specs.declared.log.Log.{Log}
 use Rattle.btr_log.specs.Extents.{left, AtRest}
-use Rattle.btr_log.specs.Counts.{KeepsCounts}
+use Rattle.btr_disk.specs.Causes.{KeepsCounts}
 
 module _ {D : Type 0} {disk : Ghosts D} where
   -- the device
@@ -38,11 +38,11 @@ module _ {D : Type 0} {disk : Ghosts D} where
 
   -- the log is at rest with these bodies on its device
   abbrev pub IsAtRest : Log D disk → List (List ℕ) → Type 0
-  IsAtRest log bodies = AtRest (disk.contents (device log)) (disk.image (device log)) (tail_of log) bodies
+  IsAtRest log bodies = AtRest (disk.contents (device log)) (disk.images_now (device log)) (tail_of log) bodies
 
   -- a crash at any moment between the two logs leaves an image that has P
   abbrev pub LogLeaves : Log D disk → Log D disk → (Image → Type 0) → Type 0
-  LogLeaves old new P = Leaves disk.calls disk.since (device old) (device new) P
+  LogLeaves old new P = Leaves disk.calls disk.images_since (device old) (device new) P
 
   -- the log is made of these, and is not stopped
   pub record IsMadeOf (made_of : D) (tail blocks extents : ℕ) (log : Log D disk) : Type 0 where
@@ -59,7 +59,7 @@ module _ {D : Type 0} {disk : Ghosts D} where
 
   -- the calls between the two logs wrote nothing
   abbrev pub LogWroteNothing : Log D disk → Log D disk → Type 0
-  LogWroteNothing old new = WroteNothing disk.calls disk.contents disk.image disk.since (device old) (device new)
+  LogWroteNothing old new = WroteNothing disk.calls disk.contents disk.images_now disk.images_since (device old) (device new)
 
   -- its blocks are as before, its device is the same one, and the count when it was made is
   pub record KeepsBounds (old new : Log D disk) : Type 0 where

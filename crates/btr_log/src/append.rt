@@ -38,12 +38,12 @@ impl<D: Disk> Log<D> {
         ensures cause { IfErr result (AppendCause self.old self.new run.now) }
         ensures kept { KeepsBounds self.old self.new }
         ensures appended { OnOk result (IsAppended self.old self.new run.now) }
-        ensures written { D.tells
+        ensures written { D.is_observable
             → OnOk result (Published (D.contents (device self.old)) (4096 * (tail_of self.old + 1)) run.now (4096 * tail_of self.old) gate_block (D.contents (device self.new))) }
         // where the log was at rest with some bodies
-        ensures at_rest { D.tells → (bodies : List (List ℕ)) → IsAtRest self.old bodies
+        ensures at_rest { D.is_observable → (bodies : List (List ℕ)) → IsAtRest self.old bodies
             → OnOk result (IsAtRest self.new (bodies ++ body_of run.now ∷ [])) }
-        ensures moments { D.tells → (bodies : List (List ℕ)) → IsAtRest self.old bodies
+        ensures moments { D.is_observable → (bodies : List (List ℕ)) → IsAtRest self.old bodies
             → LogLeaves self.old self.new (IsMoment (D.contents (device self.old)) (tail_of self.old) bodies (body_of run.now)) }
     {
         if self.stopped {

@@ -1,9 +1,9 @@
 // Reading an extent: the gate and the first block of the body in one call, the rest in another.
 ghost use Rattle.std.specs.Prelude.{◌≡◌, ◌+◌, ◌*◌, ◌<◌, ◌≤◌, ◌^◌, length, take, IfErr, IfOk, IfSome, IsNone, OnOk};
-ghost use Rattle.btr_disk.specs.Bytes.{Has, IsRun};
+ghost use Rattle.btr_disk.specs.Bytes.{Has, IsBlockRange};
 ghost use Rattle.btr_log.specs.Head.{Spells, IsNoHead};
 ghost use Rattle.btr_disk.specs.Moments.{WroteNothing};
-ghost use Rattle.btr_log.specs.Counts.{KeepsCounts};
+ghost use Rattle.btr_disk.specs.Causes.{KeepsCounts};
 ghost use Rattle.btr_log.specs.Log.{device, blocks_of, KeepsLog, KeepsDevice, LogWroteNothing};
 ghost use Rattle.btr_log.specs.Found.{IsWhole, Stands, FindCause, ReadCause, ExtentCause};
 
@@ -22,9 +22,9 @@ impl<D: Disk> Log<D> {
         requires { gate < blocks_of self.old }
         ensures kept { KeepsLog self.old self.new }
         ensures device { KeepsDevice self.old self.new }
-        ensures unwritten { D.tells → LogWroteNothing self.old self.new }
+        ensures unwritten { D.is_observable → LogWroteNothing self.old self.new }
         ensures whole { IfOk result (IsWhole (blocks_of self.old) gate) }
-        ensures stands { D.tells → IfOk result (Stands (D.contents (device self.old)) gate) }
+        ensures stands { D.is_observable → IfOk result (Stands (D.contents (device self.old)) gate) }
         ensures cause { IfErr result (ExtentCause self.old self.new gate) }
     {
         find_extent(alloc, &mut self.disk, self.blocks, gate)
@@ -42,19 +42,19 @@ fn find_extent<D: Disk>(
     requires blocks { blocks ≤ D.size disk.old }
     requires addressable { blocks ≤ 2 ^ 32 }
     ensures counts { KeepsCounts D.size D.calls D.faults disk.old disk.new }
-    ensures unwritten { D.tells → WroteNothing D.calls D.contents D.image D.since disk.old disk.new }
+    ensures unwritten { D.is_observable → WroteNothing D.calls D.contents D.images_now D.images_since disk.old disk.new }
     ensures whole { IfOk result (IsWhole blocks gate) }
-    ensures stands { D.tells → IfOk result (Stands (D.contents disk.old) gate) }
-    ensures cause { IfErr result (FindCause D.tells (D.contents disk.old) blocks gate (D.faults disk.old) (D.faults disk.new)) }
+    ensures stands { D.is_observable → IfOk result (Stands (D.contents disk.old) gate) }
+    ensures cause { IfErr result (FindCause D.is_observable (D.contents disk.old) blocks gate (D.faults disk.old) (D.faults disk.new)) }
 {
     if gate + 1 == blocks {
         return find_at_end(alloc, disk, gate);
     }
-    let front = read_blocks(alloc, disk, gate, 2)?;
-    if !is_open_gate(&front) {
+    let prefix = read_blocks(alloc, disk, gate, 2)?;
+    if !is_open_gate(&prefix) {
         return Ok(Found::Closed);
     }
-    let first = &front[BLOCK..];
+    let first = &prefix[BLOCK..];
     let Some(head) = head_of(first) else {
         return Err(ExtentFault::Damaged { block: gate + 1 });
     };
@@ -74,10 +74,10 @@ fn find_at_end<D: Disk>(alloc: Global, disk: &mut D, gate: u64) -> Result<Found,
     requires gate { gate < D.size disk.old }
     requires addressable { gate < 2 ^ 32 }
     ensures counts { KeepsCounts D.size D.calls D.faults disk.old disk.new }
-    ensures unwritten { D.tells → WroteNothing D.calls D.contents D.image D.since disk.old disk.new }
+    ensures unwritten { D.is_observable → WroteNothing D.calls D.contents D.images_now D.images_since disk.old disk.new }
     ensures whole { IfOk result (IsWhole (gate + 1) gate) }
-    ensures stands { D.tells → IfOk result (Stands (D.contents disk.old) gate) }
-    ensures cause { IfErr result (FindCause D.tells (D.contents disk.old) (gate + 1) gate (D.faults disk.old) (D.faults disk.new)) }
+    ensures stands { D.is_observable → IfOk result (Stands (D.contents disk.old) gate) }
+    ensures cause { IfErr result (FindCause D.is_observable (D.contents disk.old) (gate + 1) gate (D.faults disk.old) (D.faults disk.new)) }
 {
     let block = read_blocks(alloc, disk, gate, 1)?;
     if is_open_gate(&block) {
@@ -105,12 +105,12 @@ fn read_blocks<D: Disk>(
     first: u64,
     count: u64,
 ) -> Result<Vec<u8>, ExtentFault>
-    requires run { IsRun (D.size disk.old) first (4096 * count) }
+    requires run { IsBlockRange (D.size disk.old) first (4096 * count) }
     requires addressable { count ≤ 2 ^ 32 }
     ensures counts { KeepsCounts D.size D.calls D.faults disk.old disk.new }
-    ensures unwritten { D.tells → WroteNothing D.calls D.contents D.image D.since disk.old disk.new }
+    ensures unwritten { D.is_observable → WroteNothing D.calls D.contents D.images_now D.images_since disk.old disk.new }
     ensures length { IfOk result (λ bytes. length bytes.items ≡ 4096 * count) }
-    ensures stands { D.tells → IfOk result (λ bytes. Has (D.contents disk.old) (4096 * first) bytes.items) }
+    ensures stands { D.is_observable → IfOk result (λ bytes. Has (D.contents disk.old) (4096 * first) bytes.items) }
     ensures cause { IfErr result (ReadCause (D.faults disk.old) (D.faults disk.new)) }
 {
     let mut bytes = zeroed(alloc, count)?;
@@ -131,56 +131,56 @@ fn read_body<D: Disk>(
     alloc: Global,
     disk: &mut D,
     first: u64,
-    front: &[u8],
+    prefix: &[u8],
     n: u64,
 ) -> Result<Vec<u8>, ExtentFault>
-    requires front { length front.now ≡ 4096 }
+    requires prefix { length prefix.now ≡ 4096 }
     requires some { 1 ≤ n }
     requires inside { first + n ≤ D.size disk.old }
     requires addressable { first + n ≤ 2 ^ 32 }
     ensures counts { KeepsCounts D.size D.calls D.faults disk.old disk.new }
-    ensures unwritten { D.tells → WroteNothing D.calls D.contents D.image D.since disk.old disk.new }
+    ensures unwritten { D.is_observable → WroteNothing D.calls D.contents D.images_now D.images_since disk.old disk.new }
     ensures length { IfOk result (λ body. length body.items ≡ 4096 * n) }
-    ensures front { IfOk result (λ body. take 4096 body.items ≡ front.now) }
-    ensures stands { D.tells → Has (D.contents disk.old) (4096 * first) front.now
+    ensures prefix { IfOk result (λ body. take 4096 body.items ≡ prefix.now) }
+    ensures stands { D.is_observable → Has (D.contents disk.old) (4096 * first) prefix.now
         → IfOk result (λ body. Has (D.contents disk.old) (4096 * first) body.items) }
     ensures cause { IfErr result (ReadCause (D.faults disk.old) (D.faults disk.new)) }
 {
-    let mut body = begun(alloc, front, n)?;
+    let mut body = begun(alloc, prefix, n)?;
     read_behind(disk, first, &mut body)?;
     Ok(body)
 }
 
 // Room for a body of n blocks, with the first of them.
-fn begun(alloc: Global, front: &[u8], n: u64) -> Result<Vec<u8>, AllocError>
-    requires front { length front.now ≡ 4096 }
+fn begun(alloc: Global, prefix: &[u8], n: u64) -> Result<Vec<u8>, AllocError>
+    requires prefix { length prefix.now ≡ 4096 }
     requires some { 1 ≤ n }
     requires addressable { n ≤ 2 ^ 32 }
     ensures length { IfOk result (λ body. length body.items ≡ 4096 * n) }
-    ensures front { IfOk result (λ body. take 4096 body.items ≡ front.now) }
+    ensures prefix { IfOk result (λ body. take 4096 body.items ≡ prefix.now) }
 {
     let mut body = zeroed(alloc, n)?;
-    copy_to_front(&mut body, front);
+    copy_to_prefix(&mut body, prefix);
     Ok(body)
 }
 
 // Writes these bytes at the beginning.
-pub(crate) fn copy_to_front(body: &mut [u8], front: &[u8])
-    requires { length front.now ≤ length body.old }
-    ensures { take (length front.now) body.new ≡ front.now }
+pub(crate) fn copy_to_prefix(body: &mut [u8], prefix: &[u8])
+    requires { length prefix.now ≤ length body.old }
+    ensures { take (length prefix.now) body.new ≡ prefix.now }
 {
-    body[..front.len()].copy_from_slice(front);
+    body[..prefix.len()].copy_from_slice(prefix);
 }
 
 // Reads the blocks behind the first one of a body, if there are any.
 fn read_behind<D: Disk>(disk: &mut D, first: u64, body: &mut [u8]) -> Result<(), ExtentFault>
     requires some { 4096 ≤ length body.old }
-    requires run { IsRun (D.size disk.old) first (length body.old) }
+    requires run { IsBlockRange (D.size disk.old) first (length body.old) }
     requires addressable { first < 2 ^ 32 }
     ensures counts { KeepsCounts D.size D.calls D.faults disk.old disk.new }
-    ensures unwritten { D.tells → WroteNothing D.calls D.contents D.image D.since disk.old disk.new }
-    ensures front { take 4096 body.new ≡ take 4096 body.old }
-    ensures stands { D.tells → Has (D.contents disk.old) (4096 * first) (take 4096 body.old)
+    ensures unwritten { D.is_observable → WroteNothing D.calls D.contents D.images_now D.images_since disk.old disk.new }
+    ensures prefix { take 4096 body.new ≡ take 4096 body.old }
+    ensures stands { D.is_observable → Has (D.contents disk.old) (4096 * first) (take 4096 body.old)
         → OnOk result (Has (D.contents disk.old) (4096 * first) body.new) }
     ensures cause { IfErr result (ReadCause (D.faults disk.old) (D.faults disk.new)) }
 {

@@ -8,7 +8,7 @@ ghost use Rattle.btr_log.specs.Append.{IsAppendRun};
 use super::*;
 use crate::head::put;
 use crate::laws::is_same_head;
-use crate::read::{copy_to_front, zeroed};
+use crate::read::{copy_to_prefix, zeroed};
 use btr_disk::{BLOCK, GATE_MARK, MemDisk, Room, is_open_gate};
 use std::alloc::{AllocError, Global};
 use std::process::Abort;
@@ -53,7 +53,7 @@ fn body_of(alloc: Global, head: &Head) -> Result<Vec<u8>, AllocError>
     let mut bytes = [0; HEAD_BYTES];
     head.encode(&mut bytes);
     let mut body = vec![in alloc; 7; BLOCK * head.n as usize]?;
-    copy_to_front(&mut body, &bytes);
+    copy_to_prefix(&mut body, &bytes);
     Ok(body)
 }
 

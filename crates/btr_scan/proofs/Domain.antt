@@ -7,8 +7,8 @@ use Rattle.btr_base.specs.declared.domain.TheConstants.{FIRST, END}
 use Rattle.btr_base.specs.declared.point.Point.{Point}
 use Rattle.btr_base.specs.Point.{InDomain}
 use Rattle.btr_base.specs.Bag.{within}
-use Rattle.btr_base.specs.Order.{each-weaker, filter-all, filter-none}
-use Rattle.btr_base.specs.Within.{within-all, within-from, within-before}
+use Rattle.btr_base.proofs.ListLemmas.{each-weaker, filter-all, filter-none}
+use Rattle.btr_base.proofs.WithinLemmas.{within-all, within-from, within-before}
 use Rattle.btr_tree.specs.Root.{AreInDomain}
 
 le-yes : (a b : ℤ) → a ≤ℤ b → int_le a b ≡ true

@@ -5,14 +5,14 @@ use Rattle.std.proofs.Common.{zero, suc, refl, sym, ap, ◌∙◌, arith, subst,
 use Rattle.std.proofs.Math.Nat.{eq-or-lt_of_le}
 use Rattle.std.proofs.lemmas.Int.{ints}
 use Rattle.btr_base.specs.declared.point.Point.{Point}
-use Rattle.btr_base.specs.Bag.{within}
-use Rattle.btr_base.specs.Order.{filter-filter}
-use Rattle.btr_base.specs.Span.{width, Part, slot_of}
-use Rattle.btr_base.specs.Within.{is_within, filter-same, within-append}
+use Rattle.btr_base.specs.Bag.{within, is_within}
+use Rattle.btr_base.proofs.ListLemmas.{filter-filter, filter-same}
+use Rattle.btr_base.specs.Span.{width, SpanValue, slot_of}
+use Rattle.btr_base.proofs.WithinLemmas.{within-append}
 use Rattle.btr_tree.specs.History.{Commit, bag}
 use Rattle.btr_tree.specs.Nodes.{points_of}
 use Rattle.btr_tree.specs.Shape.{slot_start}
-use Rattle.btr_tree.specs.Shapes.{slot-next, slot-end, slot-inside, prefix-none, prefix-done}
+use Rattle.btr_tree.proofs.NodeLemmas.{slot-next, slot-end, slot-inside, prefix-none, prefix-done}
 
 pub filter-never : {X : Type 0} (f : X → Bool) (a : List X) → ((x : X) → f x ≡ false) → filter f a ≡ []
 filter-never f [] h = refl
@@ -44,18 +44,18 @@ slot-order below s i j h =
     let w : i * width below ≤ j * width below = mul-le-mul_right (width below) h in
     omega (arith, ints)
 
-slot-start_of : (span : Part) (below i : ℕ) → span.height ≡ suc below → (slot_of span i).start ≡ slot_start below span.start i
+slot-start_of : (span : SpanValue) (below i : ℕ) → span.height ≡ suc below → (slot_of span i).start ≡ slot_start below span.start i
 slot-start_of span below i e =
     let down : span.height - 1 ≡ below = omega arith in
     ap (λ k. span.start +ℤ pos (i * width k)) down
 
-pub slot-end_of : (span : Part) (below i : ℕ) → span.height ≡ suc below → (slot_of span i).start +ℤ pos (width (span.height - 1)) ≡ slot_start below span.start (i + 1)
+pub slot-end_of : (span : SpanValue) (below i : ℕ) → span.height ≡ suc below → (slot_of span i).start +ℤ pos (width (span.height - 1)) ≡ slot_start below span.start (i + 1)
 slot-end_of span below i e =
     let down : span.height - 1 ≡ below = omega arith in
     ap (λ k. span.start +ℤ pos (i * width k) +ℤ pos (width k)) down ∙ sym (slot-next below span.start i)
 
 -- the slots before the first that ends behind the begin of a range
-pub before-first : (span : Part) (below : ℕ) (h : List Commit) (from to : ℤ) (first : ℕ) → span.height ≡ suc below → ((i : ℕ) → i < first → ((slot_of span i).start +ℤ pos (width (span.height - 1))) ≤ℤ from) → within from to (within span.start (slot_start below span.start first) (bag h)) ≡ []
+pub before-first : (span : SpanValue) (below : ℕ) (h : List Commit) (from to : ℤ) (first : ℕ) → span.height ≡ suc below → ((i : ℕ) → i < first → ((slot_of span i).start +ℤ pos (width (span.height - 1))) ≤ℤ from) → within from to (within span.start (slot_start below span.start first) (bag h)) ≡ []
 before-first span below h from to zero e before = ap (within from to) (prefix-none below span.start h)
 before-first span below h from to (suc k) e before =
     let last = before k (omega arith) in
@@ -65,7 +65,7 @@ before-first span below h from to (suc k) e before =
     ∙ within-apart span.start (slot_start below span.start (k + 1)) from to (bag h) (omega (arith, ints))
 
 -- the slots behind the last that begins before the end of a range
-pub behind-last : (span : Part) (below : ℕ) (h : List Commit) (from to : ℤ) (last : ℕ) → span.height ≡ suc below → last < 64 → ((i : ℕ) → last < i → i < 64 → to ≤ℤ (slot_of span i).start) → within from to (within span.start (slot_start below span.start (last + 1)) (bag h)) ≡ within from to (points_of span.height span.start (bag h))
+pub behind-last : (span : SpanValue) (below : ℕ) (h : List Commit) (from to : ℤ) (last : ℕ) → span.height ≡ suc below → last < 64 → ((i : ℕ) → last < i → i < 64 → to ≤ℤ (slot_of span i).start) → within from to (within span.start (slot_start below span.start (last + 1)) (bag h)) ≡ within from to (points_of span.height span.start (bag h))
 behind-last span below h from to last e place behind =
     let up : last + 1 ≤ 64 = omega arith in
     elim (eq-or-lt_of_le up) [
@@ -87,17 +87,17 @@ rows-more before here next from to old mid new e p q =
     ∙ sym (ap (λ x. old ++ x) (ap (within from to) e ∙ within-append from to before here))
 
 -- a slot from the first to the last of those that a range meets is met
-pub slot-met : (span : Part) (below : ℕ) (from to : ℤ) (first last i : ℕ) (part : Part) → span.height ≡ suc below → part ≡ record { start = slot_start below span.start i; height = below } → first ≤ i → i ≤ last → from <ℤ ((slot_of span first).start +ℤ pos (width (span.height - 1))) → (slot_of span last).start <ℤ to → (from <ℤ (part.start +ℤ pos (width part.height))) × (part.start <ℤ to)
+pub slot-met : (span : SpanValue) (below : ℕ) (from to : ℤ) (first last i : ℕ) (part : SpanValue) → span.height ≡ suc below → part ≡ record { start = slot_start below span.start i; height = below } → first ≤ i → i ≤ last → from <ℤ ((slot_of span first).start +ℤ pos (width (span.height - 1))) → (slot_of span last).start <ℤ to → (from <ℤ (part.start +ℤ pos (width part.height))) × (part.start <ℤ to)
 slot-met span below from to first last i part e is low high begins ends =
     let one = slot-end_of span below first e in
     let other = slot-start_of span below last e in
     let up = slot-order below span.start (first + 1) (i + 1) (omega arith) in
     let down = slot-order below span.start i last high in
     let next = slot-next below span.start i in
-    subst (λ (u : Part). (from <ℤ (u.start +ℤ pos (width u.height))) × (u.start <ℤ to)) (sym is) (omega (arith, ints), omega (arith, ints))
+    subst (λ (u : SpanValue). (from <ℤ (u.start +ℤ pos (width u.height))) × (u.start <ℤ to)) (sym is) (omega (arith, ints), omega (arith, ints))
 
 -- a range that ends in the span ends in the last slot that it meets, or at that slot's end
-pub last-reaches : (span : Part) (below : ℕ) (to : ℤ) (last : ℕ) (part : Part) → span.height ≡ suc below → last < 64 → to ≤ℤ (span.start +ℤ pos (width span.height)) → ((i : ℕ) → last < i → i < 64 → to ≤ℤ (slot_of span i).start) → part ≡ slot_of span last → to ≤ℤ (part.start +ℤ pos (width part.height))
+pub last-reaches : (span : SpanValue) (below : ℕ) (to : ℤ) (last : ℕ) (part : SpanValue) → span.height ≡ suc below → last < 64 → to ≤ℤ (span.start +ℤ pos (width span.height)) → ((i : ℕ) → last < i → i < 64 → to ≤ℤ (slot_of span i).start) → part ≡ slot_of span last → to ≤ℤ (part.start +ℤ pos (width part.height))
 last-reaches span below to last part e place high behind is =
     let up : last + 1 ≤ 64 = omega arith in
     let end = slot-end_of span below last e in
@@ -112,4 +112,4 @@ last-reaches span below to last part e place high behind is =
           omega (arith, ints)
     ]
     in
-    subst (λ (u : Part). to ≤ℤ (u.start +ℤ pos (width u.height))) (sym is) (omega (arith, ints))
+    subst (λ (u : SpanValue). to ≤ℤ (u.start +ℤ pos (width u.height))) (sym is) (omega (arith, ints))

@@ -5,20 +5,21 @@ use Rattle.std.proofs.Common.{sym, ap, ◌∙◌, arith, subst}
 use Rattle.std.specs.declared.alloc.Global.{Global}
 use Rattle.btr_base.specs.declared.point.Point.{Point}
 use Rattle.btr_base.specs.Bag.{IsInOrder, within}
-use Rattle.btr_base.specs.Within.{filter-same, within-from, within-before}
+use Rattle.btr_base.proofs.ListLemmas.{filter-same}
+use Rattle.btr_base.proofs.WithinLemmas.{within-from, within-before}
 use Rattle.std.specs.List.{filter}
 use Rattle.std.proofs.lemmas.Int.{ints}
-use Rattle.btr_base.specs.Span.{width, Part, slot_of}
+use Rattle.btr_base.specs.Span.{width, SpanValue, slot_of}
 use Rattle.btr_tree.specs.declared.node.Node.{Node}
 use Rattle.btr_tree.specs.declared.node.Node.TheVariants.{Leaf, Inner}
 use Rattle.btr_tree.specs.declared.node.Slot.{Slot}
 use Rattle.btr_tree.specs.History.{Commit, bag}
 use Rattle.btr_tree.specs.Nodes.{points_of, is_inner}
 use Rattle.btr_tree.specs.Shape.{slot_start, IsPlace, Child, HasSlots, HasChildren, IsNode}
-use Rattle.btr_tree.specs.Shapes.{leaf-is, inner-is, slot-part, slot-few}
+use Rattle.btr_tree.proofs.NodeLemmas.{leaf-is, inner-is, slot-part, slot-few}
 use Rattle.btr_tree.specs.Change.{Stands, StandsInner}
-use Rattle.btr_tree.specs.Making.{slots-as}
-use Rattle.btr_tree.specs.Stamps.{points-in_order}
+use Rattle.btr_tree.proofs.BuiltNodeLemmas.{slots-as}
+use Rattle.btr_tree.proofs.VersionLemmas.{points-in_order}
 
 -- what a list is after a call that leaves it as it was where it fails
 pub where_ok : {E : Type 0} (r : Result (Unit {0}) E) (new all old : List Point) → new ≡ (if is_ok r then all else old) → OnOk r (new ≡ all)
@@ -92,11 +93,11 @@ inner-stands k s h ss cs body few = (
 -- ---- a slot's child
 
 -- what is known of a slot's child
-pub record IsChildAt (below : ℕ) (s : ℤ) (h : List Commit) (i : ℕ) (part : Part) (child : Child) : Type 0 where
+pub record IsChildAt (below : ℕ) (s : ℤ) (h : List Commit) (i : ℕ) (part : SpanValue) (child : Child) : Type 0 where
   pub is : part ≡ record { start = slot_start below s i; height = below }
   pub holds : IsPlace part.height part.start (is_inner (suc below) s) h child
 
-pub child-at : (span : Part) (below : ℕ) (h : List Commit) (i j : ℕ) (part : Part) (child : Child) (cs : List Child) → span.height ≡ suc below → HasChildren below span.start h 64 cs → i < 64 → j ≡ i → part ≡ slot_of span i → child ≡ slice_index_or cs j child → IsChildAt below span.start h i part child
+pub child-at : (span : SpanValue) (below : ℕ) (h : List Commit) (i j : ℕ) (part : SpanValue) (child : Child) (cs : List Child) → span.height ≡ suc below → HasChildren below span.start h 64 cs → i < 64 → j ≡ i → part ≡ slot_of span i → child ≡ slice_index_or cs j child → IsChildAt below span.start h i part child
 child-at span below h i j part child cs e each place same p r =
     let is : part ≡ record { start = slot_start below span.start i; height = below } = p ∙ slot-part span below i e in
     let holds : IsPlace below (slot_start below span.start i) (is_inner (suc below) span.start) h child = subst (IsPlace below (slot_start below span.start i) (is_inner (suc below) span.start) h) (ap (λ k. slice_index_or cs k child) (sym same) ∙ sym r) (each i child place) in
@@ -106,7 +107,7 @@ child-at span below h i j part child cs e each place same p r =
     }
 
 -- it stands where its node does
-pub child-stands : (below : ℕ) (s : ℤ) (h : List Commit) (i : ℕ) (part : Part) (child : Child) → part ≡ record { start = slot_start below s i; height = below } → IsPlace part.height part.start (is_inner (suc below) s) h child → i < 64 → length (points_of (suc below) s (bag h)) + 0 < 2 ^ 64 → Stands part.height part.start child 0
+pub child-stands : (below : ℕ) (s : ℤ) (h : List Commit) (i : ℕ) (part : SpanValue) (child : Child) → part ≡ record { start = slot_start below s i; height = below } → IsPlace part.height part.start (is_inner (suc below) s) h child → i < 64 → length (points_of (suc below) s (bag h)) + 0 < 2 ^ 64 → Stands part.height part.start child 0
 child-stands below s h i part child is holds place few =
     let fewer = slot-few below s h i part place is in
     record {

@@ -5,16 +5,16 @@ use Rattle.std.proofs.Common.{zero, suc, refl, sym, ap, ◌∙◌, arith, subst,
 use Rattle.std.proofs.lemmas.Int.{ints}
 use Rattle.btr_base.specs.declared.point.Point.{Point}
 use Rattle.btr_base.specs.Bag.{within}
-use Rattle.btr_base.specs.Span.{width, Part}
-use Rattle.btr_base.specs.Aggregates.{agg-count}
-use Rattle.btr_base.specs.Within.{within-split, within-empty}
+use Rattle.btr_base.specs.Span.{width, SpanValue}
+use Rattle.btr_base.proofs.AggLemmas.{agg-count}
+use Rattle.btr_base.proofs.WithinLemmas.{within-split, within-empty}
 use Rattle.btr_tree.specs.declared.node.Slot.{Slot}
 use Rattle.btr_tree.specs.History.{Commit, bag}
 use Rattle.btr_tree.specs.Nodes.{points_of}
-use Rattle.btr_tree.specs.Stamps.{bag-in_order}
+use Rattle.btr_tree.proofs.VersionLemmas.{bag-in_order}
 use Rattle.btr_tree.specs.Change.{end_of}
 use Rattle.btr_tree.specs.Shape.{Child, HasSlots, slot_start}
-use Rattle.btr_tree.specs.Shapes.{slot-end, slot-from, slot-inside, slot-next, prefix-next, prefix-none, rest-next}
+use Rattle.btr_tree.proofs.NodeLemmas.{slot-end, slot-from, slot-inside, slot-next, prefix-next, prefix-none, rest-next}
 use Rattle.btr_scan.proofs.Firsts.{first-some, first-found, first-missed, last-some, last-found, last-missed}
 
 le-gap : (a b : ℕ) → a ≤ b → (n : ℕ) × (n + a ≡ b)
@@ -31,10 +31,10 @@ none-counted [] e = refl
 none-counted (p ∷ b) e = absurd (omega arith)
 
 -- the slots from one up to, and without, another have no point
-abbrev pub IsRun : ℕ → ℤ → List Commit → ℕ → ℕ → Type 0
-IsRun below s h i j = (m : ℕ) → i ≤ m → m < j → points_of below (slot_start below s m) (bag h) ≡ []
+abbrev pub IsBlockRange : ℕ → ℤ → List Commit → ℕ → ℕ → Type 0
+IsBlockRange below s h i j = (m : ℕ) → i ≤ m → m < j → points_of below (slot_start below s m) (bag h) ≡ []
 
-run-of : (below : ℕ) (s : ℤ) (h : List Commit) (ss : List Slot) (cs : List Child) (i j : ℕ) → HasSlots below s h 64 ss cs → j ≤ 64 → ((m : ℕ) (d : Slot) → i ≤ m → m < j → (slice_index_or ss m d).agg.count ≡ 0) → IsRun below s h i j
+run-of : (below : ℕ) (s : ℤ) (h : List Commit) (ss : List Slot) (cs : List Child) (i j : ℕ) → HasSlots below s h 64 ss cs → j ≤ 64 → ((m : ℕ) (d : Slot) → i ≤ m → m < j → (slice_index_or ss m d).agg.count ≡ 0) → IsBlockRange below s h i j
 run-of below s h ss cs i j slots up none m low high =
     let d : Slot = record { agg = record { count = 0; total = pos 0; ends = None }; version = 0; child = 0 } in
     none-counted (points_of below (slot_start below s m) (bag h)) (sym (slot-count below s h ss cs m d slots (omega arith)) ∙ none m d low high)
@@ -45,13 +45,13 @@ full-of below s h ss cs i slots place some =
     omega (arith, slot-count below s h ss cs i d slots place, some d)
 
 -- such a slot has a point
-pub full-slot : (below : ℕ) (s : ℤ) (h : List Commit) (ss : List Slot) (cs : List Child) (i : ℕ) (part : Part) → HasSlots below s h 64 ss cs → i < 64 → ((d : Slot) → 0 < (slice_index_or ss i d).agg.count) → part ≡ record { start = slot_start below s i; height = below } → 0 < length (points_of part.height part.start (bag h))
+pub full-slot : (below : ℕ) (s : ℤ) (h : List Commit) (ss : List Slot) (cs : List Child) (i : ℕ) (part : SpanValue) → HasSlots below s h 64 ss cs → i < 64 → ((d : Slot) → 0 < (slice_index_or ss i d).agg.count) → part ≡ record { start = slot_start below s i; height = below } → 0 < length (points_of part.height part.start (bag h))
 full-slot below s h ss cs i part slots place some is =
-    subst (λ (u : Part). 0 < length (points_of u.height u.start (bag h))) (sym is) (full-of below s h ss cs i slots place some)
+    subst (λ (u : SpanValue). 0 < length (points_of u.height u.start (bag h))) (sym is) (full-of below s h ss cs i slots place some)
 
 -- ---- behind a run
 
-rest-skip : (n below : ℕ) (s : ℤ) (h : List Commit) (i j : ℕ) → n + i ≡ j → j ≤ 64 → IsRun below s h i j → within (slot_start below s i) (s +ℤ pos (width (suc below))) (bag h) ≡ within (slot_start below s j) (s +ℤ pos (width (suc below))) (bag h)
+rest-skip : (n below : ℕ) (s : ℤ) (h : List Commit) (i j : ℕ) → n + i ≡ j → j ≤ 64 → IsBlockRange below s h i j → within (slot_start below s i) (s +ℤ pos (width (suc below))) (bag h) ≡ within (slot_start below s j) (s +ℤ pos (width (suc below))) (bag h)
 rest-skip zero below s h i j e up run =
     let same : i ≡ j = omega arith in
     ap (λ k. within (slot_start below s k) (s +ℤ pos (width (suc below))) (bag h)) same
@@ -65,20 +65,20 @@ rest-none below s h =
     ap (λ a. within a (s +ℤ pos (width (suc below))) (bag h)) (slot-end below s) ∙ within-empty (s +ℤ pos (width (suc below))) (bag h)
 
 -- the first point from a slot on is that of the first slot there with a point
-pub first-behind : (span : Part) (below : ℕ) (h : List Commit) (ss : List Slot) (cs : List Child) (from i : ℕ) (part : Part) (r : Option Point) → span.height ≡ suc below → HasSlots below span.start h 64 ss cs → from ≤ i → i < 64 → ((d : Slot) → 0 < (slice_index_or ss i d).agg.count) → ((m : ℕ) (d : Slot) → from ≤ m → m < i → (slice_index_or ss m d).agg.count ≡ 0) → part ≡ record { start = slot_start below span.start i; height = below } → r ≡ slice_get (points_of part.height part.start (bag h)) 0 → r ≡ slice_get (within (slot_start below span.start from) (end_of span) (bag h)) 0
+pub first-behind : (span : SpanValue) (below : ℕ) (h : List Commit) (ss : List Slot) (cs : List Child) (from i : ℕ) (part : SpanValue) (r : Option Point) → span.height ≡ suc below → HasSlots below span.start h 64 ss cs → from ≤ i → i < 64 → ((d : Slot) → 0 < (slice_index_or ss i d).agg.count) → ((m : ℕ) (d : Slot) → from ≤ m → m < i → (slice_index_or ss m d).agg.count ≡ 0) → part ≡ record { start = slot_start below span.start i; height = below } → r ≡ slice_get (points_of part.height part.start (bag h)) 0 → r ≡ slice_get (within (slot_start below span.start from) (end_of span) (bag h)) 0
 first-behind span below h ss cs from i part r e slots low place some passed is found =
     let s = span.start in
     let run = run-of below s h ss cs from i slots (omega arith) passed in
     let full = full-of below s h ss cs i slots place some in
     let gap = le-gap from i low in
     found
-    ∙ ap (λ (u : Part). slice_get (points_of u.height u.start (bag h)) 0) is
+    ∙ ap (λ (u : SpanValue). slice_get (points_of u.height u.start (bag h)) 0) is
     ∙ sym (first-some (points_of below (slot_start below s i) (bag h)) (within (slot_start below s (i + 1)) (s +ℤ pos (width (suc below))) (bag h)) full)
     ∙ sym (ap (λ (x : List Point). slice_get x 0) (rest-skip gap.0 below s h from i gap.1 (omega arith) run ∙ rest-next below s i h place))
     ∙ ap (λ k. slice_get (within (slot_start below s from) (s +ℤ pos (width k)) (bag h)) 0) (sym e)
 
 -- there is none where no slot there has a point
-pub none-behind : (span : Part) (below : ℕ) (h : List Commit) (ss : List Slot) (cs : List Child) (from : ℕ) (r : Option Point) → span.height ≡ suc below → HasSlots below span.start h 64 ss cs → from ≤ 64 → ((m : ℕ) (d : Slot) → from ≤ m → m < 64 → (slice_index_or ss m d).agg.count ≡ 0) → r ≡ None → r ≡ slice_get (within (slot_start below span.start from) (end_of span) (bag h)) 0
+pub none-behind : (span : SpanValue) (below : ℕ) (h : List Commit) (ss : List Slot) (cs : List Child) (from : ℕ) (r : Option Point) → span.height ≡ suc below → HasSlots below span.start h 64 ss cs → from ≤ 64 → ((m : ℕ) (d : Slot) → from ≤ m → m < 64 → (slice_index_or ss m d).agg.count ≡ 0) → r ≡ None → r ≡ slice_get (within (slot_start below span.start from) (end_of span) (bag h)) 0
 none-behind span below h ss cs from r e slots up none is =
     let s = span.start in
     let run = run-of below s h ss cs from 64 slots (omega arith) none in
@@ -89,7 +89,7 @@ none-behind span below h ss cs from r e slots up none is =
 
 -- ---- before a run
 
-prefix-skip : (n below : ℕ) (s : ℤ) (h : List Commit) (i j : ℕ) → n + i ≡ j → IsRun below s h i j → within s (slot_start below s j) (bag h) ≡ within s (slot_start below s i) (bag h)
+prefix-skip : (n below : ℕ) (s : ℤ) (h : List Commit) (i j : ℕ) → n + i ≡ j → IsBlockRange below s h i j → within s (slot_start below s j) (bag h) ≡ within s (slot_start below s i) (bag h)
 prefix-skip zero below s h i j e run =
     let same : j ≡ i = omega arith in
     ap (λ k. within s (slot_start below s k) (bag h)) same
@@ -100,13 +100,13 @@ prefix-skip (suc n) below s h i j e run =
     ∙ append-nil (within s (slot_start below s i) (bag h))
 
 -- the last point before a slot is that of the last slot there with a point
-pub last-before : (below : ℕ) (s : ℤ) (h : List Commit) (ss : List Slot) (cs : List Child) (to i : ℕ) (part : Part) (r : Option Point) → HasSlots below s h 64 ss cs → i < to → to ≤ 64 → ((d : Slot) → 0 < (slice_index_or ss i d).agg.count) → ((m : ℕ) (d : Slot) → i < m → m < to → (slice_index_or ss m d).agg.count ≡ 0) → part ≡ record { start = slot_start below s i; height = below } → r ≡ last_or None (points_of part.height part.start (bag h)) → r ≡ last_or None (within s (slot_start below s to) (bag h))
+pub last-before : (below : ℕ) (s : ℤ) (h : List Commit) (ss : List Slot) (cs : List Child) (to i : ℕ) (part : SpanValue) (r : Option Point) → HasSlots below s h 64 ss cs → i < to → to ≤ 64 → ((d : Slot) → 0 < (slice_index_or ss i d).agg.count) → ((m : ℕ) (d : Slot) → i < m → m < to → (slice_index_or ss m d).agg.count ≡ 0) → part ≡ record { start = slot_start below s i; height = below } → r ≡ last_or None (points_of part.height part.start (bag h)) → r ≡ last_or None (within s (slot_start below s to) (bag h))
 last-before below s h ss cs to i part r slots high place some passed is found =
     let run = run-of below s h ss cs (i + 1) to slots place (λ m d low up. passed m d (omega arith) up) in
     let full = full-of below s h ss cs i slots (omega arith) some in
     let gap = le-gap (i + 1) to (omega arith) in
     found
-    ∙ ap (λ (u : Part). last_or None (points_of u.height u.start (bag h))) is
+    ∙ ap (λ (u : SpanValue). last_or None (points_of u.height u.start (bag h))) is
     ∙ sym (last-some (within s (slot_start below s i) (bag h)) (points_of below (slot_start below s i) (bag h)) full)
     ∙ sym (ap (last_or None) (prefix-skip gap.0 below s h (i + 1) to gap.1 run ∙ prefix-next below s i h))
 
@@ -119,40 +119,40 @@ none-before below s h ss cs to r slots place none is =
 -- ---- the slot that a time lies in
 
 -- the points from a time on are those of its slot, and those of the slots behind it
-from-parts : (span : Part) (below : ℕ) (h : List Commit) (time : ℤ) (i : ℕ) (part : Part) → span.height ≡ suc below → i < 64 → part ≡ record { start = slot_start below span.start i; height = below } → time ≤ℤ end_of part → within time (end_of span) (bag h) ≡ within time (end_of part) (bag h) ++ within (slot_start below span.start (i + 1)) (end_of span) (bag h)
+from-parts : (span : SpanValue) (below : ℕ) (h : List Commit) (time : ℤ) (i : ℕ) (part : SpanValue) → span.height ≡ suc below → i < 64 → part ≡ record { start = slot_start below span.start i; height = below } → time ≤ℤ end_of part → within time (end_of span) (bag h) ≡ within time (end_of part) (bag h) ++ within (slot_start below span.start (i + 1)) (end_of span) (bag h)
 from-parts span below h time i part e place is early =
     let s = span.start in
-    let ends : end_of part ≡ slot_start below s (i + 1) = ap (λ (u : Part). end_of u) is ∙ sym (slot-next below s i) in
+    let ends : end_of part ≡ slot_start below s (i + 1) = ap (λ (u : SpanValue). end_of u) is ∙ sym (slot-next below s i) in
     let inside = slot-inside below s i place in
     let next = slot-next below s i in
     let high : slot_start below s (i + 1) ≤ℤ end_of span = subst (λ k. slot_start below s (i + 1) ≤ℤ (s +ℤ pos (width k))) (sym e) (omega (arith, ints)) in
     within-split time (slot_start below s (i + 1)) (end_of span) (bag h) (omega (arith, ints)) high (bag-in_order h)
     ∙ ap (λ x. within time x (bag h) ++ within (slot_start below s (i + 1)) (end_of span) (bag h)) (sym ends)
 
-pub next-here : (span : Part) (below : ℕ) (h : List Commit) (time : ℤ) (i : ℕ) (part : Part) (p : Point) → span.height ≡ suc below → i < 64 → part ≡ record { start = slot_start below span.start i; height = below } → time ≤ℤ end_of part → Some p ≡ slice_get (within time (end_of part) (bag h)) 0 → Some p ≡ slice_get (within time (end_of span) (bag h)) 0
+pub next-here : (span : SpanValue) (below : ℕ) (h : List Commit) (time : ℤ) (i : ℕ) (part : SpanValue) (p : Point) → span.height ≡ suc below → i < 64 → part ≡ record { start = slot_start below span.start i; height = below } → time ≤ℤ end_of part → Some p ≡ slice_get (within time (end_of part) (bag h)) 0 → Some p ≡ slice_get (within time (end_of span) (bag h)) 0
 next-here span below h time i part p e place is early found =
     sym (first-found (within time (end_of part) (bag h)) (within (slot_start below span.start (i + 1)) (end_of span) (bag h)) p (sym found))
     ∙ sym (ap (λ (x : List Point). slice_get x 0) (from-parts span below h time i part e place is early))
 
-pub next-behind : (span : Part) (below : ℕ) (h : List Commit) (time : ℤ) (i : ℕ) (part : Part) (r : Option Point) → span.height ≡ suc below → i < 64 → part ≡ record { start = slot_start below span.start i; height = below } → time ≤ℤ end_of part → None ≡ slice_get (within time (end_of part) (bag h)) 0 → r ≡ slice_get (within (slot_start below span.start (i + 1)) (end_of span) (bag h)) 0 → r ≡ slice_get (within time (end_of span) (bag h)) 0
+pub next-behind : (span : SpanValue) (below : ℕ) (h : List Commit) (time : ℤ) (i : ℕ) (part : SpanValue) (r : Option Point) → span.height ≡ suc below → i < 64 → part ≡ record { start = slot_start below span.start i; height = below } → time ≤ℤ end_of part → None ≡ slice_get (within time (end_of part) (bag h)) 0 → r ≡ slice_get (within (slot_start below span.start (i + 1)) (end_of span) (bag h)) 0 → r ≡ slice_get (within time (end_of span) (bag h)) 0
 next-behind span below h time i part r e place is early none found =
     found
     ∙ sym (first-missed (within time (end_of part) (bag h)) (within (slot_start below span.start (i + 1)) (end_of span) (bag h)) (sym none))
     ∙ sym (ap (λ (x : List Point). slice_get x 0) (from-parts span below h time i part e place is early))
 
 -- the points before a time are those of the slots before its slot, and those of the slot
-before-parts : (below : ℕ) (s : ℤ) (h : List Commit) (time : ℤ) (i : ℕ) (part : Part) → part ≡ record { start = slot_start below s i; height = below } → part.start ≤ℤ time → within s time (bag h) ≡ within s (slot_start below s i) (bag h) ++ within part.start time (bag h)
+before-parts : (below : ℕ) (s : ℤ) (h : List Commit) (time : ℤ) (i : ℕ) (part : SpanValue) → part ≡ record { start = slot_start below s i; height = below } → part.start ≤ℤ time → within s time (bag h) ≡ within s (slot_start below s i) (bag h) ++ within part.start time (bag h)
 before-parts below s h time i part is late =
-    let begins : part.start ≡ slot_start below s i = ap (λ (u : Part). u.start) is in
+    let begins : part.start ≡ slot_start below s i = ap (λ (u : SpanValue). u.start) is in
     within-split s (slot_start below s i) time (bag h) (slot-from below s i) (omega (arith, ints)) (bag-in_order h)
     ∙ ap (λ x. within s (slot_start below s i) (bag h) ++ within x time (bag h)) (sym begins)
 
-pub previous-here : (below : ℕ) (s : ℤ) (h : List Commit) (time : ℤ) (i : ℕ) (part : Part) (p : Point) → part ≡ record { start = slot_start below s i; height = below } → part.start ≤ℤ time → Some p ≡ last_or None (within part.start time (bag h)) → Some p ≡ last_or None (within s time (bag h))
+pub previous-here : (below : ℕ) (s : ℤ) (h : List Commit) (time : ℤ) (i : ℕ) (part : SpanValue) (p : Point) → part ≡ record { start = slot_start below s i; height = below } → part.start ≤ℤ time → Some p ≡ last_or None (within part.start time (bag h)) → Some p ≡ last_or None (within s time (bag h))
 previous-here below s h time i part p is late found =
     sym (last-found (within s (slot_start below s i) (bag h)) (within part.start time (bag h)) p (sym found))
     ∙ sym (ap (last_or None) (before-parts below s h time i part is late))
 
-pub previous-before : (below : ℕ) (s : ℤ) (h : List Commit) (time : ℤ) (i : ℕ) (part : Part) (r : Option Point) → part ≡ record { start = slot_start below s i; height = below } → part.start ≤ℤ time → None ≡ last_or None (within part.start time (bag h)) → r ≡ last_or None (within s (slot_start below s i) (bag h)) → r ≡ last_or None (within s time (bag h))
+pub previous-before : (below : ℕ) (s : ℤ) (h : List Commit) (time : ℤ) (i : ℕ) (part : SpanValue) (r : Option Point) → part ≡ record { start = slot_start below s i; height = below } → part.start ≤ℤ time → None ≡ last_or None (within part.start time (bag h)) → r ≡ last_or None (within s (slot_start below s i) (bag h)) → r ≡ last_or None (within s time (bag h))
 previous-before below s h time i part r is late none found =
     found
     ∙ sym (last-missed (within s (slot_start below s i) (bag h)) (within part.start time (bag h)) (sym none))

@@ -6,7 +6,8 @@ use Rattle.std.proofs.lemmas.Slice.{put_mid-paste}
 use Rattle.std.proofs.Math.Seq.{take-length}
 use Rattle.std.specs.Int.{w32, w64, to_be_bytes}
 use borrow.Rule.Slice.PartMut.{put_mid}
-use Rattle.btr_disk.specs.Gate.{zeros, length-zeros}
+use Rattle.btr_disk.specs.Gate.{zeros}
+use Rattle.btr_disk.proofs.GateLemmas.{length-zeros}
 use Rattle.btr_super.specs.declared.superblock.Super.{Super}
 use Rattle.btr_super.specs.Super.{super_bytes}
 
@@ -14,23 +15,23 @@ zeros-add : (m n : ℕ) → zeros (m + n) ≡ zeros m ++ zeros n
 unfolding zeros
 zeros-add m n = sym (replicate-append-replicate m n 0)
 
--- zeros behind a front, of which some are now another front
-behind : (front : List ℕ) (m n : ℕ) → front ++ zeros (m + n) ≡ front ++ zeros m ++ zeros n
-behind front m n = ap (λ z. front ++ z) (zeros-add m n) ∙ sym (append_assoc front (zeros m) (zeros n))
+-- zeros behind a prefix, of which some are now another prefix
+behind : (prefix : List ℕ) (m n : ℕ) → prefix ++ zeros (m + n) ≡ prefix ++ zeros m ++ zeros n
+behind prefix m n = ap (λ z. prefix ++ z) (zeros-add m n) ∙ sym (append_assoc prefix (zeros m) (zeros n))
 
--- where zeros stood behind a front, these bytes stand in the place of the first of them
+-- where zeros stood behind a prefix, these bytes stand in the place of the first of them
 abbrev pub Puts : ℕ → List ℕ → List ℕ → List ℕ → Type 0
 Puts at bytes old new =
-    (front : List ℕ) (rest : ℕ) → length front ≡ at → old ≡ front ++ zeros (length bytes + rest) → new ≡ front ++ bytes ++ zeros rest
+    (prefix : List ℕ) (rest : ℕ) → length prefix ≡ at → old ≡ prefix ++ zeros (length bytes + rest) → new ≡ prefix ++ bytes ++ zeros rest
 
 pub put_mid-grown : (at k : ℕ) (old new bytes : List ℕ) → new ≡ bytes → length bytes ≡ k → Puts at bytes old (put_mid at k old new)
-put_mid-grown at k old new bytes same size front rest at_front shape =
+put_mid-grown at k old new bytes same size prefix rest at_prefix shape =
     let n : ℕ = length bytes in
     let pasted = put_mid-paste at k old new bytes n same size refl in
-    let left : take at old ≡ front = ap (take at) shape ∙ take_at front (zeros (n + rest)) at at_front in
-    let there : length (front ++ zeros n) ≡ at + n = omega (arith, length-append front (zeros n), length-zeros n) in
-    let right : drop (at + n) old ≡ zeros rest = ap (drop (at + n)) (shape ∙ behind front n rest) ∙ drop_at (front ++ zeros n) (zeros rest) (at + n) there in
-    pasted ∙ ap (λ x. x ++ take n bytes ++ drop (at + n) old) left ∙ ap (λ x. front ++ x ++ drop (at + n) old) (take-length bytes) ∙ ap (λ x. front ++ bytes ++ x) right
+    let left : take at old ≡ prefix = ap (take at) shape ∙ take_at prefix (zeros (n + rest)) at at_prefix in
+    let there : length (prefix ++ zeros n) ≡ at + n = omega (arith, length-append prefix (zeros n), length-zeros n) in
+    let right : drop (at + n) old ≡ zeros rest = ap (drop (at + n)) (shape ∙ behind prefix n rest) ∙ drop_at (prefix ++ zeros n) (zeros rest) (at + n) there in
+    pasted ∙ ap (λ x. x ++ take n bytes ++ drop (at + n) old) left ∙ ap (λ x. prefix ++ x ++ drop (at + n) old) (take-length bytes) ∙ ap (λ x. prefix ++ bytes ++ x) right
 
 -- all fields in a block of zeros
 fields_put : (m f q b t k : List ℕ) (b0 b1 b2 b3 b4 b5 b6 : List ℕ) → length m ≡ 8 → length f ≡ 4 → length q ≡ 8 → length b ≡ 8 → length t ≡ 8 → length k ≡ 8 → b0 ≡ zeros 4096 → Puts 0 m b0 b1 → Puts 8 f b1 b2 → Puts 16 q b2 b3 → Puts 24 b b3 b4 → Puts 32 t b4 b5 → Puts 40 k b5 b6 → b6 ≡ m ++ f ++ zeros 4 ++ q ++ b ++ t ++ k ++ zeros 4048

@@ -1,5 +1,7 @@
+pub mod ChoiceLemmas
+pub mod SuperLemmas
 mod Unwritten
 mod Fields
-mod Front
+mod Prefix
 mod Answered
 mod Writing

@@ -4,10 +4,9 @@ use Rattle.std.proofs.Common.{sym, subst}
 use Rattle.btr_disk.specs.Bytes.{Image, Same}
 use Rattle.btr_disk.specs.Causes.{Counted}
 use Rattle.btr_disk.specs.Images.{Only}
-use Rattle.btr_disk.specs.Moments.{Elapses, WroteNothing}
-use Rattle.btr_disk.specs.Addresses.{Same-trans, Same-is}
-use Rattle.btr_disk.specs.Runs.{begins, goes_on, composes, weakens}
-use Rattle.btr_super.specs.Unwritten.{IsUnwritten}
+use Rattle.btr_disk.specs.Moments.{Elapses, WroteNothing, IsUnwritten}
+use Rattle.btr_disk.proofs.ByteLemmas.{Same-trans, Same-is}
+use Rattle.btr_disk.proofs.MomentLemmas.{begins, goes_on, composes, weakens}
 
 -- after a sync that succeeded a crash leaves what it might have left before
 pub synced_back : (contents mid : Image) (old new : Image → Type 0) → old contents → Same contents mid → Only mid new → (c : Image) → new c → old c

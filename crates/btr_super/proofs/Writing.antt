@@ -6,10 +6,11 @@ use Rattle.btr_disk.specs.Bytes.{Image, Has, Same, SameBut, SameButTwo}
 use Rattle.btr_disk.specs.Images.{Only, SameImages, Torn}
 use Rattle.btr_disk.specs.Causes.{Counted}
 use Rattle.btr_disk.specs.Moments.{Elapses, Leaves}
-use Rattle.btr_disk.specs.Runs.{begins, goes_on}
-use Rattle.btr_disk.specs.Gate.{IsOpen, IsClosed, zeros, mark, gate_block, open_gate_is_open, zeros_are_closed}
-use Rattle.btr_disk.specs.Addresses.{Has-along, Has-above, SameBut-at, SameButTwo-from}
-use Rattle.btr_disk.specs.ImageSets.{Torn-Only}
+use Rattle.btr_disk.proofs.MomentLemmas.{begins, goes_on}
+use Rattle.btr_disk.specs.Gate.{IsOpen, IsClosed, zeros, mark, gate_block}
+use Rattle.btr_disk.proofs.GateLemmas.{open_gate_is_open, zeros_are_closed}
+use Rattle.btr_disk.proofs.ByteLemmas.{Has-along, Has-above, SameBut-at, SameButTwo-from}
+use Rattle.btr_disk.proofs.ImageLemmas.{Torn-Only}
 use Rattle.btr_super.specs.Super.{super_bytes, IsSuper, first_super}
 use Rattle.btr_super.specs.Format.{HasClosedGates, IsEmptyStore, Formatted, IsFormatting}
 

@@ -6,11 +6,11 @@ use Rattle.btr_super.specs.declared.choosing.ChooseFault.{ChooseFault}
 use Rattle.btr_super.specs.declared.choosing.ChooseFault.TheVariants.{NotAStore, Damaged, Fault}
 use Rattle.btr_super.specs.Choose.{IsOpenAt, HasSuper, IsChosen, HasNoSuper, IsBroken, IsDamagedSuper}
 
--- these bytes are one block of the front, and stand where it stands
-pub record IsBlockOf (front : List ℕ) (block : ℕ) (bytes : List ℕ) : Type 0 where
-  pub inside : 4096 * block + 4096 ≤ length front
+-- these bytes are one block of the prefix, and stand where it stands
+pub record IsBlockOf (prefix : List ℕ) (block : ℕ) (bytes : List ℕ) : Type 0 where
+  pub inside : 4096 * block + 4096 ≤ length prefix
   pub whole : length bytes ≡ 4096
-  pub stands : (image : Image) → Has image 0 front → Has image (4096 * block) bytes
+  pub stands : (image : Image) → Has image 0 prefix → Has image (4096 * block) bytes
 
 -- the superblock of one side, if its gate is open
 abbrev pub TellsSide : ℕ → Image → ℕ → Result (Option Super) ChooseFault → Type 0

@@ -2,10 +2,9 @@
 use Rattle.std.specs.Prelude.{◌≡◌, ℕ, ◌*◌, ◌<◌, ◌⊎◌}
 use Rattle.btr_disk.specs.Bytes.{Image, Has, SameButTwo}
 use Rattle.btr_disk.specs.Images.{Only}
-use Rattle.btr_disk.specs.Moments.{Leaves}
+use Rattle.btr_disk.specs.Moments.{Leaves, IsUnwritten}
 use Rattle.btr_disk.specs.Gate.{IsOpen, IsClosed, gate_block, zeros}
 use Rattle.btr_super.specs.Super.{super_bytes, first_super}
-use Rattle.btr_super.specs.Unwritten.{IsUnwritten}
 use Rattle.btr_super.specs.Choose.{IsChosen}
 
 -- more blocks were asked for than the device has

@@ -8,7 +8,7 @@ ghost use Rattle.btr_super.specs.declared.choosing.ChooseFault.TheVariants.{Faul
 ghost use Rattle.btr_super.specs.Super.{IsSuper};
 ghost use Rattle.btr_super.specs.Choose.{IsOpenAt, Spells, IsChosen, HasNoSuper, IsDamagedSuper};
 ghost use Rattle.btr_super.specs.Chosen.{IsBlockOf, TellsSide, IsLater, Tells};
-ghost use Rattle.btr_super.specs.Unwritten.{CausesFault};
+ghost use Rattle.btr_disk.specs.Causes.{CausesFault};
 
 use crate::codec::{decode, keeps_table};
 use crate::superblock::Super;
@@ -39,41 +39,41 @@ impl From<Failed> for ChooseFault {
 /// Bytes of the two superblocks, gates and bodies.
 const FRONT: usize = 4 * BLOCK;
 
-/// One block of the front, where the device has it.
-fn block_of(front: &[u8], block: usize) -> Option<&[u8]>
+/// One block of the prefix, where the device has it.
+fn block_of(prefix: &[u8], block: usize) -> Option<&[u8]>
     requires { block ≤ 3 }
-    ensures there { IfSome result (λ bytes. IsBlockOf front.now block bytes.now) }
-    ensures missing { IsNone result → length front.now < 4096 * block + 4096 }
+    ensures there { IfSome result (λ bytes. IsBlockOf prefix.now block bytes.now) }
+    ensures missing { IsNone result → length prefix.now < 4096 * block + 4096 }
 {
     let start = BLOCK * block;
-    if start + BLOCK <= front.len() {
-        Some(&front[start..start + BLOCK])
+    if start + BLOCK <= prefix.len() {
+        Some(&prefix[start..start + BLOCK])
     } else {
         None
     }
 }
 
 /// Whether this block is there and is an open gate.
-fn has_open_gate(front: &[u8], block: usize, size: u64) -> bool
+fn has_open_gate(prefix: &[u8], block: usize, size: u64) -> bool
     requires block { block ≤ 3 }
-    requires front { length front.now ≡ 4096 * min 4 size }
-    ensures { (image : Image) → Has image 0 front.now → IsTrue result ↔ IsOpenAt size image block }
+    requires prefix { length prefix.now ≡ 4096 * min 4 size }
+    ensures { (image : Image) → Has image 0 prefix.now → IsTrue result ↔ IsOpenAt size image block }
 {
-    match block_of(front, block) {
+    match block_of(prefix, block) {
         Some(bytes) => is_open_gate(bytes),
         None => false,
     }
 }
 
 /// The superblock of this side that this block spells, where it is there.
-fn spelled(front: &[u8], block: usize, side: u8, size: u64) -> Option<Super>
+fn spelled(prefix: &[u8], block: usize, side: u8, size: u64) -> Option<Super>
     requires block { block ≤ 3 }
     requires side { side ≤ 1 }
-    requires front { length front.now ≡ 4096 * min 4 size }
-    ensures { (image : Image) → Has image 0 front.now
+    requires prefix { length prefix.now ≡ 4096 * min 4 size }
+    ensures { (image : Image) → Has image 0 prefix.now
         → MatchOption result ((s : Super) → s.side ≡ side → Spells size image block s → ⊥) (λ s. (s.side ≡ side) × Spells size image block s) }
 {
-    let found = decode(block_of(front, block)?, side)?;
+    let found = decode(block_of(prefix, block)?, side)?;
     if keeps_table(&found, size) {
         Some(found)
     } else {
@@ -82,16 +82,16 @@ fn spelled(front: &[u8], block: usize, side: u8, size: u64) -> Option<Super>
 }
 
 /// The superblock of this side, where its gate is open.
-fn open_super(front: &[u8], side: u8, size: u64) -> Result<Option<Super>, ChooseFault>
+fn open_super(prefix: &[u8], side: u8, size: u64) -> Result<Option<Super>, ChooseFault>
     requires side { side ≤ 1 }
-    requires front { length front.now ≡ 4096 * min 4 size }
-    ensures { (image : Image) → Has image 0 front.now → TellsSide size image side result }
+    requires prefix { length prefix.now ≡ 4096 * min 4 size }
+    ensures { (image : Image) → Has image 0 prefix.now → TellsSide size image side result }
 {
     let gate = 2 * side as usize;
-    if !has_open_gate(front, gate, size) {
+    if !has_open_gate(prefix, gate, size) {
         return Ok(None);
     }
-    match spelled(front, gate + 1, side, size) {
+    match spelled(prefix, gate + 1, side, size) {
         Some(found) => Ok(Some(found)),
         None => Err(ChooseFault::Damaged {
             block: 2 * side as u64 + 1,
@@ -113,12 +113,12 @@ fn later(first: Super, second: Super) -> Result<Super, ChooseFault>
 }
 
 /// What a device of `size` blocks has, by its first blocks.
-fn choose_in(front: &[u8], size: u64) -> Result<Super, ChooseFault>
-    requires { length front.now ≡ 4096 * min 4 size }
-    ensures { (image : Image) → Has image 0 front.now → Tells size image result }
+fn choose_in(prefix: &[u8], size: u64) -> Result<Super, ChooseFault>
+    requires { length prefix.now ≡ 4096 * min 4 size }
+    ensures { (image : Image) → Has image 0 prefix.now → Tells size image result }
 {
-    let first = open_super(front, 0, size)?;
-    let second = open_super(front, 1, size)?;
+    let first = open_super(prefix, 0, size)?;
+    let second = open_super(prefix, 1, size)?;
     match (first, second) {
         (None, None) => Err(ChooseFault::NotAStore),
         (Some(only), None) | (None, Some(only)) => Ok(only),
@@ -126,19 +126,19 @@ fn choose_in(front: &[u8], size: u64) -> Result<Super, ChooseFault>
     }
 }
 
-/// Reads the front, which has a block for each of the first four that the device has.
-fn read_front<D: Disk>(device: &mut D, front: &mut [u8]) -> Result<(), Failed>
-    requires { length front.old ≡ 4096 * min 4 (D.size device.old) }
+/// Reads the prefix, which has a block for each of the first four that the device has.
+fn read_prefix<D: Disk>(device: &mut D, prefix: &mut [u8]) -> Result<(), Failed>
+    requires { length prefix.old ≡ 4096 * min 4 (D.size device.old) }
     ensures size { D.size device.new ≡ D.size device.old }
     ensures calls { D.calls device.old ≤ D.calls device.new }
     ensures cause { HasCause (D.faults device.old) (D.faults device.new) result }
-    ensures bytes { D.tells → OnOk result (Has (D.contents device.old) 0 front.new) }
-    ensures nothing { D.tells → WroteNothing D.calls D.contents D.image D.since device.old device.new }
+    ensures bytes { D.is_observable → OnOk result (Has (D.contents device.old) 0 prefix.new) }
+    ensures nothing { D.is_observable → WroteNothing D.calls D.contents D.images_now D.images_since device.old device.new }
 {
-    if front.is_empty() {
+    if prefix.is_empty() {
         return Ok(());
     }
-    device.read(0, front)
+    device.read(0, prefix)
 }
 
 /// The superblock that counts: of those with an open gate the one with the greater number.
@@ -154,18 +154,18 @@ pub fn choose<D: Disk>(device: &mut D) -> Result<Super, ChooseFault>
     ensures calls { D.calls device.old ≤ D.calls device.new }
     ensures cause { CausesFault (D.faults device.old) (D.faults device.new) (result ≡ Err ChooseFault.Fault) }
     ensures table { IfOk result (IsSuper (D.size device.old)) }
-    ensures chosen { D.tells → result ≢ Err ChooseFault.Fault
+    ensures chosen { D.is_observable → result ≢ Err ChooseFault.Fault
         → (s : Super) → (result ≡ Ok s) ↔ IsChosen (D.size device.old) (D.contents device.old) s }
-    ensures not_a_store { D.tells → result ≢ Err ChooseFault.Fault
+    ensures not_a_store { D.is_observable → result ≢ Err ChooseFault.Fault
         → (result ≡ Err ChooseFault.NotAStore) ↔ HasNoSuper (D.size device.old) (D.contents device.old) }
-    ensures damaged { D.tells → result ≢ Err ChooseFault.Fault
+    ensures damaged { D.is_observable → result ≢ Err ChooseFault.Fault
         → (block : ℕ) → (result ≡ Err (ChooseFault.Damaged block)) ↔ IsDamagedSuper (D.size device.old) (D.contents device.old) block }
-    ensures nothing { D.tells → WroteNothing D.calls D.contents D.image D.since device.old device.new }
+    ensures nothing { D.is_observable → WroteNothing D.calls D.contents D.images_now D.images_since device.old device.new }
 {
     let size = device.blocks();
     let count = size.min(4);
     let mut bytes = [0; FRONT];
-    let front = &mut bytes[..BLOCK * count as usize];
-    read_front(device, front)?;
-    choose_in(front, size)
+    let prefix = &mut bytes[..BLOCK * count as usize];
+    read_prefix(device, prefix)?;
+    choose_in(prefix, size)
 }

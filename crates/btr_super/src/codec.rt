@@ -12,8 +12,8 @@ use btr_disk::BLOCK;
 fn put(block: &mut [u8], at: usize, bytes: &[u8])
     requires { at + length bytes.now ≤ length block.old }
     ensures size { length block.new ≡ length block.old }
-    ensures grown { (front : List ℕ) (rest : ℕ) → length front ≡ at
-        → block.old ≡ front ++ zeros (length bytes.now + rest) → block.new ≡ front ++ bytes.now ++ zeros rest }
+    ensures grown { (prefix : List ℕ) (rest : ℕ) → length prefix ≡ at
+        → block.old ≡ prefix ++ zeros (length bytes.now + rest) → block.new ≡ prefix ++ bytes.now ++ zeros rest }
 {
     block[at..at + bytes.len()].copy_from_slice(bytes);
 }

@@ -7,7 +7,8 @@ ghost use Rattle.btr_disk.specs.Causes.{HasCause};
 ghost use Rattle.btr_disk.specs.Gate.{gate_block, zeros};
 ghost use Rattle.btr_super.specs.declared.formatting.FormatFault.TheVariants.{Fault};
 ghost use Rattle.btr_super.specs.Super.{super_bytes, first_super};
-ghost use Rattle.btr_super.specs.Unwritten.{IsUnwritten, CausesFault};
+ghost use Rattle.btr_disk.specs.Moments.{IsUnwritten};
+ghost use Rattle.btr_disk.specs.Causes.{CausesFault};
 ghost use Rattle.btr_super.specs.Format.{IsTooSmall, IsOccupied, HasClosedGates, Formatted, IsFormatting, WritesFrom};
 
 use crate::codec::encode;
@@ -47,12 +48,12 @@ fn write_bodies<D: Disk>(device: &mut D, blocks: u64) -> Result<(), Failed>
     requires { 8 ≤ D.size device.old }
     ensures size { D.size device.new ≡ D.size device.old }
     ensures cause { HasCause (D.faults device.old) (D.faults device.new) result }
-    ensures body { D.tells → OnOk result (Has (D.contents device.new) (4096 * 1) (super_bytes (first_super blocks))) }
-    ensures log { D.tells → OnOk result (Has (D.contents device.new) (4096 * 4) (zeros 4096)) }
-    ensures elsewhere { D.tells → SameButTwo (4096 * 1) 4096 (4096 * 4) 4096 (D.contents device.old) (D.contents device.new) }
-    ensures synced { D.tells → OnOk result (Only (D.contents device.new) (D.image device.new)) }
-    ensures moments { D.tells → Only (D.contents device.old) (D.image device.old)
-        → Leaves D.calls D.since device.old device.new (SameButTwo (4096 * 1) 4096 (4096 * 4) 4096 (D.contents device.old)) }
+    ensures body { D.is_observable → OnOk result (Has (D.contents device.new) (4096 * 1) (super_bytes (first_super blocks))) }
+    ensures log { D.is_observable → OnOk result (Has (D.contents device.new) (4096 * 4) (zeros 4096)) }
+    ensures elsewhere { D.is_observable → SameButTwo (4096 * 1) 4096 (4096 * 4) 4096 (D.contents device.old) (D.contents device.new) }
+    ensures synced { D.is_observable → OnOk result (Only (D.contents device.new) (D.images_now device.new)) }
+    ensures moments { D.is_observable → Only (D.contents device.old) (D.images_now device.old)
+        → Leaves D.calls D.images_since device.old device.new (SameButTwo (4096 * 1) 4096 (4096 * 4) 4096 (D.contents device.old)) }
 {
     let first = Super {
         seq: 1,
@@ -72,11 +73,11 @@ fn open_first_gate<D: Disk>(device: &mut D) -> Result<(), Failed>
     requires { 8 ≤ D.size device.old }
     ensures size { D.size device.new ≡ D.size device.old }
     ensures cause { HasCause (D.faults device.old) (D.faults device.new) result }
-    ensures gate { D.tells → OnOk result (Has (D.contents device.new) (4096 * 0) gate_block) }
-    ensures elsewhere { D.tells → SameBut (4096 * 0) 4096 (D.contents device.old) (D.contents device.new) }
-    ensures synced { D.tells → OnOk result (Only (D.contents device.new) (D.image device.new)) }
-    ensures moments { D.tells → Only (D.contents device.old) (D.image device.old)
-        → Leaves D.calls D.since device.old device.new (SameBut (4096 * 0) 4096 (D.contents device.old)) }
+    ensures gate { D.is_observable → OnOk result (Has (D.contents device.new) (4096 * 0) gate_block) }
+    ensures elsewhere { D.is_observable → SameBut (4096 * 0) 4096 (D.contents device.old) (D.contents device.new) }
+    ensures synced { D.is_observable → OnOk result (Only (D.contents device.new) (D.images_now device.new)) }
+    ensures moments { D.is_observable → Only (D.contents device.old) (D.images_now device.old)
+        → Leaves D.calls D.images_since device.old device.new (SameBut (4096 * 0) 4096 (D.contents device.old)) }
 {
     device.write(0, &open_gate())?;
     device.sync()
@@ -89,11 +90,11 @@ fn write_store<D: Disk>(device: &mut D, blocks: u64) -> Result<(), Failed>
     requires inside { blocks ≤ D.size device.old }
     ensures size { D.size device.new ≡ D.size device.old }
     ensures cause { HasCause (D.faults device.old) (D.faults device.new) result }
-    ensures formatted { D.tells → HasClosedGates (D.contents device.old)
+    ensures formatted { D.is_observable → HasClosedGates (D.contents device.old)
         → OnOk result (Formatted (D.size device.old) blocks (D.contents device.old) (D.contents device.new)) }
-    ensures synced { D.tells → OnOk result (Only (D.contents device.new) (D.image device.new)) }
-    ensures moments { D.tells → HasClosedGates (D.contents device.old) → Only (D.contents device.old) (D.image device.old)
-        → Leaves D.calls D.since device.old device.new (IsFormatting (D.size device.old) blocks (D.contents device.old)) }
+    ensures synced { D.is_observable → OnOk result (Only (D.contents device.new) (D.images_now device.new)) }
+    ensures moments { D.is_observable → HasClosedGates (D.contents device.old) → Only (D.contents device.old) (D.images_now device.old)
+        → Leaves D.calls D.images_since device.old device.new (IsFormatting (D.size device.old) blocks (D.contents device.old)) }
 {
     write_bodies(device, blocks)?;
     open_first_gate(device)
@@ -111,14 +112,14 @@ pub fn format<D: Disk>(device: &mut D, blocks: u64) -> Result<(), FormatFault>
     ensures too_small { (asked has : ℕ) → (result ≡ Err (FormatFault.TooSmall asked has)) ↔ IsTooSmall (D.size device.old) blocks asked has }
     ensures uncalled { D.size device.old < blocks → device.new ≡ device.old }
     ensures cause { CausesFault (D.faults device.old) (D.faults device.new) (result ≡ Err FormatFault.Fault) }
-    ensures occupied { D.tells → blocks ≤ D.size device.old → result ≢ Err FormatFault.Fault
+    ensures occupied { D.is_observable → blocks ≤ D.size device.old → result ≢ Err FormatFault.Fault
         → (block : ℕ) → (result ≡ Err (FormatFault.Occupied block)) ↔ IsOccupied (D.contents device.old) block }
-    ensures refused { D.tells → (block : ℕ) → result ≡ Err (FormatFault.Occupied block)
-        → IsUnwritten D.calls D.contents D.image D.since device.old device.new }
-    ensures formatted { D.tells → OnOk result (Formatted (D.size device.old) blocks (D.contents device.old) (D.contents device.new)) }
-    ensures synced { D.tells → OnOk result (Only (D.contents device.new) (D.image device.new)) }
-    ensures moments { D.tells → IsUnwritten D.calls D.contents D.image D.since device.old device.new
-        ⊎ ((start : D) × WritesFrom D.calls D.contents D.image D.since (IsFormatting (D.size device.old) blocks (D.contents device.old)) device.old start device.new) }
+    ensures refused { D.is_observable → (block : ℕ) → result ≡ Err (FormatFault.Occupied block)
+        → IsUnwritten D.calls D.contents D.images_now D.images_since device.old device.new }
+    ensures formatted { D.is_observable → OnOk result (Formatted (D.size device.old) blocks (D.contents device.old) (D.contents device.new)) }
+    ensures synced { D.is_observable → OnOk result (Only (D.contents device.new) (D.images_now device.new)) }
+    ensures moments { D.is_observable → IsUnwritten D.calls D.contents D.images_now D.images_since device.old device.new
+        ⊎ ((start : D) × WritesFrom D.calls D.contents D.images_now D.images_since (IsFormatting (D.size device.old) blocks (D.contents device.old)) device.old start device.new) }
 {
     let has = device.blocks();
     if blocks > has {

@@ -4,7 +4,7 @@ ghost use Rattle.btr_disk.specs.Images.{Only};
 ghost use Rattle.btr_disk.specs.Moments.{WroteNothing};
 ghost use Rattle.btr_disk.specs.Causes.{HasCause};
 ghost use Rattle.btr_disk.specs.Gate.{IsOpen};
-ghost use Rattle.btr_super.specs.Unwritten.{IsUnwritten};
+ghost use Rattle.btr_disk.specs.Moments.{IsUnwritten};
 
 use btr_disk::{BLOCK, Disk, Failed, is_open_gate};
 
@@ -13,8 +13,8 @@ pub(crate) fn read_gate<D: Disk>(device: &mut D, block: u64) -> Result<bool, Fai
     requires { block < D.size device.old }
     ensures size { D.size device.new ≡ D.size device.old }
     ensures cause { HasCause (D.faults device.old) (D.faults device.new) result }
-    ensures gate { D.tells → IfOk result (λ yes. IsTrue yes ↔ IsOpen (D.contents device.old) block) }
-    ensures nothing { D.tells → WroteNothing D.calls D.contents D.image D.since device.old device.new }
+    ensures gate { D.is_observable → IfOk result (λ yes. IsTrue yes ↔ IsOpen (D.contents device.old) block) }
+    ensures nothing { D.is_observable → WroteNothing D.calls D.contents D.images_now D.images_since device.old device.new }
 {
     let mut bytes = [0; BLOCK];
     device.read(block, &mut bytes)?;
@@ -26,10 +26,10 @@ pub(crate) fn read_gates<D: Disk>(device: &mut D) -> Result<(bool, bool), Failed
     requires { 4 ≤ D.size device.old }
     ensures size { D.size device.new ≡ D.size device.old }
     ensures cause { HasCause (D.faults device.old) (D.faults device.new) result }
-    ensures first { D.tells → IfOk result (λ yes. IsTrue yes.0 ↔ IsOpen (D.contents device.old) 0) }
-    ensures second { D.tells → IfOk result (λ yes. IsTrue yes.1 ↔ IsOpen (D.contents device.old) 2) }
-    ensures synced { D.tells → OnOk result (Only (D.contents device.old) (D.image device.new)) }
-    ensures unwritten { D.tells → IsUnwritten D.calls D.contents D.image D.since device.old device.new }
+    ensures first { D.is_observable → IfOk result (λ yes. IsTrue yes.0 ↔ IsOpen (D.contents device.old) 0) }
+    ensures second { D.is_observable → IfOk result (λ yes. IsTrue yes.1 ↔ IsOpen (D.contents device.old) 2) }
+    ensures synced { D.is_observable → OnOk result (Only (D.contents device.old) (D.images_now device.new)) }
+    ensures unwritten { D.is_observable → IsUnwritten D.calls D.contents D.images_now D.images_since device.old device.new }
 {
     device.sync()?;
     let first = read_gate(device, 0)?;

@@ -12,15 +12,15 @@ pub on_any_err : {T E P : Type 0} (r : Result T E) → P → OnErr r P
 on_any_err (Ok x) p = tt
 on_any_err (Err e) p = p
 
-pub kept_front : (old a : List ℕ) → take (length old) (old ++ a) ≡ old
-kept_front [] a = refl
-kept_front (x ∷ old) a = ap (λ t. x ∷ t) (kept_front old a)
+pub kept_prefix : (old a : List ℕ) → take (length old) (old ++ a) ≡ old
+kept_prefix [] a = refl
+kept_prefix (x ∷ old) a = ap (λ t. x ∷ t) (kept_prefix old a)
 
 -- a text that begins with another and more still begins with that other
 pub kept_behind : (old a mid new : List ℕ) → mid ≡ old ++ a → take (length mid) new ≡ mid → take (length old) new ≡ old
 kept_behind old a mid new e h =
     let l : length old ≤ length mid = rw e (omega (arith, length-append old a)) in
-    sym (take-take (length old) (length mid) new l) ∙ ap (take (length old)) (h ∙ e) ∙ kept_front old a
+    sym (take-take (length old) (length mid) new l) ∙ ap (take (length old)) (h ∙ e) ∙ kept_prefix old a
 
 -- words with a space between each two are the first, and each other one behind a space
 pub join_words : {X : Type 0} (f : X → List ℕ) (w : List ℕ) (xs : List X) → join_with_byte 32 (w ∷ map f xs) ≡ w ++ flat_map (λ x. 32 ∷ f x) xs

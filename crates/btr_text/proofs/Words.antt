@@ -20,7 +20,7 @@ words_of-drop_spaces (x ∷ xs) =
       | false ↦ λ e. rw e refl
     ] refl
 
--- a list up to the first element that passes p is the first part, and the rest begins with an empty one
+-- a list up to the first element that passes p is the prefix, and the rest begins with an empty one
 pub slice_split-first : (p : ℕ → Bool) (xs : List ℕ) →
     (parts : List (List ℕ)) × (slice_split p xs ≡ take (prefix_len (λ b. not (p b)) xs) xs ∷ parts) × (slice_split p (drop (prefix_len (λ b. not (p b)) xs) xs) ≡ [] ∷ parts)
 slice_split-first p [] = ([], refl, refl)
@@ -43,7 +43,7 @@ words_of-first xs h =
     let s = slice_split-first (λ b. eqb b 32) xs in
     ap (filter is_word) s.1 ∙ kept _ s.0 (rw (length-prefix_len (λ b. not (eqb b 32)) xs) h) ∙ sym (ap (λ ws. take (prefix_len (λ b. not (eqb b 32)) xs) xs ∷ filter is_word ws) s.2)
 
--- where nothing stands behind the spaces at its front, a list has no word
+-- where nothing stands behind the spaces at its prefix, a list has no word
 no_letters : (xs : List ℕ) → prefix_len (λ b. not (eqb b 32)) (drop (prefix_len (λ b. eqb b 32) xs) xs) ≡ 0 → words_of xs ≡ []
 no_letters [] h = refl
 no_letters (x ∷ xs) h =

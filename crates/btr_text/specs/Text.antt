@@ -6,8 +6,8 @@ use Rattle.std.specs.List.{join_with_byte}
 use Rattle.uuid.specs.Text.{hyphenated_text, lower}
 use Rattle.btr_base.specs.declared.point.Point.{Point}
 use Rattle.btr_base.specs.declared.cell.Cell.{Cell}
-use Rattle.btr_base.specs.Range.{Interval}
-use Rattle.btr_base.specs.Agg.{Summary}
+use Rattle.btr_base.specs.Range.{RangeValue}
+use Rattle.btr_base.specs.Agg.{AggValue}
 use Rattle.btr_hist.specs.declared.answer.Rows.{Rows}
 use Rattle.btr_hist.specs.declared.answer.Rows.TheVariants as rows
 use Rattle.btr_hist.specs.declared.answer.StreamRow.{StreamRow}
@@ -50,7 +50,7 @@ abbrev pub ends_words : Option (ℤ × ℤ) → List (List ℕ)
 ends_words None = []
 ends_words (Some e) = signed_decimal e.0 ∷ signed_decimal e.1 ∷ []
 
-abbrev pub agg_words : Summary → List (List ℕ)
+abbrev pub agg_words : AggValue → List (List ℕ)
 agg_words a = decimal a.count ∷ signed_decimal a.total ∷ ends_words a.ends
 
 -- the id of a stream, hyphenated and in lower case
@@ -64,14 +64,14 @@ point_row p = line_text (signed_decimal p.time ∷ signed_decimal p.value ∷ []
 abbrev pub cell_row : Cell → List ℕ
 cell_row c = line_text (signed_decimal c.start ∷ agg_words c.agg)
 
-abbrev pub range_row : Interval → List ℕ
+abbrev pub range_row : RangeValue → List ℕ
 range_row r = line_text (signed_decimal r.from ∷ signed_decimal r.to ∷ [])
 
 abbrev pub stream_row : StreamRow → List ℕ
 stream_row s = line_text (id_text s.id ∷ decimal s.latest ∷ codes "plain" ∷ [])
 
 -- the row of a version as a whole
-abbrev pub info_row : Summary → List ℕ
+abbrev pub info_row : AggValue → List ℕ
 info_row a = line_text (codes "plain" ∷ agg_words a)
 
 -- how many rows there are

@@ -12,7 +12,7 @@ use Rattle.btr_top.specs.Ending.{status_of}
 use Rattle.btr_top.specs.Run.{AskCause, CanAsk}
 use Rattle.btr_top.proofs.Mild.{Mild, asked_mild, mild_status}
 
-module _ {S D : Type 0} (source : SourceGhosts S) (disk : Ghosts D) (given rest : S) (old new : D) (sound : WhatStandsIsSound) (can : CanAsk source disk given old) (source_told : source.tells) (told : disk.tells) (no_source_fault : StreamRose (source.faults given) (source.faults rest) → ⊥) (no_fault : Rose (disk.faults old) (disk.faults new) → ⊥) where
+module _ {S D : Type 0} (source : SourceGhosts S) (disk : Ghosts D) (given rest : S) (old new : D) (sound : WhatStandsIsSound) (can : CanAsk source disk given old) (source_told : source.is_observable) (told : disk.is_observable) (no_source_fault : StreamRose (source.faults given) (source.faults rest) → ⊥) (no_fault : Rose (disk.faults old) (disk.faults new) → ⊥) where
   pub mild_answers : (e : Ending) → AskCause source disk given rest old new e → Mild (status_of e)
   mild_answers Usage why = absurd why.2
   mild_answers NoSource why = absurd (no_source_fault why.0)

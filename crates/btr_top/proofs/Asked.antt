@@ -2,7 +2,7 @@
 use Rattle.std.specs.Prelude.{◌≡◌, ℕ, List, [], ◌∷◌, ◌++◌}
 use Rattle.std.proofs.Common.{refl, sym, ◌∙◌, ap, subst, inr}
 use Rattle.btr_disk.specs.declared.disk.Disk.{Ghosts}
-use Rattle.btr_disk.specs.Addresses.{Same-is}
+use Rattle.btr_disk.proofs.ByteLemmas.{Same-is}
 use Rattle.btr_disk.specs.Bytes.{Image}
 use Rattle.btr_hist.specs.declared.entry.Entry.{Entry}
 use Rattle.btr_text.specs.declared.script.ScriptLine.{ScriptLine}
@@ -42,7 +42,7 @@ HasTold-push h lines line before after status last told one = record {
 
 module _ {D : Type 0} (disk : Ghosts D) (old : D) (engine : Engine D disk) (opened : IsOpened disk old engine) where
   -- the history that stood on the device before the opening
-  pub stood_before : disk.tells → Stands (disk.size old) (disk.contents old) (history_of engine)
+  pub stood_before : disk.is_observable → Stands (disk.size old) (disk.contents old) (history_of engine)
   stood_before told =
       let is = (opened.at_rest told).stands in
       let bytes : disk.contents (device engine) ≡ disk.contents old = Same-is (disk.contents old) (disk.contents (device engine)) (opened.kept.unwritten told).same in

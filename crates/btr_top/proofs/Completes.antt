@@ -6,9 +6,9 @@ use Rattle.btr_io.specs.Faults.{Rose as StreamRose}
 use Rattle.btr_disk.specs.declared.disk.Disk.{Ghosts}
 use Rattle.btr_disk.specs.Causes.{Rose}
 use Rattle.btr_super.specs.declared.superblock.Super.{Super}
-use Rattle.btr_super.specs.OneChosen.{one_chosen}
+use Rattle.btr_super.proofs.ChoiceLemmas.{one_chosen}
 use Rattle.btr_log.specs.Extents.{left, first_gate}
-use Rattle.btr_log.specs.ExtentLaws.{Extents-one}
+use Rattle.btr_log.proofs.ExtentLemmas.{Extents-one}
 use Rattle.btr_text.specs.Input.{script_of}
 use Rattle.btr_text.specs.declared.reply.LineReply.{LineReply}
 use Rattle.btr_engine.specs.Body.{bodies}
@@ -28,19 +28,19 @@ never true not = absurd (not refl)
 never false not = refl
 
 -- what is written does not make it another status
-module _ (tells : Type 0) (before now : List ℕ) (faults_before faults_now : ℕ) (no_sink_fault : StreamRose faults_before faults_now → ⊥) where
-  mild_written : (text : List ℕ) (wanted status : ℕ) → Mild wanted → WritesText tells before now faults_before faults_now text wanted status → Mild status
+module _ (is_observable : Type 0) (before now : List ℕ) (faults_before faults_now : ℕ) (no_sink_fault : StreamRose faults_before faults_now → ⊥) where
+  mild_written : (text : List ℕ) (wanted status : ℕ) → Mild wanted → WritesText is_observable before now faults_before faults_now text wanted status → Mild status
   mild_written text wanted status mild writes =
       ⊎_elim (λ done. subst Mild (sym done.0) mild) (λ failed. absurd (no_sink_fault failed.1)) writes
 
-  pub mild_shown : (e : Ending) (status : ℕ) → Mild (status_of e) → Shows tells before now faults_before faults_now e status → Mild status
+  pub mild_shown : (e : Ending) (status : ℕ) → Mild (status_of e) → Shows is_observable before now faults_before faults_now e status → Mild status
   mild_shown e status mild shows =
       ⊎_elim
       (λ writes. mild_written (text_of e) (status_of e) status mild writes)
       (λ short. mild_written (text_of NoMemory) 9 status (inr (inr refl)) short.1)
       shows
 
-module _ {S D : Type 0} (source : SourceGhosts S) (disk : Ghosts D) (given rest : S) (old new : D) (sound : WhatStandsIsSound) (can : CanLive source disk given old) (source_told : source.tells) (told : disk.tells) (no_source_fault : StreamRose (source.faults given) (source.faults rest) → ⊥) (no_fault : Rose (disk.faults old) (disk.faults new) → ⊥) where
+module _ {S D : Type 0} (source : SourceGhosts S) (disk : Ghosts D) (given rest : S) (old new : D) (sound : WhatStandsIsSound) (can : CanLive source disk given old) (source_told : source.is_observable) (told : disk.is_observable) (no_source_fault : StreamRose (source.faults given) (source.faults rest) → ⊥) (no_fault : Rose (disk.faults old) (disk.faults new) → ⊥) where
   stands : Stands (disk.size old) (disk.contents old) can.history
   stands = record { blocks = can.blocks; tail = can.tail; stands = can.stands }
 

@@ -3,7 +3,7 @@ use Rattle.std.proofs.Common.{◌≡◌, ℕ, ◌<◌, ◌≤◌, ◌↔◌, Res
 use Rattle.std.proofs.lemmas.Bool.{cases_lt}
 use Rattle.btr_disk.specs.declared.disk.Disk.{Ghosts}
 use Rattle.btr_disk.specs.Images.{Only}
-use Rattle.btr_super.specs.Unwritten.{IsUnwritten}
+use Rattle.btr_disk.specs.Moments.{IsUnwritten}
 use Rattle.btr_super.specs.Format.{IsTooSmall, IsOccupied, HasClosedGates, Formatted}
 use Rattle.btr_super.specs.declared.formatting.FormatFault.{FormatFault}
 use Rattle.btr_super.specs.declared.formatting.FormatFault.TheVariants as faults
@@ -15,10 +15,10 @@ module _ {T D : Type 0} (disk : Ghosts D) where
   pub record FormatFacts (blocks : ℕ) (old new : D) (done : Result T FormatFault) : Type 0 where
     pub too_small : (asked has : ℕ) → (done ≡ Err (faults.TooSmall asked has)) ↔ IsTooSmall (disk.size old) blocks asked has
     pub uncalled : disk.size old < blocks → new ≡ old
-    pub occupied : disk.tells → blocks ≤ disk.size old → (done ≡ Err faults.Fault → ⊥) → (block : ℕ) → (done ≡ Err (faults.Occupied block)) ↔ IsOccupied (disk.contents old) block
-    pub refused : disk.tells → (block : ℕ) → done ≡ Err (faults.Occupied block) → IsUnwritten disk.calls disk.contents disk.image disk.since old new
-    pub formatted : disk.tells → OnOk done (Formatted (disk.size old) blocks (disk.contents old) (disk.contents new))
-    pub synced : disk.tells → OnOk done (Only (disk.contents new) (disk.image new))
+    pub occupied : disk.is_observable → blocks ≤ disk.size old → (done ≡ Err faults.Fault → ⊥) → (block : ℕ) → (done ≡ Err (faults.Occupied block)) ↔ IsOccupied (disk.contents old) block
+    pub refused : disk.is_observable → (block : ℕ) → done ≡ Err (faults.Occupied block) → IsUnwritten disk.calls disk.contents disk.images_now disk.images_since old new
+    pub formatted : disk.is_observable → OnOk done (Formatted (disk.size old) blocks (disk.contents old) (disk.contents new))
+    pub synced : disk.is_observable → OnOk done (Only (disk.contents new) (disk.images_now new))
 
   -- the store fits where the answer is another
   fits : (blocks : ℕ) (old new : D) (done : Result T FormatFault) → FormatFacts blocks old new done → (done ≡ Err (faults.TooSmall blocks (disk.size old)) → ⊥) → blocks ≤ disk.size old
@@ -29,7 +29,7 @@ module _ {T D : Type 0} (disk : Ghosts D) where
       (cases_lt (disk.size old) blocks)
 
   -- where a store was made none was there
-  was_free : (blocks : ℕ) (old new : D) (x : T) → disk.tells → FormatFacts blocks old new (Ok x) → blocks ≤ disk.size old → HasClosedGates (disk.contents old)
+  was_free : (blocks : ℕ) (old new : D) (x : T) → disk.is_observable → FormatFacts blocks old new (Ok x) → blocks ≤ disk.size old → HasClosedGates (disk.contents old)
   was_free blocks old new x told facts le =
       let none : (block : ℕ) → IsOccupied (disk.contents old) block → ⊥ =
       λ block is. let e : Ok x ≡ Err (faults.Occupied block) = (facts.occupied told le (λ f. cc) block).1 is in cc in

@@ -4,7 +4,7 @@ use Rattle.std.proofs.Common.{refl, sym, subst, ⊎_elim}
 use Rattle.btr_hist.specs.declared.entry.Entry.{Entry}
 use Rattle.btr_hist.specs.declared.rejection.Rejection.{Rejection}
 use Rattle.btr_hist.specs.Legal.{rejection, Legal}
-use Rattle.btr_hist.specs.Lemmas.{legal-push}
+use Rattle.btr_hist.proofs.HistoryLemmas.{legal-push}
 use Rattle.btr_text.specs.declared.script.ScriptLine.{ScriptLine}
 use Rattle.btr_text.specs.declared.reply.LineReply.{LineReply}
 use Rattle.btr_top.specs.Live.{Store, Meaning, Commits, Asks, Fails, meaning, after, after_commit, IsHindered, Replies, Lives}

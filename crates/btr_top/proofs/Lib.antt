@@ -2,7 +2,7 @@
 mod Formats
 -- what lines do to a store
 mod Replies
-mod Fronts
+mod Prefixes
 mod Leaving
 mod Lives
 mod Openings

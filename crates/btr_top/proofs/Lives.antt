@@ -79,7 +79,7 @@ module _ {D : Type 0} {disk : Ghosts D} (first : Engine D disk) where
   none_played told empty = record { replies = []; lives = refl; leaves = leaves_none first; same_text = empty; same_status = refl }
 
   -- one more: `counts_now` is the device's law
-  module _ (old new : Engine D disk) (lines : List ScriptLine) (line : ScriptLine) (counts_now : disk.tells → (t : ℕ) (c : Image) → t ≤ disk.calls (device new) → disk.image (device new) c → disk.since (device new) t c) (same_size : disk.size (device new) ≡ disk.size (device old)) where
+  module _ (old new : Engine D disk) (lines : List ScriptLine) (line : ScriptLine) (counts_now : disk.is_observable → (t : ℕ) (c : Image) → t ≤ disk.calls (device new) → disk.images_now (device new) c → disk.images_since (device new) t c) (same_size : disk.size (device new) ≡ disk.size (device old)) where
     pub HasPlayed-push : (before after : List ℕ) (status last : ℕ) → HasPlayed first lines old before status → PlaysLine old line.line new before after status last → HasPlayed first (lines ++ line ∷ []) new after last
     HasPlayed-push before after status last played one = record {
       replies = played.replies ++ one.reply ∷ [];
@@ -89,14 +89,14 @@ module _ {D : Type 0} {disk : Ghosts D} (first : Engine D disk) where
       same_status = one.same_status ∙ ap (λ x. worse_of x (status_of_reply one.reply)) played.same_status ∙ sym (status-push played.replies one.reply);
     }
 
-    -- the lines up to this one are a first part
+    -- the lines up to this one are a prefix
     pub HasPlayed-part : (rest all : List ScriptLine) (before : List ℕ) (status : ℕ) → HasPlayed first lines old before status → (reply : LineReply) × Answers old (meaning (history_of old) line.line) reply new → (lines ++ line ∷ []) ++ rest ≡ all → HasPlayedPart first all new
     HasPlayed-part rest all before status played one split =
-        let front : List ScriptLine = lines ++ line ∷ [] in
+        let prefix : List ScriptLine = lines ++ line ∷ [] in
         let replies : List LineReply = played.replies ++ one.0 ∷ [] in
-        let same : take (length front) all ≡ front = ap (take (length front)) (sym split) ∙ take-append_seam front rest in
+        let same : take (length prefix) all ≡ prefix = ap (take (length prefix)) (sym split) ∙ take-append_seam prefix rest in
         record {
-          count = length front;
+          count = length prefix;
           replies = replies;
           lives = subst (λ (ls : List ScriptLine). Lives (store_of first) ls replies (store_of new)) (sym same) (Lives-push (store_of first) (store_of old) (store_of new) lines played.replies line one.0 played.lives one.1.replied);
           leaves = subst (λ (ls : List ScriptLine). LinesLeave first ls replies new) (sym same) (leaves-push first old new lines played.replies line one.0 counts_now same_size (same_length (store_of first) (store_of old) lines played.replies played.lives) played.leaves one.1);

@@ -2,23 +2,23 @@
 use Rattle.std.specs.Prelude.{◌≡◌, ℕ, ◌≤◌, true, false, List, length, take}
 use Rattle.std.proofs.Common.{refl, sym, subst, arith, inr}
 use Rattle.btr_disk.specs.declared.disk.Disk.{Ghosts}
-use Rattle.btr_disk.specs.Addresses.{Same-is}
+use Rattle.btr_disk.proofs.ByteLemmas.{Same-is}
 use Rattle.btr_disk.specs.Bytes.{Image}
 use Rattle.btr_disk.specs.Causes.{Rose}
 use Rattle.btr_text.specs.declared.script.ScriptLine.{ScriptLine}
 use Rattle.btr_text.specs.declared.reply.LineReply.{LineReply}
-use Rattle.btr_log.specs.LogLaws.{holds_of_log}
+use Rattle.btr_log.proofs.LogLemmas.{holds_of_log}
 use Rattle.btr_engine.specs.declared.engine.Engine.{Engine}
 use Rattle.btr_engine.specs.Engine.{device, history_of, blocks_of, tail_of, is_stopped, faults_at, IsAtRest, KeepsOpening, calls_at}
 use Rattle.btr_engine.specs.Opening.{IsOpened}
 use Rattle.btr_engine.specs.Stands.{Stands, StandsTo}
-use Rattle.btr_top.specs.Crashes.{LeavesFronts}
+use Rattle.btr_top.specs.Crashes.{LeavesPrefixes}
 use Rattle.btr_top.specs.Leaving.{LinesLeave}
 use Rattle.btr_top.specs.Live.{Lives}
 use Rattle.btr_top.specs.StoreOf.{store_of, HasPlayed, HasPlayedPart}
 use Rattle.btr_top.specs.Playing.{Plays, HoldsStore, HoldsSafely}
 use Rattle.btr_top.specs.Scripting.{PlaysSome, PlaysAll, ScriptCause}
-use Rattle.btr_top.proofs.Leaving.{leaves_fronts}
+use Rattle.btr_top.proofs.Leaving.{leaves_prefixes}
 use Rattle.btr_top.specs.declared.playing.Told.{Told}
 use Rattle.btr_top.specs.declared.ending.Ending.{Ending}
 use Rattle.btr_top.specs.declared.ending.Ending.TheVariants.{NoMemory, Played}
@@ -29,7 +29,7 @@ rose-from before old new le rose = omega (arith, rose)
 
 module _ {D : Type 0} (disk : Ghosts D) (old : D) (first : Engine D disk) (opened : IsOpened disk old first) where
   -- the store that stood on the device before the opening
-  stood : disk.tells → HoldsStore disk old (store_of first)
+  stood : disk.is_observable → HoldsStore disk old (store_of first)
   stood told =
       let is = (opened.at_rest told).stands in
       let size : disk.size (device first) ≡ disk.size old = opened.kept.counts.same_size in
@@ -42,8 +42,8 @@ module _ {D : Type 0} (disk : Ghosts D) (old : D) (first : Engine D disk) (opene
         same_left = refl;
       }
 
-  module _ (last : Engine D disk) (kept : KeepsOpening first last) (at_rest : disk.tells → IsAtRest first → is_stopped last ≡ false → IsAtRest last) where
-    safe : disk.tells → is_stopped last ≡ false → HoldsSafely disk (device last) (store_of last)
+  module _ (last : Engine D disk) (kept : KeepsOpening first last) (at_rest : disk.is_observable → IsAtRest first → is_stopped last ≡ false → IsAtRest last) where
+    safe : disk.is_observable → is_stopped last ≡ false → HoldsSafely disk (device last) (store_of last)
     safe told runs =
         let rest = at_rest told (opened.at_rest told) runs in record {
           stands = record { blocks = blocks_of last; tail = tail_of last; stands = rest.stands };
@@ -56,14 +56,14 @@ module _ {D : Type 0} (disk : Ghosts D) (old : D) (first : Engine D disk) (opene
         rose-from (disk.faults old) (faults_at last) (disk.faults (device last)) (omega (arith, opened.later, kept.faults)) ((holds_of_log last.log).rose stopped)
 
     -- since the opening's sync a crash left the first engine's history
-    stood_since : (told : disk.tells) (c : Image) → disk.since (device first) (calls_at first) c → Stands (disk.size (device first)) c (history_of first)
+    stood_since : (told : disk.is_observable) (c : Image) → disk.images_since (device first) (calls_at first) c → Stands (disk.size (device first)) c (history_of first)
     stood_since told c left =
         let still : c ≡ disk.contents (device first) = Same-is (disk.contents (device first)) c ((opened.moments told).each c left) in
         subst (λ (i : Image). Stands (disk.size (device first)) i (history_of first)) (sym still) (record { blocks = blocks_of first; tail = tail_of first; stands = (opened.at_rest told).stands })
 
-    crashes : (lines : List ScriptLine) (replies : List LineReply) → LinesLeave first lines replies last → disk.tells → LeavesFronts disk lines replies (length (history_of first)) (history_of last) old (device last)
+    crashes : (lines : List ScriptLine) (replies : List LineReply) → LinesLeave first lines replies last → disk.is_observable → LeavesPrefixes disk lines replies (length (history_of first)) (history_of last) old (device last)
     crashes lines replies leaves told =
-        leaves_fronts first last lines replies (calls_at first) old opened.first.counted kept.device_kept.same_size (leaves told (opened.at_rest told) (calls_at first) opened.first.past (stood_since told))
+        leaves_prefixes first last lines replies (calls_at first) old opened.first.counted kept.device_kept.same_size (leaves told (opened.at_rest told) (calls_at first) opened.first.past (stood_since told))
 
     plays : (lines : List ScriptLine) (replies : List LineReply) → Lives (store_of first) lines replies (store_of last) → LinesLeave first lines replies last → Plays disk lines replies old (device last)
     plays lines replies lives leaves = record {

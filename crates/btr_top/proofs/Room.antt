@@ -2,7 +2,7 @@
 use Rattle.std.specs.Prelude.{◌≡◌, ℕ, ◌+◌, ◌≤◌, List, [], ◌∷◌, ℤ, true, false, cond, Option, Some, None}
 use Rattle.std.proofs.Common.{refl, ap, arith, ⊎_elim}
 use Rattle.btr_base.specs.declared.point.Point.{Point}
-use Rattle.btr_base.specs.Range.{Interval}
+use Rattle.btr_base.specs.Range.{RangeValue}
 use Rattle.btr_hist.specs.declared.query.Query.{Query}
 use Rattle.btr_hist.specs.Answer.{is_range}
 use Rattle.btr_hist.specs.declared.entry.Entry.{Entry}
@@ -23,7 +23,7 @@ need_of_any : (stream other : ℕ) (added : List Point) → need_of (entries.Com
 unfolding number
 need_of_any stream other added = refl
 
-need_of_cut : (stream other : ℕ) (cut : List Interval) → need_of (entries.Commit stream cut []) ≡ need_of (entries.Commit other cut [])
+need_of_cut : (stream other : ℕ) (cut : List RangeValue) → need_of (entries.Commit stream cut []) ≡ need_of (entries.Commit other cut [])
 unfolding number
 need_of_cut stream other cut = refl
 

@@ -1,7 +1,7 @@
 -- Lines that are answered as questions alone: each from the history that stands on the device, on which nothing is written.
 use Rattle.std.specs.Prelude.{◌≡◌, ◌⊎◌, ℕ, List, [], ◌∷◌, ◌++◌, Option}
 use Rattle.btr_disk.specs.declared.disk.Disk.{Ghosts}
-use Rattle.btr_super.specs.Unwritten.{IsUnwritten}
+use Rattle.btr_disk.specs.Moments.{IsUnwritten}
 use Rattle.btr_hist.specs.declared.entry.Entry.{Entry}
 use Rattle.btr_text.specs.declared.script.Line.{Line}
 use Rattle.btr_text.specs.declared.script.ScriptLine.{ScriptLine}
@@ -43,6 +43,6 @@ module _ {D : Type 0} (disk : Ghosts D) where
   -- leaves what it might not have left before.
   pub record HasAsked (lines : List ScriptLine) (replies : List LineReply) (old new : D) : Type 0 where
     pub history : List Entry
-    pub stood : disk.tells → Stands (disk.size old) (disk.contents old) history
+    pub stood : disk.is_observable → Stands (disk.size old) (disk.contents old) history
     pub replied : AsksAll history lines replies
-    pub kept : disk.tells → IsUnwritten disk.calls disk.contents disk.image disk.since old new
+    pub kept : disk.is_observable → IsUnwritten disk.calls disk.contents disk.images_now disk.images_since old new

@@ -24,9 +24,9 @@ abbrev pub HoldsOneMore : ℕ → List ScriptLine → List LineReply → List En
 HoldsOneMore size lines replies h image =
     (e : Entry) × IsUnderWay lines replies h e × Stands size image (h ++ e ∷ [])
 
--- a front of the history stands in the image, which has so many entries at least; or all of it and the one under way
-abbrev pub HoldsFront : ℕ → List ScriptLine → List LineReply → ℕ → List Entry → Image → Type 0
-HoldsFront size lines replies least h image =
+-- a prefix of the history stands in the image, which has so many entries at least; or all of it and the one under way
+abbrev pub HoldsPrefix : ℕ → List ScriptLine → List LineReply → ℕ → List Entry → Image → Type 0
+HoldsPrefix size lines replies least h image =
     ((n : ℕ) × (least ≤ n) × Stands size image (take n h)) ⊎ HoldsOneMore size lines replies h image
 
 -- the history stands in the image, or all of it and the one under way
@@ -34,11 +34,11 @@ abbrev pub HoldsAll : ℕ → List ScriptLine → List LineReply → List Entry 
 HoldsAll size lines replies h image = Stands size image h ⊎ HoldsOneMore size lines replies h image
 
 -- What a crash leaves where a history of `least` entries stood on the device `old`, and these lines had these replies since,
--- which made the history h: at each moment since the opening's first sync returned, a front of h that has all entries from
+-- which made the history h: at each moment since the opening's first sync returned, a prefix of h that has all entries from
 -- before; and now all of h.
-pub record LeavesFronts {D : Type 0} (disk : Ghosts D) (lines : List ScriptLine) (replies : List LineReply) (least : ℕ) (h : List Entry) (old new : D) : Type 0 where
+pub record LeavesPrefixes {D : Type 0} (disk : Ghosts D) (lines : List ScriptLine) (replies : List LineReply) (least : ℕ) (h : List Entry) (old new : D) : Type 0 where
   -- the number of the device's calls as that sync returned
   pub opened : ℕ
   pub counted : Counted (disk.calls old) opened
-  pub moments : (c : Image) → disk.since new opened c → HoldsFront (disk.size new) lines replies least h c
-  pub now : (c : Image) → disk.image new c → HoldsAll (disk.size new) lines replies h c
+  pub moments : (c : Image) → disk.images_since new opened c → HoldsPrefix (disk.size new) lines replies least h c
+  pub now : (c : Image) → disk.images_now new c → HoldsAll (disk.size new) lines replies h c

@@ -12,10 +12,10 @@ use Rattle.btr_engine.specs.Engine.{device, history_of, is_stopped, IsAtRest, En
 use Rattle.btr_engine.specs.Stands.{Stands}
 use Rattle.btr_engine.specs.Step.{IsBeforeOrAfter}
 use Rattle.btr_top.specs.Live.{Meaning, Commits}
-use Rattle.btr_top.specs.Crashes.{HoldsFront, HoldsAll}
+use Rattle.btr_top.specs.Crashes.{HoldsPrefix, HoldsAll}
 
--- a front of the history stands in the image, which has so many entries at least
-pub record HasFront (size least : ℕ) (h : List Entry) (image : Image) : Type 0 where
+-- a prefix of the history stands in the image, which has so many entries at least
+pub record HasPrefix (size least : ℕ) (h : List Entry) (image : Image) : Type 0 where
   pub count : ℕ
   pub at_least : least ≤ count
   pub within : count ≤ length h
@@ -44,24 +44,24 @@ module _ {D : Type 0} {disk : Ghosts D} where
   abbrev pub LineLeaves : Engine D disk → Engine D disk → Meaning → LineReply → Type 0
   LineLeaves old new m reply = (new ≡ old) ⊎ HasCalled old new m reply
 
-  -- since the call with the number `opened` a crash left a front of the history; and the history is safe
-  pub record HoldsFronts (size opened least : ℕ) (engine : Engine D disk) : Type 0 where
+  -- since the call with the number `opened` a crash left a prefix of the history; and the history is safe
+  pub record HoldsPrefixes (size opened least : ℕ) (engine : Engine D disk) : Type 0 where
     pub same_size : disk.size (device engine) ≡ size
     pub past : opened ≤ disk.calls (device engine)
     pub longer : least ≤ length (history_of engine)
     pub rest : IsAtRest engine
-    pub fronts : (c : Image) → disk.since (device engine) opened c → HasFront size least (history_of engine) c
+    pub prefixes : (c : Image) → disk.images_since (device engine) opened c → HasPrefix size least (history_of engine) c
 
   -- the device failed at one of these lines
   pub record HasFailed (size opened least : ℕ) (lines : List ScriptLine) (replies : List LineReply) (engine : Engine D disk) : Type 0 where
     pub stopped : is_stopped engine ≡ true
-    pub moments : (c : Image) → disk.since (device engine) opened c → HoldsFront size lines replies least (history_of engine) c
-    pub now : (c : Image) → disk.image (device engine) c → HoldsAll size lines replies (history_of engine) c
+    pub moments : (c : Image) → disk.images_since (device engine) opened c → HoldsPrefix size lines replies least (history_of engine) c
+    pub now : (c : Image) → disk.images_now (device engine) c → HoldsAll size lines replies (history_of engine) c
 
   -- what a crash leaves after these lines, where it left the first engine's history since the call with the number `opened`
   abbrev pub LinesLeave : Engine D disk → List ScriptLine → List LineReply → Engine D disk → Type 0
   LinesLeave first lines replies last =
-      disk.tells → IsAtRest first → (opened : ℕ) → opened ≤ disk.calls (device first)
-      → ((c : Image) → disk.since (device first) opened c → Stands (disk.size (device first)) c (history_of first))
-      → HoldsFronts (disk.size (device first)) opened (length (history_of first)) last
+      disk.is_observable → IsAtRest first → (opened : ℕ) → opened ≤ disk.calls (device first)
+      → ((c : Image) → disk.images_since (device first) opened c → Stands (disk.size (device first)) c (history_of first))
+      → HoldsPrefixes (disk.size (device first)) opened (length (history_of first)) last
       ⊎ HasFailed (disk.size (device first)) opened (length (history_of first)) lines replies last

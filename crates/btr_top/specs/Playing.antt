@@ -11,18 +11,18 @@ use Rattle.btr_text.specs.declared.reply.LineReply.{LineReply}
 use Rattle.btr_engine.specs.Stands.{Stands, StandsTo}
 use Rattle.btr_top.specs.declared.scripting.TheConstants.{MOST_INPUT}
 use Rattle.btr_top.specs.Live.{Store, Lives}
-use Rattle.btr_top.specs.Crashes.{LeavesFronts}
+use Rattle.btr_top.specs.Crashes.{LeavesPrefixes}
 
 module _ {S : Type 0} (source : SourceGhosts S) where
   -- the source gave this input, and has nothing left
   pub record HasRead (input : List ℕ) (old new : S) : Type 0 where
     pub within : length input ≤ MOST_INPUT
-    pub all : source.tells → input ≡ source.left old
-    pub at_end : source.tells → source.left new ≡ []
+    pub all : source.is_observable → input ≡ source.left old
+    pub at_end : source.is_observable → source.left new ≡ []
 
   -- the source gave more than may be read
   abbrev pub GaveTooMuch : S → S → Type 0
-  GaveTooMuch old new = source.tells → MOST_INPUT < gave (source.left old) (source.left new)
+  GaveTooMuch old new = source.is_observable → MOST_INPUT < gave (source.left old) (source.left new)
 
 module _ {D : Type 0} (disk : Ghosts D) where
   -- the store that stands on the device as it reads, with its blocks that are left
@@ -35,7 +35,7 @@ module _ {D : Type 0} (disk : Ghosts D) where
   -- the history stands on the device as it reads, and a crash leaves nothing else
   pub record HoldsSafely (d : D) (s : Store) : Type 0 where
     pub stands : Stands (disk.size d) (disk.contents d) s.history
-    pub only : Only (disk.contents d) (disk.image d)
+    pub only : Only (disk.contents d) (disk.images_now d)
 
   -- These replies were made to these lines, from the store that stood on the device on; what the device holds now is the
   -- store after them, and so is what a crash leaves. A stopped store's device has failed.
@@ -44,7 +44,7 @@ module _ {D : Type 0} (disk : Ghosts D) where
     pub last : Store
     pub runs : first.stopped ≡ false
     pub lives : Lives first lines replies last
-    pub stood : disk.tells → HoldsStore old first
+    pub stood : disk.is_observable → HoldsStore old first
     pub failed : last.stopped ≡ true → Rose (disk.faults old) (disk.faults new)
-    pub stands : disk.tells → last.stopped ≡ false → HoldsSafely new last
-    pub crashes : disk.tells → LeavesFronts disk lines replies (length first.history) last.history old new
+    pub stands : disk.is_observable → last.stopped ≡ false → HoldsSafely new last
+    pub crashes : disk.is_observable → LeavesPrefixes disk lines replies (length first.history) last.history old new

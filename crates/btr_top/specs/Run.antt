@@ -6,7 +6,7 @@ use Rattle.btr_disk.specs.declared.disk.Disk.{Ghosts}
 use Rattle.btr_disk.specs.Images.{Only}
 use Rattle.btr_disk.specs.Causes.{Rose}
 use Rattle.btr_super.specs.Choose.{HasNoSuper}
-use Rattle.btr_super.specs.Unwritten.{IsUnwritten}
+use Rattle.btr_disk.specs.Moments.{IsUnwritten}
 use Rattle.btr_super.specs.Format as format
 use Rattle.btr_text.specs.Input.{script_of}
 use Rattle.btr_text.specs.declared.reply.LineReply.{LineReply}
@@ -26,13 +26,13 @@ use Rattle.btr_top.specs.Asking.{HasAsked}
 module _ {D : Type 0} (disk : Ghosts D) where
   -- nothing was written, and no crash leaves what it might not have left before
   abbrev pub KeepsAll : D → D → Type 0
-  KeepsAll old new = IsUnwritten disk.calls disk.contents disk.image disk.since old new
+  KeepsAll old new = IsUnwritten disk.calls disk.contents disk.images_now disk.images_since old new
 
   -- the device had no store; now it has an empty one of so many blocks, all else is as before, and no crash takes it away
   pub record Formats (blocks : ℕ) (old new : D) : Type 0 where
     pub was_free : format.HasClosedGates (disk.contents old)
     pub made : format.Formatted (disk.size old) blocks (disk.contents old) (disk.contents new)
-    pub durable : Only (disk.contents new) (disk.image new)
+    pub durable : Only (disk.contents new) (disk.images_now new)
 
   -- a store was there, and is kept
   pub record KeepsStore (old new : D) : Type 0 where
@@ -45,7 +45,7 @@ module _ {D : Type 0} (disk : Ghosts D) where
   abbrev pub FormatLeaves : ℕ → D → D → Type 0
   FormatLeaves blocks old new =
       KeepsAll old new
-      ⊎ ((start : D) × format.WritesFrom disk.calls disk.contents disk.image disk.since (format.IsFormatting (disk.size old) blocks (disk.contents old)) old start new)
+      ⊎ ((start : D) × format.WritesFrom disk.calls disk.contents disk.images_now disk.images_since (format.IsFormatting (disk.size old) blocks (disk.contents old)) old start new)
 
   -- there is room for a store of so many blocks, and none is there
   pub record CanFormat (blocks : ℕ) (old : D) : Type 0 where
@@ -55,24 +55,24 @@ module _ {D : Type 0} (disk : Ghosts D) where
   -- why `format` ends so
   abbrev pub FormatCause : ℕ → D → D → Ending → Type 0
   FormatCause blocks old new NoDevice = Rose (disk.faults old) (disk.faults new)
-  FormatCause blocks old new Occupied = (blocks ≤ disk.size old) × (disk.tells → KeepsStore old new)
+  FormatCause blocks old new Occupied = (blocks ≤ disk.size old) × (disk.is_observable → KeepsStore old new)
   FormatCause blocks old new (TooSmall asked has) =
       (asked ≡ blocks) × (has ≡ disk.size old) × (has < asked) × (new ≡ old)
   FormatCause blocks old new (Formatted made) =
-      (made ≡ blocks) × (blocks ≤ disk.size old) × (disk.tells → Formats blocks old new)
+      (made ≡ blocks) × (blocks ≤ disk.size old) × (disk.is_observable → Formats blocks old new)
   FormatCause blocks old new _ = ⊥
 
   -- why no script was played on the device, after this input was read
   abbrev pub OpeningCause : D → D → Ending → Type 0
   OpeningCause old new NoDevice = Rose (disk.faults old) (disk.faults new)
-  OpeningCause old new NoStore = disk.tells → HasNoSuper (disk.size old) (disk.contents old)
-  OpeningCause old new (Damaged block) = disk.tells → IsDamaged (disk.size old) (disk.contents old) block
+  OpeningCause old new NoStore = disk.is_observable → HasNoSuper (disk.size old) (disk.contents old)
+  OpeningCause old new (Damaged block) = disk.is_observable → IsDamaged (disk.size old) (disk.contents old) block
   OpeningCause old new _ = ⊥
 
-  -- a first part of the lines was played, or nothing was written
+  -- a prefix of the lines was played, or nothing was written
   abbrev pub PlaysPart : List ℕ → D → D → Type 0
   PlaysPart input old new =
-      (disk.tells → KeepsAll old new)
+      (disk.is_observable → KeepsAll old new)
       ⊎ ((n : ℕ) × (replies : List LineReply) × Plays disk (take n (script_of input)) replies old new)
 
 module _ {S D : Type 0} (source : SourceGhosts S) (disk : Ghosts D) where
@@ -88,21 +88,21 @@ module _ {S D : Type 0} (source : SourceGhosts S) (disk : Ghosts D) where
       × (text.items ≡ text_of_replies replies) × (status ≡ status_of_replies replies)
   LiveCause given rest old new e =
       (input : List ℕ) × HasRead source input given rest
-      × OpeningCause disk old new e × (disk.tells → KeepsAll disk old new)
+      × OpeningCause disk old new e × (disk.is_observable → KeepsAll disk old new)
 
   -- why `ask` ends so
   abbrev pub AskCause : S → S → D → D → Ending → Type 0
   AskCause given rest old new NoSource = SourceRose (source.faults given) (source.faults rest) × (new ≡ old)
   AskCause given rest old new TooLong = GaveTooMuch source given rest × (new ≡ old)
   AskCause given rest old new NoMemory =
-      (new ≡ old) ⊎ ((input : List ℕ) × HasRead source input given rest × (disk.tells → KeepsAll disk old new))
+      (new ≡ old) ⊎ ((input : List ℕ) × HasRead source input given rest × (disk.is_observable → KeepsAll disk old new))
   AskCause given rest old new (Played status text) =
       (input : List ℕ) × HasRead source input given rest
       × (replies : List LineReply) × HasAsked disk (script_of input) replies old new
       × (text.items ≡ text_of_replies replies) × (status ≡ status_of_replies replies)
   AskCause given rest old new e =
       (input : List ℕ) × HasRead source input given rest
-      × OpeningCause disk old new e × (disk.tells → KeepsAll disk old new)
+      × OpeningCause disk old new e × (disk.is_observable → KeepsAll disk old new)
 
   -- Why a run with this command ends so: `given` and `rest` are the source before and after it, `old` and `new` the device.
   -- What is said of bytes holds of a source and a device that tell what they hold.

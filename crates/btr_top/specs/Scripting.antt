@@ -11,7 +11,7 @@ use Rattle.btr_top.specs.Asking.{HasAsked}
 use Rattle.btr_top.specs.Run.{KeepsAll, OpeningCause}
 
 module _ {D : Type 0} (disk : Ghosts D) where
-  -- a first part of the lines was played
+  -- a prefix of the lines was played
   pub record PlaysSome (lines : List ScriptLine) (old new : D) : Type 0 where
     pub count : ℕ
     pub replies : List LineReply
@@ -26,9 +26,9 @@ module _ {D : Type 0} (disk : Ghosts D) where
 
   -- why the lines end so
   abbrev pub ScriptCause : List ScriptLine → D → D → Ending → Type 0
-  ScriptCause lines old new NoMemory = (new ≡ old) ⊎ (disk.tells → KeepsAll disk old new) ⊎ PlaysSome lines old new
+  ScriptCause lines old new NoMemory = (new ≡ old) ⊎ (disk.is_observable → KeepsAll disk old new) ⊎ PlaysSome lines old new
   ScriptCause lines old new (Played status text) = PlaysAll lines old new status text.items
-  ScriptCause lines old new e = OpeningCause disk old new e × (disk.tells → KeepsAll disk old new)
+  ScriptCause lines old new e = OpeningCause disk old new e × (disk.is_observable → KeepsAll disk old new)
 
   -- all were answered as questions, with this status and this text
   pub record AnswersAll (lines : List ScriptLine) (old new : D) (status : ℕ) (text : List ℕ) : Type 0 where
@@ -39,6 +39,6 @@ module _ {D : Type 0} (disk : Ghosts D) where
 
   -- why the lines end so where only questions are answered
   abbrev pub QuestionsCause : List ScriptLine → D → D → Ending → Type 0
-  QuestionsCause lines old new NoMemory = (new ≡ old) ⊎ (disk.tells → KeepsAll disk old new)
+  QuestionsCause lines old new NoMemory = (new ≡ old) ⊎ (disk.is_observable → KeepsAll disk old new)
   QuestionsCause lines old new (Played status text) = AnswersAll lines old new status text.items
-  QuestionsCause lines old new e = OpeningCause disk old new e × (disk.tells → KeepsAll disk old new)
+  QuestionsCause lines old new e = OpeningCause disk old new e × (disk.is_observable → KeepsAll disk old new)

@@ -28,7 +28,7 @@ module _ {D : Type 0} {disk : Ghosts D} where
   pub record Answers (old : Engine D disk) (m : Meaning) (reply : LineReply) (new : Engine D disk) : Type 0 where
     pub replied : Replies (store_of old) m reply (store_of new)
     pub idle : is_stopped old ≡ true → new ≡ old
-    pub leaves : disk.tells → IsAtRest old → LineLeaves old new m reply
+    pub leaves : disk.is_observable → IsAtRest old → LineLeaves old new m reply
 
   -- one line was played, and its reply's text and status were added to those before
   pub record PlaysLine (old : Engine D disk) (line : Option Line) (new : Engine D disk) (before after : List ℕ) (first last : ℕ) : Type 0 where
@@ -45,7 +45,7 @@ module _ {D : Type 0} {disk : Ghosts D} where
     pub same_text : text ≡ text_of_replies replies
     pub same_status : status ≡ status_of_replies replies
 
-  -- a first part of the lines was played
+  -- a prefix of the lines was played
   pub record HasPlayedPart (first : Engine D disk) (lines : List ScriptLine) (last : Engine D disk) : Type 0 where
     pub count : ℕ
     pub replies : List LineReply

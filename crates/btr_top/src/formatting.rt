@@ -12,7 +12,7 @@ pub(crate) fn format_device<D: Disk>(disk: &mut D, blocks: u64) -> Ending
     requires greatest { blocks ≤ 2 ^ 32 }
     ensures size { D.size disk.new ≡ D.size disk.old }
     ensures cause { FormatCause ⟦<D as Disk>⟧ blocks disk.old disk.new result }
-    ensures moments { D.tells → FormatLeaves ⟦<D as Disk>⟧ blocks disk.old disk.new }
+    ensures moments { D.is_observable → FormatLeaves ⟦<D as Disk>⟧ blocks disk.old disk.new }
 {
     match format(disk, blocks) {
         Ok(()) => Ending::Formatted { blocks },

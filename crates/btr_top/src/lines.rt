@@ -25,9 +25,9 @@ pub(crate) fn answer_line<D: Disk>(
 ) -> LineReply
     ensures replies { Replies (store_of engine.old) (meaning (history_of engine.old) line) result (store_of engine.new) }
     ensures kept { KeepsOpening engine.old engine.new }
-    ensures at_rest { D.tells → IsAtRest engine.old → is_stopped engine.new ≡ false → IsAtRest engine.new }
+    ensures at_rest { D.is_observable → IsAtRest engine.old → is_stopped engine.new ≡ false → IsAtRest engine.new }
     ensures idle { is_stopped engine.old ≡ true → engine.new ≡ engine.old }
-    ensures leaves { D.tells → IsAtRest engine.old → LineLeaves engine.old engine.new (meaning (history_of engine.old) line) result }
+    ensures leaves { D.is_observable → IsAtRest engine.old → LineLeaves engine.old engine.new (meaning (history_of engine.old) line) result }
 {
     let Some(line) = line else {
         return LineReply::No(Reason::Line);
@@ -51,9 +51,9 @@ fn answer_other<D: Disk>(alloc: Global, engine: &Engine<D>, line: Line) -> LineR
 fn insert<D: Disk>(alloc: Global, engine: &mut Engine<D>, id: u128, added: Bag) -> LineReply
     ensures replies { Replies (store_of engine.old) (meaning (history_of engine.old) (Some (lines.Insert id added))) result (store_of engine.new) }
     ensures kept { KeepsOpening engine.old engine.new }
-    ensures at_rest { D.tells → IsAtRest engine.old → is_stopped engine.new ≡ false → IsAtRest engine.new }
+    ensures at_rest { D.is_observable → IsAtRest engine.old → is_stopped engine.new ≡ false → IsAtRest engine.new }
     ensures idle { is_stopped engine.old ≡ true → engine.new ≡ engine.old }
-    ensures leaves { D.tells → IsAtRest engine.old → LineLeaves engine.old engine.new (meaning (history_of engine.old) (Some (lines.Insert id added))) result }
+    ensures leaves { D.is_observable → IsAtRest engine.old → LineLeaves engine.old engine.new (meaning (history_of engine.old) (Some (lines.Insert id added))) result }
 {
     match engine.find(id) {
         None => LineReply::No(Reason::Stream),
@@ -73,9 +73,9 @@ fn insert<D: Disk>(alloc: Global, engine: &mut Engine<D>, id: u128, added: Bag) 
 fn delete<D: Disk>(alloc: Global, engine: &mut Engine<D>, id: u128, from: i64, to: i64) -> LineReply
     ensures replies { Replies (store_of engine.old) (meaning (history_of engine.old) (Some (lines.Delete id from to))) result (store_of engine.new) }
     ensures kept { KeepsOpening engine.old engine.new }
-    ensures at_rest { D.tells → IsAtRest engine.old → is_stopped engine.new ≡ false → IsAtRest engine.new }
+    ensures at_rest { D.is_observable → IsAtRest engine.old → is_stopped engine.new ≡ false → IsAtRest engine.new }
     ensures idle { is_stopped engine.old ≡ true → engine.new ≡ engine.old }
-    ensures leaves { D.tells → IsAtRest engine.old → LineLeaves engine.old engine.new (meaning (history_of engine.old) (Some (lines.Delete id from to))) result }
+    ensures leaves { D.is_observable → IsAtRest engine.old → LineLeaves engine.old engine.new (meaning (history_of engine.old) (Some (lines.Delete id from to))) result }
 {
     let Some(stream) = engine.find(id) else {
         return LineReply::No(Reason::Stream);
@@ -90,9 +90,9 @@ fn delete<D: Disk>(alloc: Global, engine: &mut Engine<D>, id: u128, from: i64, t
 fn cut<D: Disk>(alloc: Global, engine: &mut Engine<D>, stream: u32, range: Range) -> LineReply
     ensures replies { Replies (store_of engine.old) (Commits (ACommit stream (range ∷ []) [])) result (store_of engine.new) }
     ensures kept { KeepsOpening engine.old engine.new }
-    ensures at_rest { D.tells → IsAtRest engine.old → is_stopped engine.new ≡ false → IsAtRest engine.new }
+    ensures at_rest { D.is_observable → IsAtRest engine.old → is_stopped engine.new ≡ false → IsAtRest engine.new }
     ensures idle { is_stopped engine.old ≡ true → engine.new ≡ engine.old }
-    ensures leaves { D.tells → IsAtRest engine.old → LineLeaves engine.old engine.new (Commits (ACommit stream (range ∷ []) [])) result }
+    ensures leaves { D.is_observable → IsAtRest engine.old → LineLeaves engine.old engine.new (Commits (ACommit stream (range ∷ []) [])) result }
 {
     let Ok(cut) = one_range(alloc, range) else {
         return LineReply::No(Reason::Memory);
@@ -218,9 +218,9 @@ fn range_query_of(line: &Line, stream: u32) -> Option<Query>
 fn commit<D: Disk>(alloc: Global, engine: &mut Engine<D>, entry: &Entry) -> LineReply
     ensures replies { Replies (store_of engine.old) (Commits entry.now) result (store_of engine.new) }
     ensures kept { KeepsOpening engine.old engine.new }
-    ensures at_rest { D.tells → IsAtRest engine.old → is_stopped engine.new ≡ false → IsAtRest engine.new }
+    ensures at_rest { D.is_observable → IsAtRest engine.old → is_stopped engine.new ≡ false → IsAtRest engine.new }
     ensures idle { is_stopped engine.old ≡ true → engine.new ≡ engine.old }
-    ensures leaves { D.tells → IsAtRest engine.old → LineLeaves engine.old engine.new (Commits entry.now) result }
+    ensures leaves { D.is_observable → IsAtRest engine.old → LineLeaves engine.old engine.new (Commits entry.now) result }
 {
     match engine.step(alloc, entry) {
         Ok(receipt) => LineReply::Done {

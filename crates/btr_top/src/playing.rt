@@ -23,7 +23,7 @@ pub(crate) struct Told {
     pub(crate) text: Vec<u8>,
 }
 
-/// Plays all lines, in order. An `Err` is want of memory for the text of a reply, after a first part of the lines.
+/// Plays all lines, in order. An `Err` is want of memory for the text of a reply, after a prefix of the lines.
 #[tactic(auto, using(crate::proofs::Lives::none_played))]
 pub(crate) fn play<D: Disk>(
     alloc: Global,
@@ -33,7 +33,7 @@ pub(crate) fn play<D: Disk>(
     ensures all { IfOk result (λ t. HasPlayed engine.old lines.items engine.new t.text.items t.status) }
     ensures part { OnErr result (HasPlayedPart engine.old lines.items engine.new) }
     ensures kept { KeepsOpening engine.old engine.new }
-    ensures at_rest { D.tells → IsAtRest engine.old → is_stopped engine.new ≡ false → IsAtRest engine.new }
+    ensures at_rest { D.is_observable → IsAtRest engine.old → is_stopped engine.new ≡ false → IsAtRest engine.new }
 {
     let mut told = Told {
         status: 0,
@@ -55,7 +55,7 @@ fn play_line<D: Disk>(
     ensures ok { OnOk result (PlaysLine engine.old line engine.new told.old.text.items told.new.text.items told.old.status told.new.status) }
     ensures err { OnErr result ((reply : AReply) × Answers engine.old (meaning (history_of engine.old) line) reply engine.new) }
     ensures kept { KeepsOpening engine.old engine.new }
-    ensures at_rest { D.tells → IsAtRest engine.old → is_stopped engine.new ≡ false → IsAtRest engine.new }
+    ensures at_rest { D.is_observable → IsAtRest engine.old → is_stopped engine.new ≡ false → IsAtRest engine.new }
 {
     let reply = answer_line(alloc, engine, line);
     told.status = worse(told.status, reply_status(&reply));

@@ -2,7 +2,7 @@
 ghost use Rattle.std.specs.Prelude.{◌≡◌, List};
 ghost use Rattle.btr_text.specs.declared.script.ScriptLine.{ScriptLine};
 ghost use Rattle.btr_text.specs.Input.{script_of};
-ghost use Rattle.btr_super.specs.Unwritten.{IsUnwritten};
+ghost use Rattle.btr_disk.specs.Moments.{IsUnwritten};
 ghost use Rattle.btr_engine.specs.Opening.{IsOpened, IsNotOpened};
 ghost use Rattle.btr_top.specs.Run.{AskCause, LiveCause};
 ghost use Rattle.btr_top.specs.Scripting.{QuestionsCause, ScriptCause};
@@ -90,7 +90,7 @@ fn play_opened<D: Disk>(alloc: Global, lines: Vec<ScriptLine>, engine: Engine<D>
 pub(crate) fn ask_script<S: Source, D: Disk>(alloc: Global, source: &mut S, disk: D) -> Ended<D>
     ensures size { D.size result.disk ≡ D.size disk }
     ensures cause { AskCause ⟦<S as Source>⟧ ⟦<D as Disk>⟧ source.old source.new disk result.disk result.ending }
-    ensures unwritten { D.tells → IsUnwritten D.calls D.contents D.image D.since disk result.disk }
+    ensures unwritten { D.is_observable → IsUnwritten D.calls D.contents D.images_now D.images_since disk result.disk }
 {
     match read_all(alloc, source, MOST_INPUT) {
         Ok(input) => ask_input(alloc, &input, disk),

@@ -1,19 +1,18 @@
 -- What the parts of the walk that applies a commit have to do with the commit.
-use Rattle.std.specs.Prelude.{◌≡◌, ℕ, suc, ◌+◌, ◌<◌, ◌≤◌, ◌^◌, ℤ, pos, ◌+ℤ◌, ◌≤ℤ◌, ◌<ℤ◌, Bool, true, not, ◌||◌, List, ◌∷◌, length, MatchOption}
+use Rattle.std.specs.Prelude.{◌≡◌, ℕ, suc, ◌+◌, ◌<◌, ◌≤◌, ◌^◌, ℤ, pos, ◌+ℤ◌, ◌≤ℤ◌, ◌<ℤ◌, Bool, true, not, ◌||◌, List, ◌∷◌, length, MatchOption, []}
 use Rattle.btr_base.specs.declared.point.Point.{Point}
-use Rattle.btr_base.specs.Range.{Interval, covered}
-use Rattle.btr_base.specs.Span.{width, Part}
+use Rattle.btr_base.specs.Range.{RangeValue, covered}
+use Rattle.btr_base.specs.Span.{width, SpanValue}
 use Rattle.btr_tree.specs.declared.limits.TheConstants.{LEAF_POINTS}
 use Rattle.btr_tree.specs.declared.node.Node.{out-Node}
 use Rattle.btr_tree.specs.declared.node.Slot.{Slot}
 use Rattle.btr_tree.specs.History.{Commit, bag}
 use Rattle.btr_tree.specs.Nodes.{points_of, touches, is_node, stamp}
-use Rattle.btr_base.specs.Agg.{agg}
-use Rattle.btr_tree.specs.Totals.{joined_all}
+use Rattle.btr_base.specs.Agg.{agg, AggValue, no_points, joined}
 use Rattle.btr_tree.specs.Shape.{Child, ByKind, IsPlace, HasSlots, HasChildren}
 
 -- the end of a span
-abbrev pub end_of : Part → ℤ
+abbrev pub end_of : SpanValue → ℤ
 end_of s = s.start +ℤ pos (width s.height)
 
 -- the aggregates of a node's slots can be joined
@@ -43,7 +42,7 @@ pub record IsFresh (height : ℕ) (start : ℤ) (above : List Point → Bool) (h
   pub small : LEAF_POINTS < length points → length (points_of height start (bag h)) ≤ LEAF_POINTS
 
 -- the part of a commit that is in a span
-pub record IsChange (height : ℕ) (start : ℤ) (c : Commit) (cut : List Interval) (added : List Point) (version : ℕ) : Type 0 where
+pub record IsChange (height : ℕ) (start : ℤ) (c : Commit) (cut : List RangeValue) (added : List Point) (version : ℕ) : Type 0 where
   pub number : version ≡ c.version
   pub points : added ≡ points_of height start c.added
   pub times : (t : ℤ) → start ≤ℤ t → t <ℤ (start +ℤ pos (width height)) → covered cut t ≡ covered c.cut t
@@ -58,7 +57,7 @@ IsInnerOf version slots children place =
     MatchOption place ⊥ (λ a. ByKind (λ v ps. ⊥) (λ v ss cs. (v ≡ version) × (ss ≡ slots) × (cs ≡ children)) (out-Node a.value))
 
 -- the points of a span, of which a commit makes an inner node
-pub record IsSplit (below : ℕ) (span : Part) (h : List Commit) (c : Commit) (version : ℕ) (points : List Point) : Type 0 where
+pub record IsSplit (below : ℕ) (span : SpanValue) (h : List Commit) (c : Commit) (version : ℕ) (points : List Point) : Type 0 where
   pub height : span.height ≡ suc below
   pub number : version ≡ c.version
   pub same : points ≡ points_of (suc below) span.start (bag (c ∷ h))
@@ -78,9 +77,14 @@ slot_at was height start h =
     record { agg = agg (points_of height start (bag h)); version = stamp was height start h; child = 0 }
 
 -- the span of an inner node, and the part of a commit that is in it
-pub record IsApplied (below : ℕ) (span : Part) (h : List Commit) (c : Commit) (cut : List Interval) (added : List Point) (version : ℕ) (slots : List Slot) (children : List Child) : Type 0 where
+pub record IsApplied (below : ℕ) (span : SpanValue) (h : List Commit) (c : Commit) (cut : List RangeValue) (added : List Point) (version : ℕ) (slots : List Slot) (children : List Child) : Type 0 where
   pub height : span.height ≡ suc below
   pub many : LEAF_POINTS < length (points_of (suc below) span.start (bag h))
   pub all : HasSlots below span.start h 64 slots children
   pub each : HasChildren below span.start h 64 children
   pub change : IsChange (suc below) span.start c cut added version
+
+-- the aggregates of slots, joined
+abbrev pub joined_all : List Slot → AggValue
+joined_all [] = no_points
+joined_all (s ∷ ss) = joined s.agg (joined_all ss)

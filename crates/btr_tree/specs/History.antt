@@ -2,13 +2,13 @@
 use Rattle.std.specs.Prelude.{◌<◌, ℕ, List, [], ◌∷◌, ◌++◌}
 use Rattle.std.specs.List.{AllByRecursion}
 use Rattle.btr_base.specs.declared.point.Point.{Point}
-use Rattle.btr_base.specs.Range.{Interval}
+use Rattle.btr_base.specs.Range.{RangeValue}
 use Rattle.btr_base.specs.Bag.{sort, outside}
 
 -- the version that it makes, the times whose points it removes, and the points that it adds then
 pub record Commit : Type 0 where
   pub version : ℕ
-  pub cut : List Interval
+  pub cut : List RangeValue
   pub added : List Point
 
 -- the points after a commit

@@ -4,7 +4,7 @@ use Rattle.std.specs.List.{AllByRecursion}
 use Rattle.btr_base.specs.declared.domain.TheConstants.{FIRST, END}
 use Rattle.btr_base.specs.declared.point.Point.{Point}
 use Rattle.btr_base.specs.Point.{InDomain}
-use Rattle.btr_base.specs.Agg.{Summary, agg}
+use Rattle.btr_base.specs.Agg.{AggValue, agg}
 use Rattle.btr_tree.specs.declared.limits.TheConstants.{ROOT_HEIGHT, VERSION_POINTS}
 use Rattle.btr_tree.specs.declared.node.Node.{Node}
 use Rattle.btr_tree.specs.declared.fault.TreeFault.{TreeFault}
@@ -15,16 +15,16 @@ use Rattle.btr_tree.specs.Shape.{IsNode}
 use Rattle.btr_tree.specs.Crowd.{HasRoom, IsFirstCrowd}
 
 -- a tree: the node of the whole domain, if there is a point, and what is said of all points
-pub record Root : Type 0 where
+pub record TreeValue : Type 0 where
   pub node : Option Node
-  pub total : Summary
+  pub total : AggValue
 
 -- each point's time can be held
 abbrev pub AreInDomain : List Point → Type 0
 AreInDomain b = AllByRecursion (λ p. InDomain p.time) b
 
 -- the tree is that of the points after the commits, at most as many as a version can have
-pub record IsTree (h : List Commit) (t : Root) : Type 0 where
+pub record IsTree (h : List Commit) (t : TreeValue) : Type 0 where
   pub node : MatchOption t.node (points_of ROOT_HEIGHT FIRST (bag h) ≡ []) (λ n. IsNode ROOT_HEIGHT FIRST no_span h n)
   pub total : t.total ≡ agg (bag h)
   pub times : AreInDomain (bag h)

@@ -6,7 +6,7 @@ ghost use Rattle.btr_tree.specs.History.{Commit, bag};
 ghost use Rattle.btr_tree.specs.Nodes.{points_of};
 ghost use Rattle.btr_tree.specs.Shape.{IsPlace};
 ghost use Rattle.btr_tree.specs.Change.{IsCounted};
-ghost use Rattle.btr_tree.specs.Totals.{joined_all};
+ghost use Rattle.btr_tree.specs.Change.{joined_all};
 
 use crate::node::{Node, Place, Slot};
 use btr_base::{Agg, Point};

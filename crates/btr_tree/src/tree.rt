@@ -33,10 +33,10 @@ impl Model for Tree {
     ghost use Rattle.std.specs.Coded.{codes};
     ghost use Rattle.btr_tree.specs.contracts.node.Node as node_contract;
     ghost use Rattle.btr_tree.specs.History.{Commit};
-    ghost use Rattle.btr_tree.specs.Root.{Root, IsTree};
+    ghost use Rattle.btr_tree.specs.Root.{TreeValue, IsTree};
     ghost use Rattle.std.specs.Prelude.{List};
 
-    ghost Value = { Root };
+    ghost Value = { TreeValue };
 
     ghost coded = { Prim.hlevel (codes, node_contract.the_row.coded) };
 

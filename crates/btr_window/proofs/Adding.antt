@@ -7,10 +7,11 @@ use Rattle.std.proofs.lemmas.List.{set_split, take_more, take_all, drop_all}
 use Rattle.std.proofs.lemmas.Int.{ints}
 use Rattle.btr_base.specs.declared.point.Point.{Point}
 use Rattle.btr_base.specs.declared.cell.Cell.{Cell}
-use Rattle.btr_base.specs.Bag.{within}
-use Rattle.btr_base.specs.Within.{is_within, within-append, length-filter}
-use Rattle.btr_base.specs.Agg.{Summary, joined, one_point, agg}
-use Rattle.btr_base.specs.Aggregates.{joined-assoc, none-joined}
+use Rattle.btr_base.specs.Bag.{within, is_within}
+use Rattle.btr_base.proofs.WithinLemmas.{within-append}
+use Rattle.btr_base.proofs.ListLemmas.{length-filter}
+use Rattle.btr_base.specs.Agg.{AggValue, joined, one_point, agg}
+use Rattle.btr_base.proofs.AggLemmas.{joined-assoc, none-joined}
 use Rattle.btr_window.specs.Grids.{begin_of}
 use Rattle.btr_window.specs.Adding.{add_part, add_points, counted}
 
@@ -18,31 +19,31 @@ pub same-eq : (a b : ℤ) → a ≡ b → int_eq a b ≡ true
 same-eq a b e = grind (arith, ints)
 
 -- the window that begins at `start`, and points of it
-abbrev pub cell : ℤ → Summary → Cell
+abbrev pub cell : ℤ → AggValue → Cell
 cell start agg = record { start = start; agg = agg }
 
 -- what a last window becomes, and what stands behind it
-abbrev pub with_last : Cell → ℤ → Summary → List Cell
+abbrev pub with_last : Cell → ℤ → AggValue → List Cell
 with_last c start agg =
     cond (int_eq c.start start) (cell c.start (joined c.agg agg) ∷ []) (c ∷ cell start agg ∷ [])
 
 -- ---- the last window
 
-pub add_part-behind : (c : Cell) (front : List Cell) (start : ℤ) (a : Summary) → add_part (front ++ c ∷ []) start a ≡ front ++ with_last c start a
+pub add_part-behind : (c : Cell) (prefix : List Cell) (start : ℤ) (a : AggValue) → add_part (prefix ++ c ∷ []) start a ≡ prefix ++ with_last c start a
 add_part-behind c [] start a = refl
 add_part-behind c (f ∷ []) start a = refl
-add_part-behind c (f ∷ g ∷ front) start a = ap (λ x. f ∷ x) (add_part-behind c (g ∷ front) start a)
+add_part-behind c (f ∷ g ∷ prefix) start a = ap (λ x. f ∷ x) (add_part-behind c (g ∷ prefix) start a)
 
 -- ---- how many points
 
-counted-last : (c : Cell) (start : ℤ) (a : Summary) → counted (with_last c start a) ≡ c.agg.count + a.count
+counted-last : (c : Cell) (start : ℤ) (a : AggValue) → counted (with_last c start a) ≡ c.agg.count + a.count
 counted-last c start a =
     elim (int_eq c.start start) as (λ t. counted (cond t (cell c.start (joined c.agg a) ∷ []) (c ∷ cell start a ∷ [])) ≡ c.agg.count + a.count) [
       | true ↦ omega arith
       | false ↦ omega arith
     ]
 
-pub counted-part : (cs : List Cell) (start : ℤ) (a : Summary) → counted (add_part cs start a) ≡ counted cs + a.count
+pub counted-part : (cs : List Cell) (start : ℤ) (a : AggValue) → counted (add_part cs start a) ≡ counted cs + a.count
 counted-part [] start a = omega arith
 counted-part (c ∷ []) start a = counted-last c start a ∙ omega arith
 counted-part (c ∷ d ∷ cs) start a = omega (arith, counted-part (d ∷ cs) start a)
@@ -52,9 +53,9 @@ counted-points first width cs [] = omega arith
 counted-points first width cs (p ∷ ps) =
     omega (arith, counted-points first width (add_part cs (begin_of first width p.time) (one_point p.value)) ps, counted-part cs (begin_of first width p.time) (one_point p.value))
 
-counted-behind : (front : List Cell) (c : Cell) → c.agg.count ≤ counted (front ++ c ∷ [])
+counted-behind : (prefix : List Cell) (c : Cell) → c.agg.count ≤ counted (prefix ++ c ∷ [])
 counted-behind [] c = omega arith
-counted-behind (f ∷ front) c = let rest = counted-behind front c in omega arith
+counted-behind (f ∷ prefix) c = let rest = counted-behind prefix c in omega arith
 
 -- ---- the last window, by its place
 
@@ -66,14 +67,14 @@ module _ (cs : List Cell) (n : ℕ) (is_last : n + 1 ≡ length cs) (last : Cell
   pub counted-last_of : last.agg.count ≤ counted cs
   counted-last_of = subst (λ x. last.agg.count ≤ counted x) (sym split-last) (counted-behind (take n cs) last)
 
-  part-last : (start : ℤ) (a : Summary) (t : Bool) → int_eq last.start start ≡ t → add_part cs start a ≡ take n cs ++ cond t (cell last.start (joined last.agg a) ∷ []) (last ∷ cell start a ∷ [])
+  part-last : (start : ℤ) (a : AggValue) (t : Bool) → int_eq last.start start ≡ t → add_part cs start a ≡ take n cs ++ cond t (cell last.start (joined last.agg a) ∷ []) (last ∷ cell start a ∷ [])
   part-last start a t e =
       ap (λ x. add_part x start a) split-last
       ∙ add_part-behind last (take n cs) start a
       ∙ ap (λ u. take n cs ++ cond u (cell last.start (joined last.agg a) ∷ []) (last ∷ cell start a ∷ [])) e
 
   -- points of the last window
-  pub joins-last : (start : ℤ) (a b : Summary) → last.start ≡ start → b ≡ joined last.agg a → set cs n (cell last.start b) ≡ add_part cs start a
+  pub joins-last : (start : ℤ) (a b : AggValue) → last.start ≡ start → b ≡ joined last.agg a → set cs n (cell last.start b) ≡ add_part cs start a
   joins-last start a b same e =
       set_split cs n (cell last.start b) (omega arith)
       ∙ ap (λ c. take n cs ++ cell last.start b ∷ c) (drop_all (suc n) cs (omega arith))
@@ -81,7 +82,7 @@ module _ (cs : List Cell) (n : ℕ) (is_last : n + 1 ≡ length cs) (last : Cell
       ∙ sym (part-last start a true (same-eq last.start start same))
 
   -- points of another window
-  pub behind-last : (start : ℤ) (a : Summary) → int_eq last.start start ≡ false → add_part cs start a ≡ cs ++ cell start a ∷ []
+  pub behind-last : (start : ℤ) (a : AggValue) → int_eq last.start start ≡ false → add_part cs start a ≡ cs ++ cell start a ∷ []
   behind-last start a other =
       part-last start a false other
       ∙ sym (append_assoc (take n cs) (last ∷ []) (cell start a ∷ []))
@@ -94,7 +95,7 @@ add_points-append first width cs [] b = refl
 add_points-append first width cs (p ∷ a) b =
     add_points-append first width (add_part cs (begin_of first width p.time) (one_point p.value)) a b
 
-last-twice : (c : Cell) (start : ℤ) (a b : Summary) → add_part (with_last c start a) start b ≡ with_last c start (joined a b)
+last-twice : (c : Cell) (start : ℤ) (a b : AggValue) → add_part (with_last c start a) start b ≡ with_last c start (joined a b)
 last-twice c start a b =
     elim (int_eq c.start start) as (λ t. int_eq c.start start ≡ t → add_part (cond t (cell c.start (joined c.agg a) ∷ []) (c ∷ cell start a ∷ [])) start b ≡ cond t (cell c.start (joined c.agg (joined a b)) ∷ []) (c ∷ cell start (joined a b) ∷ [])) [
       | true ↦ λ e.
@@ -104,20 +105,20 @@ last-twice c start a b =
           ap (λ t. c ∷ cond t (cell start (joined a b) ∷ []) (cell start a ∷ cell start b ∷ [])) (same-eq start start refl)
     ] refl
 
-add_part-front : (c d : Cell) (cs : List Cell) (start : ℤ) (a : Summary) (start' : ℤ) (b : Summary) → add_part (c ∷ add_part (d ∷ cs) start a) start' b ≡ c ∷ add_part (add_part (d ∷ cs) start a) start' b
-add_part-front c d [] start a start' b =
+add_part-prefix : (c d : Cell) (cs : List Cell) (start : ℤ) (a : AggValue) (start' : ℤ) (b : AggValue) → add_part (c ∷ add_part (d ∷ cs) start a) start' b ≡ c ∷ add_part (add_part (d ∷ cs) start a) start' b
+add_part-prefix c d [] start a start' b =
     elim (int_eq d.start start) as (λ t. add_part (c ∷ cond t (cell d.start (joined d.agg a) ∷ []) (d ∷ cell start a ∷ [])) start' b ≡ c ∷ add_part (cond t (cell d.start (joined d.agg a) ∷ []) (d ∷ cell start a ∷ [])) start' b) [
       | true ↦ refl
       | false ↦ refl
     ]
-add_part-front c d (e ∷ cs) start a start' b = refl
+add_part-prefix c d (e ∷ cs) start a start' b = refl
 
-pub add_part-twice : (cs : List Cell) (start : ℤ) (a b : Summary) → add_part (add_part cs start a) start b ≡ add_part cs start (joined a b)
+pub add_part-twice : (cs : List Cell) (start : ℤ) (a b : AggValue) → add_part (add_part cs start a) start b ≡ add_part cs start (joined a b)
 add_part-twice [] start a b =
     ap (λ t. cond t (cell start (joined a b) ∷ []) (cell start a ∷ cell start b ∷ [])) (same-eq start start refl)
 add_part-twice (c ∷ []) start a b = last-twice c start a b
 add_part-twice (c ∷ d ∷ cs) start a b =
-    add_part-front c d cs start a start b ∙ ap (λ x. c ∷ x) (add_part-twice (d ∷ cs) start a b)
+    add_part-prefix c d cs start a start b ∙ ap (λ x. c ∷ x) (add_part-twice (d ∷ cs) start a b)
 
 -- points of one window are one part of it
 pub add_points-part : (first : ℤ) (width : ℕ) (cs : List Cell) (ps : List Point) (start : ℤ) → 0 < length ps → AllByRecursion (λ p. begin_of first width p.time ≡ start) ps → add_points first width cs ps ≡ add_part cs start (agg ps)
@@ -130,7 +131,7 @@ add_points-part first width cs (p ∷ q ∷ ps) start some h =
     ∙ add_part-twice cs start (one_point p.value) (agg (q ∷ ps))
 
 -- windows in front of the last stay as they are
-part-longer : (d : Cell) (cs : List Cell) (start : ℤ) (a : Summary) → 0 < length (add_part (d ∷ cs) start a)
+part-longer : (d : Cell) (cs : List Cell) (start : ℤ) (a : AggValue) → 0 < length (add_part (d ∷ cs) start a)
 part-longer d [] start a =
     elim (int_eq d.start start) as (λ t. 0 < length (cond t (cell d.start (joined d.agg a) ∷ []) (d ∷ cell start a ∷ []))) [
       | true ↦ omega arith
@@ -138,11 +139,11 @@ part-longer d [] start a =
     ]
 part-longer d (e ∷ cs) start a = omega arith
 
-pub add_points-front : (first : ℤ) (width : ℕ) (c : Cell) (ps : List Point) (cs : List Cell) → 0 < length cs → add_points first width (c ∷ cs) ps ≡ c ∷ add_points first width cs ps
-add_points-front first width c [] cs some = refl
-add_points-front first width c (p ∷ ps) [] some = absurd (omega arith)
-add_points-front first width c (p ∷ ps) (d ∷ cs) some =
-    add_points-front first width c ps (add_part (d ∷ cs) (begin_of first width p.time) (one_point p.value)) (part-longer d cs (begin_of first width p.time) (one_point p.value))
+pub add_points-prefix : (first : ℤ) (width : ℕ) (c : Cell) (ps : List Point) (cs : List Cell) → 0 < length cs → add_points first width (c ∷ cs) ps ≡ c ∷ add_points first width cs ps
+add_points-prefix first width c [] cs some = refl
+add_points-prefix first width c (p ∷ ps) [] some = absurd (omega arith)
+add_points-prefix first width c (p ∷ ps) (d ∷ cs) some =
+    add_points-prefix first width c ps (add_part (d ∷ cs) (begin_of first width p.time) (one_point p.value)) (part-longer d cs (begin_of first width p.time) (one_point p.value))
 
 -- ---- the points of a range, slot by slot
 

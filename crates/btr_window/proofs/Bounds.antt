@@ -9,12 +9,12 @@ use Rattle.btr_base.specs.Range.{IsRange}
 use Rattle.btr_base.specs.Windows.{window_of}
 use Rattle.btr_window.specs.Grids.{IsGrid, begin_of}
 use Rattle.btr_window.proofs.Cells.{begin-bounds, numbered}
-use Rattle.btr_base.specs.Span.{Part, IsSpan}
-use Rattle.btr_base.specs.Spans.{width-positive}
+use Rattle.btr_base.specs.Span.{SpanValue, IsSpan}
+use Rattle.btr_base.proofs.SpanLemmas.{width-positive}
 use Rattle.btr_tree.specs.Change.{end_of}
 
 -- the last time of a span
-pub last-time : (s : Part) (end : ℤ) → IsSpan s → end ≡ end_of s → to_z w64 (of_z w64 (to_z w64 (of_z w64 end) -ℤ pos 1)) ≡ end -ℤ pos 1
+pub last-time : (s : SpanValue) (end : ℤ) → IsSpan s → end ≡ end_of s → to_z w64 (of_z w64 (to_z w64 (of_z w64 end) -ℤ pos 1)) ≡ end -ℤ pos 1
 last-time s end span e =
     let some = width-positive s.height in
     let begins = span.1.start in
@@ -22,12 +22,12 @@ last-time s end span e =
     let fits : to_z w64 (of_z w64 end) ≡ end = to_z-of_z w64 end (omega (arith, ints)) in
     ap (λ x. to_z w64 (of_z w64 (x -ℤ pos 1))) fits ∙ to_z-of_z w64 (end -ℤ pos 1) (omega (arith, ints))
 
-pub span-start : (inside s : Part) → IsSpan inside → inside ≡ s → to_z w64 (of_z w64 inside.start) ≡ s.start
+pub span-start : (inside s : SpanValue) → IsSpan inside → inside ≡ s → to_z w64 (of_z w64 inside.start) ≡ s.start
 span-start inside s span e =
     let some = width-positive inside.height in
     let begins = span.1.start in
     let ends = span.1.ends in
-    to_z-of_z w64 inside.start (omega (arith, ints)) ∙ ap (λ (u : Part). u.start) e
+    to_z-of_z w64 inside.start (omega (arith, ints)) ∙ ap (λ (u : SpanValue). u.start) e
 
 nat-equal : (a b : ℕ) → nat_eq a b ≡ true → a ≡ b
 nat-equal a b e = grind (arith, nat_tests)

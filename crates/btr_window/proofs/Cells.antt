@@ -9,15 +9,16 @@ use Rattle.std.proofs.lemmas.Bool.{cases_lt}
 use Rattle.std.proofs.lemmas.Bool.Decides.{nat_tests}
 use Rattle.btr_base.specs.declared.point.Point.{Point}
 use Rattle.btr_base.specs.Point.{is_not_after}
-use Rattle.btr_base.specs.Bag.{IsInOrder, within}
-use Rattle.btr_base.specs.Order.{each-weaker, is_not_after-times, filter-passes}
-use Rattle.btr_base.specs.Within.{is_within, within-nested, within-in_order}
+use Rattle.btr_base.specs.Bag.{IsInOrder, within, is_within}
+use Rattle.btr_base.proofs.ListLemmas.{each-weaker, filter-passes}
+use Rattle.btr_base.proofs.PointLemmas.{is_not_after-times}
+use Rattle.btr_base.proofs.WithinLemmas.{within-nested, within-in_order}
 use Rattle.btr_base.specs.Windows.{window_of, window_at, once, windows_with, cell_of, cells}
-use Rattle.btr_base.specs.Agg.{Summary, joined, one_point, agg, agg_within}
-use Rattle.btr_base.specs.Aggregates.{joined-assoc, none-joined}
+use Rattle.btr_base.specs.Agg.{AggValue, joined, one_point, agg, agg_within}
+use Rattle.btr_base.proofs.AggLemmas.{joined-assoc, none-joined}
 use Rattle.btr_window.specs.Grids.{begin_of}
 use Rattle.btr_window.specs.Adding.{add_points}
-use Rattle.btr_window.proofs.Adding.{cell, same-eq, add_points-front}
+use Rattle.btr_window.proofs.Adding.{cell, same-eq, add_points-prefix}
 
 -- ---- windows by number
 
@@ -243,7 +244,7 @@ module _ (first : ℤ) (width : ℕ) (some : 1 ≤ width) where
       ∙ ap (λ cs. cell_of first width (p ∷ ps) w ∷ cs) (sym (cells-behind p ps (after w ws) h (after-more w ws rise)))
 
   -- the windows of points that stand behind a window with points, or in it
-  windows-from : (k : ℕ) (x : Summary) (ps : List Point) → AreBehind k ps → add_points first width (cell (window_at first width k) x ∷ []) ps ≡ cell (window_at first width k) (joined x (agg_within (window_at first width k) (window_at first width (k + 1)) ps)) ∷ map (cell_of first width ps) (after k (map (λ p. window_of first width p.time) ps))
+  windows-from : (k : ℕ) (x : AggValue) (ps : List Point) → AreBehind k ps → add_points first width (cell (window_at first width k) x ∷ []) ps ≡ cell (window_at first width k) (joined x (agg_within (window_at first width k) (window_at first width (k + 1)) ps)) ∷ map (cell_of first width ps) (after k (map (λ p. window_of first width p.time) ps))
   unfolding after
   windows-from k x [] h = ap (λ s. cell (window_at first width k) s ∷ []) (sym (none-joined x))
   windows-from k x (p ∷ ps) h =
@@ -266,7 +267,7 @@ module _ (first : ℤ) (width : ℕ) (some : 1 ≤ width) where
             let other = nat-other k w e in
             let more : k < w = omega arith in
             let none = none-before k w (p ∷ ps) more (h.0, (omega arith, h.1.1)) in
-            add_points-front first width (cell (at k) x) ps (cell (at w) one ∷ []) (omega arith)
+            add_points-prefix first width (cell (at k) x) ps (cell (at w) one ∷ []) (omega arith)
             ∙ ap (λ cs. cell (at k) x ∷ cs) (windows-first p ps (windows-from w one ps (h.0.1, h.1.1)) h.0.0 h.1.1)
             ∙ ap (λ s. cell (at k) s ∷ map (cell_of first width (p ∷ ps)) (w ∷ after w ws)) (sym (ap (λ b. joined x (agg b)) none ∙ none-joined x))
       ] refl

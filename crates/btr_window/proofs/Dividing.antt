@@ -7,7 +7,7 @@ use Rattle.std.proofs.lemmas.Bool.{cases_lt}
 use Rattle.btr_base.specs.declared.domain.TheConstants.{FIRST, END}
 use Rattle.btr_base.specs.declared.point.Point.{Point}
 use Rattle.btr_base.specs.Bag.{within}
-use Rattle.btr_base.specs.Within.{within-empty}
+use Rattle.btr_base.proofs.WithinLemmas.{within-empty}
 use Rattle.btr_base.specs.Windows.{window_of, window_at, windows_with, cell_of, cells, aligned}
 use Rattle.btr_window.specs.Grids.{IsGrid, IsAlignedBy, begin_of}
 use Rattle.btr_window.proofs.Cells.{numbered, times-less}

@@ -1,51 +1,50 @@
 -- Lemmas on the slots of a span that a range meets.
 use Rattle.std.specs.Prelude.{◌≡◌, ℕ, ◌+◌, ◌-◌, ◌*◌, ◌<◌, ◌≤◌, ℤ, pos, ◌+ℤ◌, ◌-ℤ◌, ◌≤ℤ◌, ◌<ℤ◌, false, ◌&&◌, int_le, int_lt, List, [], ◌∷◌}
-use Rattle.std.proofs.Common.{zero, suc, refl, sym, ap, ◌∙◌, arith, subst, mul-le-mul_right, to_z, of_z, w64}
+use Rattle.std.proofs.Common.{zero, suc, refl, sym, ap, ◌∙◌, arith, subst, mul-le-mul_right, to_z, of_z, w64, inl, inr}
 use Rattle.std.specs.List.{filter}
-use Rattle.std.proofs.Common.{inl, inr}
 use Rattle.std.proofs.lemmas.Bool.{cases_lt}
 use Rattle.std.proofs.lemmas.Int.{ints, to_z-of_z}
 use Rattle.btr_base.specs.declared.domain.TheConstants.{FIRST, END}
 use Rattle.btr_base.specs.declared.point.Point.{Point}
-use Rattle.btr_base.specs.Bag.{within}
-use Rattle.btr_base.specs.Range.{Interval, IsRange}
-use Rattle.btr_base.specs.Order.{filter-filter}
-use Rattle.btr_base.specs.Within.{is_within, filter-same, within-empty}
-use Rattle.btr_base.specs.Span.{width, Part, slot_of}
+use Rattle.btr_base.specs.Bag.{within, is_within}
+use Rattle.btr_base.specs.Range.{RangeValue, IsRange}
+use Rattle.btr_base.proofs.ListLemmas.{filter-filter, filter-same}
+use Rattle.btr_base.proofs.WithinLemmas.{within-empty}
+use Rattle.btr_base.specs.Span.{width, SpanValue, slot_of}
 use Rattle.btr_tree.specs.Change.{end_of}
 use Rattle.btr_tree.specs.Nodes.{points_of}
 use Rattle.btr_tree.specs.Shape.{slot_start}
-use Rattle.btr_tree.specs.Shapes.{slot-next, slot-end, slot-first, slot-part}
+use Rattle.btr_tree.proofs.NodeLemmas.{slot-next, slot-end, slot-first, slot-part}
 
 -- ---- a range as numbers
 
-pub range-from : (inside r : Interval) → IsRange inside → inside ≡ r → to_z w64 (of_z w64 inside.from) ≡ r.from
+pub range-from : (inside r : RangeValue) → IsRange inside → inside ≡ r → to_z w64 (of_z w64 inside.from) ≡ r.from
 range-from inside r h e =
     let low = h.begins in
     let full = h.not_empty in
     let high = h.ends in
-    to_z-of_z w64 inside.from (omega (arith, ints)) ∙ ap (λ (i : Interval). i.from) e
+    to_z-of_z w64 inside.from (omega (arith, ints)) ∙ ap (λ (i : RangeValue). i.from) e
 
-pub range-to : (inside r : Interval) → IsRange inside → inside ≡ r → to_z w64 (of_z w64 inside.to) ≡ r.to
+pub range-to : (inside r : RangeValue) → IsRange inside → inside ≡ r → to_z w64 (of_z w64 inside.to) ≡ r.to
 range-to inside r h e =
     let low = h.begins in
     let full = h.not_empty in
     let high = h.ends in
-    to_z-of_z w64 inside.to (omega (arith, ints)) ∙ ap (λ (i : Interval). i.to) e
+    to_z-of_z w64 inside.to (omega (arith, ints)) ∙ ap (λ (i : RangeValue). i.to) e
 
-pub range-full : (inside r : Interval) → IsRange inside → inside ≡ r → r.from <ℤ r.to
-range-full inside r h e = subst (λ (i : Interval). i.from <ℤ i.to) e h.not_empty
+pub range-full : (inside r : RangeValue) → IsRange inside → inside ≡ r → r.from <ℤ r.to
+range-full inside r h e = subst (λ (i : RangeValue). i.from <ℤ i.to) e h.not_empty
 
-pub range-domain : (inside r : Interval) → IsRange inside → inside ≡ r → (FIRST ≤ℤ r.from) × (r.to ≤ℤ END)
-range-domain inside r h e = subst (λ (i : Interval). (FIRST ≤ℤ i.from) × (i.to ≤ℤ END)) e (h.begins, h.ends)
+pub range-domain : (inside r : RangeValue) → IsRange inside → inside ≡ r → (FIRST ≤ℤ r.from) × (r.to ≤ℤ END)
+range-domain inside r h e = subst (λ (i : RangeValue). (FIRST ≤ℤ i.from) × (i.to ≤ℤ END)) e (h.begins, h.ends)
 
 -- the last time of a range
-pub range-last : (inside r : Interval) → IsRange inside → inside ≡ r → to_z w64 (of_z w64 (to_z w64 (of_z w64 inside.to) -ℤ pos 1)) ≡ r.to -ℤ pos 1
+pub range-last : (inside r : RangeValue) → IsRange inside → inside ≡ r → to_z w64 (of_z w64 (to_z w64 (of_z w64 inside.to) -ℤ pos 1)) ≡ r.to -ℤ pos 1
 range-last inside r h e =
     let low = h.begins in
     let full = h.not_empty in
     let high = h.ends in
-    let to = ap (λ (i : Interval). i.to) e in
+    let to = ap (λ (i : RangeValue). i.to) e in
     ap (λ x. to_z w64 (of_z w64 (x -ℤ pos 1))) (range-to inside r h e) ∙ to_z-of_z w64 (r.to -ℤ pos 1) (omega (arith, ints))
 
 -- ---- points of both of two ranges
@@ -90,10 +89,10 @@ pub slot-rise : (below : ℕ) (s : ℤ) (i j : ℕ) → i ≤ j → slot_start b
 slot-rise below s i j h =
     let more : i * width below ≤ j * width below = mul-le-mul_right (width below) h in omega (arith, ints)
 
-pub slot-begins : (below : ℕ) (s : ℤ) (i : ℕ) (part : Part) → part ≡ record { start = slot_start below s i; height = below } → part.start ≡ slot_start below s i
-slot-begins below s i part is = ap (λ (u : Part). u.start) is
+pub slot-begins : (below : ℕ) (s : ℤ) (i : ℕ) (part : SpanValue) → part ≡ record { start = slot_start below s i; height = below } → part.start ≡ slot_start below s i
+slot-begins below s i part is = ap (λ (u : SpanValue). u.start) is
 
-pub slot-ends : (below : ℕ) (s : ℤ) (i : ℕ) (part : Part) → part ≡ record { start = slot_start below s i; height = below } → end_of part ≡ slot_start below s (i + 1)
+pub slot-ends : (below : ℕ) (s : ℤ) (i : ℕ) (part : SpanValue) → part ≡ record { start = slot_start below s i; height = below } → end_of part ≡ slot_start below s (i + 1)
 slot-ends below s i part is = ap end_of is ∙ sym (slot-next below s i)
 
 -- the first and the last slot that have times of the range
@@ -122,13 +121,13 @@ behind-last below start from to last place h b =
           ap (λ s. within from to (within start s b)) (ap (slot_start below start) e ∙ slot-end below start)
     ]
 
-slot-of_start : (span : Part) (below i : ℕ) → span.height ≡ suc below → (slot_of span i).start ≡ slot_start below span.start i
+slot-of_start : (span : SpanValue) (below i : ℕ) → span.height ≡ suc below → (slot_of span i).start ≡ slot_start below span.start i
 slot-of_start span below i e = slot-begins below span.start i (slot_of span i) (slot-part span below i e)
 
-slot-of_stop : (span : Part) (below i : ℕ) → span.height ≡ suc below → (slot_of span i).start +ℤ pos (width (span.height - 1)) ≡ slot_start below span.start (i + 1)
+slot-of_stop : (span : SpanValue) (below i : ℕ) → span.height ≡ suc below → (slot_of span i).start +ℤ pos (width (span.height - 1)) ≡ slot_start below span.start (i + 1)
 slot-of_stop span below i e = slot-ends below span.start i (slot_of span i) (slot-part span below i e)
 
-pub between-is : (span : Part) (below : ℕ) (f t from to : ℤ) (first last : ℕ) → span.height ≡ suc below → f ≡ from → t ≡ to → first ≤ last → last < 64 → ((i : ℕ) → i < first → ((slot_of span i).start +ℤ pos (width (span.height - 1))) ≤ℤ f) → f <ℤ ((slot_of span first).start +ℤ pos (width (span.height - 1))) → (slot_of span last).start <ℤ t → ((i : ℕ) → last < i → i < 64 → t ≤ℤ (slot_of span i).start) → IsBetween below span.start from to first last
+pub between-is : (span : SpanValue) (below : ℕ) (f t from to : ℤ) (first last : ℕ) → span.height ≡ suc below → f ≡ from → t ≡ to → first ≤ last → last < 64 → ((i : ℕ) → i < first → ((slot_of span i).start +ℤ pos (width (span.height - 1))) ≤ℤ f) → f <ℤ ((slot_of span first).start +ℤ pos (width (span.height - 1))) → (slot_of span last).start <ℤ t → ((i : ℕ) → last < i → i < 64 → t ≤ℤ (slot_of span i).start) → IsBetween below span.start from to first last
 between-is span below f t from to first last e p q order place before begins ends behind =
     record {
       order = order;

@@ -3,11 +3,11 @@ use Rattle.std.specs.Prelude.{ℕ, ◌+◌, ℤ, List, [], ◌∷◌, if◌then�
 use Rattle.std.specs.Ordering.{int_eq}
 use Rattle.btr_base.specs.declared.point.Point.{Point}
 use Rattle.btr_base.specs.declared.cell.Cell.{Cell}
-use Rattle.btr_base.specs.Agg.{Summary, joined, one_point}
+use Rattle.btr_base.specs.Agg.{AggValue, joined, one_point}
 use Rattle.btr_window.specs.Grids.{begin_of}
 
 -- points of the window that begins at `start` join the last window, if that is theirs, or stand behind it
-abbrev pub add_part : List Cell → ℤ → Summary → List Cell
+abbrev pub add_part : List Cell → ℤ → AggValue → List Cell
 add_part [] start agg = record { start = start; agg = agg } ∷ []
 add_part (c ∷ []) start agg =
     if int_eq c.start start then record { start = c.start; agg = joined c.agg agg } ∷ [] else c ∷ record { start = start; agg = agg } ∷ []

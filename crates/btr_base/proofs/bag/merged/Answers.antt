@@ -6,7 +6,7 @@ use Rattle.std.proofs.lemmas.Int.{ints}
 use Rattle.btr_base.specs.declared.point.Point.{Point}
 use Rattle.btr_base.specs.Point.{point_cmp, is_not_after}
 use Rattle.btr_base.specs.Bag.{IsInOrder, sort}
-use Rattle.btr_base.specs.Order.{each-before, drop-in_order, sort-of_order, sort-take_first, sort-take_second}
+use Rattle.btr_base.proofs.PointLemmas.{each-before, drop-in_order, sort-of_order, sort-take_first, sort-take_second}
 use Rattle.btr_base.proofs.bag.merged.Goals as goal
 use Rattle.btr_base.proofs.bag.merged.Goals.{then-loop-i-test+else-j-b, else-loop-i-test}
 

@@ -6,8 +6,8 @@ use Rattle.std.proofs.lemmas.List.Sorted.{IsPartitionPoint-from_clause}
 use Rattle.std.proofs.lemmas.Int.{ints, to_z-of_z}
 use Rattle.btr_base.specs.declared.point.Point.{Point}
 use Rattle.btr_base.specs.Bag.{IsInOrder}
-use Rattle.btr_base.specs.Order.{times-rise}
-use Rattle.btr_base.specs.Within.{parted-take, parted-drop}
+use Rattle.btr_base.proofs.PointLemmas.{times-rise}
+use Rattle.btr_base.proofs.ListLemmas.{parted-take, parted-drop}
 use Rattle.btr_base.proofs.bag.parted.Goals as goal
 
 true-lt : (x y z : ℤ) → x ≤ℤ y → int_lt y z ≡ true → int_lt x z ≡ true

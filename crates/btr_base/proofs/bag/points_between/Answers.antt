@@ -2,9 +2,9 @@ use Rattle.std.specs.List.{filter}
 use Rattle.std.proofs.Common.{◌≡◌, not, ◌&&◌, int_le, int_lt, ℤ, List, ◌∙◌, ap, arith, subst, sym, w64, to_z, of_z}
 use Rattle.std.proofs.lemmas.Int.{ints, to_z-of_z}
 use Rattle.btr_base.specs.declared.point.Point.{Point}
-use Rattle.btr_base.specs.Bag.{IsInOrder, within}
-use Rattle.btr_base.specs.Order.{filter-filter, filter-in_order}
-use Rattle.btr_base.specs.Within.{is_within, filter-same}
+use Rattle.btr_base.specs.Bag.{IsInOrder, within, is_within}
+use Rattle.btr_base.proofs.ListLemmas.{filter-filter, filter-same}
+use Rattle.btr_base.proofs.PointLemmas.{filter-in_order}
 use Rattle.btr_base.proofs.bag.points_between.Goals as goal
 
 between : (from to t : ℤ) → (int_lt t to && not (int_lt t from)) ≡ (int_le from t && int_lt t to)

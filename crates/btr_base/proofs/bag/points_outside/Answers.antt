@@ -3,15 +3,16 @@ use Rattle.std.proofs.lemmas.List.{drop_more}
 use Rattle.std.proofs.lemmas.Int.{ints, to_z-of_z}
 use Rattle.btr_base.specs.declared.point.Point.{Point}
 use Rattle.btr_base.specs.Point.{is_not_after}
-use Rattle.btr_base.specs.Range.{Interval, covered}
+use Rattle.btr_base.specs.Range.{RangeValue, covered}
 use Rattle.btr_base.specs.Bag.{IsInOrder, outside}
-use Rattle.btr_base.specs.Order.{each-weaker, drop-in_order, is_not_after-times}
-use Rattle.btr_base.specs.Cover.{outside-same}
+use Rattle.btr_base.proofs.ListLemmas.{each-weaker}
+use Rattle.btr_base.proofs.PointLemmas.{drop-in_order, is_not_after-times}
+use Rattle.btr_base.proofs.RangeLemmas.{outside-same}
 use Rattle.btr_base.proofs.bag.points_outside.Goals as goal
 use Rattle.btr_base.proofs.bag.points_outside.Goals.{then-not-has_begun+in_ok-push, else-not-has_begun}
 
 -- the points from place i on, by the ranges that have not ended by the time of the first of them
-outside-step : (b : List Point) (old new : List Interval) (i : ℕ) (d : Point) → i < length b → IsInOrder b → ((t : ℤ) → (get_or b i d).time ≤ℤ t → covered new t ≡ covered old t) → outside (drop i b) old ≡ cond (not (covered new (get_or b i d).time)) (get_or b i d ∷ outside (drop (i + 1) b) new) (outside (drop (i + 1) b) new)
+outside-step : (b : List Point) (old new : List RangeValue) (i : ℕ) (d : Point) → i < length b → IsInOrder b → ((t : ℤ) → (get_or b i d).time ≤ℤ t → covered new t ≡ covered old t) → outside (drop i b) old ≡ cond (not (covered new (get_or b i d).time)) (get_or b i d ∷ outside (drop (i + 1) b) new) (outside (drop (i + 1) b) new)
 outside-step b old new i d h in_order same =
     let p = get_or b i d in
     let e : drop i b ≡ p ∷ drop (i + 1) b = drop_more b i d h in

@@ -1,4 +1,4 @@
-use Rattle.btr_base.specs.Cover.{same_from-covered}
+use Rattle.btr_base.proofs.RangeLemmas.{same_from-covered}
 use Rattle.btr_base.proofs.laws.one_list_for_the_times.Goals as goal
 
 pub returns : goal.returns

@@ -2,9 +2,8 @@ use Rattle.std.proofs.Common.{◌≡◌, ◌+◌, ◌∷◌, drop, take, Some, I
 use Rattle.std.proofs.lemmas.List.{drop_more, take_more}
 use Rattle.std.proofs.lemmas.Int.{ints}
 use Rattle.std.specs.List.{AllByRecursion}
-use Rattle.btr_base.specs.Range.{IsRange, AreApart}
-use Rattle.btr_base.specs.Apart.{ApartFrom, IsBehind, apart-from_none, from_none-apart, apart-more}
-use Rattle.btr_base.specs.Cover.{each-push}
+use Rattle.btr_base.specs.Range.{IsRange, AreApart, IsBehind}
+use Rattle.btr_base.proofs.RangeLemmas.{ApartFrom, apart-from_none, from_none-apart, apart-more, each-push}
 use Rattle.btr_base.proofs.ranges.are_apart.Goals as goal
 
 pub loop-range-init : goal.loop-range-init

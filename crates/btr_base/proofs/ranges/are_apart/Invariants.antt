@@ -1,7 +1,7 @@
 use Rattle.std.proofs.Common.{take, drop, ◌↔◌, IsTrue}
 use Rattle.std.specs.List.{AllByRecursion}
 use Rattle.btr_base.specs.Range.{IsRange, AreApart}
-use Rattle.btr_base.specs.Apart.{ApartFrom}
+use Rattle.btr_base.proofs.RangeLemmas.{ApartFrom}
 use Rattle.btr_base.proofs.ranges.are_apart.Given as goal
 
 -- what was seen is apart, and the rest is to be apart from its end on

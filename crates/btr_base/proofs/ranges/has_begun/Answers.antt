@@ -1,11 +1,11 @@
 use Rattle.std.proofs.Common.{ℕ, ◌+◌, ◌≡◌, ◌<◌, ℤ, ◌<ℤ◌, List, ◌∷◌, ◌∙◌, sym, ap, subst, arith, length, get_or, drop, int_le, w64, to_z, of_z}
 use Rattle.std.proofs.lemmas.List.{drop_more}
 use Rattle.std.proofs.lemmas.Int.{to_z-of_z}
-use Rattle.btr_base.specs.Range.{Interval, IsCut, covered}
-use Rattle.btr_base.specs.Cover.{IsCut-drop, covered-ahead}
+use Rattle.btr_base.specs.Range.{RangeValue, IsCut, covered}
+use Rattle.btr_base.proofs.RangeLemmas.{IsCut-drop, covered-ahead}
 use Rattle.btr_base.proofs.ranges.has_begun.Goals as goal
 
-begins-covered : (rs : List Interval) (place : ℕ) (r : Interval) (t : ℤ) → place < length rs → r ≡ get_or rs place r → IsCut rs → t <ℤ (get_or rs place r).to → int_le r.from t ≡ covered (drop place rs) t
+begins-covered : (rs : List RangeValue) (place : ℕ) (r : RangeValue) (t : ℤ) → place < length rs → r ≡ get_or rs place r → IsCut rs → t <ℤ (get_or rs place r).to → int_le r.from t ≡ covered (drop place rs) t
 begins-covered rs place r t h is cut ahead =
     let e : drop place rs ≡ r ∷ drop (place + 1) rs = drop_more rs place r h ∙ ap (λ s. s ∷ drop (place + 1) rs) (sym is) in
     let rest = subst IsCut e (IsCut-drop place rs cut) in

@@ -2,7 +2,7 @@ use Rattle.std.proofs.Common.{◌≡◌, ◌∙◌, ap, arith, int_le, rules, w6
 use Rattle.std.proofs.lemmas.List.Sorted.{IsPartitionPoint-from_clause}
 use Rattle.std.proofs.lemmas.Int.{to_z-of_z}
 use Rattle.btr_base.specs.Range.{covered}
-use Rattle.btr_base.specs.Cover.{covered-drop}
+use Rattle.btr_base.proofs.RangeLemmas.{covered-drop}
 use Rattle.btr_base.proofs.Places.{le-true, le-false, ends-parted}
 use Rattle.btr_base.proofs.ranges.is_covered.Goals as goal
 

@@ -1,12 +1,12 @@
 use Rattle.std.proofs.Common.{◌≡◌, ◌+◌, ◌<ℤ◌, List, [], ◌∷◌, ◌++◌, ◌∙◌, refl, sym, ap, subst, arith, drop}
 use Rattle.std.proofs.lemmas.List.{drop_more, drop_all}
 use Rattle.std.proofs.lemmas.Int.{ints}
-use Rattle.btr_base.specs.Range.{Interval, IsRange, IsCut}
+use Rattle.btr_base.specs.Range.{RangeValue, IsRange, IsCut}
 use Rattle.btr_base.proofs.Joining.{IsJoining, joining-start, joining-skip, joining-close, joining-union, joined-cut}
 use Rattle.btr_base.proofs.ranges.joined.Goals as goal
 use Rattle.btr_base.proofs.ranges.joined.Goals.{then-next-current+in_ok-push, else-next-current+then-current-next+in_ok-push-2, else-next-current+else-current-next}
 
-joining-as : (done old : List Interval) (current last : Interval) (rest : List Interval) (range : Interval) (ranges : List Interval) → done ≡ old → current ≡ last → IsJoining old last rest range ranges → IsJoining done current rest range ranges
+joining-as : (done old : List RangeValue) (current last : RangeValue) (rest : List RangeValue) (range : RangeValue) (ranges : List RangeValue) → done ≡ old → current ≡ last → IsJoining old last rest range ranges → IsJoining done current rest range ranges
 joining-as done old current last rest range ranges d c h =
     subst (λ u. IsJoining u current rest range ranges) (sym d) (subst (λ u. IsJoining old u rest range ranges) (sym c) h)
 

@@ -3,7 +3,7 @@ use Rattle.std.proofs.lemmas.List.{get_or-take, length-take}
 use Rattle.std.proofs.lemmas.List.Elements.{recursion_from_All}
 use Rattle.std.proofs.lemmas.List.Sorted.{IsPartitionPoint-from_clause}
 use Rattle.std.proofs.lemmas.Int.{ints, to_z-of_z}
-use Rattle.btr_base.specs.Cover.{covered-take, IsCut-take}
+use Rattle.btr_base.proofs.RangeLemmas.{covered-take, IsCut-take}
 use Rattle.btr_base.proofs.Places.{lt-true, lt-false, begins-parted}
 use Rattle.btr_base.proofs.ranges.ranges_before.Goals as goal
 

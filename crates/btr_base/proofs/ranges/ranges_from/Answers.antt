@@ -5,7 +5,7 @@ use Rattle.std.specs.List.{AllByRecursion}
 use Rattle.std.proofs.lemmas.List.Sorted.{IsPartitionPoint-from_clause}
 use Rattle.std.proofs.lemmas.Int.{ints, to_z-of_z}
 use Rattle.btr_base.specs.Range.{IsCut, covered}
-use Rattle.btr_base.specs.Cover.{covered-drop, IsCut-drop}
+use Rattle.btr_base.proofs.RangeLemmas.{covered-drop, IsCut-drop}
 use Rattle.btr_base.proofs.Places.{le-true, le-false, ends-parted}
 use Rattle.btr_base.proofs.ranges.ranges_from.Goals as goal
 

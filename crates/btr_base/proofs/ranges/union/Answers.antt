@@ -1,10 +1,10 @@
 use Rattle.std.proofs.Common.{◌≡◌, ℤ, ◌≤ℤ◌, ◌||◌, subst, arith, w64, to_z, of_z}
 use Rattle.std.proofs.lemmas.Int.{ints, clamps, to_z-of_z}
 use Rattle.std.specs.Int.{int_min, int_max}
-use Rattle.btr_base.specs.Range.{Interval, IsRange, spans}
+use Rattle.btr_base.specs.Range.{RangeValue, IsRange, spans}
 use Rattle.btr_base.proofs.ranges.union.Goals as goal
 
-spans-union : (a b : Interval) (low high t : ℤ) → IsRange a → IsRange b → b.from ≤ℤ a.to → a.from ≤ℤ b.to → low ≡ int_min a.from b.from → high ≡ int_max a.to b.to → spans (record { from = low; to = high }) t ≡ (spans a t || spans b t)
+spans-union : (a b : RangeValue) (low high t : ℤ) → IsRange a → IsRange b → b.from ≤ℤ a.to → a.from ≤ℤ b.to → low ≡ int_min a.from b.from → high ≡ int_max a.to b.to → spans (record { from = low; to = high }) t ≡ (spans a t || spans b t)
 spans-union a b low high t h k reach back e f = grind (arith, ints)
 
 pub invariant_of-result : goal.invariant_of-result

@@ -1,7 +1,7 @@
 use Rattle.std.proofs.Common.{subst}
 use Rattle.btr_base.specs.Range.{IsCut}
 use Rattle.btr_tree.specs.Nodes.{no_span}
-use Rattle.btr_tree.specs.Roots.{root-aligned}
+use Rattle.btr_tree.proofs.RootLemmas.{root-aligned}
 use Rattle.btr_diff.proofs.Roots.{root-held, root-changes, root-few}
 use Rattle.btr_diff.proofs.comparing.changes.Goals as goal
 

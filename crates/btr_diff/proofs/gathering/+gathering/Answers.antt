@@ -5,7 +5,7 @@ use Rattle.btr_base.specs.Bag.{within}
 use Rattle.btr_tree.specs.History.{bag}
 use Rattle.btr_tree.specs.Nodes.{points_of}
 use Rattle.btr_tree.specs.Shape.{slot_start}
-use Rattle.btr_tree.specs.Shapes.{prefix-none, prefix-part, prefix-done}
+use Rattle.btr_tree.proofs.NodeLemmas.{prefix-none, prefix-part, prefix-done}
 use Rattle.btr_diff.proofs.Nodes.{where_ok, leaf-points, inner-children, inner-held, child-at, child-held}
 use Rattle.btr_diff.proofs.gathering.+gathering.Goals as goal
 

@@ -6,10 +6,11 @@ use Rattle.std.proofs.lemmas.Int.{ints}
 use Rattle.std.proofs.lemmas.Bool.{not-true}
 use Rattle.btr_base.specs.declared.point.Point.{Point}
 use Rattle.btr_base.specs.Point.{same_point, InDomain}
-use Rattle.btr_base.specs.Range.{Interval, spans, covered}
+use Rattle.btr_base.specs.Range.{RangeValue, spans, covered}
 use Rattle.btr_base.specs.Bag.{IsInOrder}
 use Rattle.btr_base.specs.Changes.{same_points, slot_around}
-use Rattle.btr_base.specs.Order.{each-weaker, each-both, each-filter, filter-passes, filter-in_order}
+use Rattle.btr_base.proofs.ListLemmas.{each-weaker, each-both, each-filter, filter-passes}
+use Rattle.btr_base.proofs.PointLemmas.{filter-in_order}
 use Rattle.btr_tree.specs.Root.{AreInDomain}
 use Rattle.btr_diff.specs.Comparing.{Adds, rest_from}
 use Rattle.btr_diff.proofs.Hits.{AllAt, AreParts, Before, From, hit-time, adds-none, adds-parts, same_points-true}
@@ -68,7 +69,7 @@ or-swap : (a b : Bool) → (a || b) ≡ (b || a)
 or-swap a b = grind arith
 
 -- what is added of the points of one time
-adds-time : (p : ℕ) (t : ℤ) (was now : List Interval) (a b : List Point) (s : Interval) → AllAt t a → AllAt t b → same_points a b ≡ false → InDomain t → s ≡ slot_around p t → ((v : ℤ) → covered now v ≡ (spans s v || covered was v)) → Adds p was now a b
+adds-time : (p : ℕ) (t : ℤ) (was now : List RangeValue) (a b : List Point) (s : RangeValue) → AllAt t a → AllAt t b → same_points a b ≡ false → InDomain t → s ≡ slot_around p t → ((v : ℤ) → covered now v ≡ (spans s v || covered was v)) → Adds p was now a b
 adds-time p t was now a b s h k differ inside is more =
     record {
       times = λ v.
@@ -78,11 +79,11 @@ adds-time p t was now a b s h k differ inside is more =
           ∙ ap (λ x. covered was v || x) (sym (hit-time p a b v t h k differ inside));
     }
 
-slot-same : (p : ℕ) (t u : ℤ) (s : Interval) → s ≡ slot_around p t → t ≡ u → s ≡ slot_around p u
+slot-same : (p : ℕ) (t u : ℤ) (s : RangeValue) → s ≡ slot_around p t → t ≡ u → s ≡ slot_around p u
 slot-same p t u s is e = is ∙ ap (slot_around p) e
 
 -- what is added of the points of one time, and of the others
-adds-step : (p : ℕ) (t u : ℤ) (was mid now : List Interval) (a here rest b here_b rest_b : List Point) → IsParted t u a here rest → IsParted t u b here_b rest_b → Adds p was mid here here_b → Adds p mid now rest rest_b → Adds p was now a b
+adds-step : (p : ℕ) (t u : ℤ) (was mid now : List RangeValue) (a here rest b here_b rest_b : List Point) → IsParted t u a here rest → IsParted t u b here_b rest_b → Adds p was mid here here_b → Adds p mid now rest rest_b → Adds p was now a b
 adds-step p t u was mid now a here rest b here_b rest_b h k first others =
     let parts : AreParts u here here_b rest rest_b = record { a_before = h.before; b_before = k.before; c_from = h.from; d_from = k.from } in
     subst (λ x. Adds p was now x b) h.all (subst (Adds p was now (here ++ rest)) k.all (adds-parts p was mid now u here here_b rest rest_b parts first others))

@@ -1,6 +1,6 @@
 use Rattle.std.proofs.Common.{◌+◌, List, length}
 use Rattle.btr_base.specs.Bag.{IsInOrder}
-use Rattle.btr_base.specs.Range.{Interval}
+use Rattle.btr_base.specs.Range.{RangeValue}
 use Rattle.btr_tree.specs.Root.{AreInDomain}
 use Rattle.btr_diff.specs.Comparing.{Adds}
 use Rattle.btr_diff.proofs.points.compare_points.Given as goal
@@ -12,7 +12,7 @@ invariant-loop-time l = record {
   new_order : IsInOrder l.new_left;
   old_domain : AreInDomain l.old_left;
   new_domain : AreInDomain l.new_left;
-  times : (now : List Interval) → Adds l.p l.out now l.old_left l.new_left → Adds l.p l.fn.out now l.fn.old l.fn.new;
+  times : (now : List RangeValue) → Adds l.p l.out now l.old_left l.new_left → Adds l.p l.fn.out now l.fn.old l.fn.new;
 }
 
 abbrev pub decreases-loop-time : goal.decreases-loop-time

@@ -6,8 +6,8 @@ use Rattle.std.specs.Int.{int_min}
 use Rattle.btr_base.specs.declared.point.Point.{Point}
 use Rattle.btr_base.specs.Point.{InDomain, is_not_after}
 use Rattle.btr_base.specs.Bag.{IsInOrder}
-use Rattle.btr_base.specs.Order.{each-weaker, is_not_after-times}
-use Rattle.btr_base.specs.Within.{length-filter}
+use Rattle.btr_base.proofs.ListLemmas.{each-weaker, length-filter}
+use Rattle.btr_base.proofs.PointLemmas.{is_not_after-times}
 use Rattle.btr_tree.specs.Root.{AreInDomain}
 use Rattle.btr_diff.specs.Comparing.{IsFirst, rest_from}
 use Rattle.btr_diff.proofs.points.first_time.Goals as goal

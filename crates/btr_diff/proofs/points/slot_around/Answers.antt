@@ -4,9 +4,9 @@ use Rattle.std.proofs.lemmas.Int.{ints}
 use Rattle.std.proofs.lemmas.Nat.{pow_pos}
 use Rattle.btr_base.specs.declared.domain.TheConstants.{FIRST}
 use Rattle.btr_base.specs.Point.{InDomain}
-use Rattle.btr_base.specs.Range.{Interval, IsRange}
+use Rattle.btr_base.specs.Range.{RangeValue, IsRange}
 use Rattle.btr_base.specs.Changes.{slot_around}
-use Rattle.btr_base.specs.Runs.{slot-is, slot-range, slot-fits}
+use Rattle.btr_base.proofs.ChangesLemmas.{slot-is, slot-range, slot-fits}
 use Rattle.btr_diff.proofs.points.slot_around.Goals as goal
 
 -- the bounds of the slot, by the offset and the width
@@ -46,10 +46,10 @@ overflow_cast-result c = let s = by c in let fits = s.fits in omega (arith, ints
 pub overflow_add-result : goal.overflow_add-result
 overflow_add-result c = let s = by c in let fits = s.fits in omega (arith, ints)
 
-interval-by : (a b x y : ℤ) → a ≡ x → b ≡ y → (let r : Interval = record { from = a; to = b } in r) ≡ record { from = x; to = y }
+interval-by : (a b x y : ℤ) → a ≡ x → b ≡ y → (let r : RangeValue = record { from = a; to = b } in r) ≡ record { from = x; to = y }
 interval-by a b x y e f = cc
 
-range-by : (a b : ℤ) (s : Interval) → a ≡ s.from → b ≡ s.to → IsRange s → IsRange (record { from = a; to = b })
+range-by : (a b : ℤ) (s : RangeValue) → a ≡ s.from → b ≡ s.to → IsRange s → IsRange (record { from = a; to = b })
 range-by a b s e f h =
     let begins = h.begins in
     let full = h.not_empty in

@@ -2,9 +2,9 @@ use Rattle.std.proofs.Common.{◌<◌, suc, sym, ap, ◌∙◌, subst, arith, w6
 use Rattle.std.proofs.lemmas.Result.{on_ok_weaker}
 use Rattle.std.proofs.lemmas.Int.{ints}
 use Rattle.btr_base.specs.Point.{InDomain}
-use Rattle.btr_base.specs.Bag.{IsInOrder}
-use Rattle.btr_base.specs.Order.{each-filter}
-use Rattle.btr_base.specs.Within.{is_within, within-in_order}
+use Rattle.btr_base.specs.Bag.{IsInOrder, is_within}
+use Rattle.btr_base.proofs.ListLemmas.{each-filter}
+use Rattle.btr_base.proofs.WithinLemmas.{within-in_order}
 use Rattle.btr_tree.specs.History.{bag}
 use Rattle.btr_tree.specs.Nodes.{points_of, is_inner}
 use Rattle.btr_tree.specs.Root.{AreInDomain}

@@ -4,9 +4,9 @@ use Rattle.btr_disk.proofs.Others.{may_tear_twice}
 use Rattle.btr_disk.proofs.laws.write_two.Goals as goal
 
 pub returns-clause-unsynced : goal.returns-clause-unsynced
-returns-clause-unsynced g c tells =
+returns-clause-unsynced g c is_observable =
     let disk = g.D.Disk in
     let old = c.args.device.now in
-    both_ok c.write-2.result _ _ (c.write-2.ensures.unsynced tells)
-    (may_tear_twice (4096 * c.args.first) (length c.args.bytes.now) (4096 * c.args.second) (length c.args.others.now) (disk.image old) (disk.image c.write.new.self) (disk.image c.write-2.new.self)
-    (g.met.D.Disk.image_bytes tells old) (c.in_ok-write.ensures.unsynced tells))
+    both_ok c.write-2.result _ _ (c.write-2.ensures.unsynced is_observable)
+    (may_tear_twice (4096 * c.args.first) (length c.args.bytes.now) (4096 * c.args.second) (length c.args.others.now) (disk.images_now old) (disk.images_now c.write.new.self) (disk.images_now c.write-2.new.self)
+    (g.met.D.Disk.image_bytes is_observable old) (c.in_ok-write.ensures.unsynced is_observable))

@@ -4,12 +4,12 @@ use Rattle.btr_disk.proofs.Others.{is_unsynced}
 use Rattle.btr_disk.proofs.laws.write_unsynced.Goals as goal
 
 pub returns-clause-unsynced : goal.returns-clause-unsynced
-returns-clause-unsynced g c tells =
+returns-clause-unsynced g c is_observable =
     let disk = g.D.Disk in
     let laws = g.met.D.Disk in
     let old = c.args.device.now in
     let new = c.write.new.self in
-    let was = laws.reads_as_image tells old in
-    both_ok c.write.result _ _ (c.write.ensures.unsynced tells)
-    (λ tears. is_unsynced (4096 * c.args.first) (length c.args.bytes.now) (disk.contents old) (disk.contents new) (disk.image old) (disk.image new)
-    (laws.image_bytes tells old (disk.contents old) was) was (laws.reads_as_image tells new) tears)
+    let was = laws.reads_as_image is_observable old in
+    both_ok c.write.result _ _ (c.write.ensures.unsynced is_observable)
+    (λ tears. is_unsynced (4096 * c.args.first) (length c.args.bytes.now) (disk.contents old) (disk.contents new) (disk.images_now old) (disk.images_now new)
+    (laws.image_bytes is_observable old (disk.contents old) was) was (laws.reads_as_image is_observable new) tears)

@@ -5,8 +5,8 @@ use Rattle.btr_disk.specs.Causes.{Counted}
 use Rattle.btr_disk.specs.Images.{Only, Torn}
 use Rattle.btr_disk.specs.Moments.{Elapses, Leaves}
 use Rattle.btr_disk.specs.Publish.{IsBeforeOrHasBody}
-use Rattle.btr_disk.specs.Addresses.{Has-Same, SameBut-trans, SameBut-from_Same, Same-trans}
-use Rattle.btr_disk.specs.Runs.{begins, goes_on}
+use Rattle.btr_disk.proofs.ByteLemmas.{Has-Same, SameBut-trans, SameBut-from_Same, Same-trans}
+use Rattle.btr_disk.proofs.MomentLemmas.{begins, goes_on}
 use Rattle.btr_disk.proofs.Steps.{after_sync, on_ok, body_torn, body_synced, gate_torn, gate_written, gate_synced, Published-Same}
 use Rattle.btr_disk.proofs.publishing.publish.Goals as goal
 
@@ -30,28 +30,28 @@ module _ {D : Type 0} (calls : D → ℕ) (since : D → ℕ → Image → Type 
       goes_on calls since start mid new (IsBeforeOrHasBody (contents start) address body place) (image new) so_far step.counted step.time here
 
 pub returns-in_err-write-clause-moments : goal.returns-in_err-write-clause-moments
-returns-in_err-write-clause-moments g c tells settled =
+returns-in_err-write-clause-moments g c is_observable settled =
     let disk = g.D.Disk in
     let d0 = c.args.device.now in
-    to_first disk.calls disk.since disk.image disk.contents d0 (4096 * c.args.first) c.args.body.now (4096 * c.args.at) c.write.new.self (g.met.D.Disk.only_now tells d0) settled
-    (record { counted = c.write.ensures.calls; time = c.write.ensures.time tells }) (c.write.ensures.torn tells)
+    to_first disk.calls disk.images_since disk.images_now disk.contents d0 (4096 * c.args.first) c.args.body.now (4096 * c.args.at) c.write.new.self (g.met.D.Disk.only_now is_observable d0) settled
+    (record { counted = c.write.ensures.calls; time = c.write.ensures.time is_observable }) (c.write.ensures.torn is_observable)
 
 pub returns-in_err-sync-clause-moments : goal.returns-in_err-sync-clause-moments
-returns-in_err-sync-clause-moments g c tells settled =
+returns-in_err-sync-clause-moments g c is_observable settled =
     let disk = g.D.Disk in
     let d0 = c.args.device.now in
     let d1 = c.write.new.self in
     let a = 4096 * c.args.first in
     let body = c.args.body.now in
     let p = 4096 * c.args.at in
-    let first = to_first disk.calls disk.since disk.image disk.contents d0 a body p d1 (g.met.D.Disk.only_now tells d0) settled
-    (record { counted = c.write.ensures.calls; time = c.write.ensures.time tells }) (c.write.ensures.torn tells) in
-    to_next disk.calls disk.since disk.image disk.contents d0 a body p d1 c.sync.new.self first
-    (record { counted = c.sync.ensures.calls; time = c.sync.ensures.time tells })
-    (λ x left. body_torn (disk.contents d0) a body p (disk.image d0) (disk.image d1) settled (c.write.ensures.torn tells) x ((c.in_err-sync.ensures.unsynced tells).none_new x left))
+    let first = to_first disk.calls disk.images_since disk.images_now disk.contents d0 a body p d1 (g.met.D.Disk.only_now is_observable d0) settled
+    (record { counted = c.write.ensures.calls; time = c.write.ensures.time is_observable }) (c.write.ensures.torn is_observable) in
+    to_next disk.calls disk.images_since disk.images_now disk.contents d0 a body p d1 c.sync.new.self first
+    (record { counted = c.sync.ensures.calls; time = c.sync.ensures.time is_observable })
+    (λ x left. body_torn (disk.contents d0) a body p (disk.images_now d0) (disk.images_now d1) settled (c.write.ensures.torn is_observable) x ((c.in_err-sync.ensures.unsynced is_observable).none_new x left))
 
 pub returns-in_err-write-2-clause-moments : goal.returns-in_err-write-2-clause-moments
-returns-in_err-write-2-clause-moments g c tells settled =
+returns-in_err-write-2-clause-moments g c is_observable settled =
     let disk = g.D.Disk in
     let d0 = c.args.device.now in
     let d1 = c.write.new.self in
@@ -60,23 +60,23 @@ returns-in_err-write-2-clause-moments g c tells settled =
     let a = 4096 * c.args.first in
     let body = c.args.body.now in
     let p = 4096 * c.args.at in
-    let first = to_first disk.calls disk.since disk.image disk.contents d0 a body p d1 (g.met.D.Disk.only_now tells d0) settled
-    (record { counted = c.write.ensures.calls; time = c.write.ensures.time tells }) (c.write.ensures.torn tells) in
-    let but : SameBut a (length body) (disk.contents d0) (disk.contents d2) = SameBut-trans a (length body) (disk.contents d0) (disk.contents d1) (disk.contents d2) (c.write.ensures.elsewhere tells)
-    (SameBut-from_Same a (length body) (disk.contents d1) (disk.contents d2) (c.sync.ensures.contents tells)) in
-    let has : Has (disk.contents d2) a body = Has-Same (disk.contents d1) (disk.contents d2) a body (c.sync.ensures.contents tells) (c.in_ok-write.ensures.written tells) in
-    let synced : Only (disk.contents d2) (disk.image d2) = c.in_ok-sync.ensures.synced tells in
-    let second = to_next disk.calls disk.since disk.image disk.contents d0 a body p d1 d2 first
-    (record { counted = c.sync.ensures.calls; time = c.sync.ensures.time tells })
+    let first = to_first disk.calls disk.images_since disk.images_now disk.contents d0 a body p d1 (g.met.D.Disk.only_now is_observable d0) settled
+    (record { counted = c.write.ensures.calls; time = c.write.ensures.time is_observable }) (c.write.ensures.torn is_observable) in
+    let but : SameBut a (length body) (disk.contents d0) (disk.contents d2) = SameBut-trans a (length body) (disk.contents d0) (disk.contents d1) (disk.contents d2) (c.write.ensures.elsewhere is_observable)
+    (SameBut-from_Same a (length body) (disk.contents d1) (disk.contents d2) (c.sync.ensures.contents is_observable)) in
+    let has : Has (disk.contents d2) a body = Has-Same (disk.contents d1) (disk.contents d2) a body (c.sync.ensures.contents is_observable) (c.in_ok-write.ensures.written is_observable) in
+    let synced : Only (disk.contents d2) (disk.images_now d2) = c.in_ok-sync.ensures.synced is_observable in
+    let second = to_next disk.calls disk.images_since disk.images_now disk.contents d0 a body p d1 d2 first
+    (record { counted = c.sync.ensures.calls; time = c.sync.ensures.time is_observable })
     (λ x left. body_synced (disk.contents d0) a body p (disk.contents d2) but x (synced.each x left)) in
     let above : p < a → p + 4096 ≤ a = λ lt. omega arith in
-    let torn : Torn p 4096 (disk.image d2) (disk.image d3) = rw c.requires.one_block at c.write-2.ensures.torn tells in
-    to_next disk.calls disk.since disk.image disk.contents d0 a body p d2 d3 second
-    (record { counted = c.write-2.ensures.calls; time = c.write-2.ensures.time tells })
-    (gate_torn (disk.contents d0) a body p c.requires.apart above (disk.contents d2) (disk.image d2) (disk.image d3) has but synced torn)
+    let torn : Torn p 4096 (disk.images_now d2) (disk.images_now d3) = rw c.requires.one_block at c.write-2.ensures.torn is_observable in
+    to_next disk.calls disk.images_since disk.images_now disk.contents d0 a body p d2 d3 second
+    (record { counted = c.write-2.ensures.calls; time = c.write-2.ensures.time is_observable })
+    (gate_torn (disk.contents d0) a body p c.requires.apart above (disk.contents d2) (disk.images_now d2) (disk.images_now d3) has but synced torn)
 
 pub returns-clause-published : goal.returns-clause-published
-returns-clause-published g c tells =
+returns-clause-published g c is_observable =
     let disk = g.D.Disk in
     let d0 = c.args.device.now in
     let d1 = c.write.new.self in
@@ -87,18 +87,18 @@ returns-clause-published g c tells =
     let body = c.args.body.now in
     let p = 4096 * c.args.at in
     let gate = c.args.gate.now in
-    let but : SameBut a (length body) (disk.contents d0) (disk.contents d2) = SameBut-trans a (length body) (disk.contents d0) (disk.contents d1) (disk.contents d2) (c.write.ensures.elsewhere tells)
-    (SameBut-from_Same a (length body) (disk.contents d1) (disk.contents d2) (c.sync.ensures.contents tells)) in
-    let has : Has (disk.contents d2) a body = Has-Same (disk.contents d1) (disk.contents d2) a body (c.sync.ensures.contents tells) (c.in_ok-write.ensures.written tells) in
+    let but : SameBut a (length body) (disk.contents d0) (disk.contents d2) = SameBut-trans a (length body) (disk.contents d0) (disk.contents d1) (disk.contents d2) (c.write.ensures.elsewhere is_observable)
+    (SameBut-from_Same a (length body) (disk.contents d1) (disk.contents d2) (c.sync.ensures.contents is_observable)) in
+    let has : Has (disk.contents d2) a body = Has-Same (disk.contents d1) (disk.contents d2) a body (c.sync.ensures.contents is_observable) (c.in_ok-write.ensures.written is_observable) in
     let above : p < a → p + 4096 ≤ a = λ lt. omega arith in
-    let then : SameBut p 4096 (disk.contents d2) (disk.contents d3) = rw c.requires.one_block at c.write-2.ensures.elsewhere tells in
+    let then : SameBut p 4096 (disk.contents d2) (disk.contents d3) = rw c.requires.one_block at c.write-2.ensures.elsewhere is_observable in
     on_ok c.sync-2.result _
     (Published-Same (disk.contents d0) a body p gate (disk.contents d3) (disk.contents d4)
-    (gate_written (disk.contents d0) a body p c.requires.apart above (disk.contents d2) (disk.contents d3) gate has but then (c.in_ok-write-2.ensures.written tells))
-    (c.sync-2.ensures.contents tells))
+    (gate_written (disk.contents d0) a body p c.requires.apart above (disk.contents d2) (disk.contents d3) gate has but then (c.in_ok-write-2.ensures.written is_observable))
+    (c.sync-2.ensures.contents is_observable))
 
 pub returns-clause-moments : goal.returns-clause-moments
-returns-clause-moments g c tells settled =
+returns-clause-moments g c is_observable settled =
     let disk = g.D.Disk in
     let d0 = c.args.device.now in
     let d1 = c.write.new.self in
@@ -109,23 +109,23 @@ returns-clause-moments g c tells settled =
     let body = c.args.body.now in
     let p = 4096 * c.args.at in
     let P : Image → Type 0 = IsBeforeOrHasBody (disk.contents d0) a body p in
-    let first = to_first disk.calls disk.since disk.image disk.contents d0 a body p d1 (g.met.D.Disk.only_now tells d0) settled
-    (record { counted = c.write.ensures.calls; time = c.write.ensures.time tells }) (c.write.ensures.torn tells) in
-    let but : SameBut a (length body) (disk.contents d0) (disk.contents d2) = SameBut-trans a (length body) (disk.contents d0) (disk.contents d1) (disk.contents d2) (c.write.ensures.elsewhere tells)
-    (SameBut-from_Same a (length body) (disk.contents d1) (disk.contents d2) (c.sync.ensures.contents tells)) in
-    let has : Has (disk.contents d2) a body = Has-Same (disk.contents d1) (disk.contents d2) a body (c.sync.ensures.contents tells) (c.in_ok-write.ensures.written tells) in
-    let synced : Only (disk.contents d2) (disk.image d2) = c.in_ok-sync.ensures.synced tells in
-    let second = to_next disk.calls disk.since disk.image disk.contents d0 a body p d1 d2 first
-    (record { counted = c.sync.ensures.calls; time = c.sync.ensures.time tells })
+    let first = to_first disk.calls disk.images_since disk.images_now disk.contents d0 a body p d1 (g.met.D.Disk.only_now is_observable d0) settled
+    (record { counted = c.write.ensures.calls; time = c.write.ensures.time is_observable }) (c.write.ensures.torn is_observable) in
+    let but : SameBut a (length body) (disk.contents d0) (disk.contents d2) = SameBut-trans a (length body) (disk.contents d0) (disk.contents d1) (disk.contents d2) (c.write.ensures.elsewhere is_observable)
+    (SameBut-from_Same a (length body) (disk.contents d1) (disk.contents d2) (c.sync.ensures.contents is_observable)) in
+    let has : Has (disk.contents d2) a body = Has-Same (disk.contents d1) (disk.contents d2) a body (c.sync.ensures.contents is_observable) (c.in_ok-write.ensures.written is_observable) in
+    let synced : Only (disk.contents d2) (disk.images_now d2) = c.in_ok-sync.ensures.synced is_observable in
+    let second = to_next disk.calls disk.images_since disk.images_now disk.contents d0 a body p d1 d2 first
+    (record { counted = c.sync.ensures.calls; time = c.sync.ensures.time is_observable })
     (λ x left. body_synced (disk.contents d0) a body p (disk.contents d2) but x (synced.each x left)) in
     let above : p < a → p + 4096 ≤ a = λ lt. omega arith in
-    let torn : Torn p 4096 (disk.image d2) (disk.image d3) = rw c.requires.one_block at c.write-2.ensures.torn tells in
-    let then : SameBut p 4096 (disk.contents d2) (disk.contents d3) = rw c.requires.one_block at c.write-2.ensures.elsewhere tells in
-    let at_gate = gate_torn (disk.contents d0) a body p c.requires.apart above (disk.contents d2) (disk.image d2) (disk.image d3) has but synced torn in
-    let third = to_next disk.calls disk.since disk.image disk.contents d0 a body p d2 d3 second
-    (record { counted = c.write-2.ensures.calls; time = c.write-2.ensures.time tells }) at_gate in
-    to_next disk.calls disk.since disk.image disk.contents d0 a body p d3 d4 third
-    (record { counted = c.sync-2.ensures.calls; time = c.sync-2.ensures.time tells })
-    (after_sync c.sync-2.result (disk.contents d4) (disk.image d3) (disk.image d4) P (c.sync-2.ensures.synced tells) (c.sync-2.ensures.unsynced tells)
-    (λ x same. gate_synced (disk.contents d0) a body p c.requires.apart above (disk.contents d2) (disk.contents d3) x has but then (Same-trans (disk.contents d3) (disk.contents d4) x (c.sync-2.ensures.contents tells) same))
+    let torn : Torn p 4096 (disk.images_now d2) (disk.images_now d3) = rw c.requires.one_block at c.write-2.ensures.torn is_observable in
+    let then : SameBut p 4096 (disk.contents d2) (disk.contents d3) = rw c.requires.one_block at c.write-2.ensures.elsewhere is_observable in
+    let at_gate = gate_torn (disk.contents d0) a body p c.requires.apart above (disk.contents d2) (disk.images_now d2) (disk.images_now d3) has but synced torn in
+    let third = to_next disk.calls disk.images_since disk.images_now disk.contents d0 a body p d2 d3 second
+    (record { counted = c.write-2.ensures.calls; time = c.write-2.ensures.time is_observable }) at_gate in
+    to_next disk.calls disk.images_since disk.images_now disk.contents d0 a body p d3 d4 third
+    (record { counted = c.sync-2.ensures.calls; time = c.sync-2.ensures.time is_observable })
+    (after_sync c.sync-2.result (disk.contents d4) (disk.images_now d3) (disk.images_now d4) P (c.sync-2.ensures.synced is_observable) (c.sync-2.ensures.unsynced is_observable)
+    (λ x same. gate_synced (disk.contents d0) a body p c.requires.apart above (disk.contents d2) (disk.contents d3) x has but then (Same-trans (disk.contents d3) (disk.contents d4) x (c.sync-2.ensures.contents is_observable) same))
     at_gate)

@@ -1,7 +1,7 @@
 -- The tree of the next version is that of the commit behind those of the last tree, and its faults are why the commit is rejected.
 use Rattle.std.proofs.Common.{◌≡◌, None, ◌+◌, ◌-◌, length, refl}
 use Rattle.btr_tree.specs.History.{bag}
-use Rattle.btr_tree.specs.Stamps.{bag-in_order}
+use Rattle.btr_tree.proofs.VersionLemmas.{bag-in_order}
 use Rattle.btr_hist.specs.Commit.{Change}
 use Rattle.btr_hist.specs.History.{latest}
 use Rattle.btr_hist.specs.Legal.{change_rejection}

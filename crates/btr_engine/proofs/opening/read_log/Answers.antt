@@ -23,7 +23,7 @@ pub loop-next-preserved : goal.loop-next-preserved
 loop-next-preserved g c =
     let disk = g.D.Disk in
     let l = c.loop-next in
-    let n = subst (λ o. IfSome o (λ next. (e : Entry) × IsSpelled e × (c.read_next.new.history ≡ l.history ++ e ∷ []) × (rejection l.history e ≡ None) × (next ≡ l.gate + need_of e) × (next < blocks_of l.log) × (disk.tells → (h : Head) × IsExtent (disk.contents (disk_of l.log)) l.gate (body_of (l.entries + 1) e) h)))
+    let n = subst (λ o. IfSome o (λ next. (e : Entry) × IsSpelled e × (c.read_next.new.history ≡ l.history ++ e ∷ []) × (rejection l.history e ≡ None) × (next ≡ l.gate + need_of e) × (next < blocks_of l.log) × (disk.is_observable → (h : Head) × IsExtent (disk.contents (disk_of l.log)) l.gate (body_of (l.entries + 1) e) h)))
     c.in-Some.is c.in_ok-next.ensures.next in
     read_more c.args.log.now l.log c.read_next.new.log l.history l.gate l.entries l.invariant c.read_next.ensures.kept c.read_next.ensures.device c.read_next.ensures.unwritten
     n.0 c.read_next.new.history c.in-Some.next n.1 n.2 n.3 n.4 n.5 n.6

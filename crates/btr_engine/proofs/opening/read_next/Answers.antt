@@ -22,7 +22,7 @@ returns-in-Err-clause-cause g c =
     let image = disk.contents d0 in
     let blocks = blocks_of c.args.log.now in
     let h = c.args.history.now in
-    cause_along disk.tells (IsReadTo disk.tells size image blocks c.args.gate h) size image blocks c.args.gate (disk.faults d0) (disk.faults d1)
+    cause_along disk.is_observable (IsReadTo disk.is_observable size image blocks c.args.gate h) size image blocks c.args.gate (disk.faults d0) (disk.faults d1)
     (λ r. r.0)
     (λ r block damage. damaged_next size image blocks c.args.gate h block (inl damage) r.1 r.2 r.3)
     c.in-Err.fault c.cause_of.result c.cause_of.ensures.damaged c.cause_of.ensures.fault c.cause_of.ensures.want c.in-Err.ensures.cause
@@ -61,7 +61,7 @@ returns-in-Ok-push-clause-next g c =
       c.in-Ok-push.ensures.allowed,
       gate_behind blocks c.args.gate x.head x.body.items x.next whole c.args.number e same,
       whole.inside,
-      λ tells. (x.head, extent_of blocks c.args.gate x.head x.body.items x.next whole c.args.number e same image (subst (Stands image c.args.gate) x.is (c.in-Ok.ensures.stands tells))),
+      λ is_observable. (x.head, extent_of blocks c.args.gate x.head x.body.items x.next whole c.args.number e same image (subst (Stands image c.args.gate) x.is (c.in-Ok.ensures.stands is_observable))),
     )
 
 pub returns-in-Err-Rejected-clause-cause : goal.returns-in-Err-Rejected-clause-cause

@@ -4,7 +4,7 @@ use Rattle.btr_log.specs.declared.head.Head.{Head}
 use Rattle.btr_log.specs.Head.{content_blocks, head_bytes}
 use Rattle.btr_entry.specs.Grammar.{spelling}
 use Rattle.btr_engine.specs.Body.{head_of}
-use Rattle.btr_engine.specs.BodyLaws.{length-spelling}
+use Rattle.btr_engine.proofs.BodyLemmas.{length-spelling}
 use Rattle.btr_engine.proofs.Runs.{assembled}
 use Rattle.btr_engine.proofs.run.run_of.Goals as goal
 

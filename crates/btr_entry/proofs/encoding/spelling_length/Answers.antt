@@ -2,7 +2,7 @@ use Rattle.std.proofs.Common.{◌≡◌, ℕ, ◌+◌, ◌*◌, List, ◌++◌, 
 use Rattle.std.specs.Int.{w32, w64}
 use Rattle.std.specs.List.{flat_map}
 use Rattle.btr_base.specs.declared.point.Point.{Point}
-use Rattle.btr_base.specs.Range.{Interval}
+use Rattle.btr_base.specs.Range.{RangeValue}
 use Rattle.btr_hist.specs.declared.entry.Entry.TheVariants.{Create, Commit}
 use Rattle.btr_entry.specs.Grammar.{number, range, point, listed, spelling}
 use Rattle.btr_entry.proofs.Numbers.{wide32, wide64, wide128}
@@ -15,7 +15,7 @@ length-create id = omega (arith, wide128.len id)
 length-listed : {X : Type 0} (item : X → List ℕ) (xs : List X) → ((x : X) → length (item x) ≡ 16) → length (listed item xs) ≡ 8 + 16 * length xs
 length-listed item xs len = omega (arith, length-append (number w64 (length xs)) (flat_map item xs), wide64.len (length xs), length-items item len xs)
 
-length-commit : (stream : ℕ) (cut : List Interval) (added : List Point) → 21 + 16 * (length cut + length added) ≡ length (spelling (Commit stream cut added))
+length-commit : (stream : ℕ) (cut : List RangeValue) (added : List Point) → 21 + 16 * (length cut + length added) ≡ length (spelling (Commit stream cut added))
 length-commit stream cut added =
     omega (arith, length-append (number w32 stream ++ listed range cut) (listed point added), length-append (number w32 stream) (listed range cut), wide32.len stream, length-listed range cut length-range, length-listed point added length-point)
 

@@ -6,7 +6,7 @@ use Rattle.std.proofs.lemmas.Int.{ints}
 use Rattle.btr_base.specs.declared.point.Point.{Point}
 use Rattle.btr_base.specs.Point.{point_cmp}
 use Rattle.btr_base.specs.Bag.{IsInOrder}
-use Rattle.btr_base.specs.Order.{in_order-from_sorted, sorted-from_in_order}
+use Rattle.btr_base.proofs.PointLemmas.{in_order-from_sorted, sorted-from_in_order}
 use Rattle.btr_base.specs.contracts.point.PointPartialOrd.TheImpl as impl
 use Rattle.btr_entry.proofs.lists.are_in_order.Goals as goal
 

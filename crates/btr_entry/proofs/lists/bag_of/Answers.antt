@@ -2,7 +2,7 @@ use Rattle.std.proofs.Common.{◌≡◌, ℕ, List, ◌∙◌, sym, ap, refl, su
 use Rattle.std.specs.List.{flat_map, AllByRecursion}
 use Rattle.btr_base.specs.declared.point.Point.{Point}
 use Rattle.btr_base.specs.Bag.{IsInOrder, sort}
-use Rattle.btr_base.specs.Order.{sort-of_order}
+use Rattle.btr_base.proofs.PointLemmas.{sort-of_order}
 use Rattle.btr_entry.specs.Grammar.{point, AreInDomain}
 use Rattle.btr_entry.specs.Fields.{HasRoom, IsAdded}
 use Rattle.btr_entry.proofs.Items.{items_once, point_item, each_room, room-values}

@@ -1,7 +1,7 @@
 use Rattle.std.proofs.Common.{◌≡◌, ◌++◌, [], ◌∷◌, subst, sym, w64, to_z, of_z, FitsSigned, rules}
 use Rattle.std.proofs.lemmas.Int.{to_z-of_z}
 use Rattle.btr_base.specs.declared.point.Point.{Point}
-use Rattle.btr_base.specs.Order.{each-append}
+use Rattle.btr_base.proofs.ListLemmas.{each-append}
 use Rattle.btr_entry.specs.Grammar.{point}
 use Rattle.btr_entry.specs.Fields.{HasRoom}
 use Rattle.btr_entry.proofs.Items.{Taken-next, length-point, second_left, shorter, both_parts}

@@ -4,7 +4,7 @@ use Rattle.std.specs.List.{filter, last_or}
 use Rattle.std.proofs.lemmas.Int.{ints, to_z-of_z}
 use Rattle.btr_base.specs.declared.point.Point.{Point}
 use Rattle.btr_base.specs.Nearest.{nearest}
-use Rattle.btr_base.specs.Within.{filter-same}
+use Rattle.btr_base.proofs.ListLemmas.{filter-same}
 use Rattle.btr_hist.proofs.answering.nearest_point.Goals as goal
 
 -- the points that are not before a time are those from it on

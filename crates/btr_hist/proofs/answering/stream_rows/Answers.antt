@@ -8,8 +8,8 @@ use Rattle.btr_hist.proofs.answering.stream_rows.Goals as goal
 use Rattle.btr_hist.proofs.answering.stream_rows.Goals.{in-Create+in_ok-push, in_default}
 
 -- one more stream
-row-more : (h : List Entry) (done new all : List StreamRow) (number next id last : ℕ) (front rest : List ℕ) → front ≡ id ∷ rest → last ≡ latest h number → next ≡ number + 1 → new ≡ done ++ record { id = id; latest = last } ∷ [] → done ++ rows_from h number front ≡ all → new ++ rows_from h next rest ≡ all
-row-more h done new all number next id last front rest split at more pushed so_far =
+row-more : (h : List Entry) (done new all : List StreamRow) (number next id last : ℕ) (prefix rest : List ℕ) → prefix ≡ id ∷ rest → last ≡ latest h number → next ≡ number + 1 → new ≡ done ++ record { id = id; latest = last } ∷ [] → done ++ rows_from h number prefix ≡ all → new ++ rows_from h next rest ≡ all
+row-more h done new all number next id last prefix rest split at more pushed so_far =
     let row = λ (l : ℕ). let r : StreamRow = record { id = id; latest = l } in r in
     ap (λ n. new ++ rows_from h n rest) more
     ∙ ap (λ rs. rs ++ rows_from h (number + 1) rest) (pushed ∙ ap (λ l. done ++ row l ∷ []) at)
@@ -18,8 +18,8 @@ row-more h done new all number next id last front rest split at more pushed so_f
     ∙ so_far
 
 -- no stream more
-row-same : (h : List Entry) (done new all : List StreamRow) (number next : ℕ) (front rest : List ℕ) → front ≡ rest → next ≡ number → new ≡ done → done ++ rows_from h number front ≡ all → new ++ rows_from h next rest ≡ all
-row-same h done new all number next front rest same still kept so_far = cc
+row-same : (h : List Entry) (done new all : List StreamRow) (number next : ℕ) (prefix rest : List ℕ) → prefix ≡ rest → next ≡ number → new ≡ done → done ++ rows_from h number prefix ≡ all → new ++ rows_from h next rest ≡ all
+row-same h done new all number next prefix rest same still kept so_far = cc
 
 pub loop-entry-preserved : goal.loop-entry-preserved
 loop-entry-preserved c =

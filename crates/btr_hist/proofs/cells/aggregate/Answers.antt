@@ -3,7 +3,7 @@ use Rattle.std.proofs.lemmas.List.{take_more}
 use Rattle.std.proofs.lemmas.Int.{to_z-of_z}
 use Rattle.btr_base.specs.declared.point.Point.{Point}
 use Rattle.btr_base.specs.Agg.{agg}
-use Rattle.btr_base.specs.Aggregates.{agg-count}
+use Rattle.btr_base.proofs.AggLemmas.{agg-count}
 use Rattle.btr_hist.proofs.cells.aggregate.Goals as goal
 
 pub join-all-requires : goal.join-all-requires

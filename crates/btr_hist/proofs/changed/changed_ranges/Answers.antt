@@ -6,7 +6,7 @@ use Rattle.btr_base.specs.Point.{InDomain}
 use Rattle.btr_base.specs.Range.{covered, spans}
 use Rattle.btr_base.specs.Bag.{IsInOrder, within, sort}
 use Rattle.btr_base.specs.Changes.{differ_at, slot_around}
-use Rattle.btr_base.specs.Order.{sort-in_order}
+use Rattle.btr_base.proofs.PointLemmas.{sort-in_order}
 use Rattle.btr_hist.proofs.Differ.{hits-more, hits-same, changes-found, within-domain}
 use Rattle.btr_hist.proofs.changed.changed_ranges.Goals as goal
 use Rattle.btr_hist.proofs.changed.changed_ranges.Goals.{then-differ_at+in_ok-add, else-differ_at}

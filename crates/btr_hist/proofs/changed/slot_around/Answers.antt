@@ -2,9 +2,9 @@ use Rattle.std.proofs.Common.{◌≡◌, ℤ, ℕ, ◌∙◌, ◌≤◌, ◌^◌
 use Rattle.std.proofs.lemmas.Int.{ints, to_z-of_z}
 use Rattle.btr_base.specs.declared.domain.TheConstants.{FIRST}
 use Rattle.btr_base.specs.Changes.{slot_around}
-use Rattle.btr_base.specs.Range.{Interval, IsRange}
+use Rattle.btr_base.specs.Range.{RangeValue, IsRange}
 use Rattle.btr_base.specs.Point.{InDomain}
-use Rattle.btr_base.specs.Runs.{slot-range}
+use Rattle.btr_base.proofs.ChangesLemmas.{slot-range}
 use Rattle.btr_base.specs.Windows.{window_of}
 use Rattle.btr_hist.specs.Asked.{IsWindow}
 use Rattle.btr_hist.proofs.Bounds.{power-windows, number-window, start-is, end-is}
@@ -25,7 +25,7 @@ window_end-requires c =
     slot-window c.args.time c.args.p c.width_of-width.result c.window_of-number.result c.requires.power c.requires.domain c.ranges.time c.width_of-width.ensures c.window_of-number.ensures
 
 -- the two bounds are those of the slot
-bounds : (c : goal.After-window_end) → (let r : Interval = record { from = to_z w64 (of_z w64 c.window_start.result); to = to_z w64 (of_z w64 c.window_end.result) } in r) ≡ slot_around c.args.p c.args.time
+bounds : (c : goal.After-window_end) → (let r : RangeValue = record { from = to_z w64 (of_z w64 c.window_start.result); to = to_z w64 (of_z w64 c.window_end.result) } in r) ≡ slot_around c.args.p c.args.time
 bounds c =
     let start_fits : SFits w64 c.window_start.result = search rules in
     let end_fits : SFits w64 c.window_end.result = search rules in

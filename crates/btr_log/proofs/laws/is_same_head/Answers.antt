@@ -3,7 +3,7 @@ use Rattle.std.proofs.Common.{ap, arith}
 use Rattle.std.proofs.lemmas.Bool.Decides.{nat_tests}
 use Rattle.btr_log.specs.declared.head.Head.{Head}
 use Rattle.btr_log.specs.Head.{head_bytes}
-use Rattle.btr_log.specs.HeadLaws.{head_bytes-one}
+use Rattle.btr_log.proofs.HeadLemmas.{head_bytes-one}
 use Rattle.btr_log.proofs.laws.is_same_head.Goals as goal
 
 pub returns : goal.returns

@@ -2,7 +2,7 @@ use Rattle.std.specs.Prelude.{◌≡◌, ◌++◌}
 use Rattle.std.proofs.Common.{sym, subst, rules}
 use Rattle.btr_disk.specs.Gate.{zeros}
 use Rattle.btr_log.specs.Append.{IsAppendRun}
-use Rattle.btr_log.specs.AppendLaws.{IsAppendRun-from}
+use Rattle.btr_log.proofs.AppendLemmas.{IsAppendRun-from}
 use Rattle.btr_log.proofs.tests.run_of.Goals as goal
 
 pub returns : goal.returns

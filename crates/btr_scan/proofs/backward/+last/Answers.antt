@@ -5,7 +5,7 @@ use Rattle.btr_base.specs.declared.point.Point.{Point}
 use Rattle.btr_base.specs.Bag.{within}
 use Rattle.btr_tree.specs.History.{bag}
 use Rattle.btr_tree.specs.Nodes.{points_of, is_inner}
-use Rattle.btr_tree.specs.Shapes.{slot-end}
+use Rattle.btr_tree.proofs.NodeLemmas.{slot-end}
 use Rattle.btr_scan.proofs.Places.{leaf-points, inner-parts, inner-stands, child-at, child-stands}
 use Rattle.btr_scan.proofs.Runs.{full-slot, last-before, none-before}
 use Rattle.btr_scan.proofs.Firsts.{last-any}

@@ -4,7 +4,7 @@ use Rattle.std.specs.List.{last_or}
 use Rattle.std.proofs.lemmas.Int.{ints, to_z-of_z}
 use Rattle.btr_base.specs.declared.point.Point.{Point}
 use Rattle.btr_base.specs.Bag.{within}
-use Rattle.btr_base.specs.Span.{Part}
+use Rattle.btr_base.specs.Span.{SpanValue}
 use Rattle.btr_tree.specs.Change.{end_of}
 use Rattle.btr_tree.specs.History.{bag}
 use Rattle.btr_tree.specs.Nodes.{is_inner}
@@ -82,7 +82,7 @@ previous_in_slots-previous_in_place-requires t c =
       (
         stands,
         (
-          subst (λ (u : Part). u.start <ℤ to_z w64 (of_z w64 c.args.time)) (sym c.slot.ensures) all.last,
+          subst (λ (u : SpanValue). u.start <ℤ to_z w64 (of_z w64 c.args.time)) (sym c.slot.ensures) all.last,
           last-reaches c.args.span below (to_z w64 (of_z w64 c.args.time)) i c.slot.result st.1 all.place high all.behind c.slot.ensures,
         ),
       ),
@@ -94,7 +94,7 @@ previous_in_slots-returns-in-Some-clause-point t c below h e slots each =
     let all = c.slots_between-i.ensures in
     let same = to_z-of_z w64 c.args.time c.ranges.time in
     let at = child-at c.args.span below h i c.from.result c.slot.result c.index-children-from.result c.args.children.now e each all.place c.from.ensures c.slot.ensures c.index-children-from.is in
-    let begins : c.slot.result.start <ℤ c.args.time = subst (λ x. c.slot.result.start <ℤ x) same (subst (λ (u : Part). u.start <ℤ to_z w64 (of_z w64 c.args.time)) (sym c.slot.ensures) all.last) in
+    let begins : c.slot.result.start <ℤ c.args.time = subst (λ x. c.slot.result.start <ℤ x) same (subst (λ (u : SpanValue). u.start <ℤ to_z w64 (of_z w64 c.args.time)) (sym c.slot.ensures) all.last) in
     let found = c.in-Some.ensures.point (is_inner (suc below) c.args.span.start) h at.holds ∙ ap (λ x. last_or None (within c.slot.result.start x (bag h))) same in
     previous-here below c.args.span.start h c.args.time i c.slot.result c.in-Some.point at.is (omega (arith, ints)) found
 
@@ -104,7 +104,7 @@ previous_in_slots-returns-in-None-clause-point t c below h e slots each =
     let all = c.slots_between-i.ensures in
     let same = to_z-of_z w64 c.args.time c.ranges.time in
     let at = child-at c.args.span below h i c.from.result c.slot.result c.index-children-from.result c.args.children.now e each all.place c.from.ensures c.slot.ensures c.index-children-from.is in
-    let begins : c.slot.result.start <ℤ c.args.time = subst (λ x. c.slot.result.start <ℤ x) same (subst (λ (u : Part). u.start <ℤ to_z w64 (of_z w64 c.args.time)) (sym c.slot.ensures) all.last) in
+    let begins : c.slot.result.start <ℤ c.args.time = subst (λ x. c.slot.result.start <ℤ x) same (subst (λ (u : SpanValue). u.start <ℤ to_z w64 (of_z w64 c.args.time)) (sym c.slot.ensures) all.last) in
     let missed = c.in-None.ensures.point (is_inner (suc below) c.args.span.start) h at.holds ∙ ap (λ x. last_or None (within c.slot.result.start x (bag h))) same in
     previous-before below c.args.span.start h c.args.time i c.slot.result c.last_in_slots.result at.is (omega (arith, ints)) missed (c.last_in_slots.ensures.point below h e slots each)
 
@@ -112,6 +112,6 @@ pub previous_in_slots-returns-in-None-clause-none : goal.previous_in_slots-retur
 previous_in_slots-returns-in-None-clause-none t c none =
     let first = c.in-None.ensures.none refl in
     let behind = c.last_in_slots.ensures.none none in
-    let down = ap (λ (u : Part). u.height) c.slot.ensures in
+    let down = ap (λ (u : SpanValue). u.height) c.slot.ensures in
     let up = c.requires.stands.1 in
     omega arith

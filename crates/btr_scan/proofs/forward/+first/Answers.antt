@@ -5,7 +5,7 @@ use Rattle.btr_base.specs.Bag.{within}
 use Rattle.btr_tree.specs.Change.{end_of}
 use Rattle.btr_tree.specs.History.{bag}
 use Rattle.btr_tree.specs.Nodes.{is_inner}
-use Rattle.btr_tree.specs.Shapes.{slot-first}
+use Rattle.btr_tree.proofs.NodeLemmas.{slot-first}
 use Rattle.btr_scan.proofs.Places.{leaf-points, inner-parts, inner-stands, child-at, child-stands}
 use Rattle.btr_scan.proofs.Runs.{full-slot, first-behind, none-behind}
 use Rattle.btr_scan.proofs.Firsts.{first-any}

@@ -3,7 +3,7 @@ use Rattle.std.specs.Prelude.{slice_get, None}
 use Rattle.std.proofs.lemmas.Int.{ints, to_z-of_z}
 use Rattle.btr_base.specs.declared.point.Point.{Point}
 use Rattle.btr_base.specs.Bag.{within}
-use Rattle.btr_base.specs.Span.{Part}
+use Rattle.btr_base.specs.Span.{SpanValue}
 use Rattle.btr_tree.specs.Change.{end_of}
 use Rattle.btr_tree.specs.History.{bag}
 use Rattle.btr_tree.specs.Nodes.{is_inner}
@@ -79,8 +79,8 @@ next_in_slots-next_in_place-requires t c =
       (
         stands,
         (
-          subst (λ (u : Part). u.start ≤ℤ to_z w64 (of_z w64 c.args.time)) (sym c.slot.ensures) all.begins,
-          subst (λ (u : Part). to_z w64 (of_z w64 c.args.time) <ℤ end_of u) (sym c.slot.ensures) all.ends,
+          subst (λ (u : SpanValue). u.start ≤ℤ to_z w64 (of_z w64 c.args.time)) (sym c.slot.ensures) all.begins,
+          subst (λ (u : SpanValue). to_z w64 (of_z w64 c.args.time) <ℤ end_of u) (sym c.slot.ensures) all.ends,
         ),
       ),
     )
@@ -91,7 +91,7 @@ next_in_slots-returns-in-Some-clause-point t c below h e slots each =
     let all = c.slot_at-i.ensures in
     let same = to_z-of_z w64 c.args.time c.ranges.time in
     let at = child-at c.args.span below h i c.from.result c.slot.result c.index-children-from.result c.args.children.now e each all.place c.from.ensures c.slot.ensures c.index-children-from.is in
-    let ends : c.args.time <ℤ end_of c.slot.result = subst (λ x. x <ℤ end_of c.slot.result) same (subst (λ (u : Part). to_z w64 (of_z w64 c.args.time) <ℤ end_of u) (sym c.slot.ensures) all.ends) in
+    let ends : c.args.time <ℤ end_of c.slot.result = subst (λ x. x <ℤ end_of c.slot.result) same (subst (λ (u : SpanValue). to_z w64 (of_z w64 c.args.time) <ℤ end_of u) (sym c.slot.ensures) all.ends) in
     let found = c.in-Some.ensures.point (is_inner (suc below) c.args.span.start) h at.holds ∙ ap (λ x. slice_get (within x (end_of c.slot.result) (bag h)) 0) same in
     next-here c.args.span below h c.args.time i c.slot.result c.in-Some.point e all.place at.is (omega (arith, ints)) found
 
@@ -101,7 +101,7 @@ next_in_slots-returns-in-None-clause-point t c below h e slots each =
     let all = c.slot_at-i.ensures in
     let same = to_z-of_z w64 c.args.time c.ranges.time in
     let at = child-at c.args.span below h i c.from.result c.slot.result c.index-children-from.result c.args.children.now e each all.place c.from.ensures c.slot.ensures c.index-children-from.is in
-    let ends : c.args.time <ℤ end_of c.slot.result = subst (λ x. x <ℤ end_of c.slot.result) same (subst (λ (u : Part). to_z w64 (of_z w64 c.args.time) <ℤ end_of u) (sym c.slot.ensures) all.ends) in
+    let ends : c.args.time <ℤ end_of c.slot.result = subst (λ x. x <ℤ end_of c.slot.result) same (subst (λ (u : SpanValue). to_z w64 (of_z w64 c.args.time) <ℤ end_of u) (sym c.slot.ensures) all.ends) in
     let missed = c.in-None.ensures.point (is_inner (suc below) c.args.span.start) h at.holds ∙ ap (λ x. slice_get (within x (end_of c.slot.result) (bag h)) 0) same in
     next-behind c.args.span below h c.args.time i c.slot.result c.first_in_slots.result e all.place at.is (omega (arith, ints)) missed (c.first_in_slots.ensures.point below h e slots each)
 
@@ -109,6 +109,6 @@ pub next_in_slots-returns-in-None-clause-none : goal.next_in_slots-returns-in-No
 next_in_slots-returns-in-None-clause-none t c none =
     let first = c.in-None.ensures.none refl in
     let behind = c.first_in_slots.ensures.none none in
-    let down = ap (λ (u : Part). u.height) c.slot.ensures in
+    let down = ap (λ (u : SpanValue). u.height) c.slot.ensures in
     let up = c.requires.stands.1 in
     omega arith

@@ -3,11 +3,11 @@ use Rattle.std.proofs.lemmas.Result.{on_ok_weaker}
 use Rattle.std.proofs.lemmas.Int.{to_z-of_z}
 use Rattle.btr_base.specs.Bag.{within}
 use Rattle.btr_base.specs.Span.{width, slot_of}
-use Rattle.btr_base.specs.Aggregates.{agg-count}
+use Rattle.btr_base.proofs.AggLemmas.{agg-count}
 use Rattle.btr_tree.specs.History.{bag}
 use Rattle.btr_tree.specs.Nodes.{points_of, is_inner}
 use Rattle.btr_tree.specs.Shape.{slot_start}
-use Rattle.btr_tree.specs.Shapes.{slot-at, prefix-part}
+use Rattle.btr_tree.proofs.NodeLemmas.{slot-at, prefix-part}
 use Rattle.btr_tree.specs.declared.node.Slot.{Slot}
 use Rattle.btr_scan.proofs.Places.{where_ok, leaf-points, leaf-in_order, inner-parts, inner-stands, child-stands}
 use Rattle.btr_scan.proofs.Parts.{before-first, behind-last, rows-more, slot-met}

@@ -2,12 +2,12 @@ use Rattle.std.proofs.Common.{◌++◌, ◌<ℤ◌, ◌∙◌, ap, sym, subst, a
 use Rattle.std.proofs.lemmas.Int.{ints}
 use Rattle.btr_base.specs.declared.domain.TheConstants.{FIRST}
 use Rattle.btr_base.specs.Bag.{within}
-use Rattle.btr_base.specs.Span.{Part}
+use Rattle.btr_base.specs.Span.{SpanValue}
 use Rattle.btr_tree.specs.Change.{end_of}
 use Rattle.btr_tree.specs.History.{bag}
 use Rattle.btr_tree.specs.Nodes.{points_of, no_span}
 use Rattle.btr_tree.specs.Shape.{IsPlace}
-use Rattle.btr_tree.specs.Roots.{end-root, root-points}
+use Rattle.btr_tree.proofs.RootLemmas.{end-root, root-points}
 use Rattle.btr_scan.proofs.scanning.range.Goals as goal
 
 pub walk_place-requires-clause-begins : goal.walk_place-requires-clause-begins
@@ -19,8 +19,8 @@ walk_place-requires-clause-begins c =
 
 pub returns : goal.returns
 returns c h tree =
-    let place = subst (λ (u : Part). IsPlace u.height u.start no_span h c.root.result.now) (sym c.root_span.ensures) (c.root.ensures.place h tree) in
+    let place = subst (λ (u : SpanValue). IsPlace u.height u.start no_span h c.root.result.now) (sym c.root_span.ensures) (c.root.ensures.place h tree) in
     c.in_ok-walk_place.ensures no_span h place
-    ∙ ap (λ (u : Part). c.new-rows.result.items ++ within c.args.range.from c.args.range.to (points_of u.height u.start (bag h))) c.root_span.ensures
+    ∙ ap (λ (u : SpanValue). c.new-rows.result.items ++ within c.args.range.from c.args.range.to (points_of u.height u.start (bag h))) c.root_span.ensures
     ∙ ap (λ x. x ++ within c.args.range.from c.args.range.to (points_of 10 FIRST (bag h))) c.new-rows.ensures.items
     ∙ ap (within c.args.range.from c.args.range.to) (root-points (bag h) tree.times)

@@ -1,5 +1,5 @@
 use Rattle.std.proofs.Common.{arith}
-use Rattle.btr_super.proofs.Front.{open_as_bytes, open_from_bytes}
+use Rattle.btr_super.proofs.Prefix.{open_as_bytes, open_from_bytes}
 use Rattle.btr_super.proofs.choosing.has_open_gate.Goals as goal
 
 pub returns-in-Some : goal.returns-in-Some

@@ -2,8 +2,8 @@ use Rattle.std.proofs.Common.{◌≡◌, ◌*◌, sym, subst, arith, rules}
 use Rattle.std.proofs.lemmas.Bool.{false≢true}
 use Rattle.btr_disk.specs.Bytes.{Has}
 use Rattle.btr_super.specs.Super.{IsSuper}
-use Rattle.btr_super.specs.SuperBytes.{FitsFields-from_table}
-use Rattle.btr_super.proofs.Front.{spelled_bytes}
+use Rattle.btr_super.proofs.SuperLemmas.{FitsFields-from_table}
+use Rattle.btr_super.proofs.Prefix.{spelled_bytes}
 use Rattle.btr_super.proofs.choosing.spelled.Goals as goal
 
 pub returns-in_err-found : goal.returns-in_err-found

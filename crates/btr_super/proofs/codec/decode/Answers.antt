@@ -2,7 +2,7 @@ use Rattle.std.proofs.Common.{◌≡◌, Some, true, sym, ◌∙◌, ap}
 use Rattle.std.proofs.lemmas.Bool.Decides.{Decides-eqb}
 use Rattle.std.proofs.lemmas.Slice.Eq.{slice_eq-Decides}
 use Rattle.btr_super.specs.Super.{super_bytes}
-use Rattle.btr_super.specs.SuperBytes.{read-super_bytes}
+use Rattle.btr_super.proofs.SuperLemmas.{read-super_bytes}
 use Rattle.btr_super.proofs.codec.decode.Goals as goal
 
 pub returns-then-eq-clause-only : goal.returns-then-eq-clause-only

@@ -11,5 +11,5 @@ returns-clause-words c =
     first_word c.args.line.now c.split_at.result.1.now c.split_at-2.result.0.now c.split_at-2.result.1.now
     (c.split_at.ensures.back ∙ ap (λ n. drop n c.args.line.now) c.spaces.ensures.count)
     (omega (arith, c.letters-end.ensures.count))
-    (c.split_at-2.ensures.front ∙ ap (λ n. take n c.split_at.result.1.now) c.letters-end.ensures.count)
+    (c.split_at-2.ensures.prefix ∙ ap (λ n. take n c.split_at.result.1.now) c.letters-end.ensures.count)
     (c.split_at-2.ensures.back ∙ ap (λ n. drop n c.split_at.result.1.now) c.letters-end.ensures.count)

@@ -14,7 +14,7 @@ returns-in_default-line g c =
     record {
       replies = subst (λ m. Replies (store_of engine) m c.answer_other.result (store_of engine)) (sym means) (replies-question (store_of engine) line c.answer_other.result c.answer_other.ensures);
       kept = record { blocks = refl; entries = refl; calls = refl; faults = refl; device_kept = record { same_size = refl; more_calls = omega arith; more_faults = omega arith } };
-      at_rest = λ tells rest runs. rest;
+      at_rest = λ is_observable rest runs. rest;
       idle = λ stopped. refl;
-      leaves = λ tells rest. inl refl;
+      leaves = λ is_observable rest. inl refl;
     }

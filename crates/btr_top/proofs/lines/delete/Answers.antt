@@ -1,6 +1,6 @@
 use Rattle.std.proofs.Common.{◌≡◌, sym, subst, ap, ◌∙◌, [], ◌∷◌, w64, to_z, of_z, ℤ, refl}
 use Rattle.std.proofs.lemmas.Int.{to_z-of_z}
-use Rattle.btr_base.specs.Range.{Interval, IsRange}
+use Rattle.btr_base.specs.Range.{RangeValue, IsRange}
 use Rattle.btr_hist.specs.declared.entry.Entry.TheVariants.{Commit}
 use Rattle.btr_hist.specs.History.{stream_of}
 use Rattle.btr_engine.specs.Engine.{history_of}
@@ -9,7 +9,7 @@ use Rattle.btr_top.specs.StoreOf.{store_of}
 use Rattle.btr_top.proofs.Meanings.{delete-there}
 use Rattle.btr_top.proofs.lines.delete.Goals as goal
 
-interval-by : (a b c d : ℤ) → a ≡ c → b ≡ d → (let r : Interval = record { from = a; to = b } in r) ≡ record { from = c; to = d }
+interval-by : (a b c d : ℤ) → a ≡ c → b ≡ d → (let r : RangeValue = record { from = a; to = b } in r) ≡ record { from = c; to = d }
 interval-by a b c d e f = cc
 
 pub returns-clause-replies : goal.returns-clause-replies
@@ -17,7 +17,7 @@ returns-clause-replies g c =
     let from = c.args.from in
     let to = c.args.to in
     let range = c.in-Some-new.range in
-    let whole : Interval = record { from = to_z w64 (of_z w64 from); to = to_z w64 (of_z w64 to) } in
+    let whole : RangeValue = record { from = to_z w64 (of_z w64 from); to = to_z w64 (of_z w64 to) } in
     let same : whole ≡ record { from = from; to = to } = interval-by _ _ _ _ (to_z-of_z w64 from c.ranges.from) (to_z-of_z w64 to c.ranges.to) in
     let value : range ≡ whole = c.in-Some-new.ensures.value in
     let is_range = subst IsRange same (c.in-Some-new.ensures.some.0 refl) in

@@ -9,5 +9,5 @@ invariant-loop-said g l = record {
   split : l.yielded ++ l.said-iterator.rest.items ≡ l.fn.lines.items;
   played : HasPlayed l.fn.engine l.yielded l.engine l.told.text.items l.told.status;
   kept : KeepsOpening l.fn.engine l.engine;
-  at_rest : g.D.Disk.tells → IsAtRest l.fn.engine → is_stopped l.engine ≡ false → IsAtRest l.engine;
+  at_rest : g.D.Disk.is_observable → IsAtRest l.fn.engine → is_stopped l.engine ≡ false → IsAtRest l.engine;
 }

@@ -1,35 +1,30 @@
-use Rattle.std.proofs.Common.{◌≡◌, ℕ, suc, ◌+◌, ◌^◌, ◌<◌, ◌≤◌, ◌++◌, ◌∷◌, Bool, List, length, sym, ap, ◌∙◌, subst, arith}
+use Rattle.std.proofs.Common.{◌≡◌, ℕ, suc, ◌+◌, ◌^◌, ◌<◌, ◌≤◌, ◌++◌, ◌∷◌, Bool, List, length, sym, ap, ◌∙◌, subst, arith, Result, append-nil}
 use Rattle.std.proofs.lemmas.Int.{ints}
-use Rattle.std.proofs.lemmas.Result.{IfOk-weaker, MatchResult-weaker, err_from_is_err_and}
+use Rattle.std.proofs.lemmas.Result.{IfOk-weaker, MatchResult-weaker, err_from_is_err_and, on_ok_weaker}
 use Rattle.std.specs.Result.{IfErr}
-use Rattle.std.proofs.Common.{Result}
-use Rattle.btr_base.specs.Range.{Interval}
+use Rattle.btr_base.specs.Range.{RangeValue}
 use Rattle.btr_base.specs.declared.point.Point.{Point}
-use Rattle.btr_base.specs.Bag.{outside, sort, IsInOrder}
-use Rattle.btr_base.specs.Order.{filter-in_order, sort-in_order, sort-of_order}
-use Rattle.btr_base.specs.Span.{Part}
-use Rattle.btr_base.specs.Within.{is_within, length-filter}
+use Rattle.btr_base.specs.Bag.{outside, sort, IsInOrder, is_within}
+use Rattle.btr_base.proofs.PointLemmas.{filter-in_order, sort-in_order, sort-of_order}
+use Rattle.btr_base.specs.Span.{SpanValue}
+use Rattle.btr_base.proofs.ListLemmas.{length-filter}
 use Rattle.btr_base.specs.Agg.{agg}
 use Rattle.btr_tree.specs.declared.limits.TheConstants.{LEAF_POINTS}
 use Rattle.btr_tree.specs.declared.node.Slot.{Slot}
 use Rattle.btr_tree.specs.History.{Commit, bag}
-use Rattle.btr_tree.specs.Nodes.{points_of, touches, is_inner}
-use Rattle.btr_tree.specs.Stamps.{points-in_order, points-untouched}
+use Rattle.btr_tree.specs.Nodes.{points_of, touches, is_inner, is_node}
+use Rattle.btr_tree.proofs.VersionLemmas.{points-in_order, points-untouched}
 use Rattle.btr_tree.specs.Shape.{slot_start, Child, HasChildren, IsPlace}
-use Rattle.btr_tree.specs.Shapes.{IsBody, place-is, none-is, leaf-is, inner-is, slot-at, slot-few}
+use Rattle.btr_tree.proofs.NodeLemmas.{IsBody, place-is, none-is, leaf-is, inner-is, slot-at, slot-few}
 use Rattle.btr_tree.specs.Change.{end_of, IsChange, IsApplied, slot_at}
 use Rattle.btr_tree.specs.Crowd.{IsCrowding}
-use Rattle.btr_tree.specs.Cuts.{here-alike, outside-length}
-use Rattle.btr_tree.specs.Making.{slots-push, slots-as, children-push}
-use Rattle.btr_tree.specs.Parting.{parted-at, parted-inside, crowding-part, room-more}
-use Rattle.btr_tree.specs.Keeping.{place-kept, place-room, place-counted, after-fewer, stamp-kept, slot-same}
-use Rattle.btr_tree.specs.Changing.{change-after, own, own-change, change-here, change-count, touched-fresh, stamp-touched, inner-place_on, is-touched, is-untouched, parted-of, step-at}
-use Rattle.std.proofs.lemmas.Result.{on_ok_weaker}
-use Rattle.std.proofs.Common.{append-nil, ◌++◌}
-use Rattle.btr_tree.specs.Nodes.{is_node}
-use Rattle.btr_tree.specs.Keeping.{many-inner}
+use Rattle.btr_tree.proofs.CutLemmas.{here-alike, outside-length}
+use Rattle.btr_tree.proofs.BuiltNodeLemmas.{slots-push, slots-as, children-push}
+use Rattle.btr_tree.proofs.SlotSplitLemmas.{parted-at, parted-inside, crowding-part, room-more}
+use Rattle.btr_tree.proofs.UntouchedNodeLemmas.{place-kept, place-room, place-counted, after-fewer, stamp-kept, slot-same, many-inner}
+use Rattle.btr_tree.proofs.AppliedNodeLemmas.{change-after, own, own-change, change-here, change-count, touched-fresh, stamp-touched, inner-place_on, is-touched, is-untouched, parted-of, step-at}
 use Rattle.btr_tree.specs.Pages.{first_of, pages}
-use Rattle.btr_tree.specs.Telling.{first-next, pages-kept, pages-inner_at, told-more}
+use Rattle.btr_tree.proofs.NewNodeLemmas.{first-next, pages-kept, pages-inner_at, told-more}
 use Rattle.btr_tree.proofs.apply.+apply.Goals as goal
 
 err-weaker : {X Y : Type 0} (r : Result X Y) (P Q : Y → Type 0) → ((y : Y) → P y → Q y) → IfErr r P → IfErr r Q
@@ -39,7 +34,7 @@ err-weaker r P Q f h = MatchResult-weaker r h (λ x y. y) f
 in-order : (points all : List Point) → all ≡ sort points → IsInOrder all
 in-order points all e = subst IsInOrder (sym e) (sort-in_order points)
 
-applied-change : (below : ℕ) (span : Part) (c : Commit) (h : List Commit) (cut : List Interval) (added : List Point) (v : ℕ) (ss : List Slot) (cs : List Child) → IsApplied below span h c cut added v ss cs → IsChange span.height span.start c cut added v
+applied-change : (below : ℕ) (span : SpanValue) (c : Commit) (h : List Commit) (cut : List RangeValue) (added : List Point) (v : ℕ) (ss : List Slot) (cs : List Child) → IsApplied below span h c cut added v ss cs → IsChange span.height span.start c cut added v
 applied-change below span c h cut added v ss cs a =
     subst (λ k. IsChange k span.start c cut added v) (sym a.height) a.change
 
@@ -177,7 +172,7 @@ apply_place-returns-in_ok-all-in-Leaf-clause-fault t c =
     let same : c.deref-in-Leaf-2.result.now ≡ points_of span.height span.start (bag (commit ∷ h)) = c.deref-in-Leaf-2.ensures.value ∙ c.in_ok-all-in-Leaf.ensures ∙ ap (λ x. sort (outside x c.args.cut.now ++ c.args.added.now)) (c.deref-in-Leaf.ensures.value ∙ leaf.same) ∙ sym (change-after span.height span.start h commit c.args.cut.now c.args.added.now c.args.version change) in
     subst (λ x. IsCrowding span.start (end_of span) x e) same fault) c.build-in-Leaf.ensures.fault
 
-body-applied : (span : Part) (above : List Point → Bool) (h : List Commit) (commit : Commit) (cut : List Interval) (added : List Point) (v w : ℕ) (ss ts : List Slot) (cs ds : List Child) (body : IsBody span.height span.start above h w ss cs) → ts ≡ ss → ds ≡ cs → IsChange span.height span.start commit cut added v → IsApplied body.below span h commit cut added v ts ds
+body-applied : (span : SpanValue) (above : List Point → Bool) (h : List Commit) (commit : Commit) (cut : List RangeValue) (added : List Point) (v w : ℕ) (ss ts : List Slot) (cs ds : List Child) (body : IsBody span.height span.start above h w ss cs) → ts ≡ ss → ds ≡ cs → IsChange span.height span.start commit cut added v → IsApplied body.below span h commit cut added v ts ds
 body-applied span above h commit cut added v w ss ts cs ds body p q change =
     record {
       height = body.height;
@@ -333,8 +328,8 @@ apply_slots-loop-i-preserved t c =
           let parted = at below applied.height in
           let step = step-at span part below i c.from-place.result h commit c.index-slots-place.result c.index-children-place.result c.args.cut.now c.args.added.now here behind c.args.version c.args.slots.now c.args.children.now applied parted c.loop-i-test.true c.from-place.ensures c.slot-part.ensures c.index-slots-place.is c.index-children-place.is in
           let before = c.loop-i.invariant.slots below h commit applied in
-          let slot = subst (λ (u : Part). c.in_ok-slot.slot ≡ slot_at (is_inner (suc below) span.start) u.height u.start (commit ∷ h)) parted.is (c.in_ok-slot.ensures.slot (is_inner (suc below) span.start) h commit step.was step.holds step.slot_is step.change) in
-          let child = subst (λ (u : Part). IsPlace u.height u.start (is_inner (suc below) span.start) (commit ∷ h) c.in_ok-slot.child) parted.is (c.in_ok-slot.ensures.place (is_inner (suc below) span.start) h commit step.was step.holds (ap (λ (x : Slot). x.agg) step.slot_is) step.change) in
+          let slot = subst (λ (u : SpanValue). c.in_ok-slot.slot ≡ slot_at (is_inner (suc below) span.start) u.height u.start (commit ∷ h)) parted.is (c.in_ok-slot.ensures.slot (is_inner (suc below) span.start) h commit step.was step.holds step.slot_is step.change) in
+          let child = subst (λ (u : SpanValue). IsPlace u.height u.start (is_inner (suc below) span.start) (commit ∷ h) c.in_ok-slot.child) parted.is (c.in_ok-slot.ensures.place (is_inner (suc below) span.start) h commit step.was step.holds (ap (λ (x : Slot). x.agg) step.slot_is) step.change) in
           (slots-as below span.start (commit ∷ h) (i + 1) _ _ _ _ c.in_ok-put.ensures.slots c.in_ok-put.ensures.children (slots-push below span.start (commit ∷ h) i c.loop-i.new_slots.items c.loop-i.new_children.items c.in_ok-slot.slot c.in_ok-slot.child before.0 slot), subst (HasChildren below span.start (commit ∷ h) (i + 1)) (sym c.in_ok-put.ensures.children) (children-push below span.start (commit ∷ h) i c.loop-i.new_children.items c.in_ok-slot.child before.0.children_length before.1 child));
       nodes = λ below h commit applied many some before.
           let parted = at below applied.height in
@@ -342,7 +337,7 @@ apply_slots-loop-i-preserved t c =
           let inner = many-inner (suc below) span.start (bag (commit ∷ h)) many in
           let told = c.in_ok-slot.ensures.nodes (is_inner (suc below) span.start) h commit step.was inner step.holds (ap (λ (x : Slot). x.agg) step.slot_is) step.change some before in
           let f = λ (j : ℕ). pages below (slot_start below span.start j) (is_inner (suc below) span.start) (commit ∷ h) c.args.version in
-          told-more c.args.nodes.now.items c.loop-i.nodes.items c.apply_slot.new.nodes.items (first_of i f) (f i) (first_of (i + 1) f) (c.loop-i.invariant.nodes below h commit applied many some before) (told ∙ ap (λ (u : Part). c.loop-i.nodes.items ++ pages u.height u.start (is_inner (suc below) span.start) (commit ∷ h) c.args.version) parted.is) (first-next i f);
+          told-more c.args.nodes.now.items c.loop-i.nodes.items c.apply_slot.new.nodes.items (first_of i f) (f i) (first_of (i + 1) f) (c.loop-i.invariant.nodes below h commit applied many some before) (told ∙ ap (λ (u : SpanValue). c.loop-i.nodes.items ++ pages u.height u.start (is_inner (suc below) span.start) (commit ∷ h) c.args.version) parted.is) (first-next i f);
       counted = omega (arith, c.loop-i.invariant.counted, c.in_ok-slot.ensures.counted);
       room = λ below h commit applied.
           let parted = at below applied.height in

@@ -1,6 +1,6 @@
 use Rattle.std.proofs.Common.{◌∙◌, sym, subst}
 use Rattle.btr_base.specs.Bag.{IsInOrder}
-use Rattle.btr_base.specs.Order.{filter-in_order}
+use Rattle.btr_base.proofs.PointLemmas.{filter-in_order}
 use Rattle.btr_tree.proofs.apply.changed.Goals as goal
 
 pub merged-requires-clause-a : goal.merged-requires-clause-a

@@ -2,10 +2,10 @@ use Rattle.std.proofs.Common.{◌∙◌, ◌++◌, List, refl, ap, sym, subst}
 use Rattle.std.proofs.lemmas.Result.{IfOk-weaker}
 use Rattle.btr_base.specs.declared.point.Point.{Point}
 use Rattle.btr_base.specs.Bag.{IsInOrder, outside, sort}
-use Rattle.btr_base.specs.Order.{filter-in_order}
+use Rattle.btr_base.proofs.PointLemmas.{filter-in_order}
 use Rattle.btr_tree.specs.History.{bag}
 use Rattle.btr_tree.specs.Nodes.{points_of}
-use Rattle.btr_tree.specs.Stamps.{points-in_order}
+use Rattle.btr_tree.proofs.VersionLemmas.{points-in_order}
 use Rattle.btr_tree.proofs.apply.gathered.Goals as goal
 
 pub merged-requires-clause-a : goal.merged-requires-clause-a

@@ -1,9 +1,9 @@
 use Rattle.std.proofs.Common.{◌≡◌, ◌∙◌, ◌==◌, List, [], ◌∷◌, length, true, refl, ap, sym, arith}
 use Rattle.std.proofs.lemmas.Bool.Decides.{nat_tests}
-use Rattle.btr_base.specs.Aggregates.{agg-count}
+use Rattle.btr_base.proofs.AggLemmas.{agg-count}
 use Rattle.btr_tree.specs.History.{bag}
 use Rattle.btr_tree.specs.Nodes.{points_of}
-use Rattle.btr_tree.specs.Changing.{untouched-kept}
+use Rattle.btr_tree.proofs.AppliedNodeLemmas.{untouched-kept}
 use Rattle.btr_tree.proofs.apply.is_untouched.Goals as goal
 
 empty-is : {X : Type 0} (xs : List X) → (length xs == 0) ≡ true → xs ≡ []

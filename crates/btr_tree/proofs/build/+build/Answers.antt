@@ -1,29 +1,24 @@
-use Rattle.std.proofs.Common.{◌++◌, true, refl}
-use Rattle.std.proofs.Common.{◌≡◌, ℕ, suc, ◌+◌, ◌-◌, ◌*◌, ◌<◌, ◌≤◌, ◌∷◌, [], pos, ◌+ℤ◌, false, List, length, sym, ap, ◌∙◌, subst, arith, ◌==◌}
-use Rattle.std.proofs.Common.{w64, to_z, of_z}
+use Rattle.std.proofs.Common.{◌++◌, true, refl, ◌≡◌, ℕ, suc, ◌+◌, ◌-◌, ◌*◌, ◌<◌, ◌≤◌, ◌∷◌, [], pos, ◌+ℤ◌, false, List, length, sym, ap, ◌∙◌, subst, arith, ◌==◌, w64, to_z, of_z, append-nil}
 use Rattle.std.proofs.lemmas.Int.{ints}
 use Rattle.std.proofs.lemmas.Result.{err_from_is_err_and}
-use Rattle.btr_base.specs.Order.{filter-in_order}
+use Rattle.btr_base.proofs.PointLemmas.{filter-in_order}
 use Rattle.btr_tree.specs.declared.limits.TheConstants.{LEAF_POINTS}
 use Rattle.btr_tree.specs.Crowd.{bottom, HasRoom, IsFirstCrowd}
-use Rattle.btr_tree.specs.Parting.{parted-at, parted-inside, parted-same, crowding-part, room-more}
-use Rattle.btr_tree.specs.Shapes.{slot-end}
+use Rattle.btr_tree.proofs.SlotSplitLemmas.{parted-at, parted-inside, parted-same, crowding-part, room-more}
+use Rattle.btr_tree.proofs.NodeLemmas.{slot-end}
 use Rattle.btr_base.specs.Bag.{within, IsInOrder}
-use Rattle.btr_base.specs.Span.{at, width, Part, IsSpan}
-use Rattle.btr_base.specs.Spans.{width-positive}
+use Rattle.btr_base.specs.Span.{at, width, SpanValue, IsSpan}
+use Rattle.btr_base.proofs.SpanLemmas.{width-positive}
 use Rattle.btr_tree.specs.History.{bag}
 use Rattle.btr_tree.specs.Nodes.{points_of, is_inner}
 use Rattle.btr_tree.specs.Shape.{slot_start, IsPlace, HasChildren}
-use Rattle.btr_tree.specs.Change.{end_of, IsFresh}
-use Rattle.btr_tree.specs.Crowds.{room-few, room-none}
-use Rattle.btr_tree.specs.Making.{slots-push, children-push, slot-fresh, slot-new, slots-as, slot-made, leaf-place, inner-place_at}
-use Rattle.std.proofs.Common.{append-nil}
+use Rattle.btr_tree.specs.Change.{end_of, IsFresh, IsSplit}
+use Rattle.btr_tree.proofs.CrowdLemmas.{room-few, room-none}
+use Rattle.btr_tree.proofs.BuiltNodeLemmas.{slots-push, children-push, slot-fresh, slot-new, slots-as, slot-made, leaf-place, inner-place_at, version-fresh}
 use Rattle.std.proofs.lemmas.Bool.Decides.{nat_tests}
-use Rattle.btr_tree.specs.Change.{IsSplit}
-use Rattle.btr_tree.specs.Keeping.{many-inner}
-use Rattle.btr_tree.specs.Making.{version-fresh}
+use Rattle.btr_tree.proofs.UntouchedNodeLemmas.{many-inner}
 use Rattle.btr_tree.specs.Pages.{first_of, pages}
-use Rattle.btr_tree.specs.Telling.{first-next, pages-none, pages-leaf, pages-inner_at, told-more}
+use Rattle.btr_tree.proofs.NewNodeLemmas.{first-next, pages-none, pages-leaf, pages-inner_at, told-more}
 use Rattle.btr_tree.proofs.build.+build.Goals as goal
 
 some-points : {X : Type 0} (xs : List X) → (length xs == 0) ≡ false → 0 < length xs
@@ -102,16 +97,16 @@ build_slots-loop-i-preserved t c =
           let fresh = slot-fresh below span.start i h commit c.args.version here c.loop-i-test.true split.number same split.few in
           let before = c.loop-i.invariant.slots below h commit split in
           let slot = slot-made below span.start i h commit c.args.version here c.in_ok-slot.slot split.number same (slot-new below span.start i h commit split.few) c.in_ok-slot.ensures.slot in
-          let child = subst (λ (u : Part). IsPlace u.height u.start (is_inner (suc below) span.start) (commit ∷ h) c.in_ok-slot.child) parted.is (c.in_ok-slot.ensures.place (is_inner (suc below) span.start) h commit (subst (λ (u : Part). IsFresh u.height u.start (is_inner (suc below) span.start) h commit c.args.version here) (sym parted.is) fresh)) in
+          let child = subst (λ (u : SpanValue). IsPlace u.height u.start (is_inner (suc below) span.start) (commit ∷ h) c.in_ok-slot.child) parted.is (c.in_ok-slot.ensures.place (is_inner (suc below) span.start) h commit (subst (λ (u : SpanValue). IsFresh u.height u.start (is_inner (suc below) span.start) h commit c.args.version here) (sym parted.is) fresh)) in
           (slots-as below span.start (commit ∷ h) (i + 1) _ _ _ _ c.in_ok-put.ensures.slots c.in_ok-put.ensures.children (slots-push below span.start (commit ∷ h) i c.loop-i.slots.items c.loop-i.children.items c.in_ok-slot.slot c.in_ok-slot.child before.0 slot), subst (HasChildren below span.start (commit ∷ h) (i + 1)) (sym c.in_ok-put.ensures.children) (children-push below span.start (commit ∷ h) i c.loop-i.children.items c.in_ok-slot.child before.0.children_length before.1 child));
       nodes = λ below h commit split many.
           let parted = at below split.height in
           let same = parted-same span part below i c.args.points.now here behind (commit ∷ h) parted c.loop-i-test.true split.same in
           let fresh = slot-fresh below span.start i h commit c.args.version here c.loop-i-test.true split.number same split.few in
           let inner = many-inner (suc below) span.start (bag (commit ∷ h)) (subst (λ x. LEAF_POINTS < length x) split.same many) in
-          let told = c.in_ok-slot.ensures.nodes (is_inner (suc below) span.start) h commit (subst (λ (u : Part). IsFresh u.height u.start (is_inner (suc below) span.start) h commit c.args.version here) (sym parted.is) fresh) inner in
+          let told = c.in_ok-slot.ensures.nodes (is_inner (suc below) span.start) h commit (subst (λ (u : SpanValue). IsFresh u.height u.start (is_inner (suc below) span.start) h commit c.args.version here) (sym parted.is) fresh) inner in
           let f = λ (j : ℕ). pages below (slot_start below span.start j) (is_inner (suc below) span.start) (commit ∷ h) c.args.version in
-          told-more c.args.nodes.now.items c.loop-i.nodes.items c.build_slot.new.nodes.items (first_of i f) (f i) (first_of (i + 1) f) (c.loop-i.invariant.nodes below h commit split many) (told ∙ ap (λ (u : Part). c.loop-i.nodes.items ++ pages u.height u.start (is_inner (suc below) span.start) (commit ∷ h) c.args.version) parted.is) (first-next i f);
+          told-more c.args.nodes.now.items c.loop-i.nodes.items c.build_slot.new.nodes.items (first_of i f) (f i) (first_of (i + 1) f) (c.loop-i.invariant.nodes below h commit split many) (told ∙ ap (λ (u : SpanValue). c.loop-i.nodes.items ++ pages u.height u.start (is_inner (suc below) span.start) (commit ∷ h) c.args.version) parted.is) (first-next i f);
       counted = omega (arith, c.loop-i.invariant.counted, c.in_ok-slot.ensures.counted);
       room = λ below high. room-more span part below i c.args.points.now here behind (at below high) (c.loop-i.invariant.room below high) c.in_ok-slot.ensures.room;
     }

@@ -1,6 +1,6 @@
 use Rattle.std.proofs.lemmas.Result.{IfOk-weaker, on_ok_weaker}
 use Rattle.btr_tree.specs.Shape.{Child, HasSlots, HasChildren, slot_start}
-use Rattle.btr_base.specs.Aggregates.{agg-count}
+use Rattle.btr_base.proofs.AggLemmas.{agg-count}
 use Rattle.btr_tree.specs.Change.{end_of}
 use Rattle.btr_tree.specs.declared.node.Slot.{Slot}
 use Rattle.std.proofs.lemmas.Bool.Decides.{nat_tests}
@@ -8,12 +8,12 @@ use Rattle.std.proofs.Common.{◌≡◌, ℕ, suc, ◌+◌, ◌++◌, ◌∷◌,
 use Rattle.std.proofs.lemmas.Int.{ints}
 use Rattle.btr_base.specs.declared.point.Point.{Point}
 use Rattle.btr_base.specs.Bag.{outside, within, IsInOrder}
-use Rattle.btr_base.specs.Range.{Interval, covered}
+use Rattle.btr_base.specs.Range.{RangeValue, covered}
 use Rattle.btr_tree.specs.History.{Commit, bag}
 use Rattle.btr_tree.specs.Nodes.{points_of, is_inner}
-use Rattle.btr_tree.specs.Cuts.{outside-alike, outside-whole, outside-missed, here-alike, outside-append, outside-length}
-use Rattle.btr_tree.specs.Shapes.{place-is, leaf-is, inner-is, slot-at, slot-few, prefix-none, prefix-part, prefix-done, prefix-fewer}
-use Rattle.btr_tree.specs.Stamps.{points-in_order}
+use Rattle.btr_tree.proofs.CutLemmas.{outside-alike, outside-whole, outside-missed, here-alike, outside-append, outside-length}
+use Rattle.btr_tree.proofs.NodeLemmas.{place-is, leaf-is, inner-is, slot-at, slot-few, prefix-none, prefix-part, prefix-done, prefix-fewer}
+use Rattle.btr_tree.proofs.VersionLemmas.{points-in_order}
 use Rattle.btr_tree.proofs.kept.+kept.Goals as goal
 
 slots-as : (k : ℕ) (s : ℤ) (h : List Commit) (ss ts : List Slot) (cs ds : List Child) → ts ≡ ss → ds ≡ cs → HasSlots k s h 64 ss cs → HasSlots k s h 64 ts ds
@@ -24,11 +24,11 @@ empty-is : {X : Type 0} (xs : List X) → (length xs == 0) ≡ true → xs ≡ [
 empty-is [] e = refl
 empty-is (x ∷ xs) e = absurd (grind (arith, nat_tests))
 
-count-more : (before here next : List Point) (cut : List Interval) (m n : ℕ) → next ≡ before ++ here → m ≡ length (outside before cut) → n ≡ length (outside here cut) → m + n ≡ length (outside next cut)
+count-more : (before here next : List Point) (cut : List RangeValue) (m n : ℕ) → next ≡ before ++ here → m ≡ length (outside before cut) → n ≡ length (outside here cut) → m + n ≡ length (outside next cut)
 count-more before here next cut m n e p q =
     omega (arith, ap (λ x. length (outside x cut)) e, ap length (outside-append before here cut), length-append (outside before cut) (outside here cut))
 
-points-more : (before here next : List Point) (cut : List Interval) (old mid new : List Point) → next ≡ before ++ here → mid ≡ old ++ outside before cut → new ≡ mid ++ outside here cut → new ≡ old ++ outside next cut
+points-more : (before here next : List Point) (cut : List RangeValue) (old mid new : List Point) → next ≡ before ++ here → mid ≡ old ++ outside before cut → new ≡ mid ++ outside here cut → new ≡ old ++ outside next cut
 points-more before here next cut old mid new e p q =
     q
     ∙ ap (λ x. x ++ outside here cut) p

@@ -1,9 +1,9 @@
 use Rattle.std.proofs.Common.{◌≡◌, ℤ, true, ◌||◌, List, [], ◌∷◌, ◌<◌, ◌∙◌, ap, sym, arith, get_or, length}
 use Rattle.std.proofs.lemmas.Int.{ints}
-use Rattle.btr_base.specs.Range.{Interval, covered, spans}
+use Rattle.btr_base.specs.Range.{RangeValue, covered, spans}
 use Rattle.btr_tree.proofs.kept.covers_all.Goals as goal
 
-first-covers : (rs : List Interval) (r : Interval) (t : ℤ) → 0 < length rs → r ≡ get_or rs 0 r → spans r t ≡ true → covered rs t ≡ true
+first-covers : (rs : List RangeValue) (r : RangeValue) (t : ℤ) → 0 < length rs → r ≡ get_or rs 0 r → spans r t ≡ true → covered rs t ≡ true
 first-covers [] r t some e h = absurd (omega arith)
 first-covers (u ∷ rs) r t some e h = ap (λ s. spans s t || covered rs t) (sym e) ∙ ap (λ s. s || covered rs t) h
 

@@ -1,5 +1,5 @@
 use Rattle.btr_tree.specs.Nodes.{is_node, is_inner}
-use Rattle.btr_tree.specs.Stamps.{points-since}
+use Rattle.btr_tree.proofs.VersionLemmas.{points-since}
 use Rattle.btr_tree.proofs.laws.equal_since_its_version.Goals as goal
 
 pub returns : goal.returns

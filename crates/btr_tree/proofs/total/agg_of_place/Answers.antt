@@ -2,8 +2,8 @@ use Rattle.std.proofs.Common.{◌∙◌, ap, sym}
 use Rattle.btr_base.specs.Agg.{agg}
 use Rattle.btr_tree.specs.History.{bag}
 use Rattle.btr_tree.specs.Nodes.{points_of}
-use Rattle.btr_tree.specs.Totals.{joined_all}
-use Rattle.btr_tree.specs.Shapes.{place-is, inner-is, total-of}
+use Rattle.btr_tree.specs.Change.{joined_all}
+use Rattle.btr_tree.proofs.NodeLemmas.{place-is, inner-is, total-of}
 use Rattle.btr_tree.proofs.total.agg_of_place.Goals as goal
 
 pub returns-in-Inner : goal.returns-in-Inner

@@ -1,6 +1,6 @@
 use Rattle.std.proofs.Common.{◌≡◌, drop}
 use Rattle.btr_base.specs.Agg.{joined}
-use Rattle.btr_tree.specs.Totals.{joined_all}
+use Rattle.btr_tree.specs.Change.{joined_all}
 use Rattle.btr_tree.proofs.total.agg_of_slots.Given as goal
 
 abbrev pub invariant-loop-slot : goal.invariant-loop-slot

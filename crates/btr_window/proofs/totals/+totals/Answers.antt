@@ -2,16 +2,16 @@ use Rattle.std.specs.Prelude.{pos, ◌+ℤ◌}
 use Rattle.std.proofs.Common.{◌≡◌, ℕ, suc, ◌+◌, ◌*◌, ◌<◌, ◌≤◌, ◌^◌, length, refl, sym, ap, ◌∙◌, subst, arith, inl, inr, mul-le-mul_left}
 use Rattle.std.proofs.lemmas.Int.{ints}
 use Rattle.std.proofs.lemmas.Bool.{cases_lt, both_ways}
-use Rattle.btr_base.specs.Agg.{Summary, agg, agg_within}
+use Rattle.btr_base.specs.Agg.{AggValue, agg, agg_within}
 use Rattle.btr_base.specs.Bag.{within, IsInOrder}
-use Rattle.btr_base.specs.Span.{width, Part}
+use Rattle.btr_base.specs.Span.{width, SpanValue}
 use Rattle.btr_tree.specs.History.{bag}
 use Rattle.btr_tree.specs.Nodes.{points_of, is_inner}
 use Rattle.btr_tree.specs.Change.{end_of}
 use Rattle.btr_tree.specs.Shape.{HasChildren, slot_start}
-use Rattle.btr_tree.specs.Shapes.{leaf-is, inner-is, slot-at, slot-few, slot-from, slot-part, slot-end, prefix-part, prefix-fewer}
-use Rattle.btr_tree.specs.Making.{slots-as}
-use Rattle.btr_tree.specs.Stamps.{points-in_order}
+use Rattle.btr_tree.proofs.NodeLemmas.{leaf-is, inner-is, slot-at, slot-few, slot-from, slot-part, slot-end, prefix-part, prefix-fewer}
+use Rattle.btr_tree.proofs.BuiltNodeLemmas.{slots-as}
+use Rattle.btr_tree.proofs.VersionLemmas.{points-in_order}
 use Rattle.btr_window.specs.Ends.{ends_inside}
 use Rattle.btr_window.proofs.Ends.{ends-longer, ends-some, steps-first, steps-next, cost-as}
 use Rattle.btr_window.proofs.Slots.{between-is, range-from, range-to, slot-rise, slot-begins, slot-ends, within-as, within-inside}
@@ -76,7 +76,7 @@ agg_in_slot-returns-then-agg-eq0-clause-agg t c above h holds counted =
     let range = c.args.range in
     elim c.then-agg-eq0.branch [
       | agg_in_slot-then-agg-eq0-via-then-agg-eq0 w ↦
-          agg-empty range.from range.to (points_of span.height span.start (bag h)) c.args.slot.now.agg counted (omega (arith, ap (λ (s : Summary). s.count) c.agg.view_is, w.if-agg-eq0.true))
+          agg-empty range.from range.to (points_of span.height span.start (bag h)) c.args.slot.now.agg counted (omega (arith, ap (λ (s : AggValue). s.count) c.agg.view_is, w.if-agg-eq0.true))
       | agg_in_slot-then-agg-eq0-via-else-agg-eq0+then-is_inside w ↦
           let whole = w.is_inside.ensures.0 w.if-is_inside.true in
           counted ∙ ap agg (sym (within-inside range.from range.to span.start (end_of span) (bag h) whole.0 whole.1))
@@ -173,7 +173,7 @@ agg_in_slots-loop-i-preserved t c =
           let begins = slot-begins below start i part is in
           let ends = slot-ends below start i part is in
           let met = c.loop-i.invariant.between below e in
-          let high : part.height + 1 ≡ c.args.span.height = omega (arith, ap (λ (u : Part). u.height) is) in
+          let high : part.height + 1 ≡ c.args.span.height = omega (arith, ap (λ (u : SpanValue). u.height) is) in
           let cost = cost-as (part.height + 1) c.args.span.height _ _ _ _ range.from range.to c.loop-i.steps c.agg_in_slot-part.new.steps high begins ends c.agg_in_slot-part.ensures.few in
           let from_start = slot-from below start i in
           elim (cases_lt c.slots_between-first.result.0 i) [

@@ -2,37 +2,37 @@ use Rattle.std.proofs.Common.{◌≡◌, ap, ◌∙◌, subst, sym, arith, mul-l
 use Rattle.std.proofs.lemmas.Int.{ints}
 use Rattle.btr_base.specs.declared.domain.TheConstants.{END}
 use Rattle.btr_base.specs.Agg.{agg_within}
-use Rattle.btr_base.specs.Span.{Part}
-use Rattle.btr_base.specs.Range.{Interval}
+use Rattle.btr_base.specs.Span.{SpanValue}
+use Rattle.btr_base.specs.Range.{RangeValue}
 use Rattle.btr_tree.specs.History.{bag}
 use Rattle.btr_tree.specs.Nodes.{points_of, no_span}
 use Rattle.btr_tree.specs.Change.{Stands, end_of}
-use Rattle.btr_tree.specs.Roots.{end-root, root-points}
+use Rattle.btr_tree.proofs.RootLemmas.{end-root, root-points}
 use Rattle.btr_tree.specs.Shape.{IsPlace}
 use Rattle.btr_window.proofs.Ends.{ends-most}
 use Rattle.btr_window.proofs.totals.aggregate.Goals as goal
 
 pub agg_in_place-requires-clause-stands : goal.agg_in_place-requires-clause-stands
-agg_in_place-requires-clause-stands c = subst (λ (s : Part). Stands s.height s.start c.root.result.now 0) (sym c.root_span.ensures) c.root.ensures.stands
+agg_in_place-requires-clause-stands c = subst (λ (s : SpanValue). Stands s.height s.start c.root.result.now 0) (sym c.root_span.ensures) c.root.ensures.stands
 
 pub agg_in_place-requires-clause-begins : goal.agg_in_place-requires-clause-begins
 agg_in_place-requires-clause-begins c =
     let end : end_of c.root_span.result ≡ END = ap end_of c.root_span.ensures ∙ end-root in
     let full = c.range.invariant.not_empty in
     let high = c.range.invariant.ends in
-    let same = ap (λ (r : Interval). r.from) c.range.view_is in
+    let same = ap (λ (r : RangeValue). r.from) c.range.view_is in
     omega (arith, ints)
 
 pub returns-clause-agg : goal.returns-clause-agg
 returns-clause-agg c h tree =
-    let place = subst (λ (s : Part). IsPlace s.height s.start no_span h c.root.result.now) (sym c.root_span.ensures) (c.root.ensures.place h tree) in
+    let place = subst (λ (s : SpanValue). IsPlace s.height s.start no_span h c.root.result.now) (sym c.root_span.ensures) (c.root.ensures.place h tree) in
     c.agg_in_place.ensures.agg no_span h place
-    ∙ ap (λ (s : Part). agg_within c.args.range.from c.args.range.to (points_of s.height s.start (bag h))) c.root_span.ensures
+    ∙ ap (λ (s : SpanValue). agg_within c.args.range.from c.args.range.to (points_of s.height s.start (bag h))) c.root_span.ensures
     ∙ ap (agg_within c.args.range.from c.args.range.to) (root-points (bag h) tree.times)
 
 pub returns-clause-few : goal.returns-clause-few
 returns-clause-few c =
-    let height : c.root_span.result.height ≡ 10 = ap (λ (s : Part). s.height) c.root_span.ensures in
+    let height : c.root_span.result.height ≡ 10 = ap (λ (s : SpanValue). s.height) c.root_span.ensures in
     let most = ends-most c.root_span.result.start (end_of c.root_span.result) c.args.range.from c.args.range.to in
     let times = mul-le-mul_left c.root_span.result.height most in
     let few = c.agg_in_place.ensures.few in

@@ -4,18 +4,17 @@ use Rattle.std.proofs.Common.{◌≡◌, ℕ, suc, ◌+◌, ◌<◌, ◌^◌, le
 use Rattle.std.proofs.lemmas.Int.{ints, to_z-of_z}
 use Rattle.std.proofs.lemmas.Result.{on_ok_weaker}
 use Rattle.btr_base.specs.declared.point.Point.{Point}
-use Rattle.btr_base.specs.Agg.{Summary}
-use Rattle.btr_base.specs.Aggregates.{agg-count}
-use Rattle.btr_base.specs.Bag.{within, IsInOrder}
-use Rattle.btr_base.specs.Order.{each-weaker}
-use Rattle.btr_base.specs.Within.{is_within, length-filter}
+use Rattle.btr_base.specs.Agg.{AggValue}
+use Rattle.btr_base.proofs.AggLemmas.{agg-count}
+use Rattle.btr_base.specs.Bag.{within, IsInOrder, is_within}
+use Rattle.btr_base.proofs.ListLemmas.{each-weaker, length-filter}
 use Rattle.btr_tree.specs.History.{bag}
 use Rattle.btr_tree.specs.Nodes.{points_of, is_inner}
 use Rattle.btr_tree.specs.Change.{end_of}
 use Rattle.btr_tree.specs.Shape.{HasChildren, slot_start}
-use Rattle.btr_tree.specs.Shapes.{leaf-is, inner-is, slot-at, prefix-part, prefix-fewer}
-use Rattle.btr_tree.specs.Making.{slots-as}
-use Rattle.btr_tree.specs.Stamps.{points-in_order}
+use Rattle.btr_tree.proofs.NodeLemmas.{leaf-is, inner-is, slot-at, prefix-part, prefix-fewer}
+use Rattle.btr_tree.proofs.BuiltNodeLemmas.{slots-as}
+use Rattle.btr_tree.proofs.VersionLemmas.{points-in_order}
 use Rattle.btr_window.specs.Grids.{begin_of}
 use Rattle.btr_window.specs.Adding.{add_part, add_points, counted}
 use Rattle.btr_window.proofs.Slots.{between-is, range-from, range-to, slot-rise, slot-begins, slot-ends, within-as, within-inside}
@@ -99,7 +98,7 @@ pub walk_slot-returns-then-agg-eq0 : goal.walk_slot-returns-then-agg-eq0
 walk_slot-returns-then-agg-eq0 t c above h holds counted =
     let span = c.args.span in
     let range = c.args.range in
-    let none = no-points (points_of span.height span.start (bag h)) c.args.slot.now.agg counted (omega (arith, ap (λ (s : Summary). s.count) c.agg.view_is, c.if-agg-eq0.true)) in
+    let none = no-points (points_of span.height span.start (bag h)) c.args.slot.now.agg counted (omega (arith, ap (λ (s : AggValue). s.count) c.agg.view_is, c.if-agg-eq0.true)) in
     ap (λ b. add_points c.args.grid.first c.args.grid.width c.args.cells.now.items (within range.from range.to b)) (sym none)
 
 pub walk_slot-is_around-requires-clause-behind : goal.walk_slot-is_around-requires-clause-behind
@@ -120,7 +119,7 @@ walk_slot-add_part-requires t c =
     let st = c.requires.stands in
     let few = st.few in
     record {
-      room = omega (arith, ap (λ (s : Summary). s.count) st.counted, agg-count (points_of c.args.span.height c.args.span.start (bag st.commits)));
+      room = omega (arith, ap (λ (s : AggValue). s.count) st.counted, agg-count (points_of c.args.span.height c.args.span.start (bag st.commits)));
     }
 
 pub walk_slot-returns-then-is_around : goal.walk_slot-returns-then-is_around
@@ -137,7 +136,7 @@ walk_slot-returns-then-is_around t c =
     let start : to_z w64 (of_z w64 c.begin_of.result) ≡ begin = fits ∙ c.begin_of.ensures ∙ ap (begin_of first width) (span-start _ _ c.span.invariant c.span.view_is) in
     on_ok_weaker c.add_part.result (λ e above h holds counted.
     let here = points_of span.height span.start (bag h) in
-    let some : 0 < length here = omega (arith, agg-count here, ap (λ (s : Summary). s.count) counted, ap (λ (s : Summary). s.count) c.agg.view_is, c.if-agg-eq0.false) in
+    let some : 0 < length here = omega (arith, agg-count here, ap (λ (s : AggValue). s.count) counted, ap (λ (s : AggValue). s.count) c.agg.view_is, c.if-agg-eq0.false) in
     let each : AllByRecursion (λ p. begin_of first width p.time ≡ begin) here = each-weaker (λ p. (span.start ≤ℤ p.time) × (p.time <ℤ end_of span)) (λ p. begin_of first width p.time ≡ begin) (λ p k. c.is_around.ensures c.if-is_around.true p.time k.0 k.1) here (within-between span.start (end_of span) (bag h)) in
     e
     ∙ ap (λ s. add_part old s agg) start

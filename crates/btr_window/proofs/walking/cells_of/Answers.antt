@@ -2,14 +2,14 @@ use Rattle.std.proofs.Common.{◌≡◌, [], ap, ◌∙◌, subst, sym, arith}
 use Rattle.std.proofs.lemmas.Int.{ints}
 use Rattle.btr_base.specs.declared.domain.TheConstants.{END}
 use Rattle.btr_base.specs.Bag.{within}
-use Rattle.btr_base.specs.Range.{Interval}
-use Rattle.btr_base.specs.Span.{Part}
+use Rattle.btr_base.specs.Range.{RangeValue}
+use Rattle.btr_base.specs.Span.{SpanValue}
 use Rattle.btr_tree.specs.History.{bag}
 use Rattle.btr_tree.specs.Nodes.{points_of, no_span}
 use Rattle.btr_tree.specs.Change.{end_of}
-use Rattle.btr_tree.specs.Roots.{end-root, root-points}
+use Rattle.btr_tree.proofs.RootLemmas.{end-root, root-points}
 use Rattle.btr_tree.specs.Shape.{IsPlace}
-use Rattle.btr_tree.specs.Stamps.{bag-in_order}
+use Rattle.btr_tree.proofs.VersionLemmas.{bag-in_order}
 use Rattle.btr_window.specs.Adding.{add_points}
 use Rattle.btr_window.proofs.Cells.{cells-are, cells-as}
 use Rattle.btr_window.proofs.walking.cells_of.Goals as goal
@@ -19,7 +19,7 @@ walk_place-requires-clause-begins c =
     let end : end_of c.root_span.result ≡ END = ap end_of c.root_span.ensures ∙ end-root in
     let full = c.range.invariant.not_empty in
     let high = c.range.invariant.ends in
-    let same = ap (λ (r : Interval). r.from) c.range.view_is in
+    let same = ap (λ (r : RangeValue). r.from) c.range.view_is in
     omega (arith, ints)
 
 pub returns : goal.returns
@@ -28,10 +28,10 @@ returns c h tree =
     let range = c.args.range in
     let begins = c.requires.begins in
     let ends = c.requires.ends in
-    let place = subst (λ (s : Part). IsPlace s.height s.start no_span h c.root.result.now) (sym c.root_span.ensures) (c.root.ensures.place h tree) in
+    let place = subst (λ (s : SpanValue). IsPlace s.height s.start no_span h c.root.result.now) (sym c.root_span.ensures) (c.root.ensures.place h tree) in
     let bounds = cells-as grid.first grid.width range.from range.to begins.0 ends.0 (bag h) begins.1 ends.1 (cells-are grid.first grid.width c.requires.grid.some begins.0 ends.0 (bag h) (bag-in_order h)) in
     c.in_ok-walk_place.ensures no_span h place
     ∙ ap (λ old. add_points grid.first grid.width old (within range.from range.to (points_of c.root_span.result.height c.root_span.result.start (bag h)))) c.new-cells.ensures.items
-    ∙ ap (λ (s : Part). add_points grid.first grid.width [] (within range.from range.to (points_of s.height s.start (bag h)))) c.root_span.ensures
+    ∙ ap (λ (s : SpanValue). add_points grid.first grid.width [] (within range.from range.to (points_of s.height s.start (bag h)))) c.root_span.ensures
     ∙ ap (λ b. add_points grid.first grid.width [] (within range.from range.to b)) (root-points (bag h) tree.times)
     ∙ bounds

@@ -2,7 +2,7 @@ use Rattle.std.proofs.Common.{◌+◌, ◌<◌, ◌^◌, ◌+ℤ◌, ap, sym, re
 use Rattle.std.specs.Int.{w128}
 use Rattle.std.proofs.lemmas.Int.{ints}
 use Rattle.btr_base.specs.Agg.{IsSummary, joined, agg}
-use Rattle.btr_base.specs.Aggregates.{summary-by, agg-append, ends_fit-joined, sum-fits}
+use Rattle.btr_base.proofs.AggLemmas.{summary-by, agg-append, ends_fit-joined, sum-fits}
 use Rattle.btr_base.proofs.agg.Agg.join.Goals as goal
 
 pub overflow_add-result-2 : goal.overflow_add-result-2

@@ -1,5 +1,5 @@
 use Rattle.std.proofs.Common.{◌∙◌, sym}
-use Rattle.btr_base.specs.Order.{in_order-from_sorted, sort-of_order, sort-permutation}
+use Rattle.btr_base.proofs.PointLemmas.{in_order-from_sorted, sort-of_order, sort-permutation}
 use Rattle.btr_base.proofs.bag.Bag.from_points.Goals as goal
 
 pub invariant_of-result : goal.invariant_of-result

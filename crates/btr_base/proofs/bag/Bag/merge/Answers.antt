@@ -1,6 +1,6 @@
 use Rattle.std.proofs.Common.{◌++◌, sym, subst}
 use Rattle.btr_base.specs.Bag.{IsInOrder}
-use Rattle.btr_base.specs.Order.{sort-in_order}
+use Rattle.btr_base.proofs.PointLemmas.{sort-in_order}
 use Rattle.btr_base.proofs.bag.Bag.merge.Goals as goal
 
 pub invariant_of-result : goal.invariant_of-result

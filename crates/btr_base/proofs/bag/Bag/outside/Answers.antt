@@ -1,7 +1,7 @@
 use Rattle.std.proofs.Common.{sym, subst, not}
 use Rattle.btr_base.specs.Range.{covered}
 use Rattle.btr_base.specs.Bag.{IsInOrder}
-use Rattle.btr_base.specs.Order.{filter-in_order}
+use Rattle.btr_base.proofs.PointLemmas.{filter-in_order}
 use Rattle.btr_base.proofs.bag.Bag.outside.Goals as goal
 
 pub invariant_of-result : goal.invariant_of-result

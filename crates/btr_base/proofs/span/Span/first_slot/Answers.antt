@@ -1,7 +1,7 @@
 use Rattle.std.proofs.Common.{◌≡◌, ◌*◌, ◌-◌, ℤ, ◌≤ℤ◌, int_le, true, ap, arith, w64, to_z, of_z}
 use Rattle.std.proofs.lemmas.Int.{ints, to_z-of_z}
 use Rattle.btr_base.specs.Span.{width}
-use Rattle.btr_base.specs.Spans.{width-positive}
+use Rattle.btr_base.proofs.SpanLemmas.{width-positive}
 use Rattle.btr_base.proofs.span.Span.first_slot.Goals as goal
 
 le-true : (x y a b : ℤ) → int_le x y ≡ true → x ≡ a → y ≡ b → a ≤ℤ b

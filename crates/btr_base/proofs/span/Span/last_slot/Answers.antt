@@ -1,7 +1,7 @@
 use Rattle.std.proofs.Common.{◌≡◌, ◌*◌, ◌-◌, ◌+◌, arith}
 use Rattle.std.proofs.lemmas.Int.{ints}
 use Rattle.btr_base.specs.Span.{width}
-use Rattle.btr_base.specs.Spans.{width-positive, width-slots, times-up_to}
+use Rattle.btr_base.proofs.SpanLemmas.{width-positive, width-slots, times-up_to}
 use Rattle.btr_base.proofs.span.Span.last_slot.Goals as goal
 
 pub returns-then-to-end-clause-last : goal.returns-then-to-end-clause-last

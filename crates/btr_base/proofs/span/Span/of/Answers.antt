@@ -2,7 +2,7 @@ use Rattle.std.proofs.Common.{◌≡◌, ◌*◌, ◌/◌, ◌^◌, ◌<◌, ap,
 use Rattle.std.proofs.lemmas.Int.{ints}
 use Rattle.std.proofs.Math.Nat.{lt-div-mul-add}
 use Rattle.btr_base.specs.Span.{width}
-use Rattle.btr_base.specs.Spans.{width-positive, width-fits}
+use Rattle.btr_base.proofs.SpanLemmas.{width-positive, width-fits}
 use Rattle.btr_base.proofs.span.Span.of.Goals as goal
 
 pub nonzero_div-result : goal.nonzero_div-result

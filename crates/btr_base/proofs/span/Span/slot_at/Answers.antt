@@ -1,7 +1,7 @@
 use Rattle.std.proofs.Common.{◌≡◌, ◌*◌, ◌/◌, ap, ◌-◌, ◌∙◌, arith}
 use Rattle.std.proofs.lemmas.Int.{ints}
 use Rattle.btr_base.specs.Span.{width}
-use Rattle.btr_base.specs.Spans.{IsSlotAround, slot-around, width-positive, width-slots}
+use Rattle.btr_base.proofs.SpanLemmas.{IsSlotAround, slot-around, width-positive, width-slots}
 use Rattle.btr_base.proofs.span.Span.slot_at.Goals as goal
 
 around : (c : goal.After-width) → IsSlotAround c.abs_diff-offset.result c.width.result (c.abs_diff-offset.result / c.width.result)

@@ -1,7 +1,7 @@
 use Rattle.std.specs.Prelude.{◌≡◌, ◌+◌, ◌-◌, ◌*◌, ◌≤◌, ℕ, List, length, take, drop}
 use Rattle.std.proofs.Common.{arith, ap, ◌∙◌, sym, subst, length-take, length-drop}
 use Rattle.btr_disk.specs.Bytes.{Image, Has}
-use Rattle.btr_disk.specs.Addresses.{SameBut-refl}
+use Rattle.btr_disk.proofs.ByteLemmas.{SameBut-refl}
 use Rattle.btr_disk.specs.History.{contents_of}
 use Rattle.btr_disk.proofs.Recording.{Has-part, idle, idle_torn, write_recorded, write_tears, write_torn}
 use Rattle.btr_disk.proofs.memory.MemDiskDisk.write.Goals as goal

@@ -36,11 +36,11 @@ its_run g c =
     c.in_ok-copy.ensures c.in_ok-push.ensures.allowed c.receipt_of-receipt.ensures.number c.in-Ok.ensures.spelled c.in-Ok.ensures.run c.deref.ensures.value
 
 -- the append failed, and left at each moment the history with the entry or without it
-left_by_fault : (g : Over) (c : In-Err g) → g.D.Disk.tells → IsAtRest c.args.self.now → log.LogLeaves c.args.self.now.log c.append.new.self (IsBeforeOrAfter (g.D.Disk.size (device c.args.self.now)) (history_of c.args.self.now) c.args.entry.now)
-left_by_fault g c tells rest =
+left_by_fault : (g : Over) (c : In-Err g) → g.D.Disk.is_observable → IsAtRest c.args.self.now → log.LogLeaves c.args.self.now.log c.append.new.self (IsBeforeOrAfter (g.D.Disk.size (device c.args.self.now)) (history_of c.args.self.now) c.args.entry.now)
+left_by_fault g c is_observable rest =
     let old = c.args.self.now in
     moments_of_fault old c.args.entry.now c.deref.result.now (its_run g (goal.at.In-Err g c).After-deref) c.append.new.self c.in-Err.fault (ran g (goal.at.In-Err g c).After-push)
-    c.in-Err.ensures.full c.in-Err.ensures.cause (g.met.D.Disk.only_now tells old.log.disk) rest (c.in-Err.ensures.moments tells _ (log_at_rest old rest))
+    c.in-Err.ensures.full c.in-Err.ensures.cause (g.met.D.Disk.only_now is_observable old.log.disk) rest (c.in-Err.ensures.moments is_observable _ (log_at_rest old rest))
 
 -- the append succeeded: there was room
 fits : (g : Over) (c : In_default-append g) → need_of c.args.entry.now ≤ room_of c.args.self.now
@@ -48,20 +48,20 @@ fits g c =
     fits_unless_full c.args.self.now c.args.entry.now c.deref.result.now (its_run g (goal.at.In_default-append g c).After-deref) (Ok tt) (ran g (goal.at.In_default-append g c).After-push)
     c.in_default-append.ensures.full (λ no. absurd (cc))
 
-left_by_append : (g : Over) (c : In_default-append g) → g.D.Disk.tells → IsAtRest c.args.self.now → log.LogLeaves c.args.self.now.log c.append.new.self (IsBeforeOrAfter (g.D.Disk.size (device c.args.self.now)) (history_of c.args.self.now) c.args.entry.now)
-left_by_append g c tells rest =
+left_by_append : (g : Over) (c : In_default-append g) → g.D.Disk.is_observable → IsAtRest c.args.self.now → log.LogLeaves c.args.self.now.log c.append.new.self (IsBeforeOrAfter (g.D.Disk.size (device c.args.self.now)) (history_of c.args.self.now) c.args.entry.now)
+left_by_append g c is_observable rest =
     let old = c.args.self.now in
-    moments old c.args.entry.now c.deref.result.now (its_run g (goal.at.In_default-append g c).After-deref) c.append.new.self (fits g c) rest (c.in_default-append.ensures.moments tells _ (log_at_rest old rest))
+    moments old c.args.entry.now c.deref.result.now (its_run g (goal.at.In_default-append g c).After-deref) c.append.new.self (fits g c) rest (c.in_default-append.ensures.moments is_observable _ (log_at_rest old rest))
 
 -- ---- without a call of the device
 
 pub returns-then-is_stopped-clause-moments : goal.returns-then-is_stopped-clause-moments
-returns-then-is_stopped-clause-moments g c tells rest =
-    no_moment c.args.self.now c.args.entry.now (g.met.D.Disk.only_now tells c.args.self.now.log.disk) rest
+returns-then-is_stopped-clause-moments g c is_observable rest =
+    no_moment c.args.self.now c.args.entry.now (g.met.D.Disk.only_now is_observable c.args.self.now.log.disk) rest
 
 pub returns-in_err-copy-clause-moments : goal.returns-in_err-copy-clause-moments
-returns-in_err-copy-clause-moments g c tells rest =
-    no_moment c.args.self.now c.args.entry.now (g.met.D.Disk.only_now tells c.args.self.now.log.disk) rest
+returns-in_err-copy-clause-moments g c is_observable rest =
+    no_moment c.args.self.now c.args.entry.now (g.met.D.Disk.only_now is_observable c.args.self.now.log.disk) rest
 
 pub returns-in_err-push-clause-cause : goal.returns-in_err-push-clause-cause
 returns-in_err-push-clause-cause g c =
@@ -69,8 +69,8 @@ returns-in_err-push-clause-cause g c =
     not_pushed old _ c.args.entry.now c.in_ok-copy.copy c.in_err-push.field-0.0 c.from_residual-in_err-push.result c.from_residual-in_err-push.ensures (ran g (goal.at.returns-in_err-push-clause-cause g c).After-push) c.in_ok-copy.ensures c.in_err-push.ensures.cause (same_engine _ old refl c.in_err-push.ensures.err refl refl)
 
 pub returns-in_err-push-clause-moments : goal.returns-in_err-push-clause-moments
-returns-in_err-push-clause-moments g c tells rest =
-    no_moment c.args.self.now c.args.entry.now (g.met.D.Disk.only_now tells c.args.self.now.log.disk) rest
+returns-in_err-push-clause-moments g c is_observable rest =
+    no_moment c.args.self.now c.args.entry.now (g.met.D.Disk.only_now is_observable c.args.self.now.log.disk) rest
 
 pub run_of-requires-clause-bounds : goal.run_of-requires-clause-bounds
 run_of-requires-clause-bounds g c =
@@ -83,11 +83,11 @@ returns-in_default-clause-cause g c =
     (ran g (goal.at.returns-in_default-clause-cause g c).After-push, same_engine _ old refl same refl refl)
 
 pub returns-in_default-clause-moments : goal.returns-in_default-clause-moments
-returns-in_default-clause-moments g c tells rest =
-    no_moment c.args.self.now c.args.entry.now (g.met.D.Disk.only_now tells c.args.self.now.log.disk) rest
+returns-in_default-clause-moments g c is_observable rest =
+    no_moment c.args.self.now c.args.entry.now (g.met.D.Disk.only_now is_observable c.args.self.now.log.disk) rest
 
 pub returns-in_default-clause-durable : goal.returns-in_default-clause-durable
-returns-in_default-clause-durable g c tells more rests so_far =
+returns-in_default-clause-durable g c is_observable more rests so_far =
     let old = c.args.self.now in
     let same : c.pop.new.self ≡ history_of old = popped c.pop.result (history_of old) c.push.new.self c.pop.new.self c.in_ok-copy.copy c.in_ok-push.ensures.ok c.pop.ensures.last c.pop.ensures.none in
     subst (λ engine. IsDurable engine more) (sym (same_engine _ old refl same refl refl)) so_far
@@ -101,11 +101,11 @@ returns-then-need-left-clause-cause g c =
     (ran g (goal.at.returns-then-need-left-clause-cause g c).After-push, entry_allowed g (goal.at.returns-then-need-left-clause-cause g c).In_ok-push, size, c.room-left.ensures, c.if-need-left.true, same_engine _ old refl same refl refl)
 
 pub returns-then-need-left-clause-moments : goal.returns-then-need-left-clause-moments
-returns-then-need-left-clause-moments g c tells rest =
-    no_moment c.args.self.now c.args.entry.now (g.met.D.Disk.only_now tells c.args.self.now.log.disk) rest
+returns-then-need-left-clause-moments g c is_observable rest =
+    no_moment c.args.self.now c.args.entry.now (g.met.D.Disk.only_now is_observable c.args.self.now.log.disk) rest
 
 pub returns-then-need-left-clause-durable : goal.returns-then-need-left-clause-durable
-returns-then-need-left-clause-durable g c tells more rests so_far =
+returns-then-need-left-clause-durable g c is_observable more rests so_far =
     let old = c.args.self.now in
     let same : c.pop-then-need-left.new.self ≡ history_of old = popped c.pop-then-need-left.result (history_of old) c.push.new.self c.pop-then-need-left.new.self c.in_ok-copy.copy c.in_ok-push.ensures.ok c.pop-then-need-left.ensures.last c.pop-then-need-left.ensures.none in
     subst (λ engine. IsDurable engine more) (sym (same_engine _ old refl same refl refl)) so_far
@@ -126,16 +126,16 @@ returns-in-Err-clause-cause g c =
     c.in-Err.ensures.full c.in-Err.ensures.cause same refl refl c.fault_of.ensures.full c.fault_of.ensures.failed
 
 pub returns-in-Err-clause-moments : goal.returns-in-Err-clause-moments
-returns-in-Err-clause-moments g c tells rest =
-    left_by_fault g (goal.at.returns-in-Err-clause-moments g c).In-Err tells rest
+returns-in-Err-clause-moments g c is_observable rest =
+    left_by_fault g (goal.at.returns-in-Err-clause-moments g c).In-Err is_observable rest
 
 pub returns-in-Err-clause-durable : goal.returns-in-Err-clause-durable
-returns-in-Err-clause-durable g c tells more rests so_far =
+returns-in-Err-clause-durable g c is_observable more rests so_far =
     let old = c.args.self.now in
     let same : c.pop-in-Err.new.self ≡ history_of old = popped c.pop-in-Err.result (history_of old) c.push.new.self c.pop-in-Err.new.self c.in_ok-copy.copy c.in_ok-push.ensures.ok c.pop-in-Err.ensures.last c.pop-in-Err.ensures.none in
     let runs = ran g (goal.at.returns-in-Err-clause-durable g c).After-push in
     durable_of_fault old c.args.entry.now _ c.deref.result.now c.in-Err.fault c.fault_of.result more runs c.in-Err.ensures.cause same refl refl c.fault_of.ensures.full c.fault_of.ensures.failed
-    (opening_kept old _ c.append.ensures.kept refl refl) (g.met.D.Disk.counts_now tells _) (left_by_fault g (goal.at.returns-in-Err-clause-durable g c).In-Err tells (rests runs)) so_far
+    (opening_kept old _ c.append.ensures.kept refl refl) (g.met.D.Disk.counts_now is_observable _) (left_by_fault g (goal.at.returns-in-Err-clause-durable g c).In-Err is_observable (rests runs)) so_far
 
 -- ---- the entry was taken
 
@@ -159,21 +159,21 @@ returns-clause-stepped g c =
     c.receipt_of-receipt.result (fits g (goal.at.returns-clause-stepped g c).In_default-append) c.receipt_of-receipt.ensures
 
 pub returns-clause-at_rest : goal.returns-clause-at_rest
-returns-clause-at_rest g c tells rest =
+returns-clause-at_rest g c is_observable rest =
     let old = c.args.self.now in
     at_rest old c.args.entry.now c.deref.result.now (its_run g (goal.at.returns-clause-at_rest g c).After-deref) _ (pushed g (goal.at.returns-clause-at_rest g c).In_ok-push) c.in_default-append.ensures.appended
-    (fits g (goal.at.returns-clause-at_rest g c).In_default-append) c.append.ensures.kept rest (c.in_default-append.ensures.written tells) (c.in_default-append.ensures.at_rest tells _ (log_at_rest old rest))
+    (fits g (goal.at.returns-clause-at_rest g c).In_default-append) c.append.ensures.kept rest (c.in_default-append.ensures.written is_observable) (c.in_default-append.ensures.at_rest is_observable _ (log_at_rest old rest))
 
 pub returns-clause-moments : goal.returns-clause-moments
-returns-clause-moments g c tells rest =
-    left_by_append g (goal.at.returns-clause-moments g c).In_default-append tells rest
+returns-clause-moments g c is_observable rest =
+    left_by_append g (goal.at.returns-clause-moments g c).In_default-append is_observable rest
 
 pub returns-clause-durable : goal.returns-clause-durable
-returns-clause-durable g c tells more rests so_far =
+returns-clause-durable g c is_observable more rests so_far =
     let old = c.args.self.now in
     let runs = ran g (goal.at.returns-clause-durable g c).After-push in
     let history = pushed g (goal.at.returns-clause-durable g c).In_ok-push in
     let rest = rests runs in
     let rested = at_rest old c.args.entry.now c.deref.result.now (its_run g (goal.at.returns-clause-durable g c).After-deref) _ history c.in_default-append.ensures.appended
-    (fits g (goal.at.returns-clause-durable g c).In_default-append) c.append.ensures.kept rest (c.in_default-append.ensures.written tells) (c.in_default-append.ensures.at_rest tells _ (log_at_rest old rest)) in
-    durable_taken old c.args.entry.now _ more runs history (opening_kept old _ c.append.ensures.kept refl refl) rested (left_by_append g (goal.at.returns-clause-durable g c).In_default-append tells rest) so_far
+    (fits g (goal.at.returns-clause-durable g c).In_default-append) c.append.ensures.kept rest (c.in_default-append.ensures.written is_observable) (c.in_default-append.ensures.at_rest is_observable _ (log_at_rest old rest)) in
+    durable_taken old c.args.entry.now _ more runs history (opening_kept old _ c.append.ensures.kept refl refl) rested (left_by_append g (goal.at.returns-clause-durable g c).In_default-append is_observable rest) so_far

@@ -3,7 +3,7 @@ use Rattle.std.proofs.Common.{sym, ap, subst, ◌∙◌}
 use Rattle.std.proofs.lemmas.Bool.{false≢true}
 use Rattle.btr_log.specs.declared.head.Head.{Head}
 use Rattle.btr_log.specs.Head.{head_at, head_bytes, IsHead, Spells}
-use Rattle.btr_log.specs.HeadLaws.{head_at-head_bytes}
+use Rattle.btr_log.proofs.HeadLemmas.{head_at-head_bytes}
 use Rattle.btr_log.proofs.head.Head.decode.Goals as goal
 
 -- what is read is the head that the bytes spell

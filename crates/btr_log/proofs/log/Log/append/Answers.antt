@@ -1,38 +1,38 @@
 use Rattle.std.specs.Prelude.{◌≡◌, ◌+◌, ◌*◌, false, is_err}
 use Rattle.std.proofs.Common.{sym, ◌∙◌}
-use Rattle.btr_disk.specs.Runs.{weakens}
+use Rattle.btr_disk.proofs.MomentLemmas.{weakens}
 use Rattle.btr_disk.specs.Publish.{IsBeforeOrHasBody}
 use Rattle.btr_log.specs.Append.{body_of, IsMoment}
 use Rattle.btr_log.proofs.Growth.{from_ok, at_a_moment, at_the_end}
 use Rattle.btr_log.proofs.log.Log.append.Goals as goal
 
 pub returns-then-is_err-clause-moments : goal.returns-then-is_err-clause-moments
-returns-then-is_err-clause-moments g c tells bodies rest =
+returns-then-is_err-clause-moments g c is_observable bodies rest =
     let disk = g.D.Disk in
     let log = c.args.self.now in
     let old = disk.contents log.disk in
     let run = c.args.run.now in
-    weakens disk.calls disk.since log.disk c.publish-written.new.device (IsBeforeOrHasBody old (4096 * (log.tail + 1)) run (4096 * log.tail)) (IsMoment old log.tail bodies (body_of run))
+    weakens disk.calls disk.images_since log.disk c.publish-written.new.device (IsBeforeOrHasBody old (4096 * (log.tail + 1)) run (4096 * log.tail)) (IsMoment old log.tail bodies (body_of run))
     (at_a_moment old log.tail bodies run c.requires rest.extents rest.closed)
-    (c.publish-written.ensures.moments tells rest.only)
+    (c.publish-written.ensures.moments is_observable rest.only)
 
 pub returns-clause-moments : goal.returns-clause-moments
-returns-clause-moments g c tells bodies rest =
+returns-clause-moments g c is_observable bodies rest =
     let disk = g.D.Disk in
     let log = c.args.self.now in
     let old = disk.contents log.disk in
     let run = c.args.run.now in
-    weakens disk.calls disk.since log.disk c.publish-written.new.device (IsBeforeOrHasBody old (4096 * (log.tail + 1)) run (4096 * log.tail)) (IsMoment old log.tail bodies (body_of run))
+    weakens disk.calls disk.images_since log.disk c.publish-written.new.device (IsBeforeOrHasBody old (4096 * (log.tail + 1)) run (4096 * log.tail)) (IsMoment old log.tail bodies (body_of run))
     (at_a_moment old log.tail bodies run c.requires rest.extents rest.closed)
-    (c.publish-written.ensures.moments tells rest.only)
+    (c.publish-written.ensures.moments is_observable rest.only)
 
 pub returns-clause-at_rest : goal.returns-clause-at_rest
-returns-clause-at_rest g c tells bodies rest =
+returns-clause-at_rest g c is_observable bodies rest =
     let disk = g.D.Disk in
     let log = c.args.self.now in
     let new = c.publish-written.new.device in
     let ran : is_err c.publish-written.result ≡ false = sym c.is_err.ensures.value ∙ c.if-is_err.false in
-    at_the_end (disk.contents log.disk) log.tail bodies c.args.run.now c.requires rest.extents (disk.contents new) (disk.image new)
+    at_the_end (disk.contents log.disk) log.tail bodies c.args.run.now c.requires rest.extents (disk.contents new) (disk.images_now new)
     c.open_gate.result c.open_gate.ensures
-    (from_ok c.publish-written.result _ ran (c.publish-written.ensures.published tells))
-    (from_ok c.publish-written.result _ ran (c.publish-written.ensures.synced tells))
+    (from_ok c.publish-written.result _ ran (c.publish-written.ensures.published is_observable))
+    (from_ok c.publish-written.result _ ran (c.publish-written.ensures.synced is_observable))

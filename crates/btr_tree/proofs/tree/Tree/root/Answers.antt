@@ -2,7 +2,7 @@ use Rattle.std.proofs.Common.{◌≤◌, length, sym, subst, arith}
 use Rattle.btr_tree.specs.declared.limits.TheConstants.{VERSION_POINTS}
 use Rattle.btr_tree.specs.History.{bag}
 use Rattle.btr_tree.specs.Nodes.{no_span}
-use Rattle.btr_tree.specs.Roots.{place-root, root-points}
+use Rattle.btr_tree.proofs.RootLemmas.{place-root, root-points}
 use Rattle.btr_tree.proofs.tree.Tree.root.Goals as goal
 
 pub returns-clause-stands : goal.returns-clause-stands

@@ -1,6 +1,6 @@
 use Rattle.std.proofs.Common.{◌≡◌, ◌-ℤ◌, pos, sym, ap, ◌∙◌, arith, w64, to_z, of_z}
 use Rattle.std.proofs.lemmas.Int.{ints, to_z-of_z}
-use Rattle.btr_base.specs.Spans.{width-positive}
+use Rattle.btr_base.proofs.SpanLemmas.{width-positive}
 use Rattle.btr_window.specs.Grids.{begin_of}
 use Rattle.btr_window.proofs.Bounds.{last-time, equal-times}
 use Rattle.btr_window.proofs.Cells.{begin-bounds, begin-between}

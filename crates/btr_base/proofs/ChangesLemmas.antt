@@ -1,0 +1,219 @@
+-- Lemmas on the longest runs of ranges that stand in order, as of aligned slots.
+use Rattle.std.specs.Prelude.{◌≡◌, ℕ, ◌+◌, ◌-◌, ◌*◌, ◌/◌, ◌^◌, ◌<◌, ◌≤◌, ℤ, pos, ◌+ℤ◌, ◌-ℤ◌, unsigned_abs, Bool, true, false, ◌&&◌, ◌||◌, int_le, int_lt, ◌≤ℤ◌, ◌<ℤ◌, List, [], ◌∷◌, ◌++◌, map, cond, IsTrue}
+use Rattle.std.specs.List.{list_any, AllByRecursion}
+use Rattle.std.proofs.Common.{refl, sym, ap, ◌∙◌, arith, mul-le-mul_right}
+use Rattle.std.proofs.lemmas.Int.{ints}
+use Rattle.std.proofs.lemmas.Nat.{pow-add, pow_pos, le-div}
+use Rattle.std.proofs.Math.Nat.{div-mul-le_self, lt-div-mul-add, lt_of_not-le}
+use Rattle.btr_base.specs.declared.domain.TheConstants.{FIRST, END}
+use Rattle.btr_base.specs.declared.point.Point.{Point}
+use Rattle.btr_base.specs.Point.{is_not_after, InDomain}
+use Rattle.btr_base.specs.Range.{RangeValue, IsRange, IsCut, AreApart, spans, covered}
+use Rattle.btr_base.specs.Bag.{IsInOrder, sort}
+use Rattle.btr_base.specs.Changes.{differ_at, changed, slot_around, joined_before, runs, changes}
+use Rattle.btr_base.proofs.ListLemmas.{each-weaker, each-both, filter-passes}
+use Rattle.btr_base.proofs.PointLemmas.{sort-in_order, filter-in_order, is_not_after-times}
+use Rattle.btr_base.proofs.SpanLemmas.{times-up_to}
+
+-- ---- ranges in order
+
+-- the range neither begins nor ends before the other
+abbrev pub Follows : RangeValue → RangeValue → Type 0
+Follows r s = (r.from ≤ℤ s.from) × (r.to ≤ℤ s.to)
+
+-- no range begins or ends before one that stands in front of it
+abbrev pub Rise : List RangeValue → Type 0
+Rise [] = Unit {0}
+Rise (r ∷ rs) = AllByRecursion (Follows r) rs × Rise rs
+
+-- ---- a range before others
+
+joined-each : (P Q : RangeValue → Type 0) (r : RangeValue) (rs : List RangeValue) → ((s : RangeValue) → Q s → P (record { from = r.from; to = s.to })) → ((s : RangeValue) → Q s → P s) → P r → AllByRecursion Q rs → AllByRecursion P (joined_before r rs)
+joined-each P Q r [] join keep h k = (h, tt)
+joined-each P Q r (s ∷ rs) join keep h k =
+    elim (int_le s.from r.to) as (λ t. AllByRecursion P (cond t (record { from = r.from; to = s.to } ∷ rs) (r ∷ s ∷ rs))) [
+      | true ↦ (join s k.0, each-weaker Q P keep rs k.1)
+      | false ↦ (h, each-weaker Q P keep (s ∷ rs) k)
+    ]
+
+apart-same_end : (a s : RangeValue) (rs : List RangeValue) → a.to ≡ s.to → AreApart (s ∷ rs) → AreApart (a ∷ rs)
+apart-same_end a s [] e h = tt
+apart-same_end a s (u ∷ rs) e h = let near = h.0 in (omega (arith, ints), h.1)
+
+joined-apart : (r : RangeValue) (rs : List RangeValue) → AreApart rs → AreApart (joined_before r rs)
+joined-apart r [] h = tt
+joined-apart r (s ∷ rs) h =
+    elim (int_le s.from r.to) as (λ t. int_le s.from r.to ≡ t → AreApart (cond t (record { from = r.from; to = s.to } ∷ rs) (r ∷ s ∷ rs))) [
+      | true ↦ λ _. apart-same_end (record { from = r.from; to = s.to }) s rs refl h
+      | false ↦ λ e. let near : r.to <ℤ s.from = grind (arith, ints) in (near, h)
+    ] refl
+
+join-range : (r s : RangeValue) → IsRange r → Follows r s → IsRange s → IsRange (record { from = r.from; to = s.to })
+join-range r s h f k =
+    let full = h.not_empty in
+    let later = f.1 in
+    record { begins = h.begins; not_empty = omega (arith, ints); ends = k.ends }
+
+join-spans : (r s : RangeValue) (t : ℤ) → Follows r s → IsRange s → s.from ≤ℤ r.to → spans (record { from = r.from; to = s.to }) t ≡ (spans r t || spans s t)
+join-spans r s t f k e =
+    let low = f.0 in
+    let high = f.1 in
+    let full = k.not_empty in
+    grind (arith, ints)
+
+either : (a b c : Bool) → ((a || b) || c) ≡ (a || (b || c))
+either true b c = refl
+either false b c = refl
+
+joined-covered : (r : RangeValue) (rs : List RangeValue) (t : ℤ) → AllByRecursion (λ s. Follows r s × IsRange s) rs → covered (joined_before r rs) t ≡ covered (r ∷ rs) t
+joined-covered r [] t h = refl
+joined-covered r (s ∷ rs) t h =
+    elim (int_le s.from r.to) as (λ u. int_le s.from r.to ≡ u → covered (cond u (record { from = r.from; to = s.to } ∷ rs) (r ∷ s ∷ rs)) t ≡ covered (r ∷ s ∷ rs) t) [
+      | true ↦ λ e.
+          let near : s.from ≤ℤ r.to = grind (arith, ints) in
+          ap (λ b. b || covered rs t) (join-spans r s t h.0.0 h.0.1 near) ∙ either (spans r t) (spans s t) (covered rs t)
+      | false ↦ λ _. refl
+    ] refl
+
+-- ---- all of them
+
+-- a range that the ranges do not begin or end before does not do so with their runs
+runs-follow : (r : RangeValue) (rs : List RangeValue) → AllByRecursion (Follows r) rs → AllByRecursion (Follows r) (runs rs)
+runs-follow r [] h = tt
+runs-follow r (s ∷ rs) h =
+    joined-each (Follows r) (Follows r) s (runs rs) (λ u k. (h.0.0, k.1)) (λ u k. k) h.0 (runs-follow r rs h.1)
+
+pub runs-each : (rs : List RangeValue) → AllByRecursion IsRange rs → Rise rs → AllByRecursion IsRange (runs rs)
+runs-each [] h rise = tt
+runs-each (r ∷ rs) h rise =
+    joined-each IsRange (λ s. Follows r s × IsRange s) r (runs rs) (λ s k. join-range r s h.0 k.0 k.1) (λ s k. k.1) h.0 (each-both (Follows r) IsRange (runs rs) (runs-follow r rs rise.0) (runs-each rs h.1 rise.1))
+
+pub runs-apart : (rs : List RangeValue) → AreApart (runs rs)
+runs-apart [] = tt
+runs-apart (r ∷ rs) = joined-apart r (runs rs) (runs-apart rs)
+
+pub runs-cut : (rs : List RangeValue) → AllByRecursion IsRange rs → Rise rs → IsCut (runs rs)
+runs-cut rs h rise = record { each = runs-each rs h rise; apart = runs-apart rs }
+
+pub runs-covered : (rs : List RangeValue) (t : ℤ) → AllByRecursion IsRange rs → Rise rs → covered (runs rs) t ≡ covered rs t
+runs-covered [] t h rise = refl
+runs-covered (r ∷ rs) t h rise =
+    joined-covered r (runs rs) t (each-both (Follows r) IsRange (runs rs) (runs-follow r rs rise.0) (runs-each rs h.1 rise.1))
+    ∙ ap (λ b. spans r t || b) (runs-covered rs t h.1 rise.1)
+
+-- ---- aligned slots
+
+less-times : (a b w : ℕ) → a * w < b * w → a < b
+less-times a b w h =
+    lt_of_not-le (λ low. let m : b * w ≤ a * w = mul-le-mul_right w low in omega arith)
+
+-- a slot ends in the domain where it begins there
+pub slot-fits : (p o : ℕ) → p ≤ 62 → o < 2 ^ 62 → (o / 2 ^ p + 1) * 2 ^ p ≤ 2 ^ 62
+slot-fits p o low inside =
+    let w = 2 ^ p in
+    let times = 2 ^ (62 - p) in
+    let e : (62 - p) + p ≡ 62 = omega arith in
+    let whole : 2 ^ 62 ≡ times * w = ap (λ n. 2 ^ n) (sym e) ∙ pow-add 2 (62 - p) p in
+    let at_most : (o / w) * w ≤ o = div-mul-le_self o w in
+    let below : o / w < times = less-times (o / w) times w (omega arith) in
+    let next = times-up_to (o / w) times w below in
+    let split : (o / w + 1) * w ≡ (o / w) * w + w = omega arith in
+    omega arith
+
+-- where a slot begins and ends, by the offset of a time in it
+pub record IsSlot (p : ℕ) (t : ℤ) (offset : ℕ) (s : RangeValue) : Type 0 where
+  pub time : t ≡ FIRST +ℤ pos offset
+  pub from : s.from ≡ FIRST +ℤ pos (offset / 2 ^ p * 2 ^ p)
+  pub to : s.to ≡ FIRST +ℤ pos (offset / 2 ^ p * 2 ^ p + 2 ^ p)
+  pub begins : offset / 2 ^ p * 2 ^ p ≤ offset
+  pub ends : offset < offset / 2 ^ p * 2 ^ p + 2 ^ p
+
+pub slot-is : (p : ℕ) (t : ℤ) → FIRST ≤ℤ t → IsSlot p t (unsigned_abs (t -ℤ FIRST)) (slot_around p t)
+slot-is p t low =
+    let o = unsigned_abs (t -ℤ FIRST) in
+    let next = lt-div-mul-add {a = o} (pow_pos p) in
+    let split : (o / 2 ^ p + 1) * 2 ^ p ≡ o / 2 ^ p * 2 ^ p + 2 ^ p = omega arith in
+    record {
+      time = omega (arith, ints);
+      from = refl;
+      to = ap (λ n. FIRST +ℤ pos n) split;
+      begins = div-mul-le_self o (2 ^ p);
+      ends = omega arith;
+    }
+
+-- the slot around a time of the domain is a range
+pub slot-range : (p : ℕ) (t : ℤ) → p ≤ 62 → InDomain t → IsRange (slot_around p t)
+slot-range p t low inside =
+    let o = unsigned_abs (t -ℤ FIRST) in
+    let is = slot-is p t inside.0 in
+    let time = is.time in
+    let from = is.from in
+    let to = is.to in
+    let some = pow_pos p in
+    let high = inside.1 in
+    let fits = slot-fits p o low (omega (arith, ints)) in
+    let split : (o / 2 ^ p + 1) * 2 ^ p ≡ o / 2 ^ p * 2 ^ p + 2 ^ p = omega arith in
+    record { begins = omega (arith, ints); not_empty = omega (arith, ints); ends = omega (arith, ints) }
+
+-- the slot around a later time does not begin or end before that around an earlier one
+pub slot-follows : (p : ℕ) (t u : ℤ) → FIRST ≤ℤ t → t ≤ℤ u → Follows (slot_around p t) (slot_around p u)
+slot-follows p t u low later =
+    let o = unsigned_abs (t -ℤ FIRST) in
+    let v = unsigned_abs (u -ℤ FIRST) in
+    let is = slot-is p t low in
+    let next = slot-is p u (omega (arith, ints)) in
+    let time = is.time in
+    let time_next = next.time in
+    let begins = is.begins in
+    let from = is.from in
+    let from_next = next.from in
+    let to = is.to in
+    let to_next = next.to in
+    let more : o / 2 ^ p ≤ v / 2 ^ p = le-div (o / 2 ^ p) v (2 ^ p) (pow_pos p) (omega (arith, ints)) in
+    let apart : o / 2 ^ p * 2 ^ p ≤ v / 2 ^ p * 2 ^ p = mul-le-mul_right (2 ^ p) more in
+    (omega (arith, ints), omega (arith, ints))
+
+-- ---- the slots of points in order
+
+slots-each : (p : ℕ) (ps : List Point) → p ≤ 62 → AllByRecursion (λ q. InDomain q.time) ps → AllByRecursion IsRange (map (λ q. slot_around p q.time) ps)
+slots-each p [] low h = tt
+slots-each p (q ∷ ps) low h = (slot-range p q.time low h.0, slots-each p ps low h.1)
+
+slots-follow : (p : ℕ) (t : ℤ) (ps : List Point) → FIRST ≤ℤ t → AllByRecursion (λ q. t ≤ℤ q.time) ps → AllByRecursion (Follows (slot_around p t)) (map (λ q. slot_around p q.time) ps)
+slots-follow p t [] low h = tt
+slots-follow p t (q ∷ ps) low h = (slot-follows p t q.time low h.0, slots-follow p t ps low h.1)
+
+slots-rise : (p : ℕ) (ps : List Point) → AllByRecursion (λ q. InDomain q.time) ps → IsInOrder ps → Rise (map (λ q. slot_around p q.time) ps)
+slots-rise p [] h order = tt
+slots-rise p (q ∷ ps) h order = (
+  slots-follow p q.time ps h.0.0 (each-weaker (λ r. IsTrue (is_not_after q r)) (λ r. q.time ≤ℤ r.time) (λ r k. is_not_after-times q r k) ps order.0),
+  slots-rise p ps h.1 order.1,
+)
+
+covered-map : (p : ℕ) (ps : List Point) (t : ℤ) → covered (map (λ q. slot_around p q.time) ps) t ≡ list_any (λ q. spans (slot_around p q.time) t) ps
+covered-map p [] t = refl
+covered-map p (q ∷ ps) t = ap (λ b. spans (slot_around p q.time) t || b) (covered-map p ps t)
+
+-- ---- the changed slots
+
+in_domain-test : (d : Bool) (t : ℤ) → (d && (int_le FIRST t && int_lt t END)) ≡ true → InDomain t
+in_domain-test d t h = (grind (arith, ints), grind (arith, ints))
+
+pub changed-domain : (a b : List Point) → AllByRecursion (λ q. InDomain q.time) (changed a b)
+changed-domain a b =
+    each-weaker (λ q. (differ_at a b q.time && (int_le FIRST q.time && int_lt q.time END)) ≡ true) (λ q. InDomain q.time) (λ q k. in_domain-test (differ_at a b q.time) q.time k) (changed a b) (filter-passes (λ q. differ_at a b q.time && (int_le FIRST q.time && int_lt q.time END)) (sort (a ++ b)))
+
+pub changed-in_order : (a b : List Point) → IsInOrder (changed a b)
+changed-in_order a b =
+    filter-in_order (λ q. differ_at a b q.time && (int_le FIRST q.time && int_lt q.time END)) (sort (a ++ b)) (sort-in_order (a ++ b))
+
+pub changes-cut : (p : ℕ) (a b : List Point) → p ≤ 62 → IsCut (changes p a b)
+changes-cut p a b low =
+    let in_domain = changed-domain a b in
+    runs-cut (map (λ q. slot_around p q.time) (changed a b)) (slots-each p (changed a b) low in_domain) (slots-rise p (changed a b) in_domain (changed-in_order a b))
+
+pub changes-covered : (p : ℕ) (a b : List Point) (t : ℤ) → p ≤ 62 → covered (changes p a b) t ≡ list_any (λ q. spans (slot_around p q.time) t) (changed a b)
+changes-covered p a b t low =
+    let in_domain = changed-domain a b in
+    runs-covered (map (λ q. slot_around p q.time) (changed a b)) t (slots-each p (changed a b) low in_domain) (slots-rise p (changed a b) in_domain (changed-in_order a b))
+    ∙ covered-map p (changed a b) t

@@ -1,0 +1,23 @@
+-- Lemmas on runs that are appended.
+use Rattle.std.specs.Prelude.{◌≡◌, ℕ, ◌-◌, ◌*◌, List, ◌++◌, length}
+use Rattle.std.proofs.Common.{sym, ap, subst, arith, length-append}
+use Rattle.std.proofs.lemmas.List.{take_at}
+use Rattle.btr_disk.specs.Gate.{zeros}
+use Rattle.btr_disk.proofs.GateLemmas.{length-zeros}
+use Rattle.btr_log.specs.declared.head.Head.{Head}
+use Rattle.btr_log.specs.Extents.{IsBody, need}
+use Rattle.btr_log.specs.Append.{body_of, IsAppendRun}
+
+pub body_of-append : (body : List ℕ) → body_of (body ++ zeros 4096) ≡ body
+body_of-append body =
+    take_at body (zeros 4096) (length (body ++ zeros 4096) - 4096) (omega (arith, length-append body (zeros 4096), length-zeros 4096))
+
+pub IsAppendRun-from : (body : List ℕ) (head : Head) → IsBody body head → IsAppendRun (body ++ zeros 4096)
+IsAppendRun-from body head is =
+    let e = sym (body_of-append body) in
+    record { body = (head, subst (λ b. IsBody b head) e is); closed_behind = ap (λ b. b ++ zeros 4096) e }
+
+-- the bytes of a run are the blocks that it needs
+pub length-run : (run : List ℕ) → IsAppendRun run → length run ≡ 4096 * need (body_of run)
+length-run run is =
+    omega (arith, ap length is.closed_behind, length-append (body_of run) (zeros 4096), length-zeros 4096, is.body.1.whole)

@@ -1,0 +1,36 @@
+-- What is true of every log, and of one that wrote nothing.
+use Rattle.std.specs.Prelude.{ℕ, ◌^◌, ◌<◌, ◌≤◌, List, IsTrue}
+use Rattle.std.proofs.Common.{sym, subst}
+use Rattle.btr_disk.specs.declared.disk.Disk.{Ghosts}
+use Rattle.btr_disk.specs.Causes.{Rose}
+use Rattle.btr_log.specs.declared.log.Log.{Log}
+use Rattle.btr_log.specs.Extents.{AtRest}
+use Rattle.btr_log.proofs.ExtentLemmas.{AtRest-along}
+use Rattle.btr_log.specs.Log.{device, tail_of, blocks_of, extents_of, is_stopped, faults_at, IsAtRest, LogWroteNothing, KeepsLog}
+
+-- its end is inside its blocks, and its blocks are inside the device; a stopped log's device has failed since it was made
+pub record HoldsOfLog {D : Type 0} {disk : Ghosts D} (log : Log D disk) : Type 0 where
+  pub tail_inside : tail_of log < blocks_of log
+  pub counted : extents_of log ≤ tail_of log
+  pub inside : blocks_of log ≤ disk.size (device log)
+  pub addressable : blocks_of log ≤ 2 ^ 32
+  pub later : faults_at log ≤ disk.faults (device log)
+  pub rose : IsTrue (is_stopped log) → Rose (faults_at log) (disk.faults (device log))
+
+pub holds_of_log : {D : Type 0} {disk : Ghosts D} (log : Log D disk) → HoldsOfLog log
+holds_of_log log = record {
+  tail_inside = log.tail_inside;
+  counted = log.counted;
+  inside = log.inside;
+  addressable = log.addressable;
+  later = log.later;
+  rose = log.rose;
+}
+
+-- a log at rest stays so where nothing is written, as at a read of an extent
+pub IsAtRest-WroteNothing : {D : Type 0} {disk : Ghosts D} (old new : Log D disk) (bodies : List (List ℕ)) → LogWroteNothing old new → KeepsLog old new → IsAtRest old bodies → IsAtRest new bodies
+IsAtRest-WroteNothing {D} {disk} old new bodies nothing kept rest =
+    let before = disk.images_now (device old) in
+    let after = disk.images_now (device new) in
+    let same = AtRest-along (disk.contents (device old)) (disk.contents (device new)) before after (tail_of old) bodies nothing.same nothing.images rest in
+    subst (λ t. AtRest (disk.contents (device new)) after t bodies) (sym kept.tail) same

@@ -1,0 +1,11 @@
+pub mod AppliedNodeLemmas
+pub mod BuiltNodeLemmas
+pub mod CrowdLemmas
+pub mod CutLemmas
+pub mod NewNodeCountLemmas
+pub mod NewNodeLemmas
+pub mod NodeLemmas
+pub mod RootLemmas
+pub mod SlotSplitLemmas
+pub mod UntouchedNodeLemmas
+pub mod VersionLemmas

@@ -1,0 +1,187 @@
+-- Lemmas on nodes of a history: what a leaf and an inner node are, and how the slots part a span.
+use Rattle.std.specs.Prelude.{◌≡◌, ℕ, ◌+◌, ◌-◌, ◌*◌, ◌<◌, ◌≤◌, ℤ, pos, ◌+ℤ◌, ◌≤ℤ◌, Bool, List, [], ◌++◌, length, slice_index_or, drop, Some, None, Vec}
+use Rattle.std.proofs.Common.{zero, suc, refl, sym, ap, ◌∙◌, arith, subst, mul-le-mul_right}
+use Rattle.std.proofs.lemmas.Int.{ints}
+use Rattle.std.proofs.lemmas.List.{drop_more, drop_all}
+use Rattle.std.specs.declared.sync.Arc.{Arc}
+use Rattle.std.specs.declared.alloc.Global.{Global}
+use Rattle.btr_base.specs.declared.point.Point.{Point}
+use Rattle.btr_base.specs.Bag.{within, is_within}
+use Rattle.btr_base.specs.Span.{width, SpanValue, slot_of}
+use Rattle.btr_base.proofs.SpanLemmas.{width-next}
+use Rattle.btr_base.proofs.WithinLemmas.{within-split, within-empty, within-nested}
+use Rattle.btr_base.proofs.ListLemmas.{length-filter}
+use Rattle.btr_base.specs.Agg.{agg, joined}
+use Rattle.btr_base.proofs.AggLemmas.{agg-append}
+use Rattle.btr_tree.specs.declared.node.Node.{Node, out-Node}
+use Rattle.btr_tree.specs.declared.node.Node.TheVariants.{Leaf, Inner, rolls-Leaf, rolls-Inner}
+use Rattle.btr_tree.specs.declared.node.Node.TheOpen.{Node-F}
+use Rattle.btr_tree.specs.declared.node.Node.TheViews.{out-roll-Node}
+use Rattle.btr_tree.specs.declared.node.Slot.{Slot}
+use Rattle.btr_tree.specs.History.{Commit, bag}
+use Rattle.btr_tree.specs.Nodes.{points_of, is_inner}
+use Rattle.btr_tree.proofs.VersionLemmas.{bag-in_order}
+use Rattle.btr_tree.specs.Change.{joined_all}
+use Rattle.btr_tree.specs.Shape.{Child, ByKind, slot_start, slot_of_points, IsLeaf, IsInner, HasSlots, HasChildren, IsNode, IsPlace}
+
+-- ---- a node
+
+pub out-leaf : (v : ℕ) (ps : Vec Point Global) → out-Node (Leaf v ps) ≡ Node-F.Leaf v ps
+out-leaf v ps = ap out-Node (sym (rolls-Leaf v ps)) ∙ out-roll-Node (Node-F.Leaf v ps)
+
+pub out-inner : (v : ℕ) (ss : Vec Slot Global) (cs : Vec Child Global) → out-Node (Inner v ss cs) ≡ Node-F.Inner v ss cs
+out-inner v ss cs = ap out-Node (sym (rolls-Inner v ss cs)) ∙ out-roll-Node (Node-F.Inner v ss cs)
+
+-- what holds of the kind of a node, at its parts
+pub by_leaf : (P : ℕ → List Point → Type 0) (Q : ℕ → List Slot → List Child → Type 0) (n : Node) (v : ℕ) (ps : Vec Point Global) → n ≡ Leaf v ps → ByKind P Q (out-Node n) → P v ps.items
+by_leaf P Q n v ps e h = subst (ByKind P Q) (ap out-Node e ∙ out-leaf v ps) h
+
+pub by_inner : (P : ℕ → List Point → Type 0) (Q : ℕ → List Slot → List Child → Type 0) (n : Node) (v : ℕ) (ss : Vec Slot Global) (cs : Vec Child Global) → n ≡ Inner v ss cs → ByKind P Q (out-Node n) → Q v ss.items cs.items
+by_inner P Q n v ss cs e h = subst (ByKind P Q) (ap out-Node e ∙ out-inner v ss cs) h
+
+pub leaf-is : (k : ℕ) (s : ℤ) (above : List Point → Bool) (h : List Commit) (n : Node) (v : ℕ) (ps : Vec Point Global) → n ≡ Leaf v ps → IsNode k s above h n → IsLeaf k s above h v ps.items
+leaf-is zero s above h n v ps e holds = by_leaf _ _ n v ps e holds
+leaf-is (suc k) s above h n v ps e holds = by_leaf _ _ n v ps e holds
+
+-- the height below an inner node, and what its slots are
+pub record IsBody (k : ℕ) (s : ℤ) (above : List Point → Bool) (h : List Commit) (v : ℕ) (ss : List Slot) (cs : List Child) : Type 0 where
+  pub below : ℕ
+  pub height : k ≡ suc below
+  pub inner : IsInner below s above h v ss cs
+  pub each : HasChildren below s h 64 cs
+
+pub inner-is : (k : ℕ) (s : ℤ) (above : List Point → Bool) (h : List Commit) (n : Node) (v : ℕ) (ss : Vec Slot Global) (cs : Vec Child Global) → n ≡ Inner v ss cs → IsNode k s above h n → IsBody k s above h v ss.items cs.items
+inner-is zero s above h n v ss cs e holds = absurd (by_inner _ _ n v ss cs e holds)
+inner-is (suc k) s above h n v ss cs e holds =
+    let body : IsInner k s above h v ss.items cs.items × HasChildren k s h 64 cs.items = by_inner _ _ n v ss cs e holds in
+    record { below = k; height = refl; inner = body.0; each = body.1 }
+
+pub place-is : (k : ℕ) (s : ℤ) (above : List Point → Bool) (h : List Commit) (place : Child) (a : Arc Node Global) → place ≡ Some a → IsPlace k s above h place → IsNode k s above h a.value
+place-is k s above h place a e holds = subst (IsPlace k s above h) e holds
+
+pub none-is : (k : ℕ) (s : ℤ) (above : List Point → Bool) (h : List Commit) (place : Child) → place ≡ None → IsPlace k s above h place → points_of k s (bag h) ≡ []
+none-is k s above h place e holds = subst (IsPlace k s above h) e holds
+
+-- ---- the slots of a span
+
+pub slot-next : (below : ℕ) (s : ℤ) (i : ℕ) → slot_start below s (i + 1) ≡ slot_start below s i +ℤ pos (width below)
+slot-next below s i = let e : (i + 1) * width below ≡ i * width below + width below = omega arith in omega (arith, ints)
+
+pub slot-end : (below : ℕ) (s : ℤ) → slot_start below s 64 ≡ s +ℤ pos (width (suc below))
+slot-end below s = let e = width-next below in omega (arith, ints)
+
+pub slot-first : (below : ℕ) (s : ℤ) → slot_start below s 0 ≡ s
+slot-first below s = let e : 0 * width below ≡ 0 = omega arith in omega (arith, ints)
+
+part-by : (a b : ℤ) (m n : ℕ) → a ≡ b → m ≡ n → (let s : SpanValue = record { start = a; height = m } in s) ≡ record { start = b; height = n }
+part-by a b m n p q = cc
+
+pub slot-part : (span : SpanValue) (below i : ℕ) → span.height ≡ suc below → slot_of span i ≡ record { start = slot_start below span.start i; height = below }
+slot-part span below i e =
+    let down : span.height - 1 ≡ below = omega arith in
+    part-by _ _ _ _ (ap (λ k. span.start +ℤ pos (i * width k)) down) down
+
+-- the points before a slot, with those of the slot, are those before the next
+pub prefix-next : (below : ℕ) (s : ℤ) (i : ℕ) (h : List Commit) → within s (slot_start below s (i + 1)) (bag h) ≡ within s (slot_start below s i) (bag h) ++ points_of below (slot_start below s i) (bag h)
+prefix-next below s i h =
+    let next = slot-next below s i in
+    ap (λ e. within s e (bag h)) next
+    ∙ within-split s (slot_start below s i) (slot_start below s i +ℤ pos (width below)) (bag h) (omega (arith, ints)) (omega (arith, ints)) (bag-in_order h)
+
+pub prefix-none : (below : ℕ) (s : ℤ) (h : List Commit) → within s (slot_start below s 0) (bag h) ≡ []
+prefix-none below s h = ap (λ e. within s e (bag h)) (slot-first below s) ∙ within-empty s (bag h)
+
+pub prefix-all : (below : ℕ) (s : ℤ) (h : List Commit) → within s (slot_start below s 64) (bag h) ≡ points_of (suc below) s (bag h)
+prefix-all below s h = ap (λ e. within s e (bag h)) (slot-end below s)
+
+-- the points from a slot on are those of the slot, and those from the next one on
+pub rest-next : (below : ℕ) (s : ℤ) (i : ℕ) (h : List Commit) → i < 64 → within (slot_start below s i) (s +ℤ pos (width (suc below))) (bag h) ≡ points_of below (slot_start below s i) (bag h) ++ within (slot_start below s (i + 1)) (s +ℤ pos (width (suc below))) (bag h)
+rest-next below s i h place =
+    let next = slot-next below s i in
+    let whole = width-next below in
+    let inside : (i + 1) * width below ≤ 64 * width below = mul-le-mul_right (width below) (omega arith) in
+    within-split (slot_start below s i) (slot_start below s i +ℤ pos (width below)) (s +ℤ pos (width (suc below))) (bag h) (omega (arith, ints)) (omega (arith, ints)) (bag-in_order h)
+    ∙ ap (λ e. points_of below (slot_start below s i) (bag h) ++ within e (s +ℤ pos (width (suc below))) (bag h)) (sym next)
+
+-- ---- the aggregates of the slots
+
+total-from : (below : ℕ) (s : ℤ) (h : List Commit) (ss : List Slot) (cs : List Child) → HasSlots below s h 64 ss cs → (n i : ℕ) → n + i ≡ 64 → joined_all (drop i ss) ≡ agg (within (slot_start below s i) (s +ℤ pos (width (suc below))) (bag h))
+total-from below s h ss cs holds zero i e =
+    let here : i ≡ 64 = omega arith in
+    let done = holds.slots_length in
+    let end : slot_start below s i ≡ s +ℤ pos (width (suc below)) = ap (slot_start below s) here ∙ slot-end below s in
+    ap joined_all (drop_all i ss (omega arith))
+    ∙ sym (ap agg (ap (λ a. within a (s +ℤ pos (width (suc below))) (bag h)) end ∙ within-empty (s +ℤ pos (width (suc below))) (bag h)))
+total-from below s h ss cs holds (suc n) i e =
+    let d = slot_of_points (suc below) s below (slot_start below s i) h in
+    let long = holds.slots_length in
+    let here = holds.each i d (omega arith) in
+    let rest = total-from below s h ss cs holds n (i + 1) (omega arith) in
+    ap joined_all (drop_more ss i d (omega arith))
+    ∙ ap (λ x. joined x.agg (joined_all (drop (i + 1) ss))) here
+    ∙ ap (joined (agg (points_of below (slot_start below s i) (bag h)))) rest
+    ∙ sym (agg-append (points_of below (slot_start below s i) (bag h)) (within (slot_start below s (i + 1)) (s +ℤ pos (width (suc below))) (bag h)))
+    ∙ sym (ap agg (rest-next below s i h (omega arith)))
+
+pub total-of : (below : ℕ) (s : ℤ) (h : List Commit) (ss : List Slot) (cs : List Child) → HasSlots below s h 64 ss cs → joined_all ss ≡ agg (points_of (suc below) s (bag h))
+total-of below s h ss cs holds =
+    total-from below s h ss cs holds 64 0 refl
+    ∙ ap (λ a. agg (within a (s +ℤ pos (width (suc below))) (bag h))) (slot-first below s)
+
+-- ---- one slot of an inner node
+
+pub slot-inside : (below : ℕ) (s : ℤ) (i : ℕ) → i < 64 → (slot_start below s i +ℤ pos (width below)) ≤ℤ (s +ℤ pos (width (suc below)))
+slot-inside below s i place =
+    let whole = width-next below in
+    let inside : (i + 1) * width below ≤ 64 * width below = mul-le-mul_right (width below) (omega arith) in
+    let e : (i + 1) * width below ≡ i * width below + width below = omega arith in
+    omega (arith, ints)
+
+pub slot-from : (below : ℕ) (s : ℤ) (i : ℕ) → s ≤ℤ slot_start below s i
+slot-from below s i = omega (arith, ints)
+
+pub points-slot : (below : ℕ) (s : ℤ) (i : ℕ) (b : List Point) → i < 64 → points_of below (slot_start below s i) (points_of (suc below) s b) ≡ points_of below (slot_start below s i) b
+points-slot below s i b place =
+    within-nested s (s +ℤ pos (width (suc below))) (slot_start below s i) (slot_start below s i +ℤ pos (width below)) b (slot-from below s i) (slot-inside below s i place)
+
+pub slot-fewer : (below : ℕ) (s : ℤ) (i : ℕ) (b : List Point) → i < 64 → length (points_of below (slot_start below s i) b) ≤ length (points_of (suc below) s b)
+slot-fewer below s i b place =
+    subst (λ x. length x ≤ length (points_of (suc below) s b)) (points-slot below s i b place) (length-filter (is_within (slot_start below s i) (slot_start below s i +ℤ pos (width below))) (points_of (suc below) s b))
+
+-- what is known of a slot's child and aggregate
+pub record IsSlotAt (below : ℕ) (s : ℤ) (h : List Commit) (i : ℕ) (part : SpanValue) (slot : Slot) (child : Child) : Type 0 where
+  pub is : part ≡ record { start = slot_start below s i; height = below }
+  pub holds : IsPlace part.height part.start (is_inner (suc below) s) h child
+  pub counted : slot.agg ≡ agg (points_of part.height part.start (bag h))
+
+pub slot-at : (span : SpanValue) (below : ℕ) (h : List Commit) (i j : ℕ) (part : SpanValue) (slot : Slot) (child : Child) (ss : List Slot) (cs : List Child) → span.height ≡ suc below → HasSlots below span.start h 64 ss cs → HasChildren below span.start h 64 cs → i < 64 → j ≡ i → part ≡ slot_of span i → slot ≡ slice_index_or ss j slot → child ≡ slice_index_or cs j child → IsSlotAt below span.start h i part slot child
+slot-at span below h i j part slot child ss cs e slots each place same p q r =
+    let is : part ≡ record { start = slot_start below span.start i; height = below } = p ∙ slot-part span below i e in
+    let holds : IsPlace below (slot_start below span.start i) (is_inner (suc below) span.start) h child = subst (IsPlace below (slot_start below span.start i) (is_inner (suc below) span.start) h) (ap (λ k. slice_index_or cs k child) (sym same) ∙ sym r) (each i child place) in
+    let counted : slot.agg ≡ agg (points_of below (slot_start below span.start i) (bag h)) = ap (λ x. x.agg) (q ∙ ap (λ k. slice_index_or ss k slot) same ∙ slots.each i slot place) in
+    record {
+      is = is;
+      holds = subst (λ u. IsPlace u.height u.start (is_inner (suc below) span.start) h child) (sym is) holds;
+      counted = subst (λ (u : SpanValue). slot.agg ≡ agg (points_of u.height u.start (bag h))) (sym is) counted;
+    }
+
+-- the length of what the commits leave in a slot
+pub slot-few : (below : ℕ) (s : ℤ) (h : List Commit) (i : ℕ) (part : SpanValue) → i < 64 → part ≡ record { start = slot_start below s i; height = below } → length (points_of part.height part.start (bag h)) ≤ length (points_of (suc below) s (bag h))
+slot-few below s h i part place is =
+    subst (λ (u : SpanValue). length (points_of u.height u.start (bag h)) ≤ length (points_of (suc below) s (bag h))) (sym is) (slot-fewer below s i (bag h) place)
+
+-- the points up to a slot's end
+pub prefix-part : (below : ℕ) (s : ℤ) (i : ℕ) (h : List Commit) (part : SpanValue) → part ≡ record { start = slot_start below s i; height = below } → within s (slot_start below s (i + 1)) (bag h) ≡ within s (slot_start below s i) (bag h) ++ points_of part.height part.start (bag h)
+prefix-part below s i h part is =
+    prefix-next below s i h ∙ ap (λ (u : SpanValue). within s (slot_start below s i) (bag h) ++ points_of u.height u.start (bag h)) (sym is)
+
+pub prefix-fewer : (below : ℕ) (s : ℤ) (i : ℕ) (b : List Point) → i ≤ 64 → length (within s (slot_start below s i) b) ≤ length (points_of (suc below) s b)
+prefix-fewer below s i b place =
+    let whole = width-next below in
+    let inside : i * width below ≤ 64 * width below = mul-le-mul_right (width below) place in
+    subst (λ x. length x ≤ length (points_of (suc below) s b)) (within-nested s (s +ℤ pos (width (suc below))) s (slot_start below s i) b (omega (arith, ints)) (omega (arith, ints))) (length-filter (is_within s (slot_start below s i)) (points_of (suc below) s b))
+
+-- the points up to the last slot's end
+pub prefix-done : (k below : ℕ) (s : ℤ) (i : ℕ) (h : List Commit) → i ≡ 64 → k ≡ suc below → within s (slot_start below s i) (bag h) ≡ points_of k s (bag h)
+prefix-done k below s i h e height =
+    ap (λ j. within s (slot_start below s j) (bag h)) e ∙ prefix-all below s h ∙ ap (λ j. points_of j s (bag h)) (sym height)

@@ -1,0 +1,160 @@
+-- Lemmas on nodes that a commit does not touch, and on what each node shows of its span.
+use Rattle.std.specs.Prelude.{◌≡◌, ℕ, ◌+◌, ◌*◌, ◌<◌, ◌≤◌, ◌^◌, ℤ, pos, ◌+ℤ◌, Bool, true, false, not, ◌&&◌, ◌||◌, cond, List, [], ◌∷◌, ◌++◌, length, slice_index_or, Option, Some, None, MatchOption}
+use Rattle.std.specs.List.{filter, list_any}
+use Rattle.std.proofs.Common.{zero, suc, refl, sym, ap, ◌∙◌, arith, subst, length-append}
+use Rattle.std.proofs.lemmas.Bool.Decides.{nat_tests}
+use Rattle.btr_base.specs.declared.point.Point.{Point}
+use Rattle.btr_base.specs.Range.{covered}
+use Rattle.btr_base.specs.Bag.{outside, is_within}
+use Rattle.btr_base.proofs.PointLemmas.{length-sort}
+use Rattle.btr_base.specs.Span.{width, IsSpan}
+use Rattle.btr_base.proofs.SpanLemmas.{slot-aligned}
+use Rattle.btr_base.specs.Agg.{AggValue, agg}
+use Rattle.btr_base.proofs.AggLemmas.{agg-count}
+use Rattle.btr_tree.specs.declared.limits.TheConstants.{LEAF_POINTS}
+use Rattle.btr_tree.specs.declared.node.Node.{Node, out-Node}
+use Rattle.btr_tree.specs.declared.node.Slot.{Slot}
+use Rattle.btr_tree.specs.History.{Commit, bag}
+use Rattle.btr_tree.specs.Nodes.{points_of, has_points, touches, is_inner, is_node, stamp}
+use Rattle.btr_tree.proofs.VersionLemmas.{points-untouched, points-after}
+use Rattle.btr_tree.specs.Shape.{Child, slot_start, IsLeaf, IsInner, IsNode, IsPlace}
+use Rattle.btr_tree.proofs.NodeLemmas.{points-slot, total-of, slot-part, slot-next, slot-first, slot-end}
+use Rattle.btr_tree.proofs.BuiltNodeLemmas.{by_kind-weaker, by_kind-gives}
+use Rattle.btr_tree.proofs.CutLemmas.{outside-length}
+use Rattle.btr_tree.specs.Change.{IsCounted}
+use Rattle.btr_tree.specs.Crowd.{HasRoom}
+use Rattle.btr_tree.proofs.CrowdLemmas.{span-whole, room-few, room-none, room-join, room-part}
+
+-- ---- what a commit does not touch
+
+pub match-weaker : {X : Type 0} (o : Option X) (P R : Type 0) (Q S : X → Type 0) → (P → R) → ((x : X) → Q x → S x) → MatchOption o P Q → MatchOption o R S
+match-weaker None P R Q S f g h = f h
+match-weaker (Some x) P R Q S f g h = g x h
+
+none-has : (b : List Point) → has_points b ≡ false → b ≡ []
+none-has [] e = refl
+none-has (p ∷ b) e = cc
+
+pub some-has : (b : List Point) → 0 < length b → has_points b ≡ true
+some-has [] h = absurd (omega arith)
+some-has (p ∷ b) h = refl
+
+any-filter : (f g : Point → Bool) (b : List Point) → list_any f b ≡ false → list_any f (filter g b) ≡ false
+any-filter f g [] e = refl
+any-filter f g (p ∷ b) e =
+    let here : f p ≡ false = grind arith in
+    let rest : list_any f b ≡ false = grind arith in
+    elim (g p) as (λ t. list_any f (cond t (p ∷ filter g b) (filter g b)) ≡ false) [
+      | true ↦ ap (λ t. t || list_any f (filter g b)) here ∙ any-filter f g b rest
+      | false ↦ any-filter f g b rest
+    ]
+
+or-left : (a b : Bool) → (a || b) ≡ false → a ≡ false
+or-left a b e = grind arith
+
+or-right : (a b : Bool) → (a || b) ≡ false → b ≡ false
+or-right a b e = grind arith
+
+pub touches-slot : (below : ℕ) (s : ℤ) (i : ℕ) (c : Commit) (b : List Point) → i < 64 → touches c (suc below) s b ≡ false → touches c below (slot_start below s i) b ≡ false
+touches-slot below s i c b place e =
+    let k = points_of (suc below) s c.added in
+    let j = slot_start below s i in
+    let added : k ≡ [] = none-has k (or-left (has_points k) (list_any (λ p. covered c.cut p.time) (points_of (suc below) s b)) e) in
+    let added_slot : points_of below j c.added ≡ [] = sym (points-slot below s i c.added place) ∙ ap (points_of below j) added in
+    let kept : list_any (λ p. covered c.cut p.time) (points_of (suc below) s b) ≡ false = or-right (has_points k) (list_any (λ p. covered c.cut p.time) (points_of (suc below) s b)) e in
+    let kept_slot : list_any (λ p. covered c.cut p.time) (points_of below j b) ≡ false = subst (λ x. list_any (λ p. covered c.cut p.time) x ≡ false) (points-slot below s i b place) (any-filter (λ p. covered c.cut p.time) (is_within j (j +ℤ pos (width below))) (points_of (suc below) s b) kept) in
+    ap (λ x. has_points x || list_any (λ p. covered c.cut p.time) (points_of below j b)) added_slot ∙ kept_slot
+
+-- a version stays where the commit does not touch the span, and it was what is asked
+pub stamp-kept : (was : List Point → Bool) (k : ℕ) (s : ℤ) (h : List Commit) (c : Commit) → touches c k s (bag h) ≡ false → was (bag h) ≡ true → stamp was k s (c ∷ h) ≡ stamp was k s h
+stamp-kept was k s h c e w =
+    ap (λ t. cond (t || not (was (bag h))) c.version (stamp was k s h)) e ∙ ap (λ t. cond (not t) c.version (stamp was k s h)) w
+
+leaf-kept : (k : ℕ) (s : ℤ) (above : List Point → Bool) (h : List Commit) (c : Commit) → above (bag h) ≡ true → touches c k s (bag h) ≡ false → (v : ℕ) (ps : List Point) → IsLeaf k s above h v ps → IsLeaf k s above (c ∷ h) v ps
+leaf-kept k s above h c w e v ps x =
+    let some : has_points (points_of k s (bag h)) ≡ true = some-has (points_of k s (bag h)) (subst (λ y. 0 < length y) x.same x.some) in
+    let node : is_node above k s (bag h) ≡ true = ap (λ t. t && has_points (points_of k s (bag h))) w ∙ some in
+    record {
+      same = x.same ∙ sym (points-untouched k s c h e);
+      some = x.some;
+      few = x.few;
+      version = x.version ∙ sym (stamp-kept (is_node above k s) k s h c e node);
+    }
+
+pub many-inner : (k : ℕ) (s : ℤ) (b : List Point) → LEAF_POINTS < length (points_of k s b) → is_inner k s b ≡ true
+many-inner k s b many = grind (arith, nat_tests)
+
+pub slot-same : (a b : AggValue) (v w : ℕ) → a ≡ b → v ≡ w → (let x : Slot = record { agg = a; version = v; child = 0 } in x) ≡ record { agg = b; version = w; child = 0 }
+slot-same a b v w p q = cc
+
+pub inner-kept : (below : ℕ) (s : ℤ) (above : List Point → Bool) (h : List Commit) (c : Commit) → above (bag h) ≡ true → touches c (suc below) s (bag h) ≡ false → (v : ℕ) (ss : List Slot) (cs : List Child) → IsInner below s above h v ss cs → IsInner below s above (c ∷ h) v ss cs
+inner-kept below s above h c w e v ss cs x =
+    let many = x.many in
+    let some : has_points (points_of (suc below) s (bag h)) ≡ true = some-has (points_of (suc below) s (bag h)) (omega arith) in
+    let node : is_node above (suc below) s (bag h) ≡ true = ap (λ t. t && has_points (points_of (suc below) s (bag h))) w ∙ some in
+    let inner = many-inner (suc below) s (bag h) x.many in
+    record {
+      many = subst (λ y. LEAF_POINTS < length y) (sym (points-untouched (suc below) s c h e)) x.many;
+      version = x.version ∙ sym (stamp-kept (is_node above (suc below) s) (suc below) s h c e node);
+      all = record {
+        slots_length = x.all.slots_length;
+        children_length = x.all.children_length;
+        each = λ i d place.
+            let slot = touches-slot below s i c (bag h) place e in
+            x.all.each i d place ∙ slot-same _ _ _ _ (ap agg (sym (points-untouched below (slot_start below s i) c h slot))) (sym (stamp-kept (is_inner (suc below) s) below (slot_start below s i) h c slot inner));
+      };
+    }
+
+pub node-kept : (k : ℕ) (s : ℤ) (above : List Point → Bool) (h : List Commit) (c : Commit) (n : Node) → above (bag h) ≡ true → touches c k s (bag h) ≡ false → IsNode k s above h n → IsNode k s above (c ∷ h) n
+node-kept zero s above h c n w e x =
+    by_kind-weaker _ _ _ _ (out-Node n) (leaf-kept zero s above h c w e) (λ _ _ _ y. y) x
+node-kept (suc k) s above h c n w e x =
+    by_kind-weaker _ _ _ _ (out-Node n) (leaf-kept (suc k) s above h c w e) (λ v ss cs y. (
+      inner-kept k s above h c w e v ss cs y.0,
+      λ i d place.
+          let slot = touches-slot k s i c (bag h) place e in
+          match-weaker (slice_index_or cs i d) _ _ _ _ (λ none. points-untouched k (slot_start k s i) c h slot ∙ none) (λ a z. node-kept k (slot_start k s i) (is_inner (suc k) s) h c a.value (many-inner (suc k) s (bag h) y.0.many) slot z) (y.1 i d place),
+    )) x
+
+pub place-kept : (k : ℕ) (s : ℤ) (above : List Point → Bool) (h : List Commit) (c : Commit) (p : Child) → above (bag h) ≡ true → touches c k s (bag h) ≡ false → IsPlace k s above h p → IsPlace k s above (c ∷ h) p
+place-kept k s above h c p w e x =
+    match-weaker p _ _ _ _ (λ none. points-untouched k s c h e ∙ none) (λ a y. node-kept k s above h c a.value w e y) x
+
+-- ---- what a node shows
+
+-- the aggregates of its slots can be joined
+pub place-counted : (k : ℕ) (s : ℤ) (above : List Point → Bool) (h : List Commit) (p : Child) → length (points_of k s (bag h)) < 2 ^ 64 → IsPlace k s above h p → IsCounted p
+place-counted zero s above h p few x =
+    match-weaker p _ _ _ _ (λ _. tt) (λ a y. by_kind-weaker _ _ _ _ (out-Node a.value) (λ _ _ _. tt) (λ _ _ _ z. absurd z) y) x
+place-counted (suc k) s above h p few x =
+    match-weaker p _ _ _ _ (λ _. tt) (λ a y. by_kind-weaker _ _ _ _ (out-Node a.value) (λ _ _ _. tt) (λ v ss cs z. omega (arith, ap (λ u. u.count) (total-of k s h ss cs z.0.all), agg-count (points_of (suc k) s (bag h)))) y) x
+
+-- the points of a span after a commit are at most those before and those added
+pub after-fewer : (k : ℕ) (s : ℤ) (h : List Commit) (c : Commit) → length (points_of k s (bag (c ∷ h))) ≤ length (points_of k s (bag h)) + length (points_of k s c.added)
+after-fewer k s h c =
+    let kept = outside-length (points_of k s (bag h)) c.cut in
+    omega (arith, ap length (points-after k s c (bag h)), length-sort (outside (points_of k s (bag h)) c.cut ++ points_of k s c.added), length-append (outside (points_of k s (bag h)) c.cut) (points_of k s c.added))
+
+-- no bottom span is crowded
+room-nothing : (a b : ℤ) (xs : List Point) → xs ≡ [] → HasRoom a b xs
+room-nothing a b xs e =
+    let few : length xs ≡ 0 = ap (length {A = Point}) e in room-few a b xs (omega arith)
+
+room-slots : (below : ℕ) (s : ℤ) (h : List Commit) → ((i : ℕ) → i < 64 → HasRoom (slot_start below s i) (slot_start below s (i + 1)) (points_of (suc below) s (bag h))) → (n : ℕ) → n ≤ 64 → HasRoom s (slot_start below s n) (points_of (suc below) s (bag h))
+room-slots below s h each zero le =
+    subst (λ e. HasRoom s e (points_of (suc below) s (bag h))) (sym (slot-first below s)) (room-none s (points_of (suc below) s (bag h)))
+room-slots below s h each (suc n) le =
+    let next : n + 1 ≡ suc n = omega arith in
+    subst (λ j. HasRoom s (slot_start below s j) (points_of (suc below) s (bag h))) next (room-join s (slot_start below s n) (slot_start below s (n + 1)) (points_of (suc below) s (bag h)) (room-slots below s h each n (omega arith)) (each n (omega arith)))
+
+pub place-room : (k : ℕ) (s : ℤ) (above : List Point → Bool) (h : List Commit) (p : Child) → IsSpan (record { start = s; height = k }) → IsPlace k s above h p → HasRoom s (s +ℤ pos (width k)) (points_of k s (bag h))
+place-room k s above h None aligned x = room-nothing s (s +ℤ pos (width k)) (points_of k s (bag h)) x
+place-room zero s above h (Some a) aligned x =
+    by_kind-gives _ _ (HasRoom s (s +ℤ pos (width 0)) (points_of 0 s (bag h))) (out-Node a.value) (λ v ps leaf. room-few s (s +ℤ pos (width 0)) (points_of 0 s (bag h)) (subst (λ y. length y ≤ LEAF_POINTS) leaf.same leaf.few)) (λ v ss cs none. absurd none) x
+place-room (suc k) s above h (Some a) aligned x =
+    by_kind-gives _ _ (HasRoom s (s +ℤ pos (width (suc k))) (points_of (suc k) s (bag h))) (out-Node a.value) (λ v ps leaf. room-few s (s +ℤ pos (width (suc k))) (points_of (suc k) s (bag h)) (subst (λ y. length y ≤ LEAF_POINTS) leaf.same leaf.few)) (λ v ss cs body.
+    subst (λ e. HasRoom s e (points_of (suc k) s (bag h))) (slot-end k s) (room-slots k s h (λ i place.
+    let part : IsSpan (record { start = slot_start k s i; height = k }) = subst IsSpan (slot-part (record { start = s; height = suc k }) k i refl) (64 * aligned.0 + i, slot-aligned (record { start = s; height = suc k }) aligned.0 i aligned.1 (omega arith) place) in
+    let room = place-room k (slot_start k s i) (is_inner (suc k) s) h (slice_index_or cs i None) part (body.1 i None place) in
+    let inside : HasRoom (slot_start k s i) (slot_start k s i +ℤ pos (width k)) (points_of k (slot_start k s i) (points_of (suc k) s (bag h))) = subst (HasRoom (slot_start k s i) (slot_start k s i +ℤ pos (width k))) (sym (points-slot k s i (bag h) place)) room in
+    subst (λ e. HasRoom (slot_start k s i) e (points_of (suc k) s (bag h))) (sym (slot-next k s i)) (room-part (slot_start k s i) (slot_start k s i +ℤ pos (width k)) (points_of (suc k) s (bag h)) (span-whole (record { start = slot_start k s i; height = k }) part) inside)) 64 (omega arith))) x
