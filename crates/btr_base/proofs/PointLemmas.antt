@@ -13,6 +13,7 @@ use Rattle.std.specs.Ordering.{is_lt}
 use Rattle.btr_base.specs.declared.point.Point.{Point}
 use Rattle.btr_base.specs.Point.{point_cmp, is_not_after, same_point}
 use Rattle.btr_base.specs.Bag.{IsInOrder, put, sort, copies}
+use Rattle.btr_base.proofs.ListLemmas.{each-append, each-weaker, each-filter, count-append, count-cons}
 
 -- ---- two points
 

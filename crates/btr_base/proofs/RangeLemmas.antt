@@ -7,9 +7,9 @@ use Rattle.std.proofs.Math.Bool.{or-false}
 use Rattle.std.proofs.lemmas.Int.{ints, by_lt_z}
 use Rattle.std.proofs.lemmas.List.Elements.{All-from_recursion}
 use Rattle.btr_base.specs.declared.point.Point.{Point}
-use Rattle.btr_base.specs.Range.{RangeValue, IsRange, spans, covered, AreApart, IsCut}
+use Rattle.btr_base.specs.Range.{RangeValue, IsRange, spans, covered, AreApart, IsCut, IsBehind}
 use Rattle.btr_base.specs.Bag.{outside}
-use Rattle.btr_base.proofs.ListLemmas.{each-weaker, each-both, each-append}
+use Rattle.btr_base.proofs.ListLemmas.{each-weaker, each-both, each-append, each-take}
 
 -- ---- one range
 

@@ -6,8 +6,8 @@ use Rattle.std.proofs.lemmas.Int.{ints, by_lt_z}
 use Rattle.btr_base.specs.declared.point.Point.{Point}
 use Rattle.btr_base.specs.Point.{is_not_after}
 use Rattle.btr_base.specs.Range.{RangeValue, covered}
-use Rattle.btr_base.specs.Bag.{IsInOrder, sort, outside, within}
-use Rattle.btr_base.proofs.ListLemmas.{each-weaker, filter-append, filter-filter}
+use Rattle.btr_base.specs.Bag.{IsInOrder, sort, outside, within, is_within}
+use Rattle.btr_base.proofs.ListLemmas.{each-weaker, filter-append, filter-filter, filter-swap, filter-same}
 use Rattle.btr_base.proofs.PointLemmas.{is_not_after-times, filter-sort, filter-in_order}
 
 -- ---- filters

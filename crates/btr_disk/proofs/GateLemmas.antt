@@ -4,6 +4,7 @@ use Rattle.std.proofs.Common.{sym, ◌∙◌, arith}
 use Rattle.std.proofs.lemmas.List.{length-replicate}
 use Rattle.btr_disk.specs.Bytes.{Image, Has}
 use Rattle.btr_disk.proofs.ByteLemmas.{Has-append}
+use Rattle.btr_disk.specs.Gate.{IsClosed, IsOpen, mark, zeros, gate_block}
 
 pub length-zeros : (n : ℕ) → length (zeros n) ≡ n
 unfolding zeros
