@@ -2,12 +2,12 @@
 use Rattle.std.specs.Prelude.{ℕ, ◌+◌, ◌^◌, ℤ, Bool, true, false, not, ◌&&◌, int_le, int_lt, List, [], ◌∷◌, ◌++◌, map, if◌then◌else◌}
 use Rattle.std.specs.Ordering.{int_eq}
 use Rattle.std.specs.List.{filter}
-use Rattle.btr_base.specs.declared.domain.TheConstants.{FIRST, END}
+use Rattle.btr_base.specs.declared.limits.TheConstants.{FIRST, END}
 use Rattle.btr_base.specs.declared.point.Point.{Point}
 use Rattle.btr_base.specs.Point.{same_point}
 use Rattle.btr_base.specs.Range.{RangeValue}
 use Rattle.btr_base.specs.Bag.{sort}
-use Rattle.btr_base.specs.Windows.{window_of, window_at}
+use Rattle.btr_base.specs.Windows.{window_of, window_at, begin_of}
 
 -- the points at a time
 abbrev pub points_at : ℤ → List Point → List Point
@@ -32,7 +32,7 @@ changed a b =
 -- the aligned slot, `2^p` ns wide, that a time lies in
 abbrev pub slot_around : ℕ → ℤ → RangeValue
 slot_around p t =
-    record { from = window_at FIRST (2 ^ p) (window_of FIRST (2 ^ p) t); to = window_at FIRST (2 ^ p) (window_of FIRST (2 ^ p) t + 1) }
+    record { from = begin_of FIRST (2 ^ p) t; to = window_at FIRST (2 ^ p) (window_of FIRST (2 ^ p) t + 1) }
 
 -- a range before others, one with the first of them where the two touch
 abbrev pub joined_before : RangeValue → List RangeValue → List RangeValue

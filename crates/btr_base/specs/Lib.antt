@@ -2,9 +2,13 @@
 pub mod Point
 pub mod Range
 pub mod Span
--- meaning
+-- what a stream holds, and what a commit does to it
 pub mod Bag
+pub mod Commit
+-- what is asked of points
 pub mod Agg
 pub mod Nearest
 pub mod Windows
 pub mod Changes
+-- what the definitions entail
+pub mod Laws

@@ -1,9 +1,10 @@
 -- Points, and the order in which they stand.
-use Rattle.std.specs.Prelude.{ℤ, Bool, not, ◌≤ℤ◌, ◌<ℤ◌, ◌&&◌}
+use Rattle.std.specs.Prelude.{ℤ, Bool, not, ◌≤ℤ◌, ◌<ℤ◌, ◌&&◌, List}
+use Rattle.std.specs.List.{AllByRecursion}
 use Rattle.std.specs.Ordering.{int_cmp, int_eq, ordering_then, is_lt}
 use Rattle.std.specs.declared.cmp.Ordering.{Ordering}
 use Rattle.btr_base.specs.declared.point.Point.{Point}
-use Rattle.btr_base.specs.declared.domain.TheConstants.{FIRST, END}
+use Rattle.btr_base.specs.declared.limits.TheConstants.{FIRST, END}
 
 -- by time, and points of one time by value
 abbrev pub point_cmp : Point → Point → Ordering
@@ -20,3 +21,7 @@ same_point p q = int_eq p.time q.time && int_eq p.value q.value
 -- the time can be held
 abbrev pub InDomain : ℤ → Type 0
 InDomain t = (FIRST ≤ℤ t) × (t <ℤ END)
+
+-- Each of the points has a time of the domain.
+abbrev pub AreInDomain : List Point → Type 0
+AreInDomain b = AllByRecursion (λ p. InDomain p.time) b

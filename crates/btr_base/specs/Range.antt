@@ -1,7 +1,7 @@
 -- Ranges of time: which are ranges, and which times they cover.
 use Rattle.std.specs.Prelude.{ℤ, Bool, ◌&&◌, int_le, int_lt, ◌≤ℤ◌, ◌<ℤ◌, List, [], ◌∷◌, Option, Some, None}
 use Rattle.std.specs.List.{list_any, AllByRecursion}
-use Rattle.btr_base.specs.declared.domain.TheConstants.{FIRST, END}
+use Rattle.btr_base.specs.declared.limits.TheConstants.{FIRST, END}
 
 -- the times from `from` up to, and without, `to`
 pub record RangeValue : Type 0 where

@@ -1,6 +1,6 @@
 -- Spans: the aligned parts of the domain that a tree by time is made of.
 use Rattle.std.specs.Prelude.{◌≡◌, ℕ, ◌+◌, ◌-◌, ◌*◌, ◌^◌, ◌≤◌, ℤ, pos, ◌+ℤ◌, ◌≤ℤ◌}
-use Rattle.btr_base.specs.declared.domain.TheConstants.{FIRST, END}
+use Rattle.btr_base.specs.declared.limits.TheConstants.{FIRST, END}
 
 -- how many nanoseconds a span of this height covers
 unfoldable pub width : ℕ → ℕ

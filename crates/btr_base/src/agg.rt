@@ -2,6 +2,7 @@ ghost use Rattle.std.specs.Prelude.{◌≡◌, ◌+◌, ◌<◌, ◌^◌, ℤ, L
 ghost use Rattle.btr_base.specs.declared.point.Point.{Point as APoint};
 ghost use Rattle.btr_base.specs.Agg.{IsSummary, agg, joined, one_point, join_ends as outer_ends};
 
+use crate::point::Point;
 use std::marker::Model;
 
 /// What is said of points without naming them: how many there are, the sum of their values, and the least and the
@@ -55,6 +56,17 @@ impl Agg {
             sum: i128::from(value),
             ends: Some((value, value)),
         }
+    }
+
+    /// The aggregate of these points. It takes time linear in their number, and no memory.
+    pub fn of_points(points: &[Point]) -> Agg
+        ensures { result ≡ agg points.now }
+    {
+        let mut all = Agg::none();
+        for point in points {
+            all = all.join(&Agg::of(point.value));
+        }
+        all
     }
 
     /// The aggregate of the points of both, in constant time. Of the aggregates of two lists it is that of the one list

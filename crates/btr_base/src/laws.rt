@@ -1,6 +1,7 @@
-//! What the definitions entail, each as a function with an empty body whose contract is the law.
+//! What the definitions entail. Each law is a function with an empty body, and its contract is the law.
 ghost use Rattle.std.specs.Prelude.{◌≡◌, ℤ};
 ghost use Rattle.btr_base.specs.Range.{IsCut, covered};
+ghost use Rattle.btr_base.specs.Laws.{TimeLimits, CountLimits, TreeLimits};
 
 use crate::range::Range;
 
@@ -11,4 +12,11 @@ pub fn one_list_for_the_times(a: &[Range], b: &[Range])
     requires b_cut { IsCut b.now }
     requires times { (t : ℤ) → covered a.now t ≡ covered b.now t }
     ensures { a.now ≡ b.now }
+{}
+
+/// The limits as numerals.
+pub fn limits_are_these()
+    ensures times { TimeLimits }
+    ensures counts { CountLimits }
+    ensures tree { TreeLimits }
 {}

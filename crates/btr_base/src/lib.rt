@@ -7,7 +7,7 @@
 //! It knows no streams, no versions and no bytes.
 #![tactic(auto)]
 
-mod domain;
+mod limits;
 mod point;
 // what is cut
 mod range;
@@ -17,6 +17,7 @@ mod bag;
 // what is said of it
 mod agg;
 mod cell;
+mod grid;
 mod span;
 mod toward;
 // what the definitions entail
@@ -25,9 +26,13 @@ mod laws;
 pub use agg::Agg;
 pub use bag::{Bag, merged, parted, points_between, points_outside};
 pub use cell::Cell;
-pub use domain::{END, FIRST};
-pub use laws::one_list_for_the_times;
-pub use point::Point;
+pub use grid::{Grid, slot_around};
+pub use laws::{limits_are_these, one_list_for_the_times};
+pub use limits::{
+    BOTTOM_WIDTH, END, FAN_OUT, FIRST, LEAF_POINTS, MAX_COMMIT_POINTS, MAX_COMMIT_RANGES,
+    MAX_EXPONENT, MAX_POINTS, MAX_STREAMS, MAX_VERSIONS, MAX_WIDTH, ROOT_HEIGHT,
+};
+pub use point::{Point, are_in_domain};
 pub use range::Range;
 pub use ranges::{Ranges, ranges_before, ranges_from};
 pub use span::Span;

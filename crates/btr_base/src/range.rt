@@ -1,7 +1,7 @@
 ghost use Rattle.std.specs.Prelude.{◌≡◌, ◌↔◌, IsSome, IfSome};
 ghost use Rattle.btr_base.specs.Range.{IsRange};
 
-use crate::domain::{END, FIRST};
+use crate::limits::{END, FIRST};
 use std::marker::Model;
 
 /// The times from `from` up to, and without, `to`, in nanoseconds. It is never empty, and lies in the domain.

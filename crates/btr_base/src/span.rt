@@ -2,7 +2,7 @@ ghost use Rattle.std.specs.Prelude.{◌≡◌, ℕ, ◌+◌, ◌-◌, ◌<◌, �
 ghost use Rattle.btr_base.specs.Point.{InDomain};
 ghost use Rattle.btr_base.specs.Span.{width as nanoseconds, IsSpan, slot_of};
 
-use crate::domain::FIRST;
+use crate::limits::FIRST;
 use std::marker::Model;
 
 /// A part of the domain with the width of a height, `2^(6 height + 2)` ns, aligned from the first time of the domain

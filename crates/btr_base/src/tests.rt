@@ -1,7 +1,7 @@
 use crate::agg::Agg;
 use crate::bag::Bag;
 use crate::cell::Cell;
-use crate::domain::{END, FIRST};
+use crate::limits::{END, FIRST};
 use crate::point::Point;
 use crate::range::Range;
 use crate::ranges::Ranges;

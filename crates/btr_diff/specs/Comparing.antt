@@ -1,7 +1,7 @@
 -- What a part of two bags adds to the changed slots, and what the parts of the comparison stand on.
 use Rattle.std.specs.Prelude.{◌≡◌, ℕ, zero, suc, ℤ, pos, ◌+ℤ◌, Bool, not, ◌||◌, int_lt, ◌+◌, ◌<◌, ◌≤ℤ◌, List, length, if◌then◌else◌}
 use Rattle.std.specs.List.{filter, list_any, AllByRecursion}
-use Rattle.btr_base.specs.declared.domain.TheConstants.{FIRST, END}
+use Rattle.btr_base.specs.declared.limits.TheConstants.{FIRST, END}
 use Rattle.btr_base.specs.declared.point.Point.{Point}
 use Rattle.btr_base.specs.Span.{width}
 use Rattle.btr_base.specs.Point.{InDomain}

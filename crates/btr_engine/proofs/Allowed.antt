@@ -5,7 +5,7 @@ use Rattle.std.proofs.Common.{refl, arith}
 use Rattle.std.proofs.lemmas.Int.{ints}
 use Rattle.std.proofs.lemmas.Bool.Decides.{nat_tests}
 use Rattle.btr_base.specs.declared.point.Point.{Point}
-use Rattle.btr_base.specs.declared.domain.TheConstants.{FIRST, END}
+use Rattle.btr_base.specs.declared.limits.TheConstants.{FIRST, END}
 use Rattle.btr_base.specs.Point.{InDomain}
 use Rattle.btr_hist.specs.declared.entry.Entry.{Entry}
 use Rattle.btr_hist.specs.declared.entry.Entry.TheVariants.{Create, Commit}

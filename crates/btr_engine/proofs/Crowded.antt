@@ -7,7 +7,7 @@ use Rattle.std.proofs.Common.{refl, sym, ap, ◌∙◌, arith, subst}
 use Rattle.std.proofs.lemmas.Int.{ints, by_lt_z}
 use Rattle.std.proofs.lemmas.Bool.{lt-ltb, le-ltb}
 use Rattle.btr_base.specs.declared.point.Point.{Point}
-use Rattle.btr_base.specs.declared.domain.TheConstants.{FIRST, END}
+use Rattle.btr_base.specs.declared.limits.TheConstants.{FIRST, END}
 use Rattle.btr_base.specs.Point.{InDomain, is_not_after}
 use Rattle.btr_base.specs.Bag.{IsInOrder, is_within}
 use Rattle.btr_base.proofs.ListLemmas.{count-cons, each-weaker}

@@ -5,7 +5,7 @@ use Rattle.std.proofs.lemmas.Bool.Decides.{nat_tests}
 use Rattle.std.proofs.lemmas.Int.{ints, to_z-of_z}
 use Rattle.std.proofs.lemmas.Nat.{pow_pos}
 use Rattle.std.proofs.Math.Nat.{pow-le-pow_right, div-mul-le_self}
-use Rattle.btr_base.specs.declared.domain.TheConstants.{FIRST, END}
+use Rattle.btr_base.specs.declared.limits.TheConstants.{FIRST, END}
 use Rattle.btr_base.specs.declared.point.Point.{Point}
 use Rattle.btr_base.specs.Bag.{within}
 use Rattle.btr_base.proofs.ChangesLemmas.{slot-fits}

@@ -8,7 +8,7 @@ use Rattle.std.proofs.lemmas.List.{drop_more, drop_all}
 use mathlib.Core.List.{append-nil}
 use Rattle.std.proofs.lemmas.List.Elements.{All-from_recursion}
 use Rattle.std.proofs.Math.Nat.{div-mul-le_self}
-use Rattle.btr_base.specs.declared.domain.TheConstants.{END}
+use Rattle.btr_base.specs.declared.limits.TheConstants.{END}
 use Rattle.btr_base.specs.declared.point.Point.{Point}
 use Rattle.btr_base.specs.Bag.{within, is_within}
 use Rattle.btr_base.proofs.ListLemmas.{filter-passes, each-weaker}

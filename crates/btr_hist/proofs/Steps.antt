@@ -5,7 +5,7 @@ use Rattle.std.proofs.Common.{suc, sym, ap, ◌∙◌, arith}
 use Rattle.std.proofs.lemmas.List.{drop_more}
 use Rattle.std.proofs.lemmas.Bool.{eq-eqb, ne_eqb}
 use Rattle.btr_base.specs.declared.point.Point.{Point}
-use Rattle.btr_base.specs.declared.domain.TheConstants.{FIRST, END}
+use Rattle.btr_base.specs.declared.limits.TheConstants.{FIRST, END}
 use Rattle.btr_base.specs.Range.{RangeValue}
 use Rattle.btr_hist.specs.declared.entry.Entry.{Entry}
 use Rattle.btr_hist.specs.declared.entry.Entry.TheVariants.{Create, Commit}

@@ -1,7 +1,7 @@
 -- What a question about a history answers.
 use Rattle.std.specs.Prelude.{ℕ, ◌+◌, ◌^◌, ℤ, Bool, true, ◌&&◌, nat_lt, nat_le, max, int_le, int_lt, List, [], ◌∷◌, length, if◌then◌else◌, Option, Some, None}
 use Rattle.btr_base.specs.declared.point.Point.{Point}
-use Rattle.btr_base.specs.declared.domain.TheConstants.{FIRST, END}
+use Rattle.btr_base.specs.declared.limits.TheConstants.{FIRST, END}
 use Rattle.btr_base.specs.Agg.{agg_within}
 use Rattle.btr_base.specs.Bag.{within}
 use Rattle.btr_base.specs.Nearest.{nearest}

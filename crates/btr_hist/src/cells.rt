@@ -1,6 +1,6 @@
 //! Windows of time and what is said of the points in them.
 ghost use Rattle.std.specs.Prelude.{◌≡◌, ◌+◌, ◌^◌, ◌≤◌, ℤ, ◌≤ℤ◌, true, IfOk};
-ghost use Rattle.btr_base.specs.declared.domain.TheConstants.{END};
+ghost use Rattle.btr_base.specs.declared.limits.TheConstants.{END};
 ghost use Rattle.btr_base.specs.Agg.{agg};
 ghost use Rattle.btr_base.specs.Bag.{IsInOrder};
 ghost use Rattle.btr_base.specs.Windows.{window_of, window_at, cell_of, cells, aligned, windows};

@@ -1,7 +1,7 @@
 ghost use Rattle.std.specs.Prelude.{◌≡◌, ℕ, ◌≤◌, List, [], ◌∷◌, ◌++◌, Bool, not, ◌&&◌, int_le, int_lt, length, nat_eq, max, IfOk, IfSome, IsNone, OnOk, OnErr, Option, Some, None};
 ghost use Rattle.std.specs.List.{list_any};
 ghost use Rattle.std.specs.Option.{option_map};
-ghost use Rattle.btr_base.specs.declared.domain.TheConstants.{FIRST, END};
+ghost use Rattle.btr_base.specs.declared.limits.TheConstants.{FIRST, END};
 ghost use Rattle.btr_base.specs.Bag.{IsInOrder, within};
 ghost use Rattle.btr_hist.specs.Commit.{after};
 ghost use Rattle.btr_hist.specs.History.{ids, stream_of, latest, bag};

@@ -2,7 +2,7 @@
 ghost use Rattle.std.specs.Prelude.{◌≡◌, ◌+◌, ◌*◌, ◌≤◌, ℕ, ℤ, suc, ◌≤ℤ◌, ◌<ℤ◌, int_lt, Bool, List, None, filter, IsNone};
 ghost use Rattle.std.specs.List.{last_or};
 ghost use Rattle.btr_base.specs.Bag.{within};
-ghost use Rattle.btr_base.specs.declared.domain.TheConstants.{FIRST as FIRST_TIME};
+ghost use Rattle.btr_base.specs.declared.limits.TheConstants.{FIRST as FIRST_TIME};
 ghost use Rattle.btr_base.specs.declared.point.Point.{Point as APoint};
 ghost use Rattle.btr_tree.specs.History.{Commit, bag};
 ghost use Rattle.btr_tree.specs.Nodes.{points_of, no_span};

@@ -1,7 +1,7 @@
 //! The first point from a time on.
 ghost use Rattle.std.specs.Prelude.{◌≡◌, ◌+◌, ◌*◌, ◌≤◌, ℕ, ℤ, suc, ◌≤ℤ◌, ◌<ℤ◌, int_le, Bool, List, slice_get, filter, IsNone};
 ghost use Rattle.btr_base.specs.Bag.{within};
-ghost use Rattle.btr_base.specs.declared.domain.TheConstants.{FIRST as FIRST_TIME};
+ghost use Rattle.btr_base.specs.declared.limits.TheConstants.{FIRST as FIRST_TIME};
 ghost use Rattle.btr_base.specs.declared.point.Point.{Point as APoint};
 ghost use Rattle.btr_tree.specs.History.{Commit, bag};
 ghost use Rattle.btr_tree.specs.Nodes.{points_of, no_span};

@@ -1,6 +1,6 @@
 ghost use Rattle.std.specs.Prelude.{◌≡◌, ◌↔◌, IsTrue};
 ghost use Rattle.btr_tree.specs.Root.{AreInDomain};
-ghost use Rattle.btr_base.specs.declared.domain.TheConstants.{FIRST as FIRST_TIME};
+ghost use Rattle.btr_base.specs.declared.limits.TheConstants.{FIRST as FIRST_TIME};
 
 use crate::limits::ROOT_HEIGHT;
 use btr_base::{END, FIRST, Point, Span};

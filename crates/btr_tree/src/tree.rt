@@ -1,6 +1,6 @@
 ghost use Rattle.std.specs.Prelude.{◌≡◌, ◌<◌, ◌≤◌, ◌+◌, ◌*◌, ◌∷◌, [], List, length, IfOk, IfErr, OnOk};
 ghost use Rattle.btr_base.specs.Agg.{agg};
-ghost use Rattle.btr_base.specs.declared.domain.TheConstants.{FIRST as FIRST_TIME, END as END_TIME};
+ghost use Rattle.btr_base.specs.declared.limits.TheConstants.{FIRST as FIRST_TIME, END as END_TIME};
 ghost use Rattle.btr_tree.specs.History.{Commit, bag, IsBefore};
 ghost use Rattle.btr_tree.specs.Crowd.{HasRoom};
 ghost use Rattle.btr_tree.specs.Nodes.{no_span};

@@ -4,7 +4,7 @@ use Rattle.std.specs.Ordering.{int_eq}
 use Rattle.std.proofs.Common.{refl, sym, ap, ◌∙◌, arith, subst, to_z, of_z, w64, SFits}
 use Rattle.std.proofs.lemmas.Int.{ints, to_z-of_z, to_z_pos}
 use Rattle.std.proofs.lemmas.Bool.Decides.{nat_tests}
-use Rattle.btr_base.specs.declared.domain.TheConstants.{END}
+use Rattle.btr_base.specs.declared.limits.TheConstants.{END}
 use Rattle.btr_base.specs.Range.{IsRange}
 use Rattle.btr_base.specs.Windows.{window_of}
 use Rattle.btr_window.specs.Grids.{IsGrid, begin_of}

@@ -1,6 +1,6 @@
 -- Windows of one width that stand side by side from a first time on, and those that are aligned.
 use Rattle.std.specs.Prelude.{◌≡◌, ℕ, ◌≤◌, ◌^◌, ℤ, ◌≤ℤ◌}
-use Rattle.btr_base.specs.declared.domain.TheConstants.{FIRST}
+use Rattle.btr_base.specs.declared.limits.TheConstants.{FIRST}
 use Rattle.btr_base.specs.Windows.{window_of, window_at}
 
 -- the first window begins in the domain, and each has a time and is at most as wide as the domain

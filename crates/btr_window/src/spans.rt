@@ -1,6 +1,6 @@
 //! The span of the root, and spans inside a range.
 ghost use Rattle.std.specs.Prelude.{◌≡◌, ◌↔◌, ◌≤ℤ◌, IsTrue};
-ghost use Rattle.btr_base.specs.declared.domain.TheConstants.{FIRST as FIRST_TIME};
+ghost use Rattle.btr_base.specs.declared.limits.TheConstants.{FIRST as FIRST_TIME};
 ghost use Rattle.btr_tree.specs.Change.{end_of};
 
 use btr_base::{FIRST, Range, Span};

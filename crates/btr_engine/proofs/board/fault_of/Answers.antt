@@ -1,7 +1,7 @@
 -- A fault of the tree is the cause for which its points are rejected.
 use Rattle.std.proofs.Common.{◌≡◌, ℤ, ◌≤ℤ◌, ◌<ℤ◌, ◌∙◌, ap, sym, subst, arith, w64, to_z, of_z, Some}
 use Rattle.std.proofs.lemmas.Int.{ints, to_z-of_z}
-use Rattle.btr_base.specs.declared.domain.TheConstants.{FIRST, END}
+use Rattle.btr_base.specs.declared.limits.TheConstants.{FIRST, END}
 use Rattle.btr_hist.specs.declared.rejection.Rejection.TheVariants.{Crowded}
 use Rattle.btr_tree.specs.Root.{IsTreeFault}
 use Rattle.btr_tree.specs.declared.fault.TreeFault.TheVariants as tree

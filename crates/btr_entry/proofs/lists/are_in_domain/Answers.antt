@@ -1,7 +1,7 @@
 use Rattle.std.proofs.Common.{◌≡◌, ◌+◌, ◌<◌, ℤ, ◌≤ℤ◌, ◌<ℤ◌, false, ◌↔◌, List, ◌∷◌, length, drop, get_or, subst, w64, FitsSigned, rules, arith, drop-cons, add-one}
 use Rattle.std.specs.Prelude.{pos, int_le, int_lt}
 use Rattle.std.proofs.lemmas.Int.{ints, to_z-of_z}
-use Rattle.btr_base.specs.declared.domain.TheConstants.{FIRST, END}
+use Rattle.btr_base.specs.declared.limits.TheConstants.{FIRST, END}
 use Rattle.btr_base.specs.declared.point.Point.{Point}
 use Rattle.btr_base.specs.Point.{InDomain}
 use Rattle.btr_entry.specs.Grammar.{AreInDomain}

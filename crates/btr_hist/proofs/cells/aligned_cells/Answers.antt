@@ -1,6 +1,6 @@
 use Rattle.std.proofs.Common.{◌≡◌, ℤ, pos, ◌-ℤ◌, ◌≤ℤ◌, List, IfOk, subst, sym, ◌∙◌, arith, rules, w64, to_z, of_z, SFits}
 use Rattle.std.proofs.lemmas.Int.{ints, to_z-of_z}
-use Rattle.btr_base.specs.declared.domain.TheConstants.{FIRST, END}
+use Rattle.btr_base.specs.declared.limits.TheConstants.{FIRST, END}
 use Rattle.btr_base.specs.declared.cell.Cell.{Cell}
 use Rattle.btr_base.specs.Windows.{window_at}
 use Rattle.btr_hist.proofs.Bounds.{AreBounds, range-bounds, power-low, power-windows, number-window, aligned-ends, aligned-is, as_word, before_as_word}

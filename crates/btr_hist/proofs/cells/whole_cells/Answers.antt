@@ -1,6 +1,6 @@
 use Rattle.std.proofs.Common.{◌≡◌, ◌≤ℤ◌, List, IfOk, subst, sym, ◌∙◌, rules, w64, to_z, of_z, SFits}
 use Rattle.std.proofs.lemmas.Int.{to_z-of_z}
-use Rattle.btr_base.specs.declared.domain.TheConstants.{END}
+use Rattle.btr_base.specs.declared.limits.TheConstants.{END}
 use Rattle.btr_base.specs.declared.cell.Cell.{Cell}
 use Rattle.btr_hist.proofs.Bounds.{range-bounds, whole-ends, whole-is}
 use Rattle.btr_hist.proofs.cells.whole_cells.Goals as goal

@@ -1,6 +1,6 @@
 use Rattle.std.proofs.Common.{◌++◌, ◌<ℤ◌, ◌∙◌, ap, sym, subst, arith}
 use Rattle.std.proofs.lemmas.Int.{ints}
-use Rattle.btr_base.specs.declared.domain.TheConstants.{FIRST}
+use Rattle.btr_base.specs.declared.limits.TheConstants.{FIRST}
 use Rattle.btr_base.specs.Bag.{within}
 use Rattle.btr_base.specs.Span.{SpanValue}
 use Rattle.btr_tree.specs.Change.{end_of}

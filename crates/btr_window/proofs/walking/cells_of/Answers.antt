@@ -1,6 +1,6 @@
 use Rattle.std.proofs.Common.{◌≡◌, [], ap, ◌∙◌, subst, sym, arith}
 use Rattle.std.proofs.lemmas.Int.{ints}
-use Rattle.btr_base.specs.declared.domain.TheConstants.{END}
+use Rattle.btr_base.specs.declared.limits.TheConstants.{END}
 use Rattle.btr_base.specs.Bag.{within}
 use Rattle.btr_base.specs.Range.{RangeValue}
 use Rattle.btr_base.specs.Span.{SpanValue}

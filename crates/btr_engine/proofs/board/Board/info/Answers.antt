@@ -1,6 +1,6 @@
 use Rattle.std.proofs.Common.{true, refl, ap, ◌∙◌}
 use Rattle.btr_tree.specs.History as tree
-use Rattle.btr_base.specs.declared.domain.TheConstants.{FIRST, END}
+use Rattle.btr_base.specs.declared.limits.TheConstants.{FIRST, END}
 use Rattle.btr_base.specs.Agg.{agg_within}
 use Rattle.btr_hist.specs.declared.answer.Rows.TheVariants.{Info}
 use Rattle.btr_hist.specs.Answer.{version_of}

@@ -1,6 +1,6 @@
 use Rattle.std.proofs.Common.{◌≡◌, ◌∷◌, length, refl, sym, ap, ◌∙◌, subst, arith, ◌++◌, List}
 use Rattle.std.proofs.lemmas.Result.{err_from_is_err_and}
-use Rattle.btr_base.specs.declared.domain.TheConstants.{FIRST}
+use Rattle.btr_base.specs.declared.limits.TheConstants.{FIRST}
 use Rattle.btr_base.specs.Span.{SpanValue}
 use Rattle.btr_base.specs.Agg.{agg}
 use Rattle.btr_base.proofs.AggLemmas.{agg-count}
