@@ -1,11 +1,12 @@
--- A count of faults goes on: it never falls, and a call fails only where it rose.
-use Rattle.std.specs.Prelude.{ℕ, ◌+◌, ◌-◌, ◌^◌, ◌≤◌, min, Result, OnErr}
+-- The count of faults of a source or a sink: it never falls, and rises exactly when a call fails.
+use Rattle.std.specs.Prelude.{◌≡◌, ℕ, ◌+◌, ◌-◌, ◌^◌, ◌≤◌, min, Result, OnOk, OnErr}
 
--- The count rose, or it stands at the greatest u64.
+-- The count rose, or it is at the greatest u64.
 abbrev pub Rose : ℕ → ℕ → Type 0
 Rose before now = min (before + 1) (2 ^ 64 - 1) ≤ now
 
--- The count before a call and the one after it, beside what the call answered.
+-- The counts before and after a call with this result: an Ok keeps the count, and an Err raises it.
 pub record HasCause {T E : Type 0} (before now : ℕ) (result : Result T E) : Type 0 where
   pub never_falls : before ≤ now
+  pub same : OnOk result (now ≡ before)
   pub cause : OnErr result (Rose before now)

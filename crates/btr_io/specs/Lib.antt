@@ -1,6 +1,6 @@
--- what every call says of its faults
+-- The count of faults of each call.
 pub mod Faults
--- what a call over a source or a sink says of the bytes
+-- What several calls do to the bytes.
 pub mod Bytes
--- what the implementations in memory show
+-- The models of the implementations in memory.
 pub mod Memory

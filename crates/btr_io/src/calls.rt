@@ -1,10 +1,11 @@
-// The calls of a source or a sink in memory: how many were made, and which of them fail.
+//! The calls of a source or a sink in memory: how many were made, and which of them fail.
 ghost use Rattle.std.specs.Prelude.{◌≡◌, ◌+◌, ◌-◌, ◌^◌, ◌≤◌, ◌↔◌, min, Contains, IsErr, OnOk, OnErr};
 ghost use Rattle.btr_io.specs.Faults.{HasCause};
 
 use crate::Failed;
 use std::marker::Model;
 
+/// The numbers of the calls that fail, the number of calls made, and of those that failed.
 #[derive(Drop)]
 pub struct Calls {
     failing: Vec<u64>,
@@ -21,7 +22,7 @@ impl Model for Calls {
 }
 
 impl Calls {
-    // No call was made yet, and those with these numbers will fail, 0 the first.
+    /// No call was made yet. The calls with these numbers will fail, counted from 0.
     pub fn new(failing: Vec<u64>) -> Calls
         ensures failing { result.failing ≡ failing.items }
         ensures made { result.made ≡ 0 }
@@ -34,7 +35,7 @@ impl Calls {
         }
     }
 
-    // Begins the next call. It fails where its number is in the list.
+    /// Begins the next call, which fails exactly if its number is in the list.
     pub fn begin(&mut self) -> Result<(), Failed>
         ensures fails { IsErr result ↔ Contains self.old.failing self.old.made }
         ensures failing { self.new.failing ≡ self.old.failing }
@@ -48,7 +49,7 @@ impl Calls {
         if failed { Err(self.fail()) } else { Ok(()) }
     }
 
-    // Counts a fault.
+    /// Counts a fault.
     pub fn fail(&mut self) -> Failed
         ensures failing { self.new.failing ≡ self.old.failing }
         ensures made { self.new.made ≡ self.old.made }

@@ -1,6 +1,5 @@
-// The one answer of a source or a sink besides Ok.
+//! The one answer of a source or a sink besides `Ok`.
 
-/// A call of a source or a sink has failed. The source or sink has counted it: its count of faults is
-/// higher than before the call, or stands at the greatest u64.
+/// A call of a source or a sink failed. It raised the count of faults, unless the count is at the greatest u64 already.
 #[derive(Clone, Copy, Debug, PartialEq, Eq)]
 pub struct Failed;

@@ -1,11 +1,10 @@
 //! Bytes that come in and bytes that go out: the traits `Source` and `Sink`, and the loops over them.
 //!
-//! What the layers above rest on: `read_all` gives exactly the bytes that a source had left, or says
-//! why it does not, and `write_all` hands all bytes to a sink, or a prefix of them and an error.
-//! A call fails only where the count of faults of the source or sink rose.
+//! `read_all` returns exactly the bytes that a source had left, or the reason why not. `write_all` hands all bytes to a
+//! sink, or a prefix of them and an error. A call fails exactly if the count of faults of the source or sink rises.
 //!
-//! Nothing is buffered between calls, no text is decoded, and no call waits for anything but the
-//! source or sink itself. The calls of both traits take no memory.
+//! Nothing is buffered between calls, no text is decoded, and no call waits for anything but the source or sink itself. The
+//! calls of both traits take no memory.
 #![tactic(auto)]
 
 mod fault;
@@ -13,7 +12,7 @@ mod reading;
 mod sink;
 mod source;
 mod writing;
-// in memory
+// In memory.
 mod calls;
 mod mem_sink;
 mod mem_source;

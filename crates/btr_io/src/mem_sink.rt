@@ -1,4 +1,4 @@
-// A sink in memory.
+//! A sink in memory.
 ghost use Rattle.std.specs.Prelude.{◌≡◌, ◌⊎◌, ◌+◌, ◌-◌, ◌^◌, ◌<◌, ◌++◌, ◌↔◌, [], length, take, min, IfOk, OnErr, IsErr, Contains};
 ghost use Rattle.btr_io.specs.Faults.{HasCause};
 ghost use Rattle.btr_io.specs.Memory.{KeepsSettings};
@@ -8,8 +8,8 @@ use crate::{Failed, Sink};
 use std::alloc::{AllocError, Global};
 use std::marker::Model;
 
-/// A sink that keeps what is written to it, up to a number of bytes, takes a few bytes a call, and
-/// fails at the calls that it is told.
+/// A sink that keeps what is written to it, up to a number of bytes, takes a few bytes a call, and fails at the calls of a
+/// list.
 #[derive(Drop)]
 pub struct MemSink {
     bytes: Vec<u8>,
@@ -30,9 +30,9 @@ impl Model for MemSink {
 }
 
 impl MemSink {
-    /// An empty sink, which takes the memory for `room` bytes here and none later. It takes at most
-    /// `piece` bytes a call, which is at least one. It fails at the calls with these numbers, the
-    /// first call being 0 and a flush being a call too, at a call that would pass the room, and at no other.
+    /// An empty sink, which takes the memory for `room` bytes here and none later. It takes at most `piece` bytes a call, at
+    /// least one. It fails at the calls with these numbers, counted from 0 with each flush, at a call that would pass the
+    /// room, and at no other.
     pub fn new(
         alloc: Global,
         room: usize,
@@ -98,7 +98,7 @@ impl Sink for MemSink {
         ensures made { self.new.calls.made ≡ min (self.old.calls.made + 1) (2 ^ 64 - 1) }
         ensures cause { HasCause self.old.calls.faults self.new.calls.faults result }
     {
-        // Nothing is held back, so a flush is a call and no more.
+        // Nothing is held back, so a flush does nothing but count as a call.
         self.calls.begin()
     }
 }

@@ -1,4 +1,4 @@
-// A source in memory.
+//! A source in memory.
 ghost use Rattle.std.specs.Prelude.{◌≡◌, ◌+◌, ◌-◌, ◌^◌, ◌<◌, ◌≤◌, ◌++◌, ◌↔◌, [], length, take, min, IfOk, OnErr, IsErr, Contains};
 ghost use Rattle.btr_io.specs.Faults.{HasCause};
 
@@ -6,7 +6,7 @@ use crate::calls::Calls;
 use crate::{Failed, Source};
 use std::marker::Model;
 
-/// A source that gives the bytes of a vector, a few a call, and fails at the calls that it is told.
+/// A source that gives the bytes of a vector, a few a call, and fails at the calls of a list.
 #[derive(Drop)]
 pub struct MemSource {
     bytes: Vec<u8>,
@@ -27,8 +27,8 @@ impl Model for MemSource {
 }
 
 impl MemSource {
-    /// A source with these bytes. It gives at most `piece` bytes a call, which is at least one, and
-    /// fails at the calls with these numbers and at no other, the first call being 0. Takes no memory.
+    /// A source with these bytes. It gives at most `piece` bytes a call, at least one. It fails at the calls with these
+    /// numbers, counted from 0, and at no other. Takes no memory.
     pub fn new(bytes: Vec<u8>, piece: usize, failing: Vec<u64>) -> MemSource
         requires { 0 < piece }
         ensures left { result.left ≡ bytes.items }
@@ -72,7 +72,7 @@ impl Source for MemSource {
     }
 }
 
-// Copies the first n bytes of a slice over those of another.
+/// Copies the first n bytes of a slice over those of another.
 fn copy_prefix(from: &[u8], to: &mut [u8], n: usize)
     requires source { n ≤ length from.now }
     requires buffer { n ≤ length to.old }

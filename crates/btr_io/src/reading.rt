@@ -1,4 +1,4 @@
-// Reading a source to its end, up to a limit.
+//! Reading a source to its end, up to a limit.
 ghost use Rattle.std.specs.Prelude.{◌≡◌, ◌+◌, ◌-◌, ◌<◌, ◌≤◌, ◌++◌, ◌↔◌, [], length, false, true, IfOk, OnOk, OnErr, IsErrOf, IsTrue};
 ghost use Rattle.btr_io.specs.declared.reading.ReadAllFault.TheVariants.{Fault, TooLong, Want};
 ghost use Rattle.btr_io.specs.Faults.{Rose};
@@ -8,19 +8,19 @@ use crate::{Failed, Source};
 use std::alloc::{AllocError, Global};
 use thiserror::Error;
 
-// What one call of a source is asked for at most.
+/// The most bytes that one call of a source is asked for: 64 KiB.
 const PIECE: usize = 1 << 16;
 
 /// Why a source was not read to its end.
 #[derive(Clone, Copy, Debug, PartialEq, Eq, Error)]
 pub enum ReadAllFault {
-    /// The source has failed.
-    #[error("the source has failed")]
+    /// The source failed.
+    #[error("the source failed")]
     Fault,
     /// The source gave more bytes than the limit.
     #[error("the source has more bytes than the limit")]
     TooLong,
-    /// There was no memory for the bytes.
+    /// Out of memory for the bytes.
     #[error("out of memory")]
     Want,
 }
@@ -41,14 +41,13 @@ impl From<Failed> for ReadAllFault {
     }
 }
 
-/// Reads a source to its end, and gives all the bytes that it had left, at most `limit` of them.
+/// Reads a source to its end, and returns all the bytes that it had left, at most `limit` of them.
 ///
-/// `TooLong` where the source gave more than `limit` bytes: then it has given one more, and none
-/// behind that. `Fault` only where the source counted a fault, and `Want` where memory ran out. After
-/// an error the source stands behind the bytes that it gave.
+/// `TooLong` exactly if the source gave more than `limit` bytes: then it gave one more, and none after that. `Fault` only if
+/// the source failed, and `Want` if memory ran out. After an error the source has the bytes left that it did not give.
 ///
-/// A call of the source asks for at most 64 KiB. The cost is that of these calls and of copying the
-/// bytes: each stands in a piece of 64 KiB, and then in a vector that grows geometrically.
+/// A call of the source asks for at most 64 KiB. The cost is that of these calls and of copying each byte twice: into a
+/// buffer of 64 KiB, and then into a vector that grows geometrically.
 pub fn read_all<S: Source>(
     alloc: Global,
     source: &mut S,
@@ -68,7 +67,7 @@ pub fn read_all<S: Source>(
     Ok(bytes)
 }
 
-// Reads one piece behind the bytes that were read so far, and answers whether the source gave any.
+/// Reads one piece and appends it to the bytes that were read so far. Returns whether the source gave any.
 fn read_piece<S: Source>(
     source: &mut S,
     piece: &mut [u8],

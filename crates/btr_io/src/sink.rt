@@ -1,4 +1,4 @@
-// Where bytes go.
+//! Where bytes go.
 ghost use Rattle.std.specs.Prelude.{◌≡◌, ◌<◌, ◌≤◌, ◌++◌, List, ℕ, length, take, IfOk, OnErr};
 ghost use Rattle.btr_io.specs.Faults.{HasCause};
 
@@ -6,23 +6,21 @@ use crate::Failed;
 
 /// A stream of bytes that is written once, from its start to its end.
 ///
-/// What its clauses say of bytes holds of a type that tells what was written. One that does not tell,
-/// as standard output, promises the number of bytes and the cause of a failure alone.
+/// The clauses on bytes hold for a type that is observable. One that is not, such as standard output, promises the number
+/// of bytes and the cause of a failure alone.
 pub trait Sink {
-    /// Does a sink of this type tell what was written?
+    /// Is what was written to a sink of this type observable?
     ghost is_observable: { Type 0 };
 
     /// The bytes that were written.
     ghost written: { Self → List ℕ };
 
-    /// How often it has failed.
+    /// The number of its calls that failed.
     ghost faults: { Self → ℕ };
 
-    /// Writes the first of these bytes behind those that were written, and answers how many: at least
-    /// one where there is one.
+    /// Appends a prefix of these bytes to those that were written, and returns its length: at least one if there is a byte.
     ///
-    /// Fails where the sink counts a fault, as one that takes none of some bytes does; then nothing
-    /// was written. Takes no memory.
+    /// A sink that takes none of some bytes has failed. After an `Err` nothing was written. Takes no memory.
     fn write(&mut self, bytes: &[u8]) -> Result<usize, Failed>
         ensures bound { IfOk result (λ n. n ≤ length bytes.now) }
         ensures takes { IfOk result (λ n. 0 < length bytes.now → 0 < n) }
@@ -30,9 +28,7 @@ pub trait Sink {
         ensures unchanged { is_observable → OnErr result (written self.new ≡ written self.old) }
         ensures cause { HasCause (faults self.old) (faults self.new) result };
 
-    /// Passes on what was written, where the sink holds any of it back.
-    ///
-    /// Fails where the sink counts a fault. Takes no memory.
+    /// Passes on what was written, if the sink holds any of it back. Takes no memory.
     fn flush(&mut self) -> Result<(), Failed>
         ensures unchanged { is_observable → written self.new ≡ written self.old }
         ensures cause { HasCause (faults self.old) (faults self.new) result };

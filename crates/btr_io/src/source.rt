@@ -1,4 +1,4 @@
-// Where bytes come from.
+//! Where bytes come from.
 ghost use Rattle.std.specs.Prelude.{◌≡◌, ◌<◌, ◌≤◌, ◌++◌, [], List, ℕ, length, take, IfOk, OnErr};
 ghost use Rattle.btr_io.specs.Faults.{HasCause};
 
@@ -6,23 +6,23 @@ use crate::Failed;
 
 /// A stream of bytes that is read once, from its start to its end.
 ///
-/// What its clauses say of bytes holds of a type that tells what it has left. One that does not tell,
-/// as standard input, promises the number of bytes and the cause of a failure alone.
+/// The clauses on bytes hold for a type that is observable. One that is not, such as standard input, promises the number of
+/// bytes and the cause of a failure alone.
 pub trait Source {
-    /// Does a source of this type tell what it has left?
+    /// Is what a source of this type has left observable?
     ghost is_observable: { Type 0 };
 
     /// The bytes that are left.
     ghost left: { Self → List ℕ };
 
-    /// How often it has failed.
+    /// The number of its calls that failed.
     ghost faults: { Self → ℕ };
 
-    /// Reads the next bytes into the prefix of the buffer, and answers how many there were: some bytes
-    /// where some are left and the buffer has room, which may be fewer than both. None for a buffer
-    /// that is not empty means the end. What stands in the buffer behind these bytes is not said.
+    /// Reads the next bytes into the first places of the buffer, and returns their number. It reads at least one byte if one
+    /// is left and the buffer is not empty, and may read fewer than both allow. 0 for a buffer that is not empty means the
+    /// end. The rest of the buffer may hold anything.
     ///
-    /// Fails where the source counts a fault; then no byte is lost. Takes no memory.
+    /// After an `Err` no byte is lost. Takes no memory.
     fn read(&mut self, buf: &mut [u8]) -> Result<usize, Failed>
         ensures bound { IfOk result (λ n. n ≤ length buf.old) }
         ensures given { is_observable → IfOk result (λ n. left self.old ≡ take n buf.new ++ left self.new) }

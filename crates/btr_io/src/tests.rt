@@ -1,5 +1,5 @@
-// What no clause says: that calls succeed, and that a fault in mid-stream is the answer. The generic
-// functions use each clause of the traits.
+//! That calls succeed, and that a fault in mid-stream is reported, which no clause says. The generic functions use each
+//! clause of the traits.
 ghost use Rattle.std.specs.Prelude.{◌≡◌, ◌⊎◌, ◌++◌, [], ◌∷◌, None, IfOk, OnOk, OnErr, option_to_list};
 ghost use Rattle.btr_io.specs.Faults.{HasCause};
 
@@ -8,7 +8,7 @@ use std::test::Fail;
 
 const FIVE: [u8; 5] = [1, 2, 3, 4, 5];
 
-// Reads one byte, or none at the end.
+/// Reads one byte, or none at the end.
 fn next_byte<S: Source>(source: &mut S) -> Result<Option<u8>, Failed>
     ensures byte { S.is_observable → IfOk result (λ byte. S.left source.old ≡ option_to_list byte ++ S.left source.new) }
     ensures end { S.is_observable → IfOk result (λ byte. byte ≡ None → S.left source.old ≡ []) }
@@ -20,7 +20,7 @@ fn next_byte<S: Source>(source: &mut S) -> Result<Option<u8>, Failed>
     Ok(if n == 0 { None } else { Some(buf[0]) })
 }
 
-// Writes one byte and passes it on.
+/// Writes one byte and passes it on.
 fn put_byte<K: Sink>(sink: &mut K, byte: u8) -> Result<(), Failed>
     ensures written { K.is_observable → OnOk result (K.written sink.new ≡ K.written sink.old ++ byte ∷ []) }
     ensures failed { K.is_observable → OnErr result ((K.written sink.new ≡ K.written sink.old)
@@ -96,7 +96,7 @@ fn reads_all_or_says_why(rt: HostRuntime) -> Result<(), Fail> {
 }
 
 #[test]
-fn writes_all_or_a_first_part(rt: HostRuntime) -> Result<(), Fail> {
+fn writes_all_or_a_prefix(rt: HostRuntime) -> Result<(), Fail> {
     let alloc = rt.alloc();
     let five: &[u8] = &FIVE;
     // bytes, room, bytes a call, failing calls, answer, what was written

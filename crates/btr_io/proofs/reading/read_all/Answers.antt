@@ -1,16 +1,16 @@
 use Rattle.std.proofs.Common.{◌∙◌, arith}
 use Rattle.std.proofs.lemmas.Result.{err_from_is_err_and}
-use Rattle.btr_io.proofs.Giving.{gave-behind, gives-behind, all-given, gave-got, gives-end, err-same}
+use Rattle.btr_io.proofs.GivenBytes.{gave-after, gives-after, all-given, gave-got, gives-end, err-same}
 use Rattle.btr_io.proofs.reading.read_all.Goals as goal
 
 pub returns-in_err-read_piece-clause-given : goal.returns-in_err-read_piece-clause-given
 returns-in_err-read_piece-clause-given g c =
-    λ t. gives-behind c.loop-bytes.bytes.items _ _ _ _ c.loop-bytes.invariant.within (c.loop-bytes.invariant.kept t) (c.in_err-read_piece.ensures.given t)
+    λ t. gives-after c.loop-bytes.bytes.items _ _ _ _ c.loop-bytes.invariant.within (c.loop-bytes.invariant.kept t) (c.in_err-read_piece.ensures.given t)
 
 pub returns-in_err-read_piece-clause-too_long : goal.returns-in_err-read_piece-clause-too_long
 returns-in_err-read_piece-clause-too_long g c =
     λ t.
-    let more = gave-behind c.loop-bytes.bytes.items _ _ _ _ (c.loop-bytes.invariant.kept t) (c.in_err-read_piece.ensures.given t) in
+    let more = gave-after c.loop-bytes.bytes.items _ _ _ _ (c.loop-bytes.invariant.kept t) (c.in_err-read_piece.ensures.given t) in
     let p = err_from_is_err_and c.from_residual-in_err-read_piece.result c.from_residual-in_err-read_piece.ensures.1 in
     let w = c.in_err-read_piece.ensures.too_long t in
     rw (p.1, p.2, more) (λ e. w.0 (err-same _ _ e), λ l. err-same _ _ (w.1 l))

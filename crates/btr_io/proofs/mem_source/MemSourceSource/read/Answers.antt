@@ -1,6 +1,6 @@
 use Rattle.std.proofs.Common.{◌∙◌, sym, ap, take, drop}
-use Rattle.btr_io.proofs.Giving.{prefix-and-rest}
-use Rattle.btr_io.proofs.Taking.{slice-from}
+use Rattle.btr_io.proofs.GivenBytes.{prefix-and-rest}
+use Rattle.btr_io.proofs.TakenBytes.{slice-from}
 use Rattle.btr_io.proofs.mem_source.MemSourceSource.read.Goals as goal
 
 pub returns-clause-given : goal.returns-clause-given

@@ -1,4 +1,4 @@
--- What a source gave stands before what it has left.
+-- Lemmas on the bytes that a source gave, followed by what it has left.
 use Rattle.std.proofs.Common.{◌≡◌, ◌∙◌, sym, ap, ◌++◌, [], ℕ, ◌+◌, ◌-◌, ◌≤◌, List, length, take, drop, Err, arith, length-append, length-drop}
 use Rattle.std.proofs.lemmas.List.{drop-drop, take-append-drop, append-nil}
 use Rattle.std.proofs.Math.Seq.{drop-append-add}
@@ -6,20 +6,20 @@ use Rattle.std.proofs.Math.ListN.{drop_of_length-le}
 use Rattle.std.specs.Prelude.{IsErrOf}
 use Rattle.btr_io.specs.Bytes.{gave, Gives}
 
--- the next n bytes, and those behind them, are the bytes from here on
+-- the next n bytes, and those after them, are the bytes from here on
 pub prefix-and-rest : (bytes prefix : List ℕ) (at n : ℕ) → prefix ≡ take n (drop at bytes) → drop at bytes ≡ prefix ++ drop (at + n) bytes
 prefix-and-rest bytes prefix at n is =
     sym (take-append-drop n (drop at bytes)) ∙ ap (λ xs. xs ++ drop n (drop at bytes)) (sym is)
     ∙ ap (λ xs. prefix ++ xs) (drop-drop n at bytes)
 
 -- what was read before counts too
-pub gave-behind : (got before now whole : List ℕ) (most : ℕ) → got ++ before ≡ whole → Gives most before now → gave whole now ≡ length got + gave before now
-gave-behind got before now whole most e r =
+pub gave-after : (got before now whole : List ℕ) (most : ℕ) → got ++ before ≡ whole → Gives most before now → gave whole now ≡ length got + gave before now
+gave-after got before now whole most e r =
     omega (arith, ap length e, length-append got before, ap length r.rest, length-drop (gave before now) before)
 
-pub gives-behind : (got before now whole : List ℕ) (limit : ℕ) → length got ≤ limit → got ++ before ≡ whole → Gives (limit + 1 - length got) before now → Gives (limit + 1) whole now
-gives-behind got before now whole limit h e r =
-    let more : gave whole now ≡ length got + gave before now = gave-behind got before now whole _ e r in
+pub gives-after : (got before now whole : List ℕ) (limit : ℕ) → length got ≤ limit → got ++ before ≡ whole → Gives (limit + 1 - length got) before now → Gives (limit + 1) whole now
+gives-after got before now whole limit h e r =
+    let more : gave whole now ≡ length got + gave before now = gave-after got before now whole _ e r in
     record {
       bounded = omega (arith, more, r.bounded);
       rest =

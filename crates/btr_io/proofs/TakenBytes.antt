@@ -1,4 +1,4 @@
--- A piece is taken in turns: what was taken so far is its prefix, and what is left the rest.
+-- Lemmas on a piece that is taken in turns: what was taken so far is its prefix, and what is left the rest.
 use Rattle.std.proofs.Common.{◌≡◌, ◌∙◌, sym, ap, ◌++◌, ℕ, ◌+◌, ◌-◌, ◌≤◌, List, length, take, drop, arith, length-drop, append_assoc}
 use Rattle.std.proofs.lemmas.List.{drop-drop, take_all}
 use Rattle.std.proofs.Math.Seq.{take-add}
@@ -26,7 +26,7 @@ prefix-more piece rest n h r =
     ∙ sym (take-add (length piece - length rest) n piece)
     ∙ ap (λ k. take k piece) (sym (prefix_after piece rest n h r.shorter))
 
--- a slice from n on is all that stands behind the first n
+-- a slice from n on is all that follows the first n
 pub slice-from : (xs : List ℕ) (n : ℕ) → take (length xs - n) (drop n xs) ≡ drop n xs
 slice-from xs n = take_all (length xs - n) (drop n xs) (omega (arith, length-drop n xs))
 
