@@ -1,5 +1,5 @@
 -- Lemmas on lists in general: what holds of each element, filters, counts and parts.
-use Rattle.std.specs.Prelude.{◌≡◌, ℕ, ◌+◌, ◌<◌, ◌≤◌, slice_index_or, drop, Bool, true, false, not, ◌&&◌, List, [], ◌∷◌, ◌++◌, length, cond, ℤ, take}
+use Rattle.std.specs.Prelude.{◌≡◌, ℕ, ◌+◌, ◌<◌, ◌≤◌, slice_index_or, drop, Bool, true, false, not, ◌&&◌, List, [], ◌∷◌, ◌++◌, length, cond, take, slice_get, Some}
 use Rattle.std.specs.List.{filter, count_by, AllByRecursion}
 use Rattle.std.proofs.Common.{zero, suc, refl, sym, ap, ◌∙◌, arith}
 use Rattle.std.proofs.lemmas.List.Sums.{sum_by-cons, sum_by-append}
@@ -103,3 +103,19 @@ parted-drop f (suc k) [] h n = refl
 parted-drop f (suc k) (x ∷ xs) h n =
     parted-drop f k xs (λ j d lt in_xs. h (suc j) d (omega arith) (omega arith)) (λ j d le lt. n (suc j) d (omega arith) (omega arith))
     ∙ sym (ap (λ t. cond (not t) (x ∷ filter (λ y. not (f y)) xs) (filter (λ y. not (f y)) xs)) (h 0 x (omega arith) (omega arith)))
+
+-- ---- elements by their index
+
+pub get-append : {X : Type 0} (xs ys : List X) (n : ℕ) (x : X) → slice_get xs n ≡ Some x → slice_get (xs ++ ys) n ≡ Some x
+get-append [] ys n x at = absurd (cc)
+get-append (y ∷ xs) ys zero x at = at
+get-append (y ∷ xs) ys (suc n) x at = get-append xs ys n x at
+
+pub get_back : {X : Type 0} (xs ys : List X) (n : ℕ) (x : X) → n < length xs → slice_get (xs ++ ys) n ≡ Some x → slice_get xs n ≡ Some x
+get_back [] ys n x low at = absurd (omega arith)
+get_back (y ∷ xs) ys zero x low at = at
+get_back (y ∷ xs) ys (suc n) x low at = get_back xs ys n x (omega arith) at
+
+pub get_last : {X : Type 0} (xs : List X) (y : X) → slice_get (xs ++ y ∷ []) (length xs) ≡ Some y
+get_last [] y = refl
+get_last (x ∷ xs) y = get_last xs y

@@ -4,7 +4,7 @@ use Rattle.std.specs.Ordering.{int_eq}
 use Rattle.std.specs.List.{filter}
 use Rattle.btr_base.specs.declared.limits.TheConstants.{FIRST, END}
 use Rattle.btr_base.specs.declared.point.Point.{Point}
-use Rattle.btr_base.specs.Point.{same_point}
+use Rattle.btr_base.specs.Point.{same_point, in_domain}
 use Rattle.btr_base.specs.Range.{RangeValue}
 use Rattle.btr_base.specs.Bag.{sort}
 use Rattle.btr_base.specs.Windows.{window_of, window_at, begin_of}
@@ -27,7 +27,7 @@ differ_at a b t = not (same_points (points_at t a) (points_at t b))
 -- the points of both, in order, at whose times the two differ, in the domain
 abbrev pub changed : List Point → List Point → List Point
 changed a b =
-    filter (λ p. differ_at a b p.time && (int_le FIRST p.time && int_lt p.time END)) (sort (a ++ b))
+    filter (λ p. differ_at a b p.time && in_domain p.time) (sort (a ++ b))
 
 -- the aligned slot, `2^p` ns wide, that a time lies in
 abbrev pub slot_around : ℕ → ℤ → RangeValue

@@ -1,5 +1,5 @@
 -- Points, and the order in which they stand.
-use Rattle.std.specs.Prelude.{ℤ, Bool, not, ◌≤ℤ◌, ◌<ℤ◌, ◌&&◌, List}
+use Rattle.std.specs.Prelude.{ℤ, Bool, not, ◌≤ℤ◌, ◌<ℤ◌, ◌&&◌, int_le, int_lt, List}
 use Rattle.std.specs.List.{AllByRecursion}
 use Rattle.std.specs.Ordering.{int_cmp, int_eq, ordering_then, is_lt}
 use Rattle.std.specs.declared.cmp.Ordering.{Ordering}
@@ -18,7 +18,10 @@ is_not_after p q = not (is_lt (point_cmp q p))
 abbrev pub same_point : Point → Point → Bool
 same_point p q = int_eq p.time q.time && int_eq p.value q.value
 
--- the time can be held
+-- The time lies in the domain, as a test and as a fact.
+abbrev pub in_domain : ℤ → Bool
+in_domain t = int_le FIRST t && int_lt t END
+
 abbrev pub InDomain : ℤ → Type 0
 InDomain t = (FIRST ≤ℤ t) × (t <ℤ END)
 

@@ -1,5 +1,5 @@
-ghost use Rattle.std.specs.Prelude.{◌↔◌, IsTrue};
-ghost use Rattle.btr_base.specs.Point.{InDomain, AreInDomain};
+ghost use Rattle.std.specs.Prelude.{◌≡◌, ◌↔◌, IsTrue};
+ghost use Rattle.btr_base.specs.Point.{in_domain, InDomain, AreInDomain};
 
 use crate::limits::{END, FIRST};
 
@@ -18,7 +18,8 @@ pub struct Point {
 impl Point {
     /// Whether the point's time lies in the domain, from [`FIRST`] up to, and without, [`END`].
     pub fn is_in_domain(&self) -> bool
-        ensures { IsTrue result ↔ InDomain self.now.time }
+        ensures test { result ≡ in_domain self.now.time }
+        ensures fact { IsTrue result ↔ InDomain self.now.time }
     {
         FIRST <= self.time && self.time < END
     }

@@ -13,16 +13,16 @@ use Rattle.btr_tree.specs.Root.{TreeValue, IsTree, AreInDomain}
 use Rattle.btr_hist.specs.declared.entry.Entry.{Entry}
 use Rattle.btr_hist.specs.declared.rejection.Rejection.{Rejection}
 use Rattle.btr_hist.specs.declared.rejection.Rejection.TheVariants.{NoStream, VersionLimit, OutOfDomain}
-use Rattle.btr_hist.specs.declared.limits.TheConstants.{MAX_VERSIONS}
-use Rattle.btr_hist.specs.Commit.{Change}
+use Rattle.btr_base.specs.declared.limits.TheConstants.{MAX_VERSIONS}
+use Rattle.btr_base.specs.Commit.{Change}
 use Rattle.btr_hist.specs.History.{ids, latest}
-use Rattle.btr_hist.specs.Legal.{first_some, when, stray, change_rejection, points_rejection, next_bag, commit_rejection}
+use Rattle.btr_hist.specs.Legal.{first_some, when, first_out_of_domain, change_rejection, points_rejection, next_bag, commit_rejection}
 use Rattle.btr_hist.proofs.HistoryLemmas.{each-after}
 use Rattle.btr_engine.specs.declared.board.PushFault.{PushFault}
 use Rattle.btr_engine.specs.Board.{HasTrees, commits_to}
 use Rattle.btr_engine.specs.Push.{PushCause, IsNext}
 use Rattle.btr_engine.proofs.BoardTrees.{made_by, bag-commits_to}
-use Rattle.btr_engine.proofs.Allowed.{first_none, map_none, no_stray}
+use Rattle.btr_hist.proofs.RejectionLemmas.{first_none, map_none, none_out_of_domain}
 use Rattle.btr_engine.proofs.Crowded.{room-allowed}
 
 -- ---- the tests of a commit
@@ -43,7 +43,7 @@ rejection-points h stream c is_there change few =
 
 -- the points of a commit that is not rejected whatever the stream holds
 pub change-times : (c : Change) → change_rejection c ≡ None → AreInDomain c.added
-change-times c h = no_stray c.added (map_none (λ (p : Point). OutOfDomain p.time) (stray c.added) (first_none _ _ h))
+change-times c h = none_out_of_domain c.added (map_none (λ (p : Point). OutOfDomain p.time) (first_out_of_domain c.added) (first_none _ _ h))
 
 -- what is said of a commit is said of an equal one
 pub change-passes : (cut ranges : List RangeValue) (added points : List Point) (found : Option Rejection) → ranges ≡ cut → points ≡ added → found ≡ change_rejection (record { cut = ranges; added = points }) → found ≡ None → change_rejection (record { cut = cut; added = added }) ≡ None

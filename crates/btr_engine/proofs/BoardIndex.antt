@@ -12,8 +12,8 @@ use Rattle.btr_tree.specs.Root.{TreeValue, IsTree}
 use Rattle.btr_hist.specs.declared.entry.Entry.{Entry}
 use Rattle.btr_hist.specs.declared.entry.Entry.TheVariants.{Create, Commit}
 use Rattle.btr_hist.specs.declared.rejection.Rejection.TheVariants.{NoStream, VersionLimit}
-use Rattle.btr_hist.specs.declared.limits.TheConstants.{MAX_VERSIONS}
-use Rattle.btr_hist.specs.Commit.{Change}
+use Rattle.btr_base.specs.declared.limits.TheConstants.{MAX_VERSIONS}
+use Rattle.btr_base.specs.Commit.{Change}
 use Rattle.btr_hist.specs.History.{ids, commits, latest}
 use Rattle.btr_hist.specs.Legal.{when, rejection, change_rejection, commit_rejection, points_rejection, next_bag, Legal}
 use Rattle.btr_hist.proofs.HistoryLemmas.{commits-append, ids-append, legal-push, legal-prefix, get-append, get_back, get_last}

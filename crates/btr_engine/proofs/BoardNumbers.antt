@@ -11,7 +11,7 @@ use Rattle.btr_hist.specs.declared.entry.Entry.{Entry}
 use Rattle.btr_hist.specs.declared.entry.Entry.TheVariants.{Create, Commit}
 use Rattle.btr_hist.specs.History.{ids, stream_of}
 use Rattle.btr_hist.specs.Legal.{first_some, when, create_rejection}
-use Rattle.btr_hist.specs.declared.limits.TheConstants.{MAX_STREAMS}
+use Rattle.btr_base.specs.declared.limits.TheConstants.{MAX_STREAMS}
 use Rattle.btr_hist.specs.declared.rejection.Rejection.TheVariants.{StreamExists, StreamLimit}
 use Rattle.btr_hist.proofs.HistoryLemmas.{ids-append}
 use Rattle.btr_engine.proofs.BoardKeys.{put-same, put-other}

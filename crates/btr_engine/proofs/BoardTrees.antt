@@ -7,7 +7,8 @@ use Rattle.std.proofs.lemmas.Bool.{lt-ltb, le-ltb}
 use Rattle.btr_tree.specs.History as tree
 use Rattle.btr_tree.specs.Nodes.{up_to}
 use Rattle.btr_hist.specs.declared.entry.Entry.{Entry}
-use Rattle.btr_hist.specs.Commit.{Change, replay}
+use Rattle.btr_base.specs.Commit.{Change}
+use Rattle.btr_hist.specs.History.{replay}
 use Rattle.btr_hist.specs.History.{commits, latest, bag}
 use Rattle.btr_engine.specs.Board.{newest_first, commits_to}
 

@@ -22,7 +22,7 @@ use Rattle.btr_tree.specs.Root.{AreInDomain, IsTreeFault}
 use Rattle.btr_tree.specs.declared.fault.TreeFault.TheVariants as tree
 use Rattle.btr_hist.specs.declared.rejection.Rejection.{Rejection}
 use Rattle.btr_hist.specs.declared.rejection.Rejection.TheVariants.{Crowded, TooManyPoints}
-use Rattle.btr_hist.specs.declared.limits.TheConstants.{MAX_POINTS, MAX_POINTS_IN_BOTTOM_SPAN}
+use Rattle.btr_base.specs.declared.limits.TheConstants.{MAX_POINTS, LEAF_POINTS}
 use Rattle.btr_hist.specs.Crowded.{bottom_start, shares_bottom, beside, crowded}
 use Rattle.btr_hist.specs.Legal.{first_some, when, points_rejection}
 
@@ -148,7 +148,7 @@ same-place y m n low high begins ends =
 
 module _ (b : List Point) (inside : AreInDomain b) where
   abbrev too_many : Point → Bool
-  too_many p = nat_lt MAX_POINTS_IN_BOTTOM_SPAN (beside b p)
+  too_many p = nat_lt LEAF_POINTS (beside b p)
 
   -- a point whose bottom span starts where there is room
   few-beside : (to : ℤ) (p : Point) → HasRoom FIRST to b → InDomain p.time → p.time <ℤ to → too_many p ≡ false
@@ -158,7 +158,7 @@ module _ (b : List Point) (inside : AreInDomain b) where
       let low : FIRST ≤ℤ bottom m.0 = rw bottom-is (omega (arith, ints)) in
       let few : length (points_of 0 (bottom m.0) b) ≤ LEAF_POINTS = room m.0 low (omega (arith, ints)) in
       let same : beside b p ≡ length (points_of 0 (bottom m.0) b) = beside-span b p at.0 inside ∙ ap (λ s. length (points_of 0 s b)) m.1.start in
-      le-ltb MAX_POINTS_IN_BOTTOM_SPAN (beside b p) (omega arith)
+      le-ltb LEAF_POINTS (beside b p) (omega arith)
 
   -- a point of a crowded bottom span
   many-beside : (start : ℤ) (place : ℕ) (p : Point) → start ≡ bottom place → LEAF_POINTS < length (points_of 0 start b) → InDomain p.time → start ≤ℤ p.time → p.time <ℤ (start +ℤ pos (width 0)) → (too_many p ≡ true) × (bottom_start p.time ≡ start)
@@ -169,7 +169,7 @@ module _ (b : List Point) (inside : AreInDomain b) where
       let place_is = same-place p.time m.0 place m.1.begins m.1.ends from to in
       let start_is : bottom_start p.time ≡ start = m.1.start ∙ ap bottom place_is ∙ sym is in
       let same : beside b p ≡ length (points_of 0 start b) = beside-span b p at.0 inside ∙ ap (λ s. length (points_of 0 s b)) start_is in
-      (lt-ltb MAX_POINTS_IN_BOTTOM_SPAN (beside b p) (omega arith), start_is)
+      (lt-ltb LEAF_POINTS (beside b p) (omega arith), start_is)
 
   -- no bottom span is crowded
   pub room-crowded : HasRoom FIRST END b → crowded b ≡ None

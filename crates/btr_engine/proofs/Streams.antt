@@ -4,7 +4,7 @@ use Rattle.std.specs.List.{position_from}
 use Rattle.std.proofs.Common.{arith}
 use Rattle.btr_hist.specs.declared.entry.Entry.{Entry}
 use Rattle.btr_hist.specs.declared.entry.Entry.TheVariants.{Create, Commit}
-use Rattle.btr_hist.specs.Commit.{Change}
+use Rattle.btr_base.specs.Commit.{Change}
 use Rattle.btr_hist.specs.History.{ids, stream_of, commits, latest}
 
 -- no more streams than entries

@@ -5,7 +5,7 @@ use Rattle.std.specs.BTreeMap.{BTreeMap, get}
 use Rattle.btr_tree.specs.History as tree
 use Rattle.btr_tree.specs.Root.{TreeValue, IsTree}
 use Rattle.btr_hist.specs.declared.entry.Entry.{Entry}
-use Rattle.btr_hist.specs.Commit.{Change}
+use Rattle.btr_base.specs.Commit.{Change}
 use Rattle.btr_hist.specs.History.{ids, stream_of, commits, latest}
 use Rattle.btr_hist.specs.Legal.{Legal}
 use Rattle.btr_engine.specs.declared.board.Stream.{Stream}

@@ -3,7 +3,7 @@ use Rattle.std.specs.Prelude.{◌≡◌, ℕ, ◌+◌, ◌-◌, ◌<◌, List, [
 use Rattle.btr_tree.specs.Root.{TreeValue, IsTree}
 use Rattle.btr_hist.specs.declared.entry.Entry.{Entry}
 use Rattle.btr_hist.specs.declared.rejection.Rejection.{Rejection}
-use Rattle.btr_hist.specs.Commit.{Change}
+use Rattle.btr_base.specs.Commit.{Change}
 use Rattle.btr_hist.specs.History.{latest}
 use Rattle.btr_engine.specs.declared.board.Stream.{Stream}
 use Rattle.btr_engine.specs.declared.board.PushFault.{PushFault}

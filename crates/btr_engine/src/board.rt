@@ -11,7 +11,8 @@ ghost use Rattle.btr_engine.specs.Board.{AreNumbers, HasTrees, commits_to};
 ghost use Rattle.btr_engine.specs.Push.{PushCause, IsNext, SameTrees, HasKept, HasForgotten};
 
 use btr_base::{Bag, Ranges};
-use btr_hist::{Entry, History, MAX_STREAMS, MAX_VERSIONS, Rejection, change_rejection};
+use btr_base::{MAX_STREAMS, MAX_VERSIONS};
+use btr_hist::{Entry, History, Rejection, change_rejection};
 use btr_tree::{Steps, Tree, TreeFault};
 use std::alloc::{AllocError, Global};
 use std::collections::BTreeMap;

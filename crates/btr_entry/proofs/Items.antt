@@ -11,7 +11,7 @@ use Rattle.std.proofs.lemmas.Int.{ints}
 use Rattle.btr_base.specs.declared.point.Point.{Point}
 use Rattle.btr_base.specs.Point.{InDomain}
 use Rattle.btr_base.specs.Range.{RangeValue, IsRange}
-use Rattle.btr_hist.specs.declared.limits.TheConstants.{MAX_POINTS_IN_COMMIT}
+use Rattle.btr_base.specs.declared.limits.TheConstants.{MAX_COMMIT_POINTS}
 use Rattle.btr_entry.specs.Grammar.{number, signed, range, point, listed, AreInDomain, ValuesFit}
 use Rattle.btr_entry.specs.Fields.{HasRoom}
 use Rattle.btr_entry.proofs.Numbers.{same_parts, number_once, signed_once, length-signed, wide64}
@@ -106,7 +106,7 @@ items_once item Good is (x ∷ xs) (y ∷ ys) h k same =
     cc
 
 -- a list behind its number
-pub listed_once : {X : Type 0} (item : X → List ℕ) (Good : X → Type 0) → IsItem item Good → (xs ys : List X) (a b : List ℕ) → AllByRecursion Good xs → AllByRecursion Good ys → length xs ≤ MAX_POINTS_IN_COMMIT → length ys ≤ MAX_POINTS_IN_COMMIT → listed item xs ++ a ≡ listed item ys ++ b → (xs ≡ ys) × (a ≡ b)
+pub listed_once : {X : Type 0} (item : X → List ℕ) (Good : X → Type 0) → IsItem item Good → (xs ys : List X) (a b : List ℕ) → AllByRecursion Good xs → AllByRecursion Good ys → length xs ≤ MAX_COMMIT_POINTS → length ys ≤ MAX_COMMIT_POINTS → listed item xs ++ a ≡ listed item ys ++ b → (xs ≡ ys) × (a ≡ b)
 listed_once item Good is xs ys a b h k few_xs few_ys same =
     let apart = sym (append_assoc (number w64 (length xs)) (flat_map item xs) a) ∙ same ∙ append_assoc (number w64 (length ys)) (flat_map item ys) b in
     let numbers = number_once w64 (2 ^ 64) wide64 (length xs) (length ys) (flat_map item xs ++ a) (flat_map item ys ++ b) (omega (arith, few_xs)) (omega (arith, few_ys)) apart in

@@ -4,13 +4,13 @@ use Rattle.std.specs.Int.{w32, w64}
 use Rattle.std.specs.Int.RustNames.{FitsSigned}
 use Rattle.btr_base.specs.declared.point.Point.{Point}
 use Rattle.btr_base.specs.Bag.{IsInOrder}
-use Rattle.btr_hist.specs.declared.limits.TheConstants.{MAX_POINTS_IN_COMMIT}
+use Rattle.btr_base.specs.declared.limits.TheConstants.{MAX_COMMIT_POINTS}
 use Rattle.btr_entry.specs.Grammar.{number, AreInDomain, ValuesFit}
 
 -- how many items there are, and then sixteen bytes for each of them, behind which the rest stands
 pub record IsCounted (bytes items rest : List ℕ) : Type 0 where
   pub count : ℕ
-  pub few : count ≤ MAX_POINTS_IN_COMMIT
+  pub few : count ≤ MAX_COMMIT_POINTS
   pub long : length items ≡ 16 * count
   pub parts : bytes ≡ number w64 count ++ (items ++ rest)
 

@@ -7,7 +7,7 @@ use Rattle.btr_base.specs.declared.point.Point.{Point}
 use Rattle.btr_base.specs.Point.{InDomain}
 use Rattle.btr_base.specs.Range.{RangeValue, IsCut}
 use Rattle.btr_base.specs.Bag.{IsInOrder}
-use Rattle.btr_hist.specs.declared.limits.TheConstants.{MAX_POINTS_IN_COMMIT}
+use Rattle.btr_base.specs.declared.limits.TheConstants.{MAX_COMMIT_POINTS, MAX_COMMIT_RANGES}
 use Rattle.btr_hist.specs.declared.entry.Entry.{Entry}
 use Rattle.btr_hist.specs.declared.entry.Entry.TheVariants.{Create, Commit}
 
@@ -48,8 +48,8 @@ ValuesFit ps = AllByRecursion (λ p. FitsSigned w64 p.value) ps
 -- what a commit keeps that has a spelling: it does something, and not too much
 pub record IsBounded (cut : List RangeValue) (added : List Point) : Type 0 where
   pub some : 0 < length cut + length added
-  pub few_ranges : length cut ≤ MAX_POINTS_IN_COMMIT
-  pub few_points : length added ≤ MAX_POINTS_IN_COMMIT
+  pub few_ranges : length cut ≤ MAX_COMMIT_RANGES
+  pub few_points : length added ≤ MAX_COMMIT_POINTS
   pub in_domain : AreInDomain added
 
 -- that, and what every value of the type keeps

@@ -3,7 +3,7 @@ ghost use Rattle.std.specs.Int.{w32, w64, w128};
 ghost use Rattle.btr_entry.specs.Grammar.{number, signed};
 ghost use Rattle.btr_entry.specs.Fields.{IsCounted};
 
-use btr_hist::MAX_POINTS_IN_COMMIT;
+use btr_base::MAX_COMMIT_POINTS;
 
 /// The number in all of the bytes, or `None` where these are not sixteen.
 pub fn u128_of(bytes: &[u8]) -> Option<u128>
@@ -64,7 +64,7 @@ pub fn counted(bytes: &[u8]) -> Option<(&[u8], &[u8])>
     ensures none { IfNone result ((items rest : List ℕ) → IsCounted bytes.now items rest → ⊥) }
 {
     let (count, rest) = u64_at(bytes)?;
-    if count > MAX_POINTS_IN_COMMIT as u64 {
+    if count > MAX_COMMIT_POINTS as u64 {
         return None;
     }
     let len = 16 * count as usize;

@@ -12,7 +12,7 @@
 //! Ranges are their number in 8 bytes, and then `from` and `to` of each. Points are their number in 8 bytes, and then
 //! time and value of each. Ranges stand in order, and neither overlap nor touch; points stand in order of time and
 //! value, and their times lie in the domain. A commit has at least one range or point, and at most
-//! [`MAX_POINTS_IN_COMMIT`](btr_hist::MAX_POINTS_IN_COMMIT) of each. Nothing follows.
+//! [`MAX_COMMIT_POINTS`](btr_base::MAX_COMMIT_POINTS) of each. Nothing follows.
 #![tactic(auto)]
 
 mod fields;

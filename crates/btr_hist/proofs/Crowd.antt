@@ -14,7 +14,7 @@ use Rattle.btr_base.specs.Point.{is_not_after}
 use Rattle.btr_base.specs.Bag.{IsInOrder}
 use Rattle.btr_base.proofs.PointLemmas.{is_not_after-true, is_not_after-refl, drop-in_order}
 use Rattle.btr_base.proofs.ListLemmas.{each-weaker, count-cons, count-append}
-use Rattle.btr_hist.specs.declared.limits.TheConstants.{MAX_POINTS_IN_BOTTOM_SPAN}
+use Rattle.btr_base.specs.declared.limits.TheConstants.{LEAF_POINTS}
 use Rattle.btr_hist.specs.Crowded.{bottom_start, shares_bottom, beside, crowded}
 
 -- ---- the start of a bottom span
@@ -143,7 +143,7 @@ passed test p b (q ∷ pre) same none some =
     ] refl none
 
 abbrev too_many : List Point → Point → Bool
-too_many b p = nat_lt MAX_POINTS_IN_BOTTOM_SPAN (beside b p)
+too_many b p = nat_lt LEAF_POINTS (beside b p)
 
 find-first : (test : Point → Bool) (p : Point) (c : List Point) → test p ≡ true → find test (p ∷ c) ≡ Some p
 find-first test p c h = ap {A = Bool} {B = Option Point} (λ t. cond t (Some p) (find test c)) h
@@ -152,14 +152,14 @@ find-last : (test : Point → Bool) (pre : List Point) (p : Point) → find test
 find-last test pre p h k = find-append test pre (p ∷ []) ∙ ap {A = Option Point} {B = Option Point} (λ o. option_or o (find test (p ∷ []))) h ∙ ap {A = Bool} {B = Option Point} (λ t. cond t (Some p) None) k
 
 -- none so far, and this one is crowded from here on: it is the first
-pub crowded-found : (b : List Point) (i : ℕ) (d : Point) → i < length b → find (λ p. nat_lt MAX_POINTS_IN_BOTTOM_SPAN (beside b p)) (take i b) ≡ None → nat_lt MAX_POINTS_IN_BOTTOM_SPAN (beside (drop i b) (get_or b i d)) ≡ true → crowded b ≡ Some (bottom_start (get_or b i d).time)
+pub crowded-found : (b : List Point) (i : ℕ) (d : Point) → i < length b → find (λ p. nat_lt LEAF_POINTS (beside b p)) (take i b) ≡ None → nat_lt LEAF_POINTS (beside (drop i b) (get_or b i d)) ≡ true → crowded b ≡ Some (bottom_start (get_or b i d).time)
 crowded-found b i d low none here =
     let p = get_or b i d in
     let parts = take-append-drop i b in
     let both = count-append (shares_bottom p) (take i b) (drop i b) in
     let whole : count_by (shares_bottom p) (take i b ++ drop i b) ≡ beside b p = ap (count_by (shares_bottom p)) parts in
-    let many : MAX_POINTS_IN_BOTTOM_SPAN < beside (drop i b) p = ltb-true MAX_POINTS_IN_BOTTOM_SPAN (beside (drop i b) p) here in
-    let yes : too_many b p ≡ true = lt-ltb MAX_POINTS_IN_BOTTOM_SPAN (beside b p) (omega arith) in
+    let many : LEAF_POINTS < beside (drop i b) p = ltb-true LEAF_POINTS (beside (drop i b) p) here in
+    let yes : too_many b p ≡ true = lt-ltb LEAF_POINTS (beside b p) (omega arith) in
     let cut : drop i b ≡ p ∷ drop (i + 1) b = drop_more b i d low in
     let found : find (too_many b) (drop i b) ≡ Some p = ap (find (too_many b)) cut ∙ find-first (too_many b) p (drop (i + 1) b) yes in
     let all : find (too_many b) b ≡ Some p =
@@ -167,17 +167,17 @@ crowded-found b i d low none here =
     ap (option_map (λ (q : Point). bottom_start q.time)) all
 
 -- none so far, and this one is not crowded from here on: none up to it
-pub crowded-passed : (b : List Point) (i : ℕ) (d : Point) → i < length b → find (λ p. nat_lt MAX_POINTS_IN_BOTTOM_SPAN (beside b p)) (take i b) ≡ None → nat_lt MAX_POINTS_IN_BOTTOM_SPAN (beside (drop i b) (get_or b i d)) ≡ false → find (λ p. nat_lt MAX_POINTS_IN_BOTTOM_SPAN (beside b p)) (take (i + 1) b) ≡ None
+pub crowded-passed : (b : List Point) (i : ℕ) (d : Point) → i < length b → find (λ p. nat_lt LEAF_POINTS (beside b p)) (take i b) ≡ None → nat_lt LEAF_POINTS (beside (drop i b) (get_or b i d)) ≡ false → find (λ p. nat_lt LEAF_POINTS (beside b p)) (take (i + 1) b) ≡ None
 crowded-passed b i d low none here =
     let p = get_or b i d in
     let pre = take i b in
     let both = count-append (shares_bottom p) pre (drop i b) in
     let whole : count_by (shares_bottom p) (pre ++ drop i b) ≡ beside b p = ap (count_by (shares_bottom p)) (take-append-drop i b) in
-    let few : beside (drop i b) p ≤ MAX_POINTS_IN_BOTTOM_SPAN = ltb-false MAX_POINTS_IN_BOTTOM_SPAN (beside (drop i b) p) here in
+    let few : beside (drop i b) p ≤ LEAF_POINTS = ltb-false LEAF_POINTS (beside (drop i b) p) here in
     let no : too_many b p ≡ false =
     elim (cases_lt 0 (count_by (shares_bottom p) pre)) [
-      | inl some ↦ passed (too_many b) p b pre (λ q e. ap (nat_lt MAX_POINTS_IN_BOTTOM_SPAN) (beside-same b p q e)) none some
-      | inr none_before ↦ le-ltb MAX_POINTS_IN_BOTTOM_SPAN (beside b p) (omega arith)
+      | inl some ↦ passed (too_many b) p b pre (λ q e. ap (nat_lt LEAF_POINTS) (beside-same b p q e)) none some
+      | inr none_before ↦ le-ltb LEAF_POINTS (beside b p) (omega arith)
     ] in
     ap (find (too_many b)) (take_more b i d low) ∙ find-last (too_many b) pre p none no
 

@@ -10,38 +10,16 @@ use Rattle.btr_base.specs.Point.{InDomain}
 use Rattle.btr_hist.specs.declared.entry.Entry.{Entry}
 use Rattle.btr_hist.specs.declared.entry.Entry.TheVariants.{Create, Commit}
 use Rattle.btr_hist.specs.declared.rejection.Rejection.TheVariants.{OutOfDomain, NoStream, VersionLimit}
-use Rattle.btr_hist.specs.Commit.{Change}
+use Rattle.btr_base.specs.Commit.{Change}
 use Rattle.btr_hist.specs.History.{ids, commits, latest, bag}
-use Rattle.btr_hist.specs.Legal.{first_some, when, stray, next_bag, change_rejection, points_rejection, rejection, commit_rejection, Legal}
-use Rattle.btr_hist.specs.declared.limits.TheConstants.{MAX_VERSIONS}
-use Rattle.btr_hist.proofs.HistoryLemmas.{each-take, each-replay}
-
--- the time lies in the domain
-in_domain-true : (t : ℤ) → not (int_le FIRST t && int_lt t END) ≡ false → InDomain t
-in_domain-true t h = grind (arith, ints)
-
-no_stray : (b : List Point) → stray b ≡ None → AllByRecursion (λ p. InDomain p.time) b
-no_stray [] h = tt
-no_stray (p ∷ b) h =
-    elim (not (int_le FIRST p.time && int_lt p.time END)) as (λ t. not (int_le FIRST p.time && int_lt p.time END) ≡ t → cond t (Some p) (stray b) ≡ None → AllByRecursion (λ p. InDomain p.time) (p ∷ b)) [
-      | true ↦ λ _ k. absurd (cc)
-      | false ↦ λ e k. (in_domain-true p.time e, no_stray b k)
-    ] refl h
-
-first_none : {A : Type 0} (o : Option A) (os : List (Option A)) → first_some (o ∷ os) ≡ None → o ≡ None
-first_none None os h = refl
-first_none (Some a) os h = absurd (cc)
-
-rest_none : {A : Type 0} (o : Option A) (os : List (Option A)) → first_some (o ∷ os) ≡ None → first_some os ≡ None
-rest_none None os h = h
-rest_none (Some a) os h = absurd (cc)
-
-map_none : {A B : Type 0} (f : A → B) (o : Option A) → option_map f o ≡ None → o ≡ None
-map_none f None h = refl
-map_none f (Some a) h = absurd (cc)
+use Rattle.btr_hist.specs.Legal.{when, first_out_of_domain, next_bag, change_rejection, points_rejection, rejection, commit_rejection, Legal}
+use Rattle.btr_base.specs.declared.limits.TheConstants.{MAX_VERSIONS}
+use Rattle.btr_base.proofs.ListLemmas.{each-take}
+use Rattle.btr_hist.proofs.HistoryLemmas.{each-replay}
+use Rattle.btr_hist.proofs.RejectionLemmas.{first_none, rest_none, map_none, none_out_of_domain}
 
 change-in_domain : (c : Change) → change_rejection c ≡ None → AllByRecursion (λ p. InDomain p.time) c.added
-change-in_domain c h = no_stray c.added (map_none (λ (p : Point). OutOfDomain p.time) (stray c.added) (first_none _ _ h))
+change-in_domain c h = none_out_of_domain c.added (map_none (λ (p : Point). OutOfDomain p.time) (first_out_of_domain c.added) (first_none _ _ h))
 
 commit-in_domain : (h : List Entry) (stream : ℕ) (c : Change) → commit_rejection h stream c ≡ None → AllByRecursion (λ p. InDomain p.time) c.added
 commit-in_domain h stream c allowed =

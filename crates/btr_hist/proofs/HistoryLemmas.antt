@@ -8,12 +8,12 @@ use Rattle.std.proofs.lemmas.Option.{slice_get_within}
 use Rattle.btr_base.specs.declared.point.Point.{Point}
 use Rattle.btr_base.specs.Range.{covered}
 use Rattle.btr_base.specs.Bag.{IsInOrder, outside, copies}
-use Rattle.btr_base.proofs.ListLemmas.{each-append, each-filter}
+use Rattle.btr_base.proofs.ListLemmas.{each-append, each-filter, get-append, get_back, get_last}
 use Rattle.btr_base.proofs.PointLemmas.{each-sort, sort-in_order, copies-sort, copies-append, copies-filter}
 use Rattle.btr_hist.specs.declared.entry.Entry.{Entry}
 use Rattle.btr_hist.specs.declared.entry.Entry.TheVariants.{Create, Commit}
-use Rattle.btr_hist.specs.Commit.{Change, after, replay}
-use Rattle.btr_hist.specs.History.{ids, commits, latest, bag}
+use Rattle.btr_base.specs.Commit.{Change, after}
+use Rattle.btr_hist.specs.History.{ids, replay, commits, latest, bag}
 use Rattle.btr_hist.specs.Legal.{rejection, Legal}
 use Rattle.btr_hist.specs.Laws.{copies_after}
 
@@ -67,11 +67,6 @@ bag-in_order h stream version = replay-in_order [] (take version (commits h stre
 
 -- ---- what holds of all points
 
-pub each-take : {X : Type 0} (P : X → Type 0) (n : ℕ) (xs : List X) → AllByRecursion P xs → AllByRecursion P (take n xs)
-each-take P zero xs h = tt
-each-take P (suc n) [] h = tt
-each-take P (suc n) (x ∷ xs) h = (h.0, each-take P n xs h.1)
-
 pub each-after : (P : Point → Type 0) (b : List Point) (c : Change) → AllByRecursion P b → AllByRecursion P c.added → AllByRecursion P (after b c)
 each-after P b c h k =
     each-sort P (outside b c.cut ++ c.added) (each-append P (outside b c.cut) c.added (each-filter P (λ p. not (covered c.cut p.time)) b h) k)
@@ -104,20 +99,6 @@ copies-replay p b (c ∷ cs) =
 
 pub legal-none : Legal []
 legal-none n e at = absurd (omega (arith, slice_get_within {A = Entry} [] n e at))
-
-pub get-append : {X : Type 0} (xs ys : List X) (n : ℕ) (x : X) → slice_get xs n ≡ Some x → slice_get (xs ++ ys) n ≡ Some x
-get-append [] ys n x at = absurd (cc)
-get-append (y ∷ xs) ys zero x at = at
-get-append (y ∷ xs) ys (suc n) x at = get-append xs ys n x at
-
-pub get_back : {X : Type 0} (xs ys : List X) (n : ℕ) (x : X) → n < length xs → slice_get (xs ++ ys) n ≡ Some x → slice_get xs n ≡ Some x
-get_back [] ys n x low at = absurd (omega arith)
-get_back (y ∷ xs) ys zero x low at = at
-get_back (y ∷ xs) ys (suc n) x low at = get_back xs ys n x (omega arith) at
-
-pub get_last : {X : Type 0} (xs : List X) (y : X) → slice_get (xs ++ y ∷ []) (length xs) ≡ Some y
-get_last [] y = refl
-get_last (x ∷ xs) y = get_last xs y
 
 -- a prefix of a legal history is legal
 pub legal-prefix : (h more : List Entry) → Legal (h ++ more) → Legal h

@@ -1,4 +1,5 @@
 pub mod HistoryLemmas
+pub mod RejectionLemmas
 mod Steps
 mod Crowd
 mod Stays

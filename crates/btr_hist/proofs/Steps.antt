@@ -1,17 +1,17 @@
 -- One step of a walk over the entries of a history.
-use Rattle.std.specs.Prelude.{◌≡◌, ℕ, ◌+◌, ◌≤◌, ◌<◌, nat_eq, Bool, true, false, ◌||◌, not, ◌&&◌, int_le, int_lt, Option, Some, List, ◌∷◌, length, take, drop, get_or, cond}
+use Rattle.std.specs.Prelude.{◌≡◌, ℕ, ◌+◌, ◌≤◌, ◌<◌, nat_eq, Bool, true, false, ◌||◌, not, Option, Some, List, ◌∷◌, length, take, drop, get_or, cond}
 use Rattle.std.specs.List.{list_any, position_from}
 use Rattle.std.proofs.Common.{suc, sym, ap, ◌∙◌, arith}
 use Rattle.std.proofs.lemmas.List.{drop_more}
 use Rattle.std.proofs.lemmas.Bool.{eq-eqb, ne_eqb}
 use Rattle.btr_base.specs.declared.point.Point.{Point}
-use Rattle.btr_base.specs.declared.limits.TheConstants.{FIRST, END}
+use Rattle.btr_base.specs.Point.{in_domain}
 use Rattle.btr_base.specs.Range.{RangeValue}
 use Rattle.btr_hist.specs.declared.entry.Entry.{Entry}
 use Rattle.btr_hist.specs.declared.entry.Entry.TheVariants.{Create, Commit}
-use Rattle.btr_hist.specs.Commit.{Change, after, replay}
-use Rattle.btr_hist.specs.History.{ids, commits}
-use Rattle.btr_hist.specs.Legal.{stray}
+use Rattle.btr_base.specs.Commit.{Change, after}
+use Rattle.btr_hist.specs.History.{ids, replay, commits}
+use Rattle.btr_hist.specs.Legal.{first_out_of_domain}
 
 -- the element at a place, and those after it
 pub drop_step : {X : Type 0} (xs : List X) (i : ℕ) (x y : X) → i < length xs → x ≡ get_or xs i x → x ≡ y → drop i xs ≡ y ∷ drop (i + 1) xs
@@ -53,12 +53,12 @@ position-first x y i xs same = ap {A = Bool} {B = Option ℕ} (λ t. cond t (Som
 pub position-rest : (x y i : ℕ) (xs : List ℕ) → (y ≡ x → ⊥) → position_from (nat_eq x) i (y ∷ xs) ≡ position_from (nat_eq x) (i + 1) xs
 position-rest x y i xs other = ap {A = Bool} {B = Option ℕ} (λ t. cond t (Some i) (position_from (nat_eq x) (i + 1) xs)) (ne_eqb x y (λ e. other (sym e)))
 
--- a point outside the domain is the first such, where it is the first
-pub stray-first : (p : Point) (b : List Point) → not (int_le FIRST p.time && int_lt p.time END) ≡ true → stray (p ∷ b) ≡ Some p
-stray-first p b out = ap {A = Bool} {B = Option Point} (λ t. cond t (Some p) (stray b)) out
+-- a point outside the domain, or inside it, as the first of a list
+pub out_of_domain-first : (p : Point) (b : List Point) → in_domain p.time ≡ false → first_out_of_domain (p ∷ b) ≡ Some p
+out_of_domain-first p b out = ap {A = Bool} {B = Option Point} (λ t. cond (not t) (Some p) (first_out_of_domain b)) out
 
-pub stray-rest : (p : Point) (b : List Point) → not (int_le FIRST p.time && int_lt p.time END) ≡ false → stray (p ∷ b) ≡ stray b
-stray-rest p b within = ap {A = Bool} {B = Option Point} (λ t. cond t (Some p) (stray b)) within
+pub out_of_domain-rest : (p : Point) (b : List Point) → in_domain p.time ≡ true → first_out_of_domain (p ∷ b) ≡ first_out_of_domain b
+out_of_domain-rest p b inside = ap {A = Bool} {B = Option Point} (λ t. cond (not t) (Some p) (first_out_of_domain b)) inside
 
 -- ---- a walk that applies so many commits
 

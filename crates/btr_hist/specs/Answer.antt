@@ -1,7 +1,7 @@
 -- What a question about a history answers.
-use Rattle.std.specs.Prelude.{ℕ, ◌+◌, ◌^◌, ℤ, Bool, true, ◌&&◌, nat_lt, nat_le, max, int_le, int_lt, List, [], ◌∷◌, length, if◌then◌else◌, Option, Some, None}
+use Rattle.std.specs.Prelude.{ℕ, ◌+◌, ℤ, Bool, true, ◌&&◌, nat_lt, nat_le, max, int_le, int_lt, List, [], ◌∷◌, length, if◌then◌else◌, Option, Some, None}
 use Rattle.btr_base.specs.declared.point.Point.{Point}
-use Rattle.btr_base.specs.declared.limits.TheConstants.{FIRST, END}
+use Rattle.btr_base.specs.declared.limits.TheConstants.{FIRST, END, MAX_EXPONENT, MAX_WIDTH}
 use Rattle.btr_base.specs.Agg.{agg_within}
 use Rattle.btr_base.specs.Bag.{within}
 use Rattle.btr_base.specs.Nearest.{nearest}
@@ -31,11 +31,11 @@ is_range from to = int_le FIRST from && int_lt from to && int_le to END
 
 -- windows and slots of `2^p` ns can be asked
 abbrev pub is_power : ℕ → Bool
-is_power p = nat_le p 62
+is_power p = nat_le p MAX_EXPONENT
 
 -- windows of this width in nanoseconds can be asked
 abbrev pub is_width : ℕ → Bool
-is_width width = nat_le 1 width && nat_le width (2 ^ 62)
+is_width width = nat_le 1 width && nat_le width MAX_WIDTH
 
 -- what there is to say of the points of a version, where the stream has that version and the question is a good one
 abbrev pub answer_at : List Entry → ℕ → ℕ → Bool → (List Point → Rows) → Answer

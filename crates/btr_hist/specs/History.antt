@@ -4,7 +4,7 @@ use Rattle.std.specs.List.{position_from}
 use Rattle.btr_base.specs.declared.point.Point.{Point}
 use Rattle.btr_hist.specs.declared.entry.Entry.{Entry}
 use Rattle.btr_hist.specs.declared.entry.Entry.TheVariants.{Create, Commit}
-use Rattle.btr_hist.specs.Commit.{Change, replay}
+use Rattle.btr_base.specs.Commit.{Change, after}
 
 -- the ids of the streams: a stream's number is its place in this list
 abbrev pub ids : List Entry → List ℕ
@@ -26,6 +26,11 @@ commits (Commit s cut added ∷ h) stream =
 -- the latest version of a stream: each commit makes one
 abbrev pub latest : List Entry → ℕ → ℕ
 latest h stream = length (commits h stream)
+
+-- The points after some commits, the first of them first.
+abbrev pub replay : List Point → List Change → List Point
+replay b [] = b
+replay b (c ∷ cs) = replay (after b c) cs
 
 -- the points of a version: those after so many commits
 abbrev pub bag : List Entry → ℕ → ℕ → List Point

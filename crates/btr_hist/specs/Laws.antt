@@ -10,7 +10,7 @@ use Rattle.btr_hist.specs.declared.query.At.{At}
 use Rattle.btr_hist.specs.declared.query.At.TheVariants.{Number, Latest}
 use Rattle.btr_hist.specs.declared.query.Query.{Query}
 use Rattle.btr_hist.specs.declared.query.Query.TheVariants as ask
-use Rattle.btr_hist.specs.Commit.{Change}
+use Rattle.btr_base.specs.Commit.{Change}
 use Rattle.btr_hist.specs.History.{ids, commits, latest, bag}
 use Rattle.btr_hist.specs.Legal.{Legal}
 use Rattle.btr_hist.specs.Answer.{answer}

@@ -1,15 +1,15 @@
 -- Which entries may follow a history, and which histories are legal.
-use Rattle.std.specs.Prelude.{◌≡◌, ℕ, max, Bool, not, ◌&&◌, nat_eq, nat_lt, nat_le, ◌==◌, int_le, int_lt, List, [], ◌∷◌, length, take, slice_get, if◌then◌else◌, Option, Some, None}
+use Rattle.std.specs.Prelude.{◌≡◌, ℕ, max, Bool, not, ◌&&◌, ◌||◌, nat_eq, nat_lt, nat_le, ◌==◌, List, [], ◌∷◌, length, take, slice_get, if◌then◌else◌, Option, Some, None}
 use Rattle.std.specs.List.{list_any, find}
 use Rattle.std.specs.Option.{option_map}
 use Rattle.btr_base.specs.declared.point.Point.{Point}
-use Rattle.btr_base.specs.declared.limits.TheConstants.{FIRST, END}
+use Rattle.btr_base.specs.Point.{in_domain}
 use Rattle.btr_hist.specs.declared.entry.Entry.{Entry}
 use Rattle.btr_hist.specs.declared.entry.Entry.TheVariants.{Create, Commit}
 use Rattle.btr_hist.specs.declared.rejection.Rejection.{Rejection}
 use Rattle.btr_hist.specs.declared.rejection.Rejection.TheVariants.{NoStream, StreamExists, OutOfDomain, Empty, TooMany, StreamLimit, VersionLimit, Crowded, TooManyPoints}
-use Rattle.btr_hist.specs.declared.limits.TheConstants.{MAX_STREAMS, MAX_VERSIONS, MAX_POINTS, MAX_POINTS_IN_COMMIT}
-use Rattle.btr_hist.specs.Commit.{Change, after}
+use Rattle.btr_base.specs.declared.limits.TheConstants.{MAX_STREAMS, MAX_VERSIONS, MAX_POINTS, MAX_COMMIT_POINTS, MAX_COMMIT_RANGES}
+use Rattle.btr_base.specs.Commit.{Change, after}
 use Rattle.btr_hist.specs.History.{ids, latest, bag}
 use Rattle.btr_hist.specs.Crowded.{crowded}
 
@@ -23,9 +23,9 @@ first_some (Some a ∷ os) = Some a
 abbrev pub when : Bool → Rejection → Option Rejection
 when b r = if b then Some r else None
 
--- the first point outside the domain, which has the least such time
-abbrev pub stray : List Point → Option Point
-stray b = find (λ p. not (int_le FIRST p.time && int_lt p.time END)) b
+-- The first point outside the domain. Of points in order it has the least such time.
+abbrev pub first_out_of_domain : List Point → Option Point
+first_out_of_domain b = find (λ p. not (in_domain p.time)) b
 
 -- the points of the latest version after one more commit
 abbrev pub next_bag : List Entry → ℕ → Change → List Point
@@ -41,9 +41,9 @@ create_rejection h id = first_some (
 -- why a commit of these ranges and points may not be, whatever the stream holds
 abbrev pub change_rejection : Change → Option Rejection
 change_rejection c = first_some (
-    option_map (λ p. OutOfDomain p.time) (stray c.added)
+    option_map (λ p. OutOfDomain p.time) (first_out_of_domain c.added)
     ∷ when (length c.cut == 0 && length c.added == 0) Empty
-    ∷ when (nat_lt MAX_POINTS_IN_COMMIT (max (length c.cut) (length c.added))) (TooMany (max (length c.cut) (length c.added)))
+    ∷ when (nat_lt MAX_COMMIT_RANGES (length c.cut) || nat_lt MAX_COMMIT_POINTS (length c.added)) (TooMany (max (length c.cut) (length c.added)))
     ∷ [])
 
 -- why a version may not hold these points

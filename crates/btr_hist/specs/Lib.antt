@@ -1,10 +1,10 @@
--- what a commit does, and what a version holds
-pub mod Commit
+-- what a version holds
 pub mod History
 -- which entries are allowed
 pub mod Crowded
 pub mod Legal
--- what is answered
+-- what is asked and answered
+pub mod Query
 pub mod Answer
 pub mod Asked
 pub mod Machine

@@ -8,12 +8,12 @@ ghost use Rattle.btr_hist.specs.Answer.{answer, version_of, is_range, is_power, 
 ghost use Rattle.btr_hist.specs.Asked.{IsAsked};
 
 use crate::answer::{Answer, CellList, PointList, Refusal, Rows, StreamList, StreamRow};
-use crate::cells::{aggregate, aligned_cells, whole_cells};
+use crate::cells::{aligned_cells, whole_cells};
 use crate::changed::changed_ranges;
 use crate::entry::Entry;
-use crate::history::{bag_of, latest_of, points_within, stream_count};
+use crate::history::{latest_of, points_of_version, stream_count};
 use crate::query::{At, Query};
-use btr_base::{Bag, END, FIRST, Point, Toward, parted, points_between};
+use btr_base::{Agg, END, FIRST, MAX_EXPONENT, MAX_WIDTH, Point, Toward, parted, points_between};
 use std::alloc::{AllocError, Global};
 
 /// The version that is asked, or why the question is refused. `good` says that the other numbers of the question are good.
@@ -56,8 +56,8 @@ pub(crate) fn points_answer(
         Ok(version) => version,
         Err(refusal) => return Ok(Answer::Refused(refusal)),
     };
-    let bag = bag_of(alloc, entries, stream, version)?;
-    let points = points_within(alloc, bag.as_slice(), from, to)?;
+    let bag = points_of_version(alloc, entries, stream, version)?;
+    let points = Vec::from_slice(alloc, points_between(bag.as_slice(), from, to))?;
     Ok(Answer::Found {
         version,
         rows: Rows::Points(PointList::from_points(points)),
@@ -79,7 +79,7 @@ pub(crate) fn nearest_answer(
         Ok(version) => version,
         Err(refusal) => return Ok(Answer::Refused(refusal)),
     };
-    let bag = bag_of(alloc, entries, stream, version)?;
+    let bag = points_of_version(alloc, entries, stream, version)?;
     let points = list_of(alloc, nearest_point(bag.as_slice(), time, toward))?;
     Ok(Answer::Found {
         version,
@@ -103,7 +103,7 @@ pub(crate) fn aligned_answer(
         Ok(version) => version,
         Err(refusal) => return Ok(Answer::Refused(refusal)),
     };
-    let bag = bag_of(alloc, entries, stream, version)?;
+    let bag = points_of_version(alloc, entries, stream, version)?;
     let cells = aligned_cells(alloc, bag.as_slice(), from, to, p)?;
     Ok(Answer::Found {
         version,
@@ -127,7 +127,7 @@ pub(crate) fn windows_answer(
         Ok(version) => version,
         Err(refusal) => return Ok(Answer::Refused(refusal)),
     };
-    let bag = bag_of(alloc, entries, stream, version)?;
+    let bag = points_of_version(alloc, entries, stream, version)?;
     let cells = whole_cells(alloc, bag.as_slice(), from, to, width)?;
     Ok(Answer::Found {
         version,
@@ -151,8 +151,8 @@ pub(crate) fn changes_answer(
         Ok(version) => version,
         Err(refusal) => return Ok(Answer::Refused(refusal)),
     };
-    let before = bag_of(alloc, entries, stream, old)?;
-    let after = bag_of(alloc, entries, stream, version)?;
+    let before = points_of_version(alloc, entries, stream, old)?;
+    let after = points_of_version(alloc, entries, stream, version)?;
     let ranges = changed_ranges(alloc, before.as_slice(), after.as_slice(), p)?;
     Ok(Answer::Found {
         version,
@@ -173,8 +173,8 @@ pub(crate) fn info_answer(
         Ok(version) => version,
         Err(refusal) => return Ok(Answer::Refused(refusal)),
     };
-    let bag = bag_of(alloc, entries, stream, version)?;
-    let agg = aggregate(points_between(bag.as_slice(), FIRST, END));
+    let bag = points_of_version(alloc, entries, stream, version)?;
+    let agg = Agg::of_points(points_between(bag.as_slice(), FIRST, END));
     Ok(Answer::Found {
         version,
         rows: Rows::Info { agg },
@@ -244,19 +244,19 @@ fn is_range(from: i64, to: i64) -> bool
 fn can_align(from: i64, to: i64, p: u8) -> bool
     ensures { result ≡ (is_range from to && is_power p) }
 {
-    is_range(from, to) && p <= 62
+    is_range(from, to) && p <= MAX_EXPONENT
 }
 
 /// Whether windows of a width in nanoseconds in the range can be asked.
 fn can_divide(from: i64, to: i64, width: u64) -> bool
     ensures { result ≡ (is_range from to && is_width width) }
 {
-    is_range(from, to) && 1 <= width && width <= 1 << 62
+    is_range(from, to) && 1 <= width && width <= MAX_WIDTH
 }
 
 /// Whether the changes from one version to another in slots of `2^p` ns can be asked.
 fn can_compare(old: u64, new: u64, p: u8) -> bool
     ensures { result ≡ (nat_le old new && is_power p) }
 {
-    old <= new && p <= 62
+    old <= new && p <= MAX_EXPONENT
 }

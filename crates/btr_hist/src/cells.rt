@@ -1,7 +1,6 @@
 //! Windows of time and what is said of the points in them.
 ghost use Rattle.std.specs.Prelude.{◌≡◌, ◌+◌, ◌^◌, ◌≤◌, ℤ, ◌≤ℤ◌, true, IfOk};
 ghost use Rattle.btr_base.specs.declared.limits.TheConstants.{END};
-ghost use Rattle.btr_base.specs.Agg.{agg};
 ghost use Rattle.btr_base.specs.Bag.{IsInOrder};
 ghost use Rattle.btr_base.specs.Windows.{window_of, window_at, cell_of, cells, aligned, windows};
 ghost use Rattle.btr_hist.specs.Answer.{is_range, is_power, is_width};
@@ -84,7 +83,7 @@ fn cell_of(points: &[Point], first: i64, width: u64, number: u64) -> Cell
     let end = window_end(first, width, number);
     Cell {
         start,
-        agg: aggregate(points_between(points, start, end)),
+        agg: Agg::of_points(points_between(points, start, end)),
     }
 }
 
@@ -118,15 +117,4 @@ pub(crate) fn window_end(first: i64, width: u64, number: u64) -> i64
     ensures { result ≡ window_at first width (number + 1) }
 {
     window_start(first, width, number) + width as i64
-}
-
-/// The aggregate of points.
-pub(crate) fn aggregate(points: &[Point]) -> Agg
-    ensures { result ≡ agg points.now }
-{
-    let mut all = Agg::none();
-    for point in points {
-        all = all.join(&Agg::of(point.value));
-    }
-    all
 }

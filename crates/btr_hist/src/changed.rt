@@ -1,11 +1,10 @@
 //! What differs between two lists of points.
 ghost use Rattle.std.specs.Prelude.{◌≡◌, ◌≤◌, IfOk};
 ghost use Rattle.btr_base.specs.Bag.{IsInOrder};
-ghost use Rattle.btr_base.specs.Changes.{differ_at, slot_around, changes};
+ghost use Rattle.btr_base.specs.Changes.{differ_at, changes};
 ghost use Rattle.btr_base.specs.Point.{InDomain};
 
-use crate::cells::{width_of, window_end, window_of, window_start};
-use btr_base::{END, FIRST, Point, Range, Ranges, merged, points_between};
+use btr_base::{END, FIRST, Point, Ranges, merged, points_between, slot_around};
 use std::alloc::{AllocError, Global};
 
 /// The longest runs of aligned slots of `2^p` ns in which two lists of points in order differ. It looks at both lists for each
@@ -41,18 +40,4 @@ fn differ_at(a: &[Point], b: &[Point], time: i64) -> bool
     ensures { result ≡ differ_at a.now b.now time }
 {
     points_between(a, time, time + 1) != points_between(b, time, time + 1)
-}
-
-/// The aligned slot of `2^p` ns that a time of the domain lies in.
-fn slot_around(time: i64, p: u8) -> Range
-    requires power { p ≤ 62 }
-    requires domain { InDomain time }
-    ensures { result ≡ slot_around p time }
-{
-    let width = width_of(p);
-    let number = window_of(FIRST, width, time);
-    Range {
-        from: window_start(FIRST, width, number),
-        to: window_end(FIRST, width, number),
-    }
 }

@@ -1,11 +1,10 @@
 ghost use Rattle.std.specs.Prelude.{◌≡◌, ◌<◌, nat_lt, Option, length, drop, slice_index_or};
 ghost use Rattle.btr_base.specs.declared.point.Point.{Point as APoint};
 ghost use Rattle.btr_base.specs.Bag.{IsInOrder};
-ghost use Rattle.btr_hist.specs.declared.limits.TheConstants.{MAX_POINTS_IN_BOTTOM_SPAN};
+ghost use Rattle.btr_base.specs.declared.limits.TheConstants.{LEAF_POINTS};
 ghost use Rattle.btr_hist.specs.Crowded.{crowded, beside, bottom_start, shares_bottom};
 
-use crate::limits::{BOTTOM_SPAN, MAX_POINTS_IN_BOTTOM_SPAN};
-use btr_base::Point;
+use btr_base::{BOTTOM_WIDTH, LEAF_POINTS, Point};
 
 /// The start of the first bottom span that holds more points than it may, in nanoseconds, if there is one. It takes
 /// time linear in the number of points and no memory.
@@ -26,9 +25,9 @@ pub fn first_crowded(points: &[Point]) -> Option<i64>
 fn is_crowded_from(points: &[Point], place: usize) -> bool
     requires order { IsInOrder points.now }
     requires within { place < length points.now }
-    ensures { (d : APoint) → result ≡ nat_lt MAX_POINTS_IN_BOTTOM_SPAN (beside (drop place points.now) (slice_index_or points.now place d)) }
+    ensures { (d : APoint) → result ≡ nat_lt LEAF_POINTS (beside (drop place points.now) (slice_index_or points.now place d)) }
 {
-    let behind = place + MAX_POINTS_IN_BOTTOM_SPAN;
+    let behind = place + LEAF_POINTS;
     behind < points.len() && shares_bottom(&points[place], &points[behind])
 }
 
@@ -43,5 +42,5 @@ fn shares_bottom(a: &Point, b: &Point) -> bool
 fn bottom_start(time: i64) -> i64
     ensures { result ≡ bottom_start time }
 {
-    time - time.rem_euclid(BOTTOM_SPAN)
+    time - time.rem_euclid(BOTTOM_WIDTH as i64)
 }

@@ -1,11 +1,10 @@
-ghost use Rattle.std.specs.Prelude.{◌≡◌, ℕ, ◌≤◌, List, [], ◌∷◌, ◌++◌, Bool, not, ◌&&◌, int_le, int_lt, length, nat_eq, max, IfOk, IfSome, IsNone, OnOk, OnErr, Option, Some, None};
+ghost use Rattle.std.specs.Prelude.{◌≡◌, ℕ, ◌≤◌, List, [], ◌∷◌, ◌++◌, length, nat_eq, max, IfOk, IfSome, IsNone, OnOk, OnErr, Option, Some, None};
 ghost use Rattle.std.specs.List.{list_any};
 ghost use Rattle.std.specs.Option.{option_map};
-ghost use Rattle.btr_base.specs.declared.limits.TheConstants.{FIRST, END};
-ghost use Rattle.btr_base.specs.Bag.{IsInOrder, within};
-ghost use Rattle.btr_hist.specs.Commit.{after};
+ghost use Rattle.btr_base.specs.Bag.{IsInOrder};
+ghost use Rattle.btr_base.specs.Commit.{after};
 ghost use Rattle.btr_hist.specs.History.{ids, stream_of, latest, bag};
-ghost use Rattle.btr_hist.specs.Legal.{rejection, create_rejection, change_rejection, points_rejection, commit_rejection, stray};
+ghost use Rattle.btr_hist.specs.Legal.{rejection, create_rejection, change_rejection, points_rejection, commit_rejection, first_out_of_domain};
 ghost use Rattle.btr_hist.specs.Answer.{answer};
 
 use crate::answer::Answer;
@@ -15,10 +14,12 @@ use crate::answering::{
 };
 use crate::crowded::first_crowded;
 use crate::entry::Entry;
-use crate::limits::{MAX_POINTS, MAX_POINTS_IN_COMMIT, MAX_STREAMS, MAX_VERSIONS};
 use crate::query::Query;
 use crate::rejection::Rejection;
-use btr_base::{Bag, END, FIRST, Point, Range, Ranges};
+use btr_base::{
+    Bag, MAX_COMMIT_POINTS, MAX_COMMIT_RANGES, MAX_POINTS, MAX_STREAMS, MAX_VERSIONS, Point, Range,
+    Ranges,
+};
 use std::alloc::{AllocError, Global};
 use std::marker::Model;
 
@@ -76,7 +77,7 @@ impl History {
     pub fn find(&self, id: u128) -> Option<usize>
         ensures { result ≡ stream_of self.now id }
     {
-        place_of(&self.entries, id)
+        stream_number(&self.entries, id)
     }
 
     /// How many streams there are. It goes through all entries, and takes no memory.
@@ -186,7 +187,7 @@ fn commit(
     if latest >= MAX_VERSIONS {
         return Ok(Some(Rejection::VersionLimit));
     }
-    let bag = bag_of(alloc, entries, stream, latest as u64)?;
+    let bag = points_of_version(alloc, entries, stream, latest as u64)?;
     let next = points_after(alloc, &bag, cut, added)?;
     Ok(points_rejection(next.as_slice()))
 }
@@ -196,16 +197,15 @@ fn commit(
 pub fn change_rejection(cut: &[Range], added: &[Point]) -> Option<Rejection>
     ensures { result ≡ change_rejection (record { cut = cut.now; added = added.now }) }
 {
-    if let Some(time) = stray_time(added) {
+    if let Some(time) = time_out_of_domain(added) {
         return Some(Rejection::OutOfDomain { time });
     }
-    let count = cut.len().max(added.len());
-    if count == 0 {
+    if cut.is_empty() && added.is_empty() {
         return Some(Rejection::Empty);
     }
-    if count > MAX_POINTS_IN_COMMIT {
+    if cut.len() > MAX_COMMIT_RANGES || added.len() > MAX_COMMIT_POINTS {
         return Some(Rejection::TooMany {
-            count: count as u64,
+            count: cut.len().max(added.len()) as u64,
         });
     }
     None
@@ -219,10 +219,9 @@ pub fn points_rejection(points: &[Point]) -> Option<Rejection>
     if let Some(start) = first_crowded(points) {
         return Some(Rejection::Crowded { start });
     }
-    if points.len() > MAX_POINTS {
-        return Some(Rejection::TooManyPoints {
-            count: points.len() as u64,
-        });
+    let count = points.len() as u64;
+    if count > MAX_POINTS {
+        return Some(Rejection::TooManyPoints { count });
     }
     None
 }
@@ -240,17 +239,17 @@ pub(crate) fn stream_count(entries: &[Entry]) -> usize
     count
 }
 
-/// The place of the first stream with this id among the streams.
-fn place_of(entries: &[Entry], id: u128) -> Option<usize>
+/// The number of the first stream with this id.
+fn stream_number(entries: &[Entry], id: u128) -> Option<usize>
     ensures { result ≡ stream_of entries.now id }
 {
-    let mut place = 0;
+    let mut number = 0;
     for entry in entries {
         if let Entry::Create { id: other } = entry {
             if *other == id {
-                return Some(place);
+                return Some(number);
             }
-            place += 1;
+            number += 1;
         }
     }
     None
@@ -287,7 +286,7 @@ pub(crate) fn latest_of(entries: &[Entry], stream: usize) -> usize
 
 /// The points of a version: those after so many commits of the stream. It goes through all entries, and each commit of the
 /// stream costs the points that it finds.
-pub fn bag_of(
+pub(crate) fn points_of_version(
     alloc: Global,
     entries: &[Entry],
     stream: u32,
@@ -314,43 +313,20 @@ pub fn bag_of(
 }
 
 /// The points after one commit, in one pass over points and ranges.
-pub fn points_after(alloc: Global, bag: &Bag, cut: &Ranges, added: &Bag) -> Result<Bag, AllocError>
+fn points_after(alloc: Global, bag: &Bag, cut: &Ranges, added: &Bag) -> Result<Bag, AllocError>
     ensures { IfOk result (λ b. b ≡ after bag.now (record { cut = cut.now; added = added.now })) }
 {
     bag.outside(alloc, cut)?.merge(alloc, added)
 }
 
-/// The points from a time up to, and without, another, in nanoseconds. It goes through all points.
-pub fn points_within(
-    alloc: Global,
-    points: &[Point],
-    from: i64,
-    to: i64,
-) -> Result<Vec<Point>, AllocError>
-    ensures { IfOk result (λ v. v.items ≡ within from to points.now) }
-{
-    points
-        .iter()
-        .filter(|p| from <= p.time && p.time < to)
-        .copied()
-        .collect(alloc)
-}
-
 /// The time of the first point outside the domain.
-fn stray_time(points: &[Point]) -> Option<i64>
-    ensures { result ≡ option_map (λ p. p.time) (stray points.now) }
+fn time_out_of_domain(points: &[Point]) -> Option<i64>
+    ensures { result ≡ option_map (λ p. p.time) (first_out_of_domain points.now) }
 {
     for point in points {
-        if is_stray(point) {
+        if !point.is_in_domain() {
             return Some(point.time);
         }
     }
     None
-}
-
-/// Whether a point lies outside the domain.
-fn is_stray(point: &Point) -> bool
-    ensures { result ≡ not (int_le FIRST point.now.time && int_lt point.now.time END) }
-{
-    point.time < FIRST || point.time >= END
 }

@@ -8,7 +8,6 @@
 //! Streams, versions and the calls on them are those of BTrDB (Andersen and Culler, FAST 2016).
 #![tactic(auto)]
 
-mod limits;
 // what is kept
 mod crowded;
 mod entry;
@@ -26,18 +25,12 @@ mod laws;
 pub use answer::{Answer, CellList, PointList, Refusal, Rows, StreamList, StreamRow};
 pub use crowded::first_crowded;
 pub use entry::Entry;
-pub use history::{
-    History, bag_of, change_rejection, points_after, points_rejection, points_within,
-};
+pub use history::{History, change_rejection, points_rejection};
 pub use laws::{
     old_versions_stay, points_lie_in_the_domain, prefixes_are_legal, the_machine_stays_legal,
     versions_hold_what_was_put_in,
 };
-pub use limits::{
-    BOTTOM_SPAN, MAX_POINTS, MAX_POINTS_IN_BOTTOM_SPAN, MAX_POINTS_IN_COMMIT, MAX_STREAMS,
-    MAX_VERSIONS,
-};
-pub use query::{At, Query};
+pub use query::{At, Query, StreamQuery};
 pub use rejection::Rejection;
 
 #[cfg(test)]

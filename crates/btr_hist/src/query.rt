@@ -1,12 +1,15 @@
+ghost use Rattle.std.specs.Prelude.{◌≡◌};
+ghost use Rattle.btr_hist.specs.Query.{of_stream};
+
 use btr_base::Toward;
 
-/// Which version of a stream is asked.
+/// The version of a stream that a question is about.
 #[derive(Clone, Copy, Debug, PartialEq, Eq)]
 pub enum At {
-    /// The version after so many commits of the stream. Version 0 is empty.
+    /// The version after the first so many commits of the stream. Version 0 is empty.
     Number(u64),
 
-    /// The one after all its commits.
+    /// The version after all commits of the stream.
     Latest,
 }
 
@@ -29,8 +32,8 @@ pub enum Query {
         at: At,
     },
 
-    /// The aligned windows of `2^p` ns, from the first time of the domain on, that meet `from <= time < to` and have a point,
-    /// each whole (BTrDB's GetStatisticalRange). `p` is 0 to 62.
+    /// The aligned windows of `2^p` ns, from the first time of the domain on, that meet `from <= time < to` and contain a point.
+    /// Each is whole (BTrDB's GetStatisticalRange). `p` is 0 to 62.
     Aligned {
         stream: u32,
         from: i64,
@@ -39,7 +42,7 @@ pub enum Query {
         at: At,
     },
 
-    /// The windows of a width in nanoseconds, 1 to 2^62, from `from` on, that end at or before `to` and have a point.
+    /// The windows of a width in nanoseconds, 1 to 2^62, from `from` on, that end at or before `to` and contain a point.
     Windows {
         stream: u32,
         from: i64,
@@ -56,7 +59,7 @@ pub enum Query {
         p: u8,
     },
 
-    /// What there is to say of a version as a whole.
+    /// The aggregate of all points of a version.
     Info {
         stream: u32,
         at: At,
@@ -64,4 +67,92 @@ pub enum Query {
 
     /// All streams.
     Streams,
+}
+
+/// A question about one stream, without the stream. Each variant asks what the variant of [`Query`] of the same name asks.
+#[derive(Clone, Copy, Debug, PartialEq, Eq)]
+pub enum StreamQuery {
+    Points {
+        from: i64,
+        to: i64,
+        at: At,
+    },
+
+    Nearest {
+        time: i64,
+        toward: Toward,
+        at: At,
+    },
+
+    Aligned {
+        from: i64,
+        to: i64,
+        p: u8,
+        at: At,
+    },
+
+    Windows {
+        from: i64,
+        to: i64,
+        width: u64,
+        at: At,
+    },
+
+    Changes {
+        old: u64,
+        new: u64,
+        p: u8,
+    },
+
+    Info {
+        at: At,
+    },
+}
+
+impl StreamQuery {
+    /// The question, asked of the stream of this number.
+    pub fn of(self, stream: u32) -> Query
+        ensures { result ≡ of_stream self stream }
+    {
+        match self {
+            StreamQuery::Points { from, to, at } => Query::Points {
+                stream,
+                from,
+                to,
+                at,
+            },
+            StreamQuery::Nearest { time, toward, at } => Query::Nearest {
+                stream,
+                time,
+                toward,
+                at,
+            },
+            StreamQuery::Aligned { from, to, p, at } => Query::Aligned {
+                stream,
+                from,
+                to,
+                p,
+                at,
+            },
+            StreamQuery::Windows {
+                from,
+                to,
+                width,
+                at,
+            } => Query::Windows {
+                stream,
+                from,
+                to,
+                width,
+                at,
+            },
+            StreamQuery::Changes { old, new, p } => Query::Changes {
+                stream,
+                old,
+                new,
+                p,
+            },
+            StreamQuery::Info { at } => Query::Info { stream, at },
+        }
+    }
 }

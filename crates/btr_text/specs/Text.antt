@@ -11,7 +11,7 @@ use Rattle.btr_base.specs.Agg.{AggValue}
 use Rattle.btr_hist.specs.declared.answer.Rows.{Rows}
 use Rattle.btr_hist.specs.declared.answer.Rows.TheVariants as rows
 use Rattle.btr_hist.specs.declared.answer.StreamRow.{StreamRow}
-use Rattle.btr_hist.specs.declared.limits.TheConstants.{MAX_STREAMS, MAX_VERSIONS}
+use Rattle.btr_base.specs.declared.limits.TheConstants.{MAX_STREAMS, MAX_VERSIONS}
 use Rattle.btr_text.specs.declared.word.TheConstants.{SPACE, LINE_FEED}
 use Rattle.btr_text.specs.declared.reply.LineReply.{LineReply}
 use Rattle.btr_text.specs.declared.reply.LineReply.TheVariants.{Done, Found, No}

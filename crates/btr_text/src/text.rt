@@ -5,7 +5,7 @@ ghost use Rattle.btr_text.specs.Text.{text, line_text, ok_text, reason_words};
 use crate::reply::{LineReply, Reason};
 use crate::row::{append_rows, row_count};
 use crate::word::{LINE_FEED, SPACE};
-use btr_hist::{MAX_STREAMS, MAX_VERSIONS};
+use btr_base::{MAX_STREAMS, MAX_VERSIONS};
 use itoa::{Buffer, Integer};
 use std::alloc::AllocError;
 

@@ -2,7 +2,7 @@
 use Rattle.std.proofs.Common.{◌≡◌, None, ◌+◌, ◌-◌, length, refl}
 use Rattle.btr_tree.specs.History.{bag}
 use Rattle.btr_tree.proofs.VersionLemmas.{bag-in_order}
-use Rattle.btr_hist.specs.Commit.{Change}
+use Rattle.btr_base.specs.Commit.{Change}
 use Rattle.btr_hist.specs.History.{latest}
 use Rattle.btr_hist.specs.Legal.{change_rejection}
 use Rattle.btr_engine.specs.Board.{commits_to}

@@ -15,5 +15,5 @@ returns-in-Err c =
 pub returns : goal.returns
 returns c =
     let h = c.args.entries.now in
-    found h c.args.stream (version_of h c.args.stream c.args.at) true true (λ (b : List Point). Info (agg_within FIRST END b)) c.in-Ok.version (Info c.aggregate-agg.result) refl c.in-Ok.ensures
-    (ap Info (c.aggregate-agg.ensures ∙ ap agg c.points_between.ensures ∙ ap (agg_within FIRST END) (c.as_slice.ensures.points ∙ c.in_ok-bag.ensures)))
+    found h c.args.stream (version_of h c.args.stream c.args.at) true true (λ (b : List Point). Info (agg_within FIRST END b)) c.in-Ok.version (Info c.of_points-agg.result) refl c.in-Ok.ensures
+    (ap Info (c.of_points-agg.ensures ∙ ap agg c.points_between.ensures ∙ ap (agg_within FIRST END) (c.as_slice.ensures.points ∙ c.in_ok-bag.ensures)))

@@ -3,7 +3,7 @@ use Rattle.std.specs.Prelude.{nat_eq, is_some, refl}
 use Rattle.std.specs.List.{list_any}
 use Rattle.std.proofs.lemmas.Bool.{le-leb, lt-leb}
 use Rattle.btr_hist.specs.History.{ids}
-use Rattle.btr_hist.specs.declared.limits.TheConstants.{MAX_STREAMS}
+use Rattle.btr_base.specs.declared.limits.TheConstants.{MAX_STREAMS}
 use Rattle.btr_engine.proofs.BoardNumbers.{stream-any, creation_is}
 use Rattle.btr_engine.proofs.board.Board.creation.Goals as goal
 

@@ -1,8 +1,8 @@
 use Rattle.std.proofs.Common.{◌+◌, ◌∙◌, drop, arith}
 use Rattle.btr_hist.specs.History.{commits, bag}
 use Rattle.btr_hist.proofs.Steps.{commits-create, commits-same, commits-other, walk-commit, walk-same, walk-done}
-use Rattle.btr_hist.proofs.history.bag_of.Goals as goal
-use Rattle.btr_hist.proofs.history.bag_of.Goals.{in-Commit+then-of-stream+then-left-gt0+in_ok-bag, in-Commit+else-of-stream, else-of-stream-via-then-of-stream+else-left-gt0, else-of-stream-via-else-of-stream, in_default}
+use Rattle.btr_hist.proofs.history.points_of_version.Goals as goal
+use Rattle.btr_hist.proofs.history.points_of_version.Goals.{in-Commit+then-of-stream+then-left-gt0+in_ok-bag, in-Commit+else-of-stream, else-of-stream-via-then-of-stream+else-left-gt0, else-of-stream-via-else-of-stream, in_default}
 
 pub loop-entry-preserved : goal.loop-entry-preserved
 loop-entry-preserved c =
