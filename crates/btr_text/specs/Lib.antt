@@ -1,7 +1,7 @@
--- what is read
+-- What is read: words, the forms of a line, the lines of an input.
 pub mod Word
 pub mod Form
 pub mod Input
--- what is written
-pub mod Refused
+-- What is written: the reason of a refusal, the text of a reply.
+pub mod Reasons
 pub mod Text

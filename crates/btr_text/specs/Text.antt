@@ -1,4 +1,4 @@
--- The text of a reply: a line of words and numbers, and a line for each row.
+-- The text of a reply: one line of words and numbers, then one line for each row.
 use Rattle.std.specs.Prelude.{ℕ, ℤ, List, [], ◌∷◌, ◌++◌, length, flat_map, codes, decimal, Option, Some, None}
 use Rattle.std.specs.Int.{to_be_bytes, w128}
 use Rattle.std.specs.Fmt.{signed_decimal}
@@ -18,11 +18,11 @@ use Rattle.btr_text.specs.declared.reply.LineReply.TheVariants.{Done, Found, No}
 use Rattle.btr_text.specs.declared.reply.Reason.{Reason}
 use Rattle.btr_text.specs.declared.reply.Reason.TheVariants as reasons
 
--- words, one space between each two, and a line feed
+-- Words with one space between each two, then a line feed.
 abbrev pub line_text : List (List ℕ) → List ℕ
 line_text words = join_with_byte SPACE words ++ LINE_FEED ∷ []
 
--- the words of a refusal, behind `no`
+-- The words of a refusal, after `no`.
 abbrev pub reason_words : Reason → List (List ℕ)
 reason_words reasons.Line = codes "line" ∷ []
 reason_words reasons.Stream = codes "stream" ∷ []
@@ -41,40 +41,44 @@ reason_words (reasons.Full need left) = codes "full" ∷ decimal need ∷ decima
 reason_words reasons.Device = codes "device" ∷ []
 reason_words (reasons.Stopped entries) = codes "stopped" ∷ decimal entries ∷ []
 
--- the first line of a reply that is no refusal: the version, and how many rows follow
+-- The first line of a reply that is no refusal: the version and the number of rows.
 abbrev pub ok_text : ℕ → ℕ → List ℕ
 ok_text version rows = line_text (codes "ok" ∷ decimal version ∷ decimal rows ∷ [])
 
--- the words of an aggregate: how many points, their sum, and with a point the least and the greatest value
+-- The least and the greatest value, if there is a point.
 abbrev pub ends_words : Option (ℤ × ℤ) → List (List ℕ)
 ends_words None = []
 ends_words (Some e) = signed_decimal e.0 ∷ signed_decimal e.1 ∷ []
 
+-- The words of an aggregate: the number of points, their sum, then the least and the greatest value.
 abbrev pub agg_words : AggValue → List (List ℕ)
 agg_words a = decimal a.count ∷ signed_decimal a.total ∷ ends_words a.ends
 
--- the id of a stream, hyphenated and in lower case
+-- The id of a stream, hyphenated and in lower case.
 abbrev pub id_text : ℕ → List ℕ
 id_text id = hyphenated_text lower (to_be_bytes w128 id)
 
--- the row of a point, of a window, of a changed range, and of a stream
+-- The row of a point.
 abbrev pub point_row : Point → List ℕ
 point_row p = line_text (signed_decimal p.time ∷ signed_decimal p.value ∷ [])
 
+-- The row of a window.
 abbrev pub cell_row : Cell → List ℕ
 cell_row c = line_text (signed_decimal c.start ∷ agg_words c.agg)
 
+-- The row of a changed range.
 abbrev pub range_row : RangeValue → List ℕ
 range_row r = line_text (signed_decimal r.from ∷ signed_decimal r.to ∷ [])
 
+-- The row of a stream.
 abbrev pub stream_row : StreamRow → List ℕ
 stream_row s = line_text (id_text s.id ∷ decimal s.latest ∷ codes "plain" ∷ [])
 
--- the row of a version as a whole
+-- The one row of `info`: the aggregate of all points of a version.
 abbrev pub info_row : AggValue → List ℕ
 info_row a = line_text (codes "plain" ∷ agg_words a)
 
--- how many rows there are
+-- The number of rows.
 abbrev pub row_count : Rows → ℕ
 row_count (rows.Points ps) = length ps
 row_count (rows.Cells cs) = length cs
@@ -82,7 +86,7 @@ row_count (rows.Ranges rs) = length rs
 row_count (rows.Info a) = 1
 row_count (rows.Streams ss) = length ss
 
--- the rows, one after the other
+-- The rows, one after another.
 abbrev pub rows_text : Rows → List ℕ
 rows_text (rows.Points ps) = flat_map point_row ps
 rows_text (rows.Cells cs) = flat_map cell_row cs
@@ -90,7 +94,7 @@ rows_text (rows.Ranges rs) = flat_map range_row rs
 rows_text (rows.Info a) = info_row a
 rows_text (rows.Streams ss) = flat_map stream_row ss
 
--- the text of a reply
+-- The text of a reply.
 abbrev pub text : LineReply → List ℕ
 text (Done version) = ok_text version 0
 text (Found version r) = ok_text version (row_count r) ++ rows_text r

@@ -7,15 +7,14 @@ use crate::script::{Script, ScriptLine};
 use crate::word::{LINE_FEED, next_word};
 use std::alloc::{AllocError, Global};
 
-/// The lines of an input that have a reply, in order. It takes time linear in the input, and memory for the lines and
-/// their points alone.
+/// Reads the lines of an input that have a reply, in order. It takes time linear in the input, and memory for the lines
+/// and their points. An `Err` means out of memory.
 ///
 /// The input is cut at line feeds, and one carriage return at the end of a line is dropped. A line is words, with one
-/// or more spaces between each two. One that begins with `#` has no reply, and neither has one without a word. A first
-/// word `@0` names lane 0, which is the lane of a line without it too. The forms are those of [`Line`]: an id is the text
-/// of a UUID in any of its forms (RFC 9562), times and values are decimal digits within `i64`, behind a minus or alone,
-/// and a version is digits within `u64`, or `latest`. What fits none of them is a line without a form, also where it is
-/// not UTF-8.
+/// or more spaces between each two. A line that begins with `#`, or has no word, has no reply. A first word `@0` names
+/// lane 0, which is also the lane of a line without it. The forms are those of [`Line`]. An id is the text of a UUID in
+/// any of its forms (RFC 9562). Times and values are decimal digits within `i64`, with or without a minus in front. A
+/// version is digits within `u64`, or `latest`. A line that fits no form is kept without one, even if it is not UTF-8.
 ///
 /// [`Line`]: crate::Line
 pub fn read_script(alloc: Global, bytes: &[u8]) -> Result<Script, AllocError>
@@ -28,7 +27,7 @@ pub fn read_script(alloc: Global, bytes: &[u8]) -> Result<Script, AllocError>
     Ok(Script::from_lines(lines))
 }
 
-/// The line without one carriage return at its end.
+/// Returns the line without one carriage return at its end.
 fn without_carriage_return(line: &[u8]) -> &[u8]
     ensures { result.now ≡ strip_carriage_return line.now }
 {
@@ -38,7 +37,7 @@ fn without_carriage_return(line: &[u8]) -> &[u8]
     }
 }
 
-/// Adds what a line says, where it has a reply.
+/// Adds what a line says to `lines`, if the line has a reply.
 fn add_line(alloc: Global, lines: &mut Vec<ScriptLine>, line: &[u8]) -> Result<(), AllocError>
     ensures { OnOk result (lines.new.items ≡ lines.old.items ++ option_to_list (script_line line.now)) }
 {
@@ -48,7 +47,7 @@ fn add_line(alloc: Global, lines: &mut Vec<ScriptLine>, line: &[u8]) -> Result<(
     Ok(())
 }
 
-/// What a line says, or `None` where it has no reply.
+/// Reads what a line says. Returns `None` if it has no reply.
 fn read_line(alloc: Global, line: &[u8]) -> Result<Option<ScriptLine>, AllocError>
     ensures { IfOk result (λ l. l ≡ script_line line.now) }
 {

@@ -1,8 +1,9 @@
-//! What users type and what they read: the lines of a script, and the text of the replies to them.
+//! The text of a script and of its replies: what users type, and what they read.
 //!
 //! [`read_script`] reads bytes into lines, by the grammar in `specs/Word.antt`, `specs/Form.antt` and
-//! `specs/Input.antt`; [`write_reply`] writes a reply as `specs/Text.antt` says. A new form of line is one more entry
-//! in `line_of` of `specs/Form.antt`, and one in `read_form`.
+//! `specs/Input.antt`. [`write_reply`] writes a reply as `specs/Text.antt` says. A new question about one stream is one
+//! more definition in `specs/Form.antt` and one more function in `form.rt`, and a branch in `query_form` and
+//! `read_query`.
 #![tactic(auto)]
 
 // what is read

@@ -1,62 +1,63 @@
 ghost use Rattle.std.specs.Prelude.{◌≡◌};
-ghost use Rattle.btr_text.specs.Refused.{reason_of_rejection, reason_of_refusal};
+ghost use Rattle.btr_text.specs.Reasons.{reason_of_rejection, reason_of_refusal};
 
 use btr_hist::{Refusal, Rejection, Rows};
 
-/// Why a line is refused.
+/// The reason why a line is refused.
 #[derive(Clone, Copy, Debug, PartialEq, Eq)]
 pub enum Reason {
-    /// It fits no form.
+    /// The line fits no form.
     Line,
 
-    /// A stream that it names is not known.
+    /// The stream that the line names does not exist.
     Stream,
 
-    /// The range is empty, or a bound lies outside the domain.
+    /// The range is empty, or a bound is outside the domain. Of a question also: the width is not allowed, or the first of
+    /// two versions is after the second.
     Range,
 
     /// The stream has no such version yet.
     Version { asked: u64, latest: u64 },
 
-    /// A stream has this id.
+    /// A stream with this id exists.
     Exists,
 
-    /// A point lies outside the domain: the least such time, in nanoseconds.
+    /// A point is outside the domain. This is the least such time, in nanoseconds.
     Domain { time: i64 },
 
     /// There is nothing to commit.
     Empty,
 
-    /// There are too many points or ranges: the greater of their numbers.
+    /// There are too many points or ranges. This is the greater of the two numbers.
     Many { count: u64 },
 
-    /// There are as many streams as there may be.
+    /// The store has as many streams as it may have.
     Streams,
 
     /// The stream has as many versions as it may have.
     Versions,
 
-    /// A bottom span would hold too many points: the start of the first such span, in nanoseconds.
+    /// A bottom span would hold too many points. This is the start of the first such span, in nanoseconds.
     Crowded { start: i64 },
 
-    /// The version would hold too many points: their number.
+    /// The version would hold too many points. This is their number.
     Points { count: u64 },
 
-    /// There was no memory for it.
+    /// The program is out of memory.
     Memory,
 
-    /// The device has no room for it: the blocks of 4096 bytes that it needs, and those that are left.
+    /// The device is full. These are the blocks of 4096 bytes that the entry needs, and the blocks that are left.
     Full { need: u64, left: u64 },
 
     /// The device failed.
     Device,
 
-    /// The store takes no more commits, since the device failed after so many entries.
+    /// The store takes no more commits, since the device failed after this number of entries.
     Stopped { entries: u64 },
 }
 
 impl Reason {
-    /// Why a line is refused whose entry was rejected.
+    /// Returns the reason of a line whose entry was rejected.
     pub fn of_rejection(rejection: Rejection) -> Reason
         ensures { result ≡ reason_of_rejection rejection }
     {
@@ -73,7 +74,7 @@ impl Reason {
         }
     }
 
-    /// Why a line is refused whose question was refused.
+    /// Returns the reason of a line whose question was refused.
     pub fn of_refusal(refusal: Refusal) -> Reason
         ensures { result ≡ reason_of_refusal refusal }
     {
@@ -88,12 +89,13 @@ impl Reason {
 /// The reply to a line.
 #[derive(Debug, Drop)]
 pub enum LineReply {
-    /// It was done. The version is that which it made, 0 for a new stream.
+    /// The line was done. This is the version that it made, 0 for a new stream.
     Done { version: u64 },
 
-    /// What was asked: the version, of two the second, or the number of entries where streams were asked; and the rows.
+    /// The answer to a question: the version and the rows. Of two versions it is the second, of `streams` the number of
+    /// entries.
     Found { version: u64, rows: Rows },
 
-    /// It was refused.
+    /// The line was refused.
     No(Reason),
 }

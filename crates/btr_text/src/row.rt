@@ -8,7 +8,7 @@ use itoa::Buffer;
 use std::alloc::AllocError;
 use uuid::Uuid;
 
-/// How many rows there are.
+/// Returns the number of rows.
 pub fn row_count(rows: &Rows) -> usize
     ensures { result ≡ row_count rows.now }
 {
@@ -21,7 +21,7 @@ pub fn row_count(rows: &Rows) -> usize
     }
 }
 
-/// Appends the rows one after the other, or a part of them.
+/// Appends the rows, one after another. An `Err` may leave a part of them.
 pub fn append_rows(out: &mut Vec<u8>, rows: &Rows) -> Result<(), AllocError>
     ensures ok { OnOk result (out.new.items ≡ out.old.items ++ rows_text rows.now) }
     ensures err { OnErr result (take (length out.old.items) out.new.items ≡ out.old.items) }
@@ -35,17 +35,17 @@ pub fn append_rows(out: &mut Vec<u8>, rows: &Rows) -> Result<(), AllocError>
     }
 }
 
-/// What stands in a reply on a line of its own, behind the first line.
+/// A value that a reply shows as one line, after its first line.
 trait Row {
     ghost row_text: { Self → List ℕ };
 
-    /// Appends the row, or a part of it.
+    /// Appends the row. An `Err` may leave a part of it.
     fn append(&self, out: &mut Vec<u8>) -> Result<(), AllocError>
         ensures ok { OnOk result (out.new.items ≡ out.old.items ++ row_text self.now) }
         ensures err { OnErr result (take (length out.old.items) out.new.items ≡ out.old.items) };
 }
 
-/// Appends rows one after the other, or a part of them.
+/// Appends rows, one after another. An `Err` may leave a part of them.
 fn append_each<R: Row>(out: &mut Vec<u8>, rows: &[R]) -> Result<(), AllocError>
     ensures ok { OnOk result (out.new.items ≡ out.old.items ++ flat_map R.row_text rows.now) }
     ensures err { OnErr result (take (length out.old.items) out.new.items ≡ out.old.items) }
@@ -107,7 +107,7 @@ impl Row for StreamRow {
     }
 }
 
-/// The text of an id, hyphenated and in lower case.
+/// Writes the text of an id into the buffer: hyphenated, in lower case.
 fn id_text(id: u128, buffer: &mut [u8]) -> &str
     requires { 36 ≤ length buffer.old }
     ensures { result.now ≡ id_text id }
@@ -115,7 +115,7 @@ fn id_text(id: u128, buffer: &mut [u8]) -> &str
     Uuid::from_u128(id).hyphenated().encode_lower(buffer)
 }
 
-/// Appends a line of a word and an aggregate, or a part of it.
+/// Appends a line of a word and an aggregate. An `Err` may leave a part of it.
 fn append_agg(out: &mut Vec<u8>, first: &[u8], agg: &Agg) -> Result<(), AllocError>
     ensures ok { OnOk result (out.new.items ≡ out.old.items ++ line_text (first.now ∷ agg_words agg.now)) }
     ensures err { OnErr result (take (length out.old.items) out.new.items ≡ out.old.items) }

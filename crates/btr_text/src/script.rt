@@ -1,77 +1,24 @@
 ghost use Rattle.std.specs.Prelude.{◌≡◌};
 
-use btr_base::{Bag, Toward};
-use btr_hist::At;
+use btr_base::Bag;
+use btr_hist::StreamQuery;
 use std::marker::Model;
 
 /// A line that fits a form, with the values of its words. Times are in nanoseconds.
 #[derive(Debug, Drop)]
 pub enum Line {
     /// `create ID`: a new stream.
-    Create {
-        id: u128,
-    },
+    Create { id: u128 },
 
     /// `insert ID T V [T V ..]`: one commit that adds these points.
-    Insert {
-        id: u128,
-        added: Bag,
-    },
+    Insert { id: u128, added: Bag },
 
     /// `delete ID S E`: one commit that removes the points with `from <= time < to`.
-    Delete {
-        id: u128,
-        from: i64,
-        to: i64,
-    },
+    Delete { id: u128, from: i64, to: i64 },
 
-    /// `range ID S E AT`: the points with `from <= time < to` of a version.
-    Range {
-        id: u128,
-        from: i64,
-        to: i64,
-        at: At,
-    },
-
-    /// `nearest ID T next AT`, or `prev`: the point of a version that is nearest to a time in one direction.
-    Nearest {
-        id: u128,
-        time: i64,
-        toward: Toward,
-        at: At,
-    },
-
-    /// `aligned ID S E P AT`: the aligned windows of `2^p` ns that meet a range and have a point.
-    Aligned {
-        id: u128,
-        from: i64,
-        to: i64,
-        p: u8,
-        at: At,
-    },
-
-    /// `windows ID S E W AT`: the windows of a width from the begin of a range on that end in it and have a point.
-    Windows {
-        id: u128,
-        from: i64,
-        to: i64,
-        width: u64,
-        at: At,
-    },
-
-    /// `changes ID V1 V2 P`: the longest runs of aligned slots of `2^p` ns in which two versions differ.
-    Changes {
-        id: u128,
-        old: u64,
-        new: u64,
-        p: u8,
-    },
-
-    /// `info ID AT`: what there is to say of a version as a whole.
-    Info {
-        id: u128,
-        at: At,
-    },
+    /// `range`, `nearest`, `aligned`, `windows`, `changes` or `info`, then ID and the words of the question: a question
+    /// about one stream.
+    Ask { id: u128, query: StreamQuery },
 
     /// `streams`: all streams.
     Streams,
@@ -80,10 +27,10 @@ pub enum Line {
 /// A line that has a reply.
 #[derive(Debug, Drop)]
 pub struct ScriptLine {
-    /// Who says it.
+    /// The lane of the line: 0.
     pub lane: u8,
 
-    /// What it says, or `None` where it fits no form.
+    /// What it says, or `None` if it fits no form.
     pub line: Option<Line>,
 }
 
@@ -103,21 +50,21 @@ impl Model for Script {
 }
 
 impl Script {
-    /// The script of these lines. It takes no memory.
+    /// Makes a script of these lines. It takes no memory.
     pub fn from_lines(lines: Vec<ScriptLine>) -> Script
         ensures { result ≡ lines.items }
     {
         Script { lines }
     }
 
-    /// The lines, in order.
+    /// Returns the lines, in order.
     pub fn as_slice(&self) -> &[ScriptLine]
         ensures { result.now ≡ self.now }
     {
         self.lines.as_slice()
     }
 
-    /// The lines as a list, in order. It takes no memory.
+    /// Returns the lines as a list, in order. It takes no memory.
     pub fn into_lines(self) -> Vec<ScriptLine>
         ensures { result.items ≡ self }
     {

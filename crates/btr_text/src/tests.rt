@@ -1,5 +1,5 @@
 //! Lines as users type them, and replies as they read them.
+mod fixture;
 mod lines;
 mod questions;
 mod replies;
-mod shown;

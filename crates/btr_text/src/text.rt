@@ -9,13 +9,13 @@ use btr_base::{MAX_STREAMS, MAX_VERSIONS};
 use itoa::{Buffer, Integer};
 use std::alloc::AllocError;
 
-/// Appends the text of a reply. An `Err` leaves the text as it was. It takes time linear in the text, and no memory but
-/// what the text needs to grow.
+/// Appends the text of a reply to `out`. It takes time linear in the text, and the memory that `out` needs to grow.
+/// An `Err` means out of memory, and leaves `out` as it was.
 ///
 /// A reply is `ok VERSION ROWS` and its rows, or `no WORD` with numbers. A row is `TIME VALUE` for a point, `START COUNT
-/// SUM LEAST GREATEST` for a window, `FROM TO` for a changed range, `plain COUNT SUM [LEAST GREATEST]` for a version as a
-/// whole, and `ID LATEST plain` for a stream. Each line ends with a line feed, its words are one space apart, numbers are
-/// plain decimal, and an id is hyphenated and in lower case (RFC 9562).
+/// SUM LEAST GREATEST` for a window, `FROM TO` for a changed range, `plain COUNT SUM [LEAST GREATEST]` for all points of
+/// a version, and `ID LATEST plain` for a stream. Each line ends with a line feed, and one space separates two words.
+/// Numbers are plain decimal. An id is hyphenated and in lower case (RFC 9562).
 pub fn write_reply(reply: &LineReply, out: &mut Vec<u8>) -> Result<(), AllocError>
     ensures ok { OnOk result (out.new.items ≡ out.old.items ++ text reply.now) }
     ensures err { OnErr result (out.new.items ≡ out.old.items) }
@@ -28,7 +28,7 @@ pub fn write_reply(reply: &LineReply, out: &mut Vec<u8>) -> Result<(), AllocErro
     done
 }
 
-/// Appends the text of a reply, or a part of it.
+/// Appends the text of a reply. An `Err` may leave a part of it.
 fn append_reply(reply: &LineReply, out: &mut Vec<u8>) -> Result<(), AllocError>
     ensures ok { OnOk result (out.new.items ≡ out.old.items ++ text reply.now) }
     ensures err { OnErr result (take (length out.old.items) out.new.items ≡ out.old.items) }
@@ -43,7 +43,7 @@ fn append_reply(reply: &LineReply, out: &mut Vec<u8>) -> Result<(), AllocError>
     }
 }
 
-/// Appends the first line of a reply that is no refusal, or a part of it.
+/// Appends the first line of a reply that is no refusal. An `Err` may leave a part of it.
 fn append_ok(out: &mut Vec<u8>, version: u64, rows: usize) -> Result<(), AllocError>
     ensures ok { OnOk result (out.new.items ≡ out.old.items ++ ok_text version rows) }
     ensures err { OnErr result (take (length out.old.items) out.new.items ≡ out.old.items) }
@@ -60,41 +60,41 @@ fn append_ok(out: &mut Vec<u8>, version: u64, rows: usize) -> Result<(), AllocEr
     )
 }
 
-/// Appends the line of a refusal, or a part of it.
+/// Appends the line of a refusal. An `Err` may leave a part of it.
 fn append_reason(out: &mut Vec<u8>, reason: Reason) -> Result<(), AllocError>
     ensures ok { OnOk result (out.new.items ≡ out.old.items ++ line_text (codes "no" ∷ reason_words reason)) }
     ensures err { OnErr result (take (length out.old.items) out.new.items ≡ out.old.items) }
 {
     match reason {
-        Reason::Line => append_no(out, b"line"),
-        Reason::Stream => append_no(out, b"stream"),
-        Reason::Range => append_no(out, b"range"),
-        Reason::Version { asked, latest } => append_two(out, b"version", asked, latest),
-        Reason::Exists => append_no(out, b"exists"),
-        Reason::Domain { time } => append_one(out, b"domain", time),
-        Reason::Empty => append_no(out, b"empty"),
-        Reason::Many { count } => append_one(out, b"many", count),
-        Reason::Streams => append_one(out, b"streams", MAX_STREAMS),
-        Reason::Versions => append_one(out, b"versions", MAX_VERSIONS),
-        Reason::Crowded { start } => append_one(out, b"crowded", start),
-        Reason::Points { count } => append_one(out, b"points", count),
-        Reason::Memory => append_no(out, b"memory"),
-        Reason::Full { need, left } => append_two(out, b"full", need, left),
-        Reason::Device => append_no(out, b"device"),
-        Reason::Stopped { entries } => append_one(out, b"stopped", entries),
+        Reason::Line => append_refusal(out, b"line"),
+        Reason::Stream => append_refusal(out, b"stream"),
+        Reason::Range => append_refusal(out, b"range"),
+        Reason::Version { asked, latest } => append_refusal2(out, b"version", asked, latest),
+        Reason::Exists => append_refusal(out, b"exists"),
+        Reason::Domain { time } => append_refusal1(out, b"domain", time),
+        Reason::Empty => append_refusal(out, b"empty"),
+        Reason::Many { count } => append_refusal1(out, b"many", count),
+        Reason::Streams => append_refusal1(out, b"streams", MAX_STREAMS),
+        Reason::Versions => append_refusal1(out, b"versions", MAX_VERSIONS),
+        Reason::Crowded { start } => append_refusal1(out, b"crowded", start),
+        Reason::Points { count } => append_refusal1(out, b"points", count),
+        Reason::Memory => append_refusal(out, b"memory"),
+        Reason::Full { need, left } => append_refusal2(out, b"full", need, left),
+        Reason::Device => append_refusal(out, b"device"),
+        Reason::Stopped { entries } => append_refusal1(out, b"stopped", entries),
     }
 }
 
-/// Appends a refusal of one word, or a part of it.
-fn append_no(out: &mut Vec<u8>, word: &[u8]) -> Result<(), AllocError>
+/// Appends a refusal of one word. An `Err` may leave a part of it.
+fn append_refusal(out: &mut Vec<u8>, word: &[u8]) -> Result<(), AllocError>
     ensures ok { OnOk result (out.new.items ≡ out.old.items ++ line_text (codes "no" ∷ word.now ∷ [])) }
     ensures err { OnErr result (take (length out.old.items) out.new.items ≡ out.old.items) }
 {
     append_line(out, b"no", &[word])
 }
 
-/// Appends a refusal of a word and a number, or a part of it.
-fn append_one<I: Integer>(out: &mut Vec<u8>, word: &[u8], number: I) -> Result<(), AllocError>
+/// Appends a refusal of a word and a number. An `Err` may leave a part of it.
+fn append_refusal1<I: Integer>(out: &mut Vec<u8>, word: &[u8], number: I) -> Result<(), AllocError>
     ensures ok { OnOk result (out.new.items ≡ out.old.items ++ line_text (codes "no" ∷ word.now ∷ I.text number ∷ [])) }
     ensures err { OnErr result (take (length out.old.items) out.new.items ≡ out.old.items) }
 {
@@ -102,8 +102,8 @@ fn append_one<I: Integer>(out: &mut Vec<u8>, word: &[u8], number: I) -> Result<(
     append_line(out, b"no", &[word, text.format(number).as_bytes()])
 }
 
-/// Appends a refusal of a word and two numbers, or a part of it.
-fn append_two(out: &mut Vec<u8>, word: &[u8], a: u64, b: u64) -> Result<(), AllocError>
+/// Appends a refusal of a word and two numbers. An `Err` may leave a part of it.
+fn append_refusal2(out: &mut Vec<u8>, word: &[u8], a: u64, b: u64) -> Result<(), AllocError>
     ensures ok { OnOk result (out.new.items ≡ out.old.items ++ line_text (codes "no" ∷ word.now ∷ decimal a ∷ decimal b ∷ [])) }
     ensures err { OnErr result (take (length out.old.items) out.new.items ≡ out.old.items) }
 {
@@ -120,7 +120,7 @@ fn append_two(out: &mut Vec<u8>, word: &[u8], a: u64, b: u64) -> Result<(), Allo
     )
 }
 
-/// Appends a line of these words, one space apart, with a line feed at its end; an `Err` may leave a part of it.
+/// Appends a line: words with one space between each two, then a line feed. An `Err` may leave a part of it.
 pub fn append_line(out: &mut Vec<u8>, first: &[u8], rest: &[&[u8]]) -> Result<(), AllocError>
     ensures ok { OnOk result (out.new.items ≡ out.old.items ++ line_text (first.now ∷ map (λ w. w.now) rest.now)) }
     ensures err { OnErr result (take (length out.old.items) out.new.items ≡ out.old.items) }
@@ -131,7 +131,7 @@ pub fn append_line(out: &mut Vec<u8>, first: &[u8], rest: &[&[u8]]) -> Result<()
     Ok(())
 }
 
-/// Appends these words, each behind a space, or a part of them.
+/// Appends a space and a word for each of these words. An `Err` may leave a part of them.
 fn append_words(out: &mut Vec<u8>, words: &[&[u8]]) -> Result<(), AllocError>
     ensures ok { OnOk result (out.new.items ≡ out.old.items ++ flat_map (λ w. SPACE ∷ w.now) words.now) }
     ensures err { OnErr result (take (length out.old.items) out.new.items ≡ out.old.items) }
@@ -142,7 +142,7 @@ fn append_words(out: &mut Vec<u8>, words: &[&[u8]]) -> Result<(), AllocError>
     Ok(())
 }
 
-/// Appends a word behind a space, or a part of it.
+/// Appends a space and a word. An `Err` may leave a part of it.
 fn append_word(out: &mut Vec<u8>, word: &[u8]) -> Result<(), AllocError>
     ensures ok { OnOk result (out.new.items ≡ out.old.items ++ SPACE ∷ word.now) }
     ensures err { OnErr result (take (length out.old.items) out.new.items ≡ out.old.items) }

@@ -6,69 +6,69 @@ use btr_base::Toward;
 use btr_hist::At;
 use uuid::Uuid;
 
-/// What ends a line.
+/// The byte that ends a line.
 pub const LINE_FEED: u8 = b'\n';
 
-/// What separates words.
+/// The byte that separates words.
 pub const SPACE: u8 = b' ';
 
 /// The sign of a number below 0.
 pub const MINUS: u8 = b'-';
 
-/// The first word and what stands behind it, or `None` where there is no word.
+/// Returns the first word and the rest of the line after it, or `None` if the line has no word.
 pub fn next_word(line: &[u8]) -> Option<(&[u8], &[u8])>
     ensures words { MatchOption result (words_of line.now ≡ []) (λ r. words_of line.now ≡ r.0.now ∷ words_of r.1.now) }
     ensures shorter { IfSome result (λ r. length r.1.now < length line.now) }
 {
-    let (_, line) = line.split_at(spaces(line));
-    let end = letters(line);
+    let (_, line) = line.split_at(leading_spaces(line));
+    let end = word_length(line);
     if end == 0 {
         return None;
     }
     Some(line.split_at(end))
 }
 
-/// How many spaces the line begins with.
-fn spaces(line: &[u8]) -> usize
+/// Returns the number of spaces at the start of a line.
+fn leading_spaces(line: &[u8]) -> usize
     ensures count { result ≡ prefix_len (λ b. b == SPACE) line.now }
     ensures within { result ≤ length line.now }
 {
-    for (place, byte) in line.iter().enumerate() {
+    for (index, byte) in line.iter().enumerate() {
         if *byte != SPACE {
-            return place;
+            return index;
         }
     }
     line.len()
 }
 
-/// How many bytes stand before the first space.
-fn letters(line: &[u8]) -> usize
+/// Returns the number of bytes before the first space.
+fn word_length(line: &[u8]) -> usize
     ensures count { result ≡ prefix_len (λ b. not (b == SPACE)) line.now }
     ensures within { result ≤ length line.now }
 {
-    for (place, byte) in line.iter().enumerate() {
+    for (index, byte) in line.iter().enumerate() {
         if *byte == SPACE {
-            return place;
+            return index;
         }
     }
     line.len()
 }
 
-/// The number that decimal digits write, within `u64`.
+/// Reads a number within `u64`: decimal digits and nothing else.
 pub fn read_unsigned(word: &[u8]) -> Option<u64>
     ensures { result ≡ unsigned_of word.now }
 {
     read_number(word, u64::MAX)
 }
 
-/// The power of two that decimal digits write, at most 255.
+/// Reads the exponent of a power of two: decimal digits, at most 255.
 pub fn read_power(word: &[u8]) -> Option<u8>
     ensures { result ≡ power_of word.now }
 {
     Some(read_number(word, 255)? as u8)
 }
 
-/// A direction: `next` is forward, and `prev` backward.
+/// Reads a direction: `next` is forward, `prev` is backward.
 pub fn read_toward(word: &[u8]) -> Option<Toward>
     ensures { result ≡ toward_of word.now }
 {
@@ -81,7 +81,7 @@ pub fn read_toward(word: &[u8]) -> Option<Toward>
     }
 }
 
-/// The number that decimal digits write, behind a minus or alone, within `i64`.
+/// Reads a number within `i64`: decimal digits, with or without a minus in front.
 pub fn read_signed(word: &[u8]) -> Option<i64>
     ensures { result ≡ signed_of word.now }
 {
@@ -93,7 +93,7 @@ pub fn read_signed(word: &[u8]) -> Option<i64>
     }
 }
 
-/// The number of this size below 0.
+/// Returns minus `size`.
 fn negative(size: u64) -> i64
     requires { size ≤ 2 ^ 63 }
     ensures { result ≡ neg_ℤ (pos size) }
@@ -105,7 +105,7 @@ fn negative(size: u64) -> i64
     }
 }
 
-/// The number that decimal digits write, where there is one and it is not above the limit.
+/// Reads a number of decimal digits and nothing else. Returns `None` if there is no digit or it is above `most`.
 fn read_number(word: &[u8], most: u64) -> Option<u64>
     ensures number { result ≡ number_up_to most word.now }
     ensures within { IfSome result (λ n. n ≤ most) }
@@ -120,7 +120,7 @@ fn read_number(word: &[u8], most: u64) -> Option<u64>
     Some(number)
 }
 
-/// The number with one more digit, where that is one and the number is not above the limit.
+/// Returns the number with one more digit. Returns `None` if the byte is no digit or the result is above `most`.
 fn next_number(number: u64, digit: u8, most: u64) -> Option<u64>
     ensures { result ≡ next_number number digit most }
 {
@@ -134,7 +134,7 @@ fn next_number(number: u64, digit: u8, most: u64) -> Option<u64>
     Some(next)
 }
 
-/// The id that the text of a UUID stands for.
+/// Reads the id of a stream: the text of a UUID in any of its forms (RFC 9562).
 pub fn read_id(word: &[u8]) -> Option<u128>
     ensures { result ≡ id_of word.now }
 {
@@ -144,7 +144,7 @@ pub fn read_id(word: &[u8]) -> Option<u128>
     }
 }
 
-/// A version: its number, or `latest`.
+/// Reads a version: its number, or `latest`.
 pub fn read_at(word: &[u8]) -> Option<At>
     ensures { result ≡ at_of word.now }
 {

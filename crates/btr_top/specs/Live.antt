@@ -20,7 +20,7 @@ use Rattle.btr_text.specs.declared.reply.LineReply.TheVariants.{Done, No}
 use Rattle.btr_text.specs.declared.reply.LineReply.TheVariants as replies
 use Rattle.btr_text.specs.declared.reply.Reason.{Reason}
 use Rattle.btr_text.specs.declared.reply.Reason.TheVariants as reasons
-use Rattle.btr_text.specs.Refused.{reason_of_rejection, reason_of_refusal}
+use Rattle.btr_text.specs.Reasons.{reason_of_rejection, reason_of_refusal}
 use Rattle.btr_text.specs.Text.{text}
 use Rattle.btr_engine.specs.Body.{need_of}
 

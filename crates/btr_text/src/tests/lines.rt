@@ -1,116 +1,156 @@
-use super::shown::{check, shown};
-use crate::read_script;
+//! Commits, the list of streams, and how the input is cut into lines.
+use super::fixture::{ID, fit_no_form, read_one};
+use crate::{Line, Script, read_script};
+use btr_base::Point;
 use std::test::Fail;
 
+fn point(time: i64, value: i64) -> Point {
+    Point { time, value }
+}
+
 #[test]
-fn each_form_is_read(rt: HostRuntime) -> Result<(), Fail> {
-    check(
+fn points_of_an_insert_are_read_and_sorted(rt: HostRuntime) -> Result<(), Fail> {
+    let ordered = [point(1, 2), point(1, 2), point(3, 0), point(3, 1)];
+    for (line, want) in [
+        ("insert ID 1 2", &ordered[..1]),
+        ("insert ID 3 1 1 2 3 0 1 2", &ordered[..]),
+        (" @0  insert   ID  01  0002 ", &ordered[..1]),
+        ("insert ID -0 007", &[point(0, 7)]),
+        (
+            "insert ID -9223372036854775808 9223372036854775807",
+            &[point(i64::MIN, i64::MAX)],
+        ),
+    ] {
+        match read_one(&rt, line)? {
+            Some(Line::Insert { id, added }) => {
+                assert_eq!(rt; id, ID, "at {line}");
+                assert_eq!(rt; added.as_slice(), want, "at {line}");
+            }
+            _ => assert!(rt; false, "no insert at {line}"),
+        }
+    }
+    Ok(())
+}
+
+#[test]
+fn creates_deletes_and_streams_are_read(rt: HostRuntime) -> Result<(), Fail> {
+    for line in ["create ID", "@0 create ID", " @0  create   ID "] {
+        assert!(rt;
+            matches!(read_one(&rt, line)?, Some(Line::Create { id: 5 })),
+            "at {line}"
+        );
+    }
+    for (line, bounds) in [
+        ("delete ID -5 7", (-5, 7)),
+        ("delete ID 7 -5", (7, -5)),
+        (
+            "delete ID -9223372036854775808 9223372036854775807",
+            (i64::MIN, i64::MAX),
+        ),
+    ] {
+        match read_one(&rt, line)? {
+            Some(Line::Delete { id, from, to }) => {
+                assert_eq!(rt; id, ID, "at {line}");
+                assert_eq!(rt; (from, to), bounds, "at {line}");
+            }
+            _ => assert!(rt; false, "no delete at {line}"),
+        }
+    }
+    for line in ["streams", "@0 streams", "  streams  "] {
+        assert!(rt;
+            matches!(read_one(&rt, line)?, Some(Line::Streams)),
+            "at {line}"
+        );
+    }
+    Ok(())
+}
+
+#[test]
+fn a_line_that_fits_no_form_has_none(rt: HostRuntime) -> Result<(), Fail> {
+    fit_no_form(
         &rt,
-        "create 00000000000000000000000000000005 => 0 create 5;\n\
-         insert 00000000000000000000000000000005 1 2 => 0 insert 5 1:2;\n\
-         insert 00000000000000000000000000000005 3 1 1 2 3 0 1 2 => 0 insert 5 1:2 1:2 3:0 3:1;\n\
-         range 00000000000000000000000000000005 -5 7 latest => 0 range 5 -5 7 latest;\n\
-         range 00000000000000000000000000000005 7 -5 0 => 0 range 5 7 -5 0;\n\
-         \x20 range   00000000000000000000000000000005 0  1 2   => 0 range 5 0 1 2;\n\
-         @0 create 00000000000000000000000000000005 => 0 create 5;\n\
-         \x20@0  create 00000000000000000000000000000005 => 0 create 5;",
+        "create\n\
+         create 5\n\
+         create 0000000000000000000000000000000\n\
+         create ID ID\n\
+         create 0000000000000000000000000000000g\n\
+         create 0000000000000000000000000000000\u{e9}\n\
+         create\tID\n\
+         CREATE ID\n\
+         creat ID\n\
+         creates ID\n\
+         insert\n\
+         insert ID\n\
+         insert ID 1\n\
+         insert ID 1 2 3\n\
+         insert 1 2\n\
+         insert ID +5 1\n\
+         insert ID 5 +1\n\
+         insert ID 9223372036854775808 1\n\
+         insert ID 1 -9223372036854775809\n\
+         insert ID 1 99999999999999999999999999\n\
+         insert ID - 1\n\
+         insert ID 1 --1\n\
+         insert ID 1 1-\n\
+         insert ID 1 1.0\n\
+         insert ID 1 0x1\n\
+         delete\n\
+         delete ID 0\n\
+         delete ID 0 1 2\n\
+         delete 0 1\n\
+         delete ID latest 1\n\
+         delete ID -9223372036854775809 0\n\
+         delete ID 0 9223372036854775808\n\
+         streams streams\n\
+         streams ID\n\
+         streams #\n\
+         Streams\n\
+         stream\n\
+         @0\n\
+         @1 create ID\n\
+         @0 @0 create ID\n\
+         @0create ID\n\
+         \x20#\n\
+         @0 # create\n\
+         \t\n\
+         ID",
     )
 }
 
 #[test]
-fn numbers_are_within_their_ranges(rt: HostRuntime) -> Result<(), Fail> {
-    check(
-        &rt,
-        "insert 00000000000000000000000000000005 -0 007 => 0 insert 5 0:7;\n\
-         insert 00000000000000000000000000000005 -9223372036854775808 9223372036854775807 => 0 insert 5 -9223372036854775808:9223372036854775807;\n\
-         insert 00000000000000000000000000000005 000000000000000000000000000001 -000000000000000000000000000002 => 0 insert 5 1:-2;\n\
-         range 00000000000000000000000000000005 1 2 18446744073709551615 => 0 range 5 1 2 18446744073709551615;\n\
-         insert 00000000000000000000000000000005 +5 1 => 0 none;\n\
-         insert 00000000000000000000000000000005 5 +1 => 0 none;\n\
-         insert 00000000000000000000000000000005 9223372036854775808 1 => 0 none;\n\
-         insert 00000000000000000000000000000005 1 -9223372036854775809 => 0 none;\n\
-         insert 00000000000000000000000000000005 1 99999999999999999999999999 => 0 none;\n\
-         insert 00000000000000000000000000000005 - 1 => 0 none;\n\
-         insert 00000000000000000000000000000005 1 --1 => 0 none;\n\
-         insert 00000000000000000000000000000005 1 1- => 0 none;\n\
-         insert 00000000000000000000000000000005 1 1.0 => 0 none;\n\
-         insert 00000000000000000000000000000005 1 0x1 => 0 none;\n\
-         range 00000000000000000000000000000005 1 2 18446744073709551616 => 0 none;\n\
-         range 00000000000000000000000000000005 1 2 -1 => 0 none;\n\
-         range 00000000000000000000000000000005 1 2 +1 => 0 none;",
-    )
-}
-
-#[test]
-fn a_line_that_fits_no_form_is_there_without_one(rt: HostRuntime) -> Result<(), Fail> {
-    check(
-        &rt,
-        "create => 0 none;\n\
-         create 5 => 0 none;\n\
-         create 0000000000000000000000000000000 => 0 none;\n\
-         create 00000000000000000000000000000005 00000000000000000000000000000005 => 0 none;\n\
-         create 0000000000000000000000000000000g => 0 none;\n\
-         create 0000000000000000000000000000000\u{e9} => 0 none;\n\
-         create\t00000000000000000000000000000005 => 0 none;\n\
-         CREATE 00000000000000000000000000000005 => 0 none;\n\
-         creat 00000000000000000000000000000005 => 0 none;\n\
-         creates 00000000000000000000000000000005 => 0 none;\n\
-         insert => 0 none;\n\
-         insert 00000000000000000000000000000005 => 0 none;\n\
-         insert 00000000000000000000000000000005 1 => 0 none;\n\
-         insert 00000000000000000000000000000005 1 2 3 => 0 none;\n\
-         insert 1 2 => 0 none;\n\
-         range => 0 none;\n\
-         range 00000000000000000000000000000005 1 2 => 0 none;\n\
-         range 00000000000000000000000000000005 1 latest => 0 none;\n\
-         range 00000000000000000000000000000005 1 2 latest 3 => 0 none;\n\
-         range 00000000000000000000000000000005 1 2 Latest => 0 none;\n\
-         range 00000000000000000000000000000005 latest 2 3 => 0 none;\n\
-         @0 => 0 none;\n\
-         @1 create 00000000000000000000000000000005 => 0 none;\n\
-         @0 @0 create 00000000000000000000000000000005 => 0 none;\n\
-         @0create 00000000000000000000000000000005 => 0 none;\n\
-         \x20# => 0 none;\n\
-         @0 # create => 0 none;\n\
-         \t => 0 none;\n\
-         00000000000000000000000000000005 => 0 none;",
-    )
-}
-
-#[test]
-fn each_form_of_an_id_is_read(rt: HostRuntime) -> Result<(), Fail> {
-    check(
-        &rt,
-        "create 00112233445566778899aabbccddeeff => 0 create 112233445566778899aabbccddeeff;\n\
-         create 00112233445566778899AABBCCDDEEFF => 0 create 112233445566778899aabbccddeeff;\n\
-         create 00112233-4455-6677-8899-aabbccddeeff => 0 create 112233445566778899aabbccddeeff;\n\
-         create 00112233-4455-6677-8899-AaBbCcDdEeFf => 0 create 112233445566778899aabbccddeeff;\n\
-         create {00112233-4455-6677-8899-aabbccddeeff} => 0 create 112233445566778899aabbccddeeff;\n\
-         create urn:uuid:00112233-4455-6677-8899-aabbccddeeff => 0 create 112233445566778899aabbccddeeff;\n\
-         create URN:UUID:00112233-4455-6677-8899-AABBCCDDEEFF => 0 create 112233445566778899aabbccddeeff;",
-    )
+fn each_text_of_an_id_is_read(rt: HostRuntime) -> Result<(), Fail> {
+    for text in [
+        "create 00112233445566778899aabbccddeeff",
+        "create 00112233445566778899AABBCCDDEEFF",
+        "create 00112233-4455-6677-8899-aabbccddeeff",
+        "create 00112233-4455-6677-8899-AaBbCcDdEeFf",
+        "create {00112233-4455-6677-8899-aabbccddeeff}",
+        "create urn:uuid:00112233-4455-6677-8899-aabbccddeeff",
+        "create URN:UUID:00112233-4455-6677-8899-AABBCCDDEEFF",
+    ] {
+        match read_one(&rt, text)? {
+            Some(Line::Create { id }) => assert_eq!(rt; id, 0x00112233445566778899aabbccddeeff),
+            _ => assert!(rt; false, "no create at {text}"),
+        }
+    }
+    Ok(())
 }
 
 #[test]
 fn the_input_is_cut_into_lines(rt: HostRuntime) -> Result<(), Fail> {
+    // An input, and for each line with a reply whether it fits a form.
     for (input, want) in [
-        (b"\r\n \n#\xff\n# x\n\r".as_slice(), ""),
-        (b"create \xff\n\xfe", "0 none;0 none;"),
-        (
-            b"create 00000000000000000000000000000005\r\ncreate 00000000000000000000000000000006\r",
-            "0 create 5;0 create 6;",
-        ),
-        (
-            b"create 00000000000000000000000000000005\r\r\ncreate\r 00000000000000000000000000000006\n",
-            "0 none;0 none;",
-        ),
-        (
-            b"\n\ncreate 00000000000000000000000000000005\r\n#\nx\n\ncreate 00000000000000000000000000000006",
-            "0 create 5;0 none;0 create 6;",
-        ),
+        (b"\r\n \n#\xff\n# x\n\r".as_slice(), [].as_slice()),
+        (b"streams \xff\n\xfe", &[false, false]),
+        (b"streams\r\nstreams\r", &[true, true]),
+        (b"streams\r\r\nstream\rs\n", &[false, false]),
+        (b"\n\nstreams\r\n#\nx\n\nstreams", &[true, false, true]),
     ] {
-        let found = shown(&rt, input)?;
-        assert_eq!(rt; found.as_str(), want);
+        let script = read_script(rt.alloc(), input)?;
+        assert_eq!(rt; script.as_slice().len(), want.len());
+        for (said, fits) in script.as_slice().iter().zip(want) {
+            assert_eq!(rt; said.line.is_some(), *fits);
+        }
     }
     Ok(())
 }
@@ -120,6 +160,6 @@ fn a_script_gives_its_lines_back(rt: HostRuntime) -> Result<(), Fail> {
     let script = read_script(rt.alloc(), b"x\ny z\n")?;
     let lines = script.into_lines();
     assert_eq!(rt; lines.len(), 2);
-    assert_eq!(rt; crate::Script::from_lines(lines).as_slice().len(), 2);
+    assert_eq!(rt; Script::from_lines(lines).as_slice().len(), 2);
     Ok(())
 }

@@ -1,4 +1,4 @@
--- Why a line is refused, where the history rejects an entry or refuses a question.
+-- The reason that a reply gives if the history rejects an entry or refuses a question.
 use Rattle.btr_hist.specs.declared.rejection.Rejection.{Rejection}
 use Rattle.btr_hist.specs.declared.rejection.Rejection.TheVariants as rejections
 use Rattle.btr_hist.specs.declared.answer.Refusal.{Refusal}
@@ -6,7 +6,7 @@ use Rattle.btr_hist.specs.declared.answer.Refusal.TheVariants as refusals
 use Rattle.btr_text.specs.declared.reply.Reason.{Reason}
 use Rattle.btr_text.specs.declared.reply.Reason.TheVariants as reasons
 
--- the reason of a rejected entry
+-- The reason of a rejected entry.
 abbrev pub reason_of_rejection : Rejection → Reason
 reason_of_rejection rejections.NoStream = reasons.Stream
 reason_of_rejection rejections.StreamExists = reasons.Exists
@@ -18,7 +18,7 @@ reason_of_rejection rejections.VersionLimit = reasons.Versions
 reason_of_rejection (rejections.Crowded start) = reasons.Crowded start
 reason_of_rejection (rejections.TooManyPoints count) = reasons.Points count
 
--- the reason of a refused question
+-- The reason of a refused question.
 abbrev pub reason_of_refusal : Refusal → Reason
 reason_of_refusal refusals.NoStream = reasons.Stream
 reason_of_refusal (refusals.NoVersion asked latest) = reasons.Version asked latest
