@@ -4,16 +4,16 @@ use Rattle.std.specs.List.{list_any, AllByRecursion}
 use Rattle.std.proofs.Common.{refl, sym, ap, ◌∙◌, arith, mul-le-mul_right}
 use Rattle.std.proofs.lemmas.Int.{ints}
 use Rattle.std.proofs.lemmas.Nat.{pow-add, pow_pos, le-div}
-use Rattle.std.proofs.Math.Nat.{div-mul-le_self, lt-div-mul-add, lt_of_not-le}
+use Rattle.std.proofs.Math.Nat.{div-mul-le_self, lt-div-mul-add}
 use Rattle.btr_base.specs.declared.limits.TheConstants.{FIRST, END}
 use Rattle.btr_base.specs.declared.point.Point.{Point}
 use Rattle.btr_base.specs.Point.{is_not_after, InDomain}
-use Rattle.btr_base.specs.Range.{RangeValue, IsRange, IsCut, AreApart, spans, covered}
+use Rattle.btr_base.specs.Range.{RangeValue, IsRange, IsCut, AreApart, contains, covered}
 use Rattle.btr_base.specs.Bag.{IsInOrder, sort}
 use Rattle.btr_base.specs.Changes.{differ_at, changed, slot_around, joined_before, runs, changes}
 use Rattle.btr_base.proofs.ListLemmas.{each-weaker, each-both, filter-passes}
 use Rattle.btr_base.proofs.PointLemmas.{sort-in_order, filter-in_order, is_not_after-times}
-use Rattle.btr_base.proofs.SpanLemmas.{times-up_to}
+use Rattle.btr_base.proofs.SpanLemmas.{less-times, times-up_to}
 
 -- ---- ranges in order
 
@@ -54,8 +54,8 @@ join-range r s h f k =
     let later = f.1 in
     record { begins = h.begins; not_empty = omega (arith, ints); ends = k.ends }
 
-join-spans : (r s : RangeValue) (t : ℤ) → Follows r s → IsRange s → s.from ≤ℤ r.to → spans (record { from = r.from; to = s.to }) t ≡ (spans r t || spans s t)
-join-spans r s t f k e =
+join-contains : (r s : RangeValue) (t : ℤ) → Follows r s → IsRange s → s.from ≤ℤ r.to → contains (record { from = r.from; to = s.to }) t ≡ (contains r t || contains s t)
+join-contains r s t f k e =
     let low = f.0 in
     let high = f.1 in
     let full = k.not_empty in
@@ -71,7 +71,7 @@ joined-covered r (s ∷ rs) t h =
     elim (int_le s.from r.to) as (λ u. int_le s.from r.to ≡ u → covered (cond u (record { from = r.from; to = s.to } ∷ rs) (r ∷ s ∷ rs)) t ≡ covered (r ∷ s ∷ rs) t) [
       | true ↦ λ e.
           let near : s.from ≤ℤ r.to = grind (arith, ints) in
-          ap (λ b. b || covered rs t) (join-spans r s t h.0.0 h.0.1 near) ∙ either (spans r t) (spans s t) (covered rs t)
+          ap (λ b. b || covered rs t) (join-contains r s t h.0.0 h.0.1 near) ∙ either (contains r t) (contains s t) (covered rs t)
       | false ↦ λ _. refl
     ] refl
 
@@ -99,13 +99,9 @@ pub runs-covered : (rs : List RangeValue) (t : ℤ) → AllByRecursion IsRange r
 runs-covered [] t h rise = refl
 runs-covered (r ∷ rs) t h rise =
     joined-covered r (runs rs) t (each-both (Follows r) IsRange (runs rs) (runs-follow r rs rise.0) (runs-each rs h.1 rise.1))
-    ∙ ap (λ b. spans r t || b) (runs-covered rs t h.1 rise.1)
+    ∙ ap (λ b. contains r t || b) (runs-covered rs t h.1 rise.1)
 
 -- ---- aligned slots
-
-less-times : (a b w : ℕ) → a * w < b * w → a < b
-less-times a b w h =
-    lt_of_not-le (λ low. let m : b * w ≤ a * w = mul-le-mul_right w low in omega arith)
 
 -- a slot ends in the domain where it begins there
 pub slot-fits : (p o : ℕ) → p ≤ 62 → o < 2 ^ 62 → (o / 2 ^ p + 1) * 2 ^ p ≤ 2 ^ 62
@@ -190,9 +186,9 @@ slots-rise p (q ∷ ps) h order = (
   slots-rise p ps h.1 order.1,
 )
 
-covered-map : (p : ℕ) (ps : List Point) (t : ℤ) → covered (map (λ q. slot_around p q.time) ps) t ≡ list_any (λ q. spans (slot_around p q.time) t) ps
+covered-map : (p : ℕ) (ps : List Point) (t : ℤ) → covered (map (λ q. slot_around p q.time) ps) t ≡ list_any (λ q. contains (slot_around p q.time) t) ps
 covered-map p [] t = refl
-covered-map p (q ∷ ps) t = ap (λ b. spans (slot_around p q.time) t || b) (covered-map p ps t)
+covered-map p (q ∷ ps) t = ap (λ b. contains (slot_around p q.time) t || b) (covered-map p ps t)
 
 -- ---- the changed slots
 
@@ -212,7 +208,7 @@ changes-cut p a b low =
     let in_domain = changed-domain a b in
     runs-cut (map (λ q. slot_around p q.time) (changed a b)) (slots-each p (changed a b) low in_domain) (slots-rise p (changed a b) in_domain (changed-in_order a b))
 
-pub changes-covered : (p : ℕ) (a b : List Point) (t : ℤ) → p ≤ 62 → covered (changes p a b) t ≡ list_any (λ q. spans (slot_around p q.time) t) (changed a b)
+pub changes-covered : (p : ℕ) (a b : List Point) (t : ℤ) → p ≤ 62 → covered (changes p a b) t ≡ list_any (λ q. contains (slot_around p q.time) t) (changed a b)
 changes-covered p a b t low =
     let in_domain = changed-domain a b in
     runs-covered (map (λ q. slot_around p q.time) (changed a b)) t (slots-each p (changed a b) low in_domain) (slots-rise p (changed a b) in_domain (changed-in_order a b))

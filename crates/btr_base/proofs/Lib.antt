@@ -7,4 +7,5 @@ pub mod Places
 pub mod PointLemmas
 pub mod RangeLemmas
 pub mod SpanLemmas
+pub mod WindowLemmas
 pub mod WithinLemmas

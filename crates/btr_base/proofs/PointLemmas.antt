@@ -12,7 +12,7 @@ use Rattle.std.specs.List.Sorted.{IsPermutation, IsSorted}
 use Rattle.std.specs.Ordering.{is_lt}
 use Rattle.btr_base.specs.declared.point.Point.{Point}
 use Rattle.btr_base.specs.Point.{point_cmp, is_not_after, same_point}
-use Rattle.btr_base.specs.Bag.{IsInOrder, put, sort, copies}
+use Rattle.btr_base.specs.Bag.{IsInOrder, insert, sort, copies}
 use Rattle.btr_base.proofs.ListLemmas.{each-append, each-weaker, each-filter, count-append, count-cons}
 
 -- ---- two points
@@ -52,45 +52,45 @@ is_not_after-times p q h = grind (arith, ints)
 
 -- ---- what holds of each element
 
-pub each-put : (P : Point → Type 0) (p : Point) (b : List Point) → P p → AllByRecursion P b → AllByRecursion P (put p b)
-each-put P p [] h k = (h, tt)
-each-put P p (q ∷ b) h k =
-    elim (is_not_after p q) as (λ t. AllByRecursion P (cond t (p ∷ q ∷ b) (q ∷ put p b))) [
+pub each-insert : (P : Point → Type 0) (p : Point) (b : List Point) → P p → AllByRecursion P b → AllByRecursion P (insert p b)
+each-insert P p [] h k = (h, tt)
+each-insert P p (q ∷ b) h k =
+    elim (is_not_after p q) as (λ t. AllByRecursion P (cond t (p ∷ q ∷ b) (q ∷ insert p b))) [
       | true ↦ (h, k)
-      | false ↦ (k.0, each-put P p b h k.1)
+      | false ↦ (k.0, each-insert P p b h k.1)
     ]
 
 pub each-sort : (P : Point → Type 0) (b : List Point) → AllByRecursion P b → AllByRecursion P (sort b)
 each-sort P [] h = tt
-each-sort P (p ∷ b) h = each-put P p (sort b) h.0 (each-sort P b h.1)
+each-sort P (p ∷ b) h = each-insert P p (sort b) h.0 (each-sort P b h.1)
 
-pub each_from-put : (P : Point → Type 0) (p : Point) (b : List Point) → AllByRecursion P (put p b) → AllByRecursion P (p ∷ b)
-each_from-put P p [] h = h
-each_from-put P p (q ∷ b) h =
-    elim (is_not_after p q) as (λ t. AllByRecursion P (cond t (p ∷ q ∷ b) (q ∷ put p b)) → AllByRecursion P (p ∷ q ∷ b)) [
+pub each_from-insert : (P : Point → Type 0) (p : Point) (b : List Point) → AllByRecursion P (insert p b) → AllByRecursion P (p ∷ b)
+each_from-insert P p [] h = h
+each_from-insert P p (q ∷ b) h =
+    elim (is_not_after p q) as (λ t. AllByRecursion P (cond t (p ∷ q ∷ b) (q ∷ insert p b)) → AllByRecursion P (p ∷ q ∷ b)) [
       | true ↦ λ k. k
-      | false ↦ λ k. let r = each_from-put P p b k.1 in (r.0, (k.0, r.1))
+      | false ↦ λ k. let r = each_from-insert P p b k.1 in (r.0, (k.0, r.1))
     ] h
 
 pub each_from-sort : (P : Point → Type 0) (b : List Point) → AllByRecursion P (sort b) → AllByRecursion P b
 each_from-sort P [] h = tt
 each_from-sort P (p ∷ b) h =
-    let r = each_from-put P p (sort b) h in
+    let r = each_from-insert P p (sort b) h in
     (r.0, each_from-sort P b r.1)
 
 -- ---- order
 
-pub put-in_order : (p : Point) (b : List Point) → IsInOrder b → IsInOrder (put p b)
-put-in_order p [] h = (tt, tt)
-put-in_order p (q ∷ b) h =
-    elim (is_not_after p q) as (λ t. is_not_after p q ≡ t → IsInOrder (cond t (p ∷ q ∷ b) (q ∷ put p b))) [
+pub insert-in_order : (p : Point) (b : List Point) → IsInOrder b → IsInOrder (insert p b)
+insert-in_order p [] h = (tt, tt)
+insert-in_order p (q ∷ b) h =
+    elim (is_not_after p q) as (λ t. is_not_after p q ≡ t → IsInOrder (cond t (p ∷ q ∷ b) (q ∷ insert p b))) [
       | true ↦ λ e. ((e, each-weaker (λ r. IsTrue (is_not_after q r)) (λ r. IsTrue (is_not_after p r)) (λ r k. is_not_after-trans p q r e k) b h.0), h)
-      | false ↦ λ e. (each-put (λ r. IsTrue (is_not_after q r)) p b (is_not_after-total p q e) h.0, put-in_order p b h.1)
+      | false ↦ λ e. (each-insert (λ r. IsTrue (is_not_after q r)) p b (is_not_after-total p q e) h.0, insert-in_order p b h.1)
     ] refl
 
 pub sort-in_order : (b : List Point) → IsInOrder (sort b)
 sort-in_order [] = tt
-sort-in_order (p ∷ b) = put-in_order p (sort b) (sort-in_order b)
+sort-in_order (p ∷ b) = insert-in_order p (sort b) (sort-in_order b)
 
 pub filter-in_order : (f : Point → Bool) (b : List Point) → IsInOrder b → IsInOrder (filter f b)
 filter-in_order f [] h = tt
@@ -130,17 +130,17 @@ sorted-from_in_order (p ∷ q ∷ b) h (suc k) d low high =
 
 -- ---- how often a point stands in a list
 
-pub count-put : (f : Point → Bool) (p : Point) (b : List Point) → count_by f (put p b) ≡ cond (f p) 1 0 + count_by f b
-count-put f p [] = count-cons f p []
-count-put f p (q ∷ b) =
-    elim (is_not_after p q) as (λ t. count_by f (cond t (p ∷ q ∷ b) (q ∷ put p b)) ≡ cond (f p) 1 0 + count_by f (q ∷ b)) [
+pub count-insert : (f : Point → Bool) (p : Point) (b : List Point) → count_by f (insert p b) ≡ cond (f p) 1 0 + count_by f b
+count-insert f p [] = count-cons f p []
+count-insert f p (q ∷ b) =
+    elim (is_not_after p q) as (λ t. count_by f (cond t (p ∷ q ∷ b) (q ∷ insert p b)) ≡ cond (f p) 1 0 + count_by f (q ∷ b)) [
       | true ↦ count-cons f p (q ∷ b)
-      | false ↦ omega (arith, count-cons f q (put p b), count-cons f q b, count-put f p b)
+      | false ↦ omega (arith, count-cons f q (insert p b), count-cons f q b, count-insert f p b)
     ]
 
 pub count-sort : (f : Point → Bool) (b : List Point) → count_by f (sort b) ≡ count_by f b
 count-sort f [] = refl
-count-sort f (p ∷ b) = omega (arith, count-put f p (sort b), count-sort f b, count-cons f p b)
+count-sort f (p ∷ b) = omega (arith, count-insert f p (sort b), count-sort f b, count-cons f p b)
 
 pub copies-sort : (p : Point) (b : List Point) → copies p (sort b) ≡ copies p b
 copies-sort p b = count-sort (same_point p) b
@@ -250,17 +250,17 @@ sort-first p b h =
     let in_order : IsInOrder (p ∷ sort b) = (each-sort (λ q. IsTrue (is_not_after p q)) b h, sort-in_order b) in
     same_from-copies (sort (p ∷ b)) (p ∷ sort b) (sort-in_order (p ∷ b)) in_order (λ q. omega (arith, copies-sort q (p ∷ b), count-cons (same_point q) p b, count-cons (same_point q) p (sort b), copies-sort q b))
 
-pub length-put : (p : Point) (b : List Point) → length (put p b) ≡ 1 + length b
-length-put p [] = refl
-length-put p (q ∷ b) =
-    elim (is_not_after p q) as (λ t. length (cond t (p ∷ q ∷ b) (q ∷ put p b)) ≡ 1 + length (q ∷ b)) [
+pub length-insert : (p : Point) (b : List Point) → length (insert p b) ≡ 1 + length b
+length-insert p [] = refl
+length-insert p (q ∷ b) =
+    elim (is_not_after p q) as (λ t. length (cond t (p ∷ q ∷ b) (q ∷ insert p b)) ≡ 1 + length (q ∷ b)) [
       | true ↦ omega arith
-      | false ↦ omega (arith, length-put p b)
+      | false ↦ omega (arith, length-insert p b)
     ]
 
 pub length-sort : (b : List Point) → length (sort b) ≡ length b
 length-sort [] = refl
-length-sort (p ∷ b) = omega (arith, length-put p (sort b), length-sort b)
+length-sort (p ∷ b) = omega (arith, length-insert p (sort b), length-sort b)
 
 -- a point of a list in order that may stand before all of another is the first of both
 pub each-before : (p q : Point) (b : List Point) → IsInOrder (q ∷ b) → is_not_after p q ≡ true → AllByRecursion (λ r. IsTrue (is_not_after p r)) (q ∷ b)

@@ -7,45 +7,45 @@ use Rattle.std.proofs.Math.Bool.{or-false}
 use Rattle.std.proofs.lemmas.Int.{ints, by_lt_z}
 use Rattle.std.proofs.lemmas.List.Elements.{All-from_recursion}
 use Rattle.btr_base.specs.declared.point.Point.{Point}
-use Rattle.btr_base.specs.Range.{RangeValue, IsRange, spans, covered, AreApart, IsCut, IsBehind}
+use Rattle.btr_base.specs.Range.{RangeValue, IsRange, contains, covered, AreApart, IsCut, IsBehind}
 use Rattle.btr_base.specs.Bag.{outside}
 use Rattle.btr_base.proofs.ListLemmas.{each-weaker, each-both, each-append, each-take}
 
 -- ---- one range
 
-pub spans-from : (r : RangeValue) (t : ℤ) → spans r t ≡ true → (r.from ≤ℤ t) × (t <ℤ r.to)
-spans-from r t h = (grind (arith, ints), grind (arith, ints))
+pub contains-from : (r : RangeValue) (t : ℤ) → contains r t ≡ true → (r.from ≤ℤ t) × (t <ℤ r.to)
+contains-from r t h = (grind (arith, ints), grind (arith, ints))
 
-pub spans-before : (r : RangeValue) (t : ℤ) → t <ℤ r.from → spans r t ≡ false
-spans-before r t h = grind (arith, ints)
+pub contains-before : (r : RangeValue) (t : ℤ) → t <ℤ r.from → contains r t ≡ false
+contains-before r t h = grind (arith, ints)
 
-pub spans-behind : (r : RangeValue) (t : ℤ) → r.to ≤ℤ t → spans r t ≡ false
-spans-behind r t h = grind (arith, ints)
+pub contains-behind : (r : RangeValue) (t : ℤ) → r.to ≤ℤ t → contains r t ≡ false
+contains-behind r t h = grind (arith, ints)
 
-pub spans-ahead : (r : RangeValue) (t : ℤ) → t <ℤ r.to → spans r t ≡ int_le r.from t
-spans-ahead r t h = grind (arith, ints)
+pub contains-ahead : (r : RangeValue) (t : ℤ) → t <ℤ r.to → contains r t ≡ int_le r.from t
+contains-ahead r t h = grind (arith, ints)
 
 -- ---- a list of ranges
 
 pub covered-append : (a b : List RangeValue) (t : ℤ) → covered (a ++ b) t ≡ (covered a t || covered b t)
 covered-append [] b t = refl
 covered-append (r ∷ a) b t =
-    elim (spans r t) as (λ s. (s || covered (a ++ b) t) ≡ ((s || covered a t) || covered b t)) [
+    elim (contains r t) as (λ s. (s || covered (a ++ b) t) ≡ ((s || covered a t) || covered b t)) [
       | true ↦ refl
       | false ↦ covered-append a b t
     ]
 
-pub covered-none : (rs : List RangeValue) (t : ℤ) → AllByRecursion (λ r. spans r t ≡ false) rs → covered rs t ≡ false
+pub covered-none : (rs : List RangeValue) (t : ℤ) → AllByRecursion (λ r. contains r t ≡ false) rs → covered rs t ≡ false
 covered-none [] t h = refl
 covered-none (r ∷ rs) t h = ap (λ s. s || covered rs t) h.0 ∙ covered-none rs t h.1
 
 pub covered-before : (rs : List RangeValue) (t : ℤ) → AllByRecursion (λ r. t <ℤ r.from) rs → covered rs t ≡ false
 covered-before rs t h =
-    covered-none rs t (each-weaker (λ r. t <ℤ r.from) (λ r. spans r t ≡ false) (λ r k. spans-before r t k) rs h)
+    covered-none rs t (each-weaker (λ r. t <ℤ r.from) (λ r. contains r t ≡ false) (λ r k. contains-before r t k) rs h)
 
 pub covered-behind : (rs : List RangeValue) (t : ℤ) → AllByRecursion (λ r. r.to ≤ℤ t) rs → covered rs t ≡ false
 covered-behind rs t h =
-    covered-none rs t (each-weaker (λ r. r.to ≤ℤ t) (λ r. spans r t ≡ false) (λ r k. spans-behind r t k) rs h)
+    covered-none rs t (each-weaker (λ r. r.to ≤ℤ t) (λ r. contains r t ≡ false) (λ r k. contains-behind r t k) rs h)
 
 pub apart-rest : (r : RangeValue) (rs : List RangeValue) → AreApart (r ∷ rs) → AreApart rs
 apart-rest r [] h = tt
@@ -73,7 +73,7 @@ first_ends r (s ∷ rs) h =
 pub covered-ahead : (r : RangeValue) (rs : List RangeValue) (t : ℤ) → IsCut (r ∷ rs) → t <ℤ r.to → covered (r ∷ rs) t ≡ int_le r.from t
 covered-ahead r rs t h k =
     let later : covered rs t ≡ false = covered-before rs t (each-weaker (λ s. r.to <ℤ s.from) (λ s. t <ℤ s.from) (λ s j. omega (arith, ints)) rs (first_ends r rs h)) in
-    ap (λ s. s || covered rs t) (spans-ahead r t k) ∙ elim (int_le r.from t) as (λ s. (s || covered rs t) ≡ s) [ true ↦ refl | false ↦ later ]
+    ap (λ s. s || covered rs t) (contains-ahead r t k) ∙ elim (int_le r.from t) as (λ s. (s || covered rs t) ≡ s) [ true ↦ refl | false ↦ later ]
 
 -- ---- points outside ranges
 
@@ -90,7 +90,7 @@ pub covered-drop : (n : ℕ) (rs : List RangeValue) (t : ℤ) → ((k : ℕ) (d 
 covered-drop zero rs t h = refl
 covered-drop (suc n) [] t h = refl
 covered-drop (suc n) (r ∷ rs) t h =
-    covered-drop n rs t (λ k d j. h (suc k) d (omega arith)) ∙ sym (ap (λ s. s || covered rs t) (spans-behind r t (h 0 r (omega arith))))
+    covered-drop n rs t (λ k d j. h (suc k) d (omega arith)) ∙ sym (ap (λ s. s || covered rs t) (contains-behind r t (h 0 r (omega arith))))
 
 -- each of the others ends behind the first
 pub first_ends_first : (r : RangeValue) (rs : List RangeValue) → IsCut (r ∷ rs) → AllByRecursion (λ s. r.to ≤ℤ s.to) rs
@@ -130,10 +130,10 @@ pub covered-take : (n : ℕ) (rs : List RangeValue) (t : ℤ) → ((k : ℕ) (d 
 covered-take zero [] t h = refl
 covered-take zero (r ∷ rs) t h =
     covered-take zero rs t (λ k d le lt. h (suc k) d (omega arith) (omega arith))
-    ∙ sym (ap (λ s. s || covered rs t) (spans-before r t (h 0 r (omega arith) (omega arith))))
+    ∙ sym (ap (λ s. s || covered rs t) (contains-before r t (h 0 r (omega arith) (omega arith))))
 covered-take (suc n) [] t h = refl
 covered-take (suc n) (r ∷ rs) t h =
-    ap (λ c. spans r t || c) (covered-take n rs t (λ k d le lt. h (suc k) d (omega arith) (omega arith)))
+    ap (λ c. contains r t || c) (covered-take n rs t (λ k d le lt. h (suc k) d (omega arith) (omega arith)))
 
 -- ---- one more range behind all others
 
@@ -156,8 +156,8 @@ apart-push (r ∷ u ∷ rs) s h k = (h.0, apart-push (u ∷ rs) s h.1 k.1)
 pub IsCut-push : (rs : List RangeValue) (s : RangeValue) → IsCut rs → IsRange s → EndBefore s.from rs → IsCut (rs ++ s ∷ [])
 IsCut-push rs s h k e = record { each = each-push IsRange rs s h.each k; apart = apart-push rs s h.apart e }
 
-pub covered-push : (rs : List RangeValue) (s : RangeValue) (t : ℤ) → covered (rs ++ s ∷ []) t ≡ (covered rs t || spans s t)
-covered-push rs s t = covered-append rs (s ∷ []) t ∙ ap (λ u. covered rs t || u) (or-false (spans s t))
+pub covered-push : (rs : List RangeValue) (s : RangeValue) (t : ℤ) → covered (rs ++ s ∷ []) t ≡ (covered rs t || contains s t)
+covered-push rs s t = covered-append rs (s ∷ []) t ∙ ap (λ u. covered rs t || u) (or-false (contains s t))
 
 pub ends_before-rest : (t u : ℤ) (rs : List RangeValue) → t ≤ℤ u → EndBefore t rs → EndBefore u rs
 ends_before-rest t u rs h k = each-weaker (λ r. r.to <ℤ t) (λ r. r.to <ℤ u) (λ r j. omega (arith, ints)) rs k
@@ -175,7 +175,7 @@ all_before-none (u ∷ us) = (tt, all_before-none us)
 begins-covered : (r : RangeValue) (rs : List RangeValue) → IsCut (r ∷ rs) → covered (r ∷ rs) r.from ≡ true
 begins-covered r rs h =
     let full = h.each.0.not_empty in
-    let here : spans r r.from ≡ true = grind (arith, ints) in
+    let here : contains r r.from ≡ true = grind (arith, ints) in
     ap (λ s. s || covered rs r.from) here
 
 pub not_before-first : (r : RangeValue) (rs : List RangeValue) (t : ℤ) → IsCut (r ∷ rs) → covered (r ∷ rs) t ≡ true → r.from ≤ℤ t
@@ -188,8 +188,8 @@ not_shorter : (r u : RangeValue) (rs us : List RangeValue) → IsCut (r ∷ rs) 
 not_shorter r u rs us h k e same =
     let full = h.each.0.not_empty in
     by_lt_z r.to u.to (λ lt.
-    let here : spans u r.to ≡ true = grind (arith, ints) in
-    let gap : covered (r ∷ rs) r.to ≡ false = ap (λ s. s || covered rs r.to) (spans-behind r r.to (omega (arith, ints))) ∙ covered-before rs r.to (first_ends r rs h) in
+    let here : contains u r.to ≡ true = grind (arith, ints) in
+    let gap : covered (r ∷ rs) r.to ≡ false = ap (λ s. s || covered rs r.to) (contains-behind r r.to (omega (arith, ints))) ∙ covered-before rs r.to (first_ends r rs h) in
     absurd (both_ways (covered (r ∷ rs) r.to) gap (same r.to ∙ ap (λ s. s || covered us r.to) here))) (λ le. le)
 
 rest-same : (r : RangeValue) (rs us : List RangeValue) → IsCut (r ∷ rs) → IsCut (r ∷ us) → ((t : ℤ) → covered (r ∷ rs) t ≡ covered (r ∷ us) t) → (t : ℤ) → covered rs t ≡ covered us t
@@ -197,7 +197,7 @@ rest-same r rs us h k same t =
     by_lt_z t r.to (λ lt.
     covered-before rs t (each-weaker (λ s. r.to <ℤ s.from) (λ s. t <ℤ s.from) (λ s j. omega (arith, ints)) rs (first_ends r rs h))
     ∙ sym (covered-before us t (each-weaker (λ s. r.to <ℤ s.from) (λ s. t <ℤ s.from) (λ s j. omega (arith, ints)) us (first_ends r us k)))) (λ le.
-    let out = spans-behind r t le in
+    let out = contains-behind r t le in
     sym (ap (λ s. s || covered rs t) out) ∙ same t ∙ ap (λ s. s || covered us t) out)
 
 pub same_from-covered : (rs us : List RangeValue) → IsCut rs → IsCut us → ((t : ℤ) → covered rs t ≡ covered us t) → rs ≡ us

@@ -30,12 +30,12 @@ width-times (suc d) h =
     let below = width-times d h in
     (64 * below.0, let e : suc d + h ≡ suc (d + h) = omega arith in ap width e ∙ width-next (d + h) ∙ grind (arith, below.1))
 
-less-times : (a b w : ℕ) → a * w < b * w → a < b
+pub less-times : (a b w : ℕ) → a * w < b * w → a < b
 less-times a b w h =
     lt_of_not-le (λ low. let m : b * w ≤ a * w = mul-le-mul_right w low in omega arith)
 
-next-times : (a b w : ℕ) → a < b → a * w + w ≤ b * w
-next-times a b w h =
+pub times-up_to : (a b w : ℕ) → a < b → a * w + w ≤ b * w
+times-up_to a b w h =
     let m : suc a * w ≤ b * w = mul-le-mul_right w (omega arith) in
     let e : suc a * w ≡ a * w + w = omega arith in
     omega arith
@@ -48,7 +48,7 @@ width-fits h o low inside =
     let whole : 2 ^ 62 ≡ times.0 * width h = sym width-root ∙ ap width (sym e) ∙ times.1 in
     let at_most : (o / width h) * width h ≤ o = div-mul-le_self o (width h) in
     let below : o / width h < times.0 = less-times (o / width h) times.0 (width h) (omega arith) in
-    let next = next-times (o / width h) times.0 (width h) below in
+    let next = times-up_to (o / width h) times.0 (width h) below in
     omega arith
 
 -- the width of a span is 64 times that of its slots
@@ -95,6 +95,3 @@ slot-around o w some inside =
     let ends = lt-div-mul-add {a = o} some in
     let place : o / w < 64 = less-times (o / w) 64 w (omega arith) in
     record { place = place; begins = begins; ends = omega arith }
-
-pub times-up_to : (a b w : ℕ) → a < b → a * w + w ≤ b * w
-times-up_to a b w h = next-times a b w h

@@ -11,14 +11,14 @@ IsInOrder [] = Unit {0}
 IsInOrder (p ∷ ps) = AllByRecursion (λ q. IsTrue (is_not_after p q)) ps × IsInOrder ps
 
 -- a point, put into its place
-abbrev pub put : Point → List Point → List Point
-put p [] = p ∷ []
-put p (q ∷ qs) = if is_not_after p q then p ∷ q ∷ qs else q ∷ put p qs
+abbrev pub insert : Point → List Point → List Point
+insert p [] = p ∷ []
+insert p (q ∷ qs) = if is_not_after p q then p ∷ q ∷ qs else q ∷ insert p qs
 
 -- the bag of the points of a list
 abbrev pub sort : List Point → List Point
 sort [] = []
-sort (p ∷ ps) = put p (sort ps)
+sort (p ∷ ps) = insert p (sort ps)
 
 -- the points whose time no range covers
 abbrev pub outside : List Point → List RangeValue → List Point

@@ -15,12 +15,12 @@ pub record IsRange (r : RangeValue) : Type 0 where
   pub ends : r.to ≤ℤ END
 
 -- the time is in the range
-abbrev pub spans : RangeValue → ℤ → Bool
-spans r t = int_le r.from t && int_lt t r.to
+abbrev pub contains : RangeValue → ℤ → Bool
+contains r t = int_le r.from t && int_lt t r.to
 
 -- the time is in one of the ranges
 abbrev pub covered : List RangeValue → ℤ → Bool
-covered rs t = list_any (λ r. spans r t) rs
+covered rs t = list_any (λ r. contains r t) rs
 
 -- each ends before the next begins, with a time between them: in order, disjoint and not touching
 abbrev pub AreApart : List RangeValue → Type 0

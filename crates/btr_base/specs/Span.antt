@@ -7,8 +7,8 @@ unfoldable pub width : ℕ → ℕ
 width height = 2 ^ (6 * height + 2)
 
 -- the time so many nanoseconds behind the first of the domain
-abbrev pub at : ℕ → ℤ
-at offset = FIRST +ℤ pos offset
+abbrev pub time_at : ℕ → ℤ
+time_at offset = FIRST +ℤ pos offset
 
 -- the times from `start` on, for the width of this height
 pub record SpanValue : Type 0 where
@@ -18,7 +18,7 @@ pub record SpanValue : Type 0 where
 -- it begins a whole number of widths behind the first of the domain, and lies in the domain
 pub record IsAligned (s : SpanValue) (index : ℕ) : Type 0 where
   pub height : s.height ≤ 10
-  pub start : s.start ≡ at (index * width s.height)
+  pub start : s.start ≡ time_at (index * width s.height)
   pub ends : (s.start +ℤ pos (width s.height)) ≤ℤ END
 
 abbrev pub IsSpan : SpanValue → Type 0

@@ -36,14 +36,14 @@ abbrev pub begin_of : ℤ → ℕ → ℤ → ℤ
 begin_of first width t = window_at first width (window_of first width t)
 
 -- Each number once, if equal ones are neighbours.
-abbrev pub once : List ℕ → List ℕ
-once [] = []
-once (k ∷ []) = k ∷ []
-once (k ∷ l ∷ ls) = if nat_eq k l then once (l ∷ ls) else k ∷ once (l ∷ ls)
+abbrev pub dedup : List ℕ → List ℕ
+dedup [] = []
+dedup (k ∷ []) = k ∷ []
+dedup (k ∷ l ∷ ls) = if nat_eq k l then dedup (l ∷ ls) else k ∷ dedup (l ∷ ls)
 
 -- The numbers of the windows that contain one of the points, in order.
 abbrev pub windows_with : ℤ → ℕ → List Point → List ℕ
-windows_with first width b = once (map (λ p. window_of first width p.time) b)
+windows_with first width b = dedup (map (λ p. window_of first width p.time) b)
 
 -- The start of a window, and the aggregate of all points in it.
 abbrev pub cell_of : ℤ → ℕ → List Point → ℕ → Cell

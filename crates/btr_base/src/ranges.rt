@@ -1,7 +1,7 @@
 ghost use Rattle.std.specs.Prelude.{◌≡◌, true, false, ◌++◌, ℕ, ◌≤◌, ◌<◌, ℤ, List, [], ◌∷◌, ◌||◌, length, drop, slice_index_or, ◌≤ℤ◌, ◌<ℤ◌, IfOk, IfSome, IsSome, IsTrue, ◌↔◌, OnOk, OnErr};
 ghost use Rattle.std.specs.List.{AllByRecursion};
 ghost use Rattle.btr_base.specs.Range.{IsBehind};
-ghost use Rattle.btr_base.specs.Range.{RangeValue, IsRange, IsCut, AreApart, covered, spans};
+ghost use Rattle.btr_base.specs.Range.{RangeValue, IsRange, IsCut, AreApart, covered, contains};
 
 use crate::range::Range;
 use std::alloc::{AllocError, Global};
@@ -50,7 +50,7 @@ impl Ranges {
     /// in it, is added in constant time on average, and any other in time linear in the number of ranges. An `Err` is want of
     /// memory, and changes nothing.
     pub fn add(&mut self, range: Range) -> Result<(), AllocError>
-        ensures times { OnOk result ((t : ℤ) → covered self.new t ≡ (spans range t || covered self.old t)) }
+        ensures times { OnOk result ((t : ℤ) → covered self.new t ≡ (contains range t || covered self.old t)) }
         ensures err { OnErr result (self.new ≡ self.old) }
     {
         if is_behind(&self.ranges, &range) {
@@ -131,7 +131,7 @@ fn is_behind(ranges: &[Range], range: &Range) -> bool
 fn joins_last(ranges: &mut Vec<Range>, range: &Range) -> bool
     requires { IsCut ranges.old.items }
     ensures cut { IsCut ranges.new.items }
-    ensures times { result ≡ true → (t : ℤ) → covered ranges.new.items t ≡ (spans range.now t || covered ranges.old.items t) }
+    ensures times { result ≡ true → (t : ℤ) → covered ranges.new.items t ≡ (contains range.now t || covered ranges.old.items t) }
     ensures left { result ≡ false → ranges.new.items ≡ ranges.old.items }
 {
     if let Some(last) = ranges.last_mut() {
@@ -147,7 +147,7 @@ fn joins_last(ranges: &mut Vec<Range>, range: &Range) -> bool
 fn joined(alloc: Global, ranges: &[Range], range: Range) -> Result<Vec<Range>, AllocError>
     requires { IsCut ranges.now }
     ensures cut { IfOk result (λ v. IsCut v.items) }
-    ensures times { IfOk result (λ v. (t : ℤ) → covered v.items t ≡ (spans range t || covered ranges.now t)) }
+    ensures times { IfOk result (λ v. (t : ℤ) → covered v.items t ≡ (contains range t || covered ranges.now t)) }
 {
     let mut done = Vec::with_capacity(alloc, ranges.len())?;
     // it shows that the bounds are those of a range
@@ -172,7 +172,7 @@ fn union(a: &Range, b: &Range) -> Range
     requires a_reaches { b.now.from ≤ℤ a.now.to }
     requires b_reaches { a.now.from ≤ℤ b.now.to }
     ensures range { IsRange result }
-    ensures times { (t : ℤ) → spans result t ≡ (spans a.now t || spans b.now t) }
+    ensures times { (t : ℤ) → contains result t ≡ (contains a.now t || contains b.now t) }
 {
     Range {
         from: a.from.min(b.from),

@@ -8,8 +8,8 @@ use Rattle.std.proofs.lemmas.List.Folds.{list_any-append}
 use Rattle.btr_base.specs.declared.limits.TheConstants.{FIRST, END}
 use Rattle.btr_base.specs.declared.point.Point.{Point}
 use Rattle.btr_base.specs.Point.{is_not_after, InDomain}
-use Rattle.btr_base.specs.Range.{RangeValue, IsCut, spans, covered}
-use Rattle.btr_base.specs.Bag.{IsInOrder, put, sort, within, is_within}
+use Rattle.btr_base.specs.Range.{RangeValue, IsCut, contains, covered}
+use Rattle.btr_base.specs.Bag.{IsInOrder, insert, sort, within, is_within}
 use Rattle.btr_base.specs.Changes.{points_at, same_points, differ_at, slot_around, changes}
 use Rattle.btr_base.proofs.ListLemmas.{each-weaker, filter-append, filter-all, filter-none, filter-passes}
 use Rattle.btr_base.proofs.PointLemmas.{same_point-refl, same_point-true}
@@ -32,17 +32,17 @@ any-filter f g (x ∷ xs) =
 swapped : (a b c d : Bool) → c ≡ (b || d) → (a || c) ≡ (b || (a || d))
 swapped a b c d e = grind arith
 
-any-put : (f : Point → Bool) (p : Point) (b : List Point) → list_any f (put p b) ≡ (f p || list_any f b)
-any-put f p [] = refl
-any-put f p (q ∷ b) =
-    elim (is_not_after p q) as (λ t. list_any f (cond t (p ∷ q ∷ b) (q ∷ put p b)) ≡ (f p || list_any f (q ∷ b))) [
+any-insert : (f : Point → Bool) (p : Point) (b : List Point) → list_any f (insert p b) ≡ (f p || list_any f b)
+any-insert f p [] = refl
+any-insert f p (q ∷ b) =
+    elim (is_not_after p q) as (λ t. list_any f (cond t (p ∷ q ∷ b) (q ∷ insert p b)) ≡ (f p || list_any f (q ∷ b))) [
       | true ↦ refl
-      | false ↦ swapped (f q) (f p) (list_any f (put p b)) (list_any f b) (any-put f p b)
+      | false ↦ swapped (f q) (f p) (list_any f (insert p b)) (list_any f b) (any-insert f p b)
     ]
 
 any-sort : (f : Point → Bool) (b : List Point) → list_any f (sort b) ≡ list_any f b
 any-sort f [] = refl
-any-sort f (p ∷ b) = any-put f p (sort b) ∙ ap (λ t. f p || t) (any-sort f b)
+any-sort f (p ∷ b) = any-insert f p (sort b) ∙ ap (λ t. f p || t) (any-sort f b)
 
 any-same : {X : Type 0} (f g : X → Bool) (xs : List X) → AllByRecursion (λ x. f x ≡ g x) xs → list_any f xs ≡ list_any g xs
 any-same f g [] h = refl
@@ -57,12 +57,12 @@ any-none f (x ∷ xs) h = ap (λ t. t || list_any f xs) h.0 ∙ any-none f xs h.
 -- the point names a slot that the time is in
 abbrev pub names : ℕ → List Point → List Point → ℤ → Point → Bool
 names p a b t q =
-    (differ_at a b q.time && (int_le FIRST q.time && int_lt q.time END)) && spans (slot_around p q.time) t
+    (differ_at a b q.time && (int_le FIRST q.time && int_lt q.time END)) && contains (slot_around p q.time) t
 
 pub hit-is : (p : ℕ) (a b : List Point) (t : ℤ) → hit p a b t ≡ (list_any (names p a b t) a || list_any (names p a b t) b)
 unfolding hit
 hit-is p a b t =
-    any-filter (λ q. spans (slot_around p q.time) t) (λ q. differ_at a b q.time && (int_le FIRST q.time && int_lt q.time END)) (sort (a ++ b))
+    any-filter (λ q. contains (slot_around p q.time) t) (λ q. differ_at a b q.time && (int_le FIRST q.time && int_lt q.time END)) (sort (a ++ b))
     ∙ any-sort (names p a b t) (a ++ b)
     ∙ list_any-append (names p a b t) a b
 
@@ -101,13 +101,13 @@ pub record AreParts (m : ℤ) (a b c d : List Point) : Type 0 where
 
 names-early : (p : ℕ) (t m : ℤ) (a b c d : List Point) (q : Point) → AreParts m a b c d → q.time <ℤ m → names p (a ++ c) (b ++ d) t q ≡ names p a b t q
 names-early p t m a b c d q h low =
-    ap (λ x. (not (same_points x (points_at q.time (b ++ d))) && (int_le FIRST q.time && int_lt q.time END)) && spans (slot_around p q.time) t) (at-early q.time m a c low h.c_from)
-    ∙ ap (λ x. (not (same_points (points_at q.time a) x) && (int_le FIRST q.time && int_lt q.time END)) && spans (slot_around p q.time) t) (at-early q.time m b d low h.d_from)
+    ap (λ x. (not (same_points x (points_at q.time (b ++ d))) && (int_le FIRST q.time && int_lt q.time END)) && contains (slot_around p q.time) t) (at-early q.time m a c low h.c_from)
+    ∙ ap (λ x. (not (same_points (points_at q.time a) x) && (int_le FIRST q.time && int_lt q.time END)) && contains (slot_around p q.time) t) (at-early q.time m b d low h.d_from)
 
 names-late : (p : ℕ) (t m : ℤ) (a b c d : List Point) (q : Point) → AreParts m a b c d → m ≤ℤ q.time → names p (a ++ c) (b ++ d) t q ≡ names p c d t q
 names-late p t m a b c d q h low =
-    ap (λ x. (not (same_points x (points_at q.time (b ++ d))) && (int_le FIRST q.time && int_lt q.time END)) && spans (slot_around p q.time) t) (at-late q.time m a c low h.a_before)
-    ∙ ap (λ x. (not (same_points (points_at q.time c) x) && (int_le FIRST q.time && int_lt q.time END)) && spans (slot_around p q.time) t) (at-late q.time m b d low h.b_before)
+    ap (λ x. (not (same_points x (points_at q.time (b ++ d))) && (int_le FIRST q.time && int_lt q.time END)) && contains (slot_around p q.time) t) (at-late q.time m a c low h.a_before)
+    ∙ ap (λ x. (not (same_points (points_at q.time c) x) && (int_le FIRST q.time && int_lt q.time END)) && contains (slot_around p q.time) t) (at-late q.time m b d low h.b_before)
 
 any-early : (p : ℕ) (t m : ℤ) (a b c d x : List Point) → AreParts m a b c d → Before m x → list_any (names p (a ++ c) (b ++ d) t) x ≡ list_any (names p a b t) x
 any-early p t m a b c d x h low =
@@ -158,7 +158,7 @@ each-of P (x ∷ xs) h = (h x, each-of P xs h)
 -- equal bags do not differ
 pub hit-same : (p : ℕ) (a : List Point) (t : ℤ) → hit p a a t ≡ false
 hit-same p a t =
-    let none : (q : Point) → names p a a t q ≡ false = λ q. ap (λ x. (not x && (int_le FIRST q.time && int_lt q.time END)) && spans (slot_around p q.time) t) (same_points-refl (points_at q.time a)) in
+    let none : (q : Point) → names p a a t q ≡ false = λ q. ap (λ x. (not x && (int_le FIRST q.time && int_lt q.time END)) && contains (slot_around p q.time) t) (same_points-refl (points_at q.time a)) in
     let each : list_any (names p a a t) a ≡ false = any-none (names p a a t) a (each-of (λ q. names p a a t q ≡ false) a none) in
     hit-is p a a t
     ∙ both-same (list_any (names p a a t) a) (list_any (names p a a t) a) false false each each
@@ -181,36 +181,36 @@ at-all : (u : ℤ) (b : List Point) → AllAt u b → points_at u b ≡ b
 at-all u b h =
     filter-all (λ q. int_eq q.time u) b (each-weaker (λ q. q.time ≡ u) (λ q. int_eq q.time u ≡ true) (λ q k. grind (arith, ints)) b h)
 
-names-at : (p : ℕ) (a b : List Point) (t u : ℤ) → AllAt u a → AllAt u b → same_points a b ≡ false → InDomain u → (q : Point) → q.time ≡ u → names p a b t q ≡ spans (slot_around p u) t
+names-at : (p : ℕ) (a b : List Point) (t u : ℤ) → AllAt u a → AllAt u b → same_points a b ≡ false → InDomain u → (q : Point) → q.time ≡ u → names p a b t q ≡ contains (slot_around p u) t
 names-at p a b t u h k differ inside q e =
-    ap (λ v. (differ_at a b v && (int_le FIRST v && int_lt v END)) && spans (slot_around p v) t) e
-    ∙ ap (λ x. (not (same_points x (points_at u b)) && (int_le FIRST u && int_lt u END)) && spans (slot_around p u) t) (at-all u a h)
-    ∙ ap (λ x. (not (same_points a x) && (int_le FIRST u && int_lt u END)) && spans (slot_around p u) t) (at-all u b k)
-    ∙ ap (λ x. (not x && (int_le FIRST u && int_lt u END)) && spans (slot_around p u) t) differ
-    ∙ ap (λ x. x && spans (slot_around p u) t) (in_domain u inside)
+    ap (λ v. (differ_at a b v && (int_le FIRST v && int_lt v END)) && contains (slot_around p v) t) e
+    ∙ ap (λ x. (not (same_points x (points_at u b)) && (int_le FIRST u && int_lt u END)) && contains (slot_around p u) t) (at-all u a h)
+    ∙ ap (λ x. (not (same_points a x) && (int_le FIRST u && int_lt u END)) && contains (slot_around p u) t) (at-all u b k)
+    ∙ ap (λ x. (not x && (int_le FIRST u && int_lt u END)) && contains (slot_around p u) t) differ
+    ∙ ap (λ x. x && contains (slot_around p u) t) (in_domain u inside)
 
-any-times : (p : ℕ) (a b : List Point) (t u : ℤ) → AllAt u a → AllAt u b → same_points a b ≡ false → InDomain u → (x : List Point) → AllAt u x → AllByRecursion (λ q. names p a b t q ≡ spans (slot_around p u) t) x
+any-times : (p : ℕ) (a b : List Point) (t u : ℤ) → AllAt u a → AllAt u b → same_points a b ≡ false → InDomain u → (x : List Point) → AllAt u x → AllByRecursion (λ q. names p a b t q ≡ contains (slot_around p u) t) x
 any-times p a b t u h k differ inside x at =
-    each-weaker (λ q. q.time ≡ u) (λ q. names p a b t q ≡ spans (slot_around p u) t) (names-at p a b t u h k differ inside) x at
+    each-weaker (λ q. q.time ≡ u) (λ q. names p a b t q ≡ contains (slot_around p u) t) (names-at p a b t u h k differ inside) x at
 
 same-both : (s : Bool) → (s || s) ≡ s
 same-both true = refl
 same-both false = refl
 
 -- of other points of one time comes the slot around it
-pub hit-time : (p : ℕ) (a b : List Point) (t u : ℤ) → AllAt u a → AllAt u b → same_points a b ≡ false → InDomain u → hit p a b t ≡ spans (slot_around p u) t
+pub hit-time : (p : ℕ) (a b : List Point) (t u : ℤ) → AllAt u a → AllAt u b → same_points a b ≡ false → InDomain u → hit p a b t ≡ contains (slot_around p u) t
 hit-time p [] [] t u h k differ inside = cc
 hit-time p [] (r ∷ b) t u h k differ inside =
     let all = names p [] (r ∷ b) t in
-    hit-is p [] (r ∷ b) t ∙ any-alike all (spans (slot_around p u) t) r b (any-times p [] (r ∷ b) t u h k differ inside (r ∷ b) k)
+    hit-is p [] (r ∷ b) t ∙ any-alike all (contains (slot_around p u) t) r b (any-times p [] (r ∷ b) t u h k differ inside (r ∷ b) k)
 hit-time p (q ∷ a) [] t u h k differ inside =
     let all = names p (q ∷ a) [] t in
-    let s = spans (slot_around p u) t in
+    let s = contains (slot_around p u) t in
     let first = any-alike all s q a (any-times p (q ∷ a) [] t u h k differ inside (q ∷ a) h) in
     hit-is p (q ∷ a) [] t ∙ or-false (list_any all (q ∷ a)) ∙ first
 hit-time p (q ∷ a) (r ∷ b) t u h k differ inside =
     let all = names p (q ∷ a) (r ∷ b) t in
-    let s = spans (slot_around p u) t in
+    let s = contains (slot_around p u) t in
     hit-is p (q ∷ a) (r ∷ b) t
     ∙ both-same (list_any all (q ∷ a)) (list_any all (r ∷ b)) s s (any-alike all s q a (any-times p (q ∷ a) (r ∷ b) t u h k differ inside (q ∷ a) h)) (any-alike all s r b (any-times p (q ∷ a) (r ∷ b) t u h k differ inside (r ∷ b) k))
     ∙ same-both s

@@ -5,7 +5,7 @@ use Rattle.btr_base.specs.declared.limits.TheConstants.{FIRST, END}
 use Rattle.btr_base.specs.declared.point.Point.{Point}
 use Rattle.btr_base.specs.Span.{width}
 use Rattle.btr_base.specs.Point.{InDomain}
-use Rattle.btr_base.specs.Range.{RangeValue, spans, covered}
+use Rattle.btr_base.specs.Range.{RangeValue, contains, covered}
 use Rattle.btr_base.specs.Changes.{changed, slot_around}
 use Rattle.btr_tree.specs.declared.node.Node.{Node}
 use Rattle.btr_tree.specs.History.{Commit, bag}
@@ -18,7 +18,7 @@ use Rattle.btr_tree.specs.Shape.{Child, slot_start, HasChildren, IsNode, IsPlace
 
 -- the time lies in a slot in which the two bags differ
 unfoldable pub hit : ℕ → List Point → List Point → ℤ → Bool
-hit p a b t = list_any (λ q. spans (slot_around p q.time) t) (changed a b)
+hit p a b t = list_any (λ q. contains (slot_around p q.time) t) (changed a b)
 
 -- to the ranges are added the slots in which the two bags differ
 pub record Adds (p : ℕ) (was now : List RangeValue) (a b : List Point) : Type 0 where

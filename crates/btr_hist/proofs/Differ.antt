@@ -12,7 +12,7 @@ use Rattle.std.proofs.lemmas.List.Elements.{All-from_recursion}
 use Rattle.btr_base.specs.declared.limits.TheConstants.{FIRST, END}
 use Rattle.btr_base.specs.declared.point.Point.{Point}
 use Rattle.btr_base.specs.Point.{same_point, InDomain}
-use Rattle.btr_base.specs.Range.{RangeValue, IsCut, spans, covered}
+use Rattle.btr_base.specs.Range.{RangeValue, IsCut, contains, covered}
 use Rattle.btr_base.specs.Bag.{sort, within, is_within}
 use Rattle.btr_base.specs.Changes.{points_at, same_points, differ_at, changed, slot_around, changes}
 use Rattle.btr_base.proofs.RangeLemmas.{same_from-covered}
@@ -46,29 +46,29 @@ differ-is t r a b x y is left right =
 
 -- the slot of one of the points at whose times the two lists differ has the time
 abbrev pub hits : ℕ → List Point → List Point → ℤ → List Point → Bool
-hits p a b t ps = list_any (λ q. spans (slot_around p q.time) t) (filter (λ q. differ_at a b q.time) ps)
+hits p a b t ps = list_any (λ q. contains (slot_around p q.time) t) (filter (λ q. differ_at a b q.time) ps)
 
 hits-push : (p : ℕ) (a b : List Point) (t : ℤ) (ps : List Point) (q : Point) → hits p a b t (ps ++ q ∷ []) ≡ (hits p a b t (q ∷ []) || hits p a b t ps)
 hits-push p a b t ps q =
-    let f = λ (r : Point). spans (slot_around p r.time) t in
+    let f = λ (r : Point). contains (slot_around p r.time) t in
     let d = λ (r : Point). differ_at a b r.time in
     ap (list_any f) (filter-append d ps (q ∷ []))
     ∙ list_any-append f (filter d ps) (filter d (q ∷ []))
     ∙ or_comm (list_any f (filter d ps)) (list_any f (filter d (q ∷ [])))
 
-hits-one : (p : ℕ) (a b : List Point) (t : ℤ) (q : Point) → differ_at a b q.time ≡ true → hits p a b t (q ∷ []) ≡ spans (slot_around p q.time) t
+hits-one : (p : ℕ) (a b : List Point) (t : ℤ) (q : Point) → differ_at a b q.time ≡ true → hits p a b t (q ∷ []) ≡ contains (slot_around p q.time) t
 hits-one p a b t q h =
-    ap (λ s. list_any (λ (r : Point). spans (slot_around p r.time) t) (cond s (q ∷ []) [])) h ∙ or-false (spans (slot_around p q.time) t)
+    ap (λ s. list_any (λ (r : Point). contains (slot_around p r.time) t) (cond s (q ∷ []) [])) h ∙ or-false (contains (slot_around p q.time) t)
 
 hits-none : (p : ℕ) (a b : List Point) (t : ℤ) (q : Point) → differ_at a b q.time ≡ false → hits p a b t (q ∷ []) ≡ false
-hits-none p a b t q h = ap (λ s. list_any (λ (r : Point). spans (slot_around p r.time) t) (cond s (q ∷ []) [])) h
+hits-none p a b t q h = ap (λ s. list_any (λ (r : Point). contains (slot_around p r.time) t) (cond s (q ∷ []) [])) h
 
 -- a point at whose time the two differ
-pub hits-more : (p : ℕ) (a b : List Point) (t : ℤ) (ps : List Point) (i : ℕ) (d : Point) (was now : Bool) → i < length ps → differ_at a b (get_or ps i d).time ≡ true → was ≡ hits p a b t (take i ps) → now ≡ (spans (slot_around p (get_or ps i d).time) t || was) → now ≡ hits p a b t (take (i + 1) ps)
+pub hits-more : (p : ℕ) (a b : List Point) (t : ℤ) (ps : List Point) (i : ℕ) (d : Point) (was now : Bool) → i < length ps → differ_at a b (get_or ps i d).time ≡ true → was ≡ hits p a b t (take i ps) → now ≡ (contains (slot_around p (get_or ps i d).time) t || was) → now ≡ hits p a b t (take (i + 1) ps)
 hits-more p a b t ps i d was now low differ so_far more =
     let q = get_or ps i d in
     more
-    ∙ ap (λ s. spans (slot_around p q.time) t || s) so_far
+    ∙ ap (λ s. contains (slot_around p q.time) t || s) so_far
     ∙ sym (ap (λ s. s || hits p a b t (take i ps)) (hits-one p a b t q differ))
     ∙ sym (hits-push p a b t (take i ps) q)
     ∙ sym (ap (hits p a b t) (take_more ps i d low))
@@ -95,7 +95,7 @@ changes-found p a b ps i found low cut is done times =
     same_from-covered found (changes p a b) cut (changes-cut p a b low) (λ t.
     times t
     ∙ ap (hits p a b t) (take_all i ps done ∙ is)
-    ∙ ap (list_any (λ (q : Point). spans (slot_around p q.time) t)) (changed-is a b)
+    ∙ ap (list_any (λ (q : Point). contains (slot_around p q.time) t)) (changed-is a b)
     ∙ sym (changes-covered p a b t low))
 
 -- ---- times of the domain

@@ -1,11 +1,8 @@
 -- Each point of each version of a legal history lies in the domain.
-use Rattle.std.specs.Prelude.{◌≡◌, ℕ, ℤ, int_le, int_lt, ◌&&◌, not, nat_le, true, false, List, [], ◌∷◌, length, take, cond, slice_get, Option, Some, None, ◌==◌}
+use Rattle.std.specs.Prelude.{◌≡◌, ℕ, nat_le, true, false, List, [], ◌∷◌, length, take, cond, slice_get, Some, None, ◌==◌}
 use Rattle.std.specs.List.{AllByRecursion}
-use Rattle.std.specs.Option.{option_map}
-use Rattle.std.proofs.Common.{suc, refl, arith}
-use Rattle.std.proofs.lemmas.Int.{ints}
+use Rattle.std.proofs.Common.{suc, refl}
 use Rattle.btr_base.specs.declared.point.Point.{Point}
-use Rattle.btr_base.specs.declared.limits.TheConstants.{FIRST, END}
 use Rattle.btr_base.specs.Point.{InDomain}
 use Rattle.btr_hist.specs.declared.entry.Entry.{Entry}
 use Rattle.btr_hist.specs.declared.entry.Entry.TheVariants.{Create, Commit}

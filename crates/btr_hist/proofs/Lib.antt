@@ -5,7 +5,7 @@ mod Crowd
 mod Stays
 mod Domain
 mod Machine
-mod Once
+mod WindowWalk
 mod Bounds
 mod Found
 mod Differ

@@ -6,7 +6,8 @@ pub mod Legal
 -- what is asked and answered
 pub mod Query
 pub mod Answer
-pub mod Asked
 pub mod Machine
 -- what holds of all histories
 pub mod Laws
+-- what the private functions promise
+pub mod Asked

@@ -1,15 +1,14 @@
-//! Windows of time and what is said of the points in them.
-ghost use Rattle.std.specs.Prelude.{◌≡◌, ◌+◌, ◌^◌, ◌≤◌, ℤ, ◌≤ℤ◌, true, IfOk};
+//! Windows of time, each with the aggregate of its points.
+ghost use Rattle.std.specs.Prelude.{◌≡◌, ◌≤ℤ◌, true, IfOk};
 ghost use Rattle.btr_base.specs.declared.limits.TheConstants.{END};
 ghost use Rattle.btr_base.specs.Bag.{IsInOrder};
-ghost use Rattle.btr_base.specs.Windows.{window_of, window_at, cell_of, cells, aligned, windows};
+ghost use Rattle.btr_base.specs.Windows.{IsGrid, IsWindow, cell_of, cells, aligned, windows};
 ghost use Rattle.btr_hist.specs.Answer.{is_range, is_power, is_width};
-ghost use Rattle.btr_hist.specs.Asked.{AreWindows, IsWindow};
 
-use btr_base::{Agg, Cell, FIRST, Point, points_between};
+use btr_base::{Agg, Cell, Grid, Point, points_between};
 use std::alloc::{AllocError, Global};
 
-/// The aligned windows of `2^p` ns that meet the range and have a point. It goes through the points of each window.
+/// The aligned windows of `2^p` ns that meet the range and contain a point. It goes through the points of each window.
 pub(crate) fn aligned_cells(
     alloc: Global,
     points: &[Point],
@@ -22,14 +21,14 @@ pub(crate) fn aligned_cells(
     requires power { is_power p ≡ true }
     ensures { IfOk result (λ v. v.items ≡ aligned p from to points.now) }
 {
-    let width = width_of(p);
-    let begin = window_start(FIRST, width, window_of(FIRST, width, from));
-    let end = window_end(FIRST, width, window_of(FIRST, width, to - 1));
-    cells_between(alloc, points, FIRST, width, begin, end)
+    let grid = Grid::aligned(p);
+    let begin = grid.begin_of(from);
+    let end = grid.end_of(grid.number_of(to - 1));
+    cells_between(alloc, points, grid, begin, end)
 }
 
-/// The windows from the begin of the range on that end at or before its end and have a point. It goes through the points of
-/// each window.
+/// The windows of this width from the start of the range on that end at or before its end and contain a point. It goes through
+/// the points of each window.
 pub(crate) fn whole_cells(
     alloc: Global,
     points: &[Point],
@@ -42,31 +41,31 @@ pub(crate) fn whole_cells(
     requires width { is_width width ≡ true }
     ensures { IfOk result (λ v. v.items ≡ windows width from to points.now) }
 {
-    let end = window_start(from, width, window_of(from, width, to));
-    cells_between(alloc, points, from, width, from, end)
+    let grid = Grid { first: from, width };
+    let end = grid.begin_of(to);
+    cells_between(alloc, points, grid, from, end)
 }
 
-/// The windows with a point among those from a time up to, and without, another.
+/// The windows that contain one of the points from a time up to, and without, another.
 fn cells_between(
     alloc: Global,
     points: &[Point],
-    first: i64,
-    width: u64,
+    grid: Grid,
     from: i64,
     to: i64,
 ) -> Result<Vec<Cell>, AllocError>
     requires order { IsInOrder points.now }
-    requires windows { AreWindows first width }
-    requires from { first ≤ℤ from }
+    requires grid { IsGrid grid.first grid.width }
+    requires from { grid.first ≤ℤ from }
     requires to { to ≤ℤ END }
-    ensures { IfOk result (λ v. v.items ≡ cells first width from to points.now) }
+    ensures { IfOk result (λ v. v.items ≡ cells grid.first grid.width from to points.now) }
 {
     let mut cells = Vec::new(alloc);
     let mut last = None;
     for point in points_between(points, from, to) {
-        let number = window_of(first, width, point.time);
+        let number = grid.number_of(point.time);
         if last != Some(number) {
-            cells.push(cell_of(points, first, width, number))?;
+            cells.push(cell_of(points, grid, number))?;
             last = Some(number);
         }
     }
@@ -74,47 +73,15 @@ fn cells_between(
 }
 
 /// The window of a number, with the aggregate of all points in it.
-fn cell_of(points: &[Point], first: i64, width: u64, number: u64) -> Cell
+fn cell_of(points: &[Point], grid: Grid, number: u64) -> Cell
     requires order { IsInOrder points.now }
-    requires window { IsWindow first width number }
-    ensures { result ≡ cell_of first width points.now number }
+    requires window { IsWindow grid.first grid.width number }
+    ensures { result ≡ cell_of grid.first grid.width points.now number }
 {
-    let start = window_start(first, width, number);
-    let end = window_end(first, width, number);
+    let start = grid.start_of(number);
+    let end = grid.end_of(number);
     Cell {
         start,
         agg: Agg::of_points(points_between(points, start, end)),
     }
-}
-
-/// The width of aligned windows, in nanoseconds.
-pub(crate) fn width_of(p: u8) -> u64
-    requires { p ≤ 62 }
-    ensures { result ≡ 2 ^ p }
-{
-    1 << p
-}
-
-/// The number of the window that a time lies in.
-pub(crate) fn window_of(first: i64, width: u64, time: i64) -> u64
-    requires { 1 ≤ width }
-    ensures { result ≡ window_of first width time }
-{
-    time.abs_diff(first) / width
-}
-
-/// Where the window of a number begins.
-pub(crate) fn window_start(first: i64, width: u64, number: u64) -> i64
-    requires { IsWindow first width number }
-    ensures { result ≡ window_at first width number }
-{
-    first + (number * width) as i64
-}
-
-/// Where the window of a number ends.
-pub(crate) fn window_end(first: i64, width: u64, number: u64) -> i64
-    requires { IsWindow first width number }
-    ensures { result ≡ window_at first width (number + 1) }
-{
-    window_start(first, width, number) + width as i64
 }

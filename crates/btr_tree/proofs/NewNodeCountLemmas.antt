@@ -5,7 +5,7 @@ use Rattle.std.proofs.Common.{zero, suc, refl, sym, ap, ◌∙◌, arith, subst,
 use Rattle.std.proofs.lemmas.Int.{ints}
 use Rattle.std.proofs.lemmas.Bool.Decides.{nat_tests}
 use Rattle.btr_base.specs.declared.point.Point.{Point}
-use Rattle.btr_base.specs.Range.{RangeValue, spans, covered}
+use Rattle.btr_base.specs.Range.{RangeValue, contains, covered}
 use Rattle.btr_base.specs.Bag.{within, sort, is_within}
 use Rattle.btr_base.specs.Span.{width}
 use Rattle.btr_base.proofs.ListLemmas.{length-filter}
@@ -59,7 +59,7 @@ none-between a b t ts e =
       | false ↦ λ z. (refl, z)
     ] e
 
-whole-range : (a b t u : ℤ) (r : RangeValue) → is_between a b r.from ≡ false → is_between a b r.to ≡ false → a ≤ℤ t → t <ℤ b → spans r t ≡ true → a ≤ℤ u → u <ℤ b → spans r u ≡ true
+whole-range : (a b t u : ℤ) (r : RangeValue) → is_between a b r.from ≡ false → is_between a b r.to ≡ false → a ≤ℤ t → t <ℤ b → contains r t ≡ true → a ≤ℤ u → u <ℤ b → contains r u ≡ true
 whole-range a b t u r no_from no_to low high here l h = grind (arith, ints)
 
 or-true : (x y : Bool) → y ≡ true → (x || y) ≡ true
@@ -70,9 +70,9 @@ whole-cut a b t u [] none low high here l h = here
 whole-cut a b t u (r ∷ rs) none low high here l h =
     let first = none-between a b r.from (r.to ∷ bounds rs) none in
     let second = none-between a b r.to (bounds rs) first.1 in
-    elim (spans r t) as (λ x. spans r t ≡ x → (x || covered rs t) ≡ true → (spans r u || covered rs u) ≡ true) [
+    elim (contains r t) as (λ x. contains r t ≡ x → (x || covered rs t) ≡ true → (contains r u || covered rs u) ≡ true) [
       | true ↦ λ e _. ap (λ x. x || covered rs u) (whole-range a b t u r first.0 second.0 low high e l h)
-      | false ↦ λ _ e. or-true (spans r u) (covered rs u) (whole-cut a b t u rs second.1 low high e l h)
+      | false ↦ λ _ e. or-true (contains r u) (covered rs u) (whole-cut a b t u rs second.1 low high e l h)
     ] refl here
 
 -- ---- points between two times

@@ -1,7 +1,7 @@
 -- Bottom spans that have more points than a leaf holds.
 use Rattle.std.specs.Prelude.{◌≡◌, ℕ, ◌*◌, ◌<◌, ◌≤◌, ℤ, ◌≤ℤ◌, ◌<ℤ◌, List, length}
 use Rattle.btr_base.specs.declared.point.Point.{Point}
-use Rattle.btr_base.specs.Span.{at, width}
+use Rattle.btr_base.specs.Span.{time_at, width}
 use Rattle.btr_tree.specs.declared.limits.TheConstants.{LEAF_POINTS}
 use Rattle.btr_tree.specs.declared.fault.TreeFault.{TreeFault}
 use Rattle.btr_tree.specs.declared.fault.TreeFault.TheVariants.{Crowded, TooManyPoints, Want}
@@ -9,7 +9,7 @@ use Rattle.btr_tree.specs.Nodes.{points_of}
 
 -- the start of a bottom span, by its place in the domain
 abbrev pub bottom : ℕ → ℤ
-bottom place = at (place * width 0)
+bottom place = time_at (place * width 0)
 
 -- no bottom span that starts from one time on and before another is crowded
 abbrev pub HasRoom : ℤ → ℤ → List Point → Type 0

@@ -13,7 +13,7 @@ use Rattle.btr_base.specs.Bag.{IsInOrder, within, is_within}
 use Rattle.btr_base.proofs.ListLemmas.{each-weaker, filter-passes}
 use Rattle.btr_base.proofs.PointLemmas.{is_not_after-times}
 use Rattle.btr_base.proofs.WithinLemmas.{within-nested, within-in_order}
-use Rattle.btr_base.specs.Windows.{window_of, window_at, once, windows_with, cell_of, cells}
+use Rattle.btr_base.specs.Windows.{window_of, window_at, dedup, windows_with, cell_of, cells}
 use Rattle.btr_base.specs.Agg.{AggValue, joined, one_point, agg, agg_within}
 use Rattle.btr_base.proofs.AggLemmas.{joined-assoc, none-joined}
 use Rattle.btr_window.specs.Grids.{begin_of}
@@ -144,13 +144,13 @@ after k (w ∷ ws) = cond (nat_eq k w) (after k ws) (w ∷ after w ws)
 nat-other : (a b : ℕ) → nat_eq a b ≡ false → a ≡ b → ⊥
 nat-other a b e h = grind (arith, nat_tests)
 
-once-after : (k : ℕ) (ws : List ℕ) → once (k ∷ ws) ≡ k ∷ after k ws
+dedup-after : (k : ℕ) (ws : List ℕ) → dedup (k ∷ ws) ≡ k ∷ after k ws
 unfolding after
-once-after k [] = refl
-once-after k (w ∷ ws) =
-    elim (nat_eq k w) as (λ t. nat_eq k w ≡ t → cond t (once (w ∷ ws)) (k ∷ once (w ∷ ws)) ≡ k ∷ cond t (after k ws) (w ∷ after w ws)) [
-      | true ↦ λ e. once-after w ws ∙ ap (λ j. j ∷ after j ws) (sym (nat-same k w e))
-      | false ↦ λ e. ap (λ x. k ∷ x) (once-after w ws)
+dedup-after k [] = refl
+dedup-after k (w ∷ ws) =
+    elim (nat_eq k w) as (λ t. nat_eq k w ≡ t → cond t (dedup (w ∷ ws)) (k ∷ dedup (w ∷ ws)) ≡ k ∷ cond t (after k ws) (w ∷ after w ws)) [
+      | true ↦ λ e. dedup-after w ws ∙ ap (λ j. j ∷ after j ws) (sym (nat-same k w e))
+      | false ↦ λ e. ap (λ x. k ∷ x) (dedup-after w ws)
     ] refl
 
 -- numbers that do not fall, from one on
@@ -175,13 +175,13 @@ after-more k (w ∷ ws) r =
           (more, each-weaker (λ j. w < j) (λ j. k < j) (λ j h. omega arith) (after w ws) (after-more w ws r.1))
     ] refl
 
-pub each-once : (P : ℕ → Type 0) (ws : List ℕ) → AllByRecursion P ws → AllByRecursion P (once ws)
-each-once P [] h = tt
-each-once P (w ∷ []) h = h
-each-once P (w ∷ v ∷ ws) h =
-    elim (nat_eq w v) as (λ t. AllByRecursion P (cond t (once (v ∷ ws)) (w ∷ once (v ∷ ws)))) [
-      | true ↦ each-once P (v ∷ ws) h.1
-      | false ↦ (h.0, each-once P (v ∷ ws) h.1)
+pub each-dedup : (P : ℕ → Type 0) (ws : List ℕ) → AllByRecursion P ws → AllByRecursion P (dedup ws)
+each-dedup P [] h = tt
+each-dedup P (w ∷ []) h = h
+each-dedup P (w ∷ v ∷ ws) h =
+    elim (nat_eq w v) as (λ t. AllByRecursion P (cond t (dedup (v ∷ ws)) (w ∷ dedup (v ∷ ws)))) [
+      | true ↦ each-dedup P (v ∷ ws) h.1
+      | false ↦ (h.0, each-dedup P (v ∷ ws) h.1)
     ]
 
 map-same : {X : Type 0} (f g : ℕ → X) (ks : List ℕ) → AllByRecursion (λ k. f k ≡ g k) ks → map f ks ≡ map g ks
@@ -279,7 +279,7 @@ module _ (first : ℤ) (width : ℕ) (some : 1 ≤ width) where
       let w = window_of first width p.time in
       let ws = map (λ (q : Point). window_of first width q.time) ps in
       windows-first p ps (windows-from w (one_point p.value) ps (h.0.1, h.1.1)) h.0.0 h.1.1
-      ∙ sym (ap (map (cell_of first width (p ∷ ps))) (once-after w ws))
+      ∙ sym (ap (map (cell_of first width (p ∷ ps))) (dedup-after w ws))
 
   rising-in_order : (k : ℕ) (ps : List Point) → IsInOrder ps → AllByRecursion (λ p. (first ≤ℤ p.time) × (k ≤ window_of first width p.time)) ps → AreRising k (map (λ p. window_of first width p.time) ps)
   rising-in_order k [] order h = tt
@@ -337,7 +337,7 @@ module _ (first : ℤ) (width : ℕ) (some : 1 ≤ width) where
       let from = at-rise first width 0 a (omega arith) in
       let times = each-weaker (λ (p : Point). (at a ≤ℤ p.time) × (p.time <ℤ at c)) (λ p. first ≤ℤ p.time) (λ p h. let low = h.0 in omega (arith, ints)) ps inside in
       windows-are ps (behind-in_order ps (within-in_order (at a) (at c) b order) times)
-      ∙ map-same (cell_of first width ps) (cell_of first width b) (windows_with first width ps) (each-weaker (LiesBetween a c) (λ k. cell_of first width ps k ≡ cell_of first width b k) (λ k h. cell-between a c k b h) (windows_with first width ps) (each-once (LiesBetween a c) (map (λ p. window_of first width p.time) ps) (numbers-between a c ps inside)))
+      ∙ map-same (cell_of first width ps) (cell_of first width b) (windows_with first width ps) (each-weaker (LiesBetween a c) (λ k. cell_of first width ps k ≡ cell_of first width b k) (λ k h. cell-between a c k b h) (windows_with first width ps) (each-dedup (LiesBetween a c) (map (λ p. window_of first width p.time) ps) (numbers-between a c ps inside)))
 
 pub cells-as : (first : ℤ) (width : ℕ) (from to : ℤ) (a c : ℕ) (b : List Point) → from ≡ window_at first width a → to ≡ window_at first width c → add_points first width [] (within (window_at first width a) (window_at first width c) b) ≡ cells first width (window_at first width a) (window_at first width c) b → add_points first width [] (within from to b) ≡ cells first width from to b
 cells-as first width from to a c b p q h =

@@ -6,7 +6,7 @@ use Rattle.std.proofs.lemmas.Int.{ints}
 use Rattle.std.proofs.lemmas.Bool.{not-true}
 use Rattle.btr_base.specs.declared.point.Point.{Point}
 use Rattle.btr_base.specs.Point.{same_point, InDomain}
-use Rattle.btr_base.specs.Range.{RangeValue, spans, covered}
+use Rattle.btr_base.specs.Range.{RangeValue, contains, covered}
 use Rattle.btr_base.specs.Bag.{IsInOrder}
 use Rattle.btr_base.specs.Changes.{same_points, slot_around}
 use Rattle.btr_base.proofs.ListLemmas.{each-weaker, each-both, each-filter, filter-passes}
@@ -69,13 +69,13 @@ or-swap : (a b : Bool) → (a || b) ≡ (b || a)
 or-swap a b = grind arith
 
 -- what is added of the points of one time
-adds-time : (p : ℕ) (t : ℤ) (was now : List RangeValue) (a b : List Point) (s : RangeValue) → AllAt t a → AllAt t b → same_points a b ≡ false → InDomain t → s ≡ slot_around p t → ((v : ℤ) → covered now v ≡ (spans s v || covered was v)) → Adds p was now a b
+adds-time : (p : ℕ) (t : ℤ) (was now : List RangeValue) (a b : List Point) (s : RangeValue) → AllAt t a → AllAt t b → same_points a b ≡ false → InDomain t → s ≡ slot_around p t → ((v : ℤ) → covered now v ≡ (contains s v || covered was v)) → Adds p was now a b
 adds-time p t was now a b s h k differ inside is more =
     record {
       times = λ v.
           more v
-          ∙ ap (λ r. spans r v || covered was v) is
-          ∙ or-swap (spans (slot_around p t) v) (covered was v)
+          ∙ ap (λ r. contains r v || covered was v) is
+          ∙ or-swap (contains (slot_around p t) v) (covered was v)
           ∙ ap (λ x. covered was v || x) (sym (hit-time p a b v t h k differ inside));
     }
 

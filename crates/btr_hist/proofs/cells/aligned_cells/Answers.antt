@@ -1,9 +1,10 @@
-use Rattle.std.proofs.Common.{◌≡◌, ℤ, pos, ◌-ℤ◌, ◌≤ℤ◌, List, IfOk, subst, sym, ◌∙◌, arith, rules, w64, to_z, of_z, SFits}
+use Rattle.std.proofs.Common.{◌≡◌, ◌+◌, ℕ, ℤ, pos, ◌-ℤ◌, ◌≤ℤ◌, List, IfOk, ap, subst, sym, ◌∙◌, arith, rules, w64, to_z, of_z, SFits}
 use Rattle.std.proofs.lemmas.Int.{ints, to_z-of_z}
-use Rattle.btr_base.specs.declared.limits.TheConstants.{FIRST, END}
+use Rattle.btr_base.specs.declared.limits.TheConstants.{END}
 use Rattle.btr_base.specs.declared.cell.Cell.{Cell}
-use Rattle.btr_base.specs.Windows.{window_at}
-use Rattle.btr_hist.proofs.Bounds.{AreBounds, range-bounds, power-low, power-windows, number-window, aligned-ends, aligned-is, as_word, before_as_word}
+use Rattle.btr_base.specs.Windows.{IsWindow, window_of, window_at, begin_of}
+use Rattle.btr_base.proofs.WindowLemmas.{window-around, aligned-grid, aligned-ends, aligned-cells}
+use Rattle.btr_hist.proofs.Bounds.{AreBounds, range-bounds, as_word, before_as_word}
 use Rattle.btr_hist.proofs.cells.aligned_cells.Goals as goal
 
 -- the time before the end of a range
@@ -21,33 +22,32 @@ begin-word from to h =
     let ends = h.ends in
     as_word from h.begins (omega (arith, ints))
 
-pub window_start-begin-requires : goal.window_start-begin-requires
-window_start-begin-requires c =
-    let range = range-bounds c.args.from c.args.to c.requires.range in
-    let full = range.not_empty in
-    let ends = range.ends in
-    number-window FIRST c.args.from (to_z w64 (of_z w64 c.args.from)) c.width_of-width.result c.window_of.result
-    (power-windows c.args.p c.width_of-width.result (power-low c.args.p c.requires.power) c.width_of-width.ensures) range.begins (omega (arith, ints)) (begin-word c.args.from c.args.to range) c.window_of.ensures
+pub begin_of-begin-requires-clause-grid : goal.begin_of-begin-requires-clause-grid
+begin_of-begin-requires-clause-grid c = aligned-grid c.args.p _ _ c.aligned-grid.ensures
 
-pub window_end-end-requires : goal.window_end-end-requires
-window_end-end-requires c =
+pub begin_of-begin-requires-clause-time : goal.begin_of-begin-requires-clause-time
+begin_of-begin-requires-clause-time c =
+    let range = range-bounds c.args.from c.args.to c.requires.range in
+    let begins = range.begins in
+    let first = c.aligned-grid.ensures.first_is in
+    omega (arith, ints, begin-word c.args.from c.args.to range)
+
+-- the number of the last window
+last-number : (first from to : ℤ) (width k : ℕ) → AreBounds from to → k ≡ window_of first width (to_z w64 (of_z w64 (to_z w64 (of_z w64 to) -ℤ pos 1))) → k ≡ window_of first width (to -ℤ pos 1)
+last-number first from to width k range is = is ∙ ap (window_of first width) (before-end from to range)
+
+pub end_of-end-requires : goal.end_of-end-requires
+end_of-end-requires c =
     let range = range-bounds c.args.from c.args.to c.requires.range in
     let begins = range.begins in
     let full = range.not_empty in
     let ends = range.ends in
-    number-window FIRST (c.args.to -ℤ pos 1) (to_z w64 (of_z w64 (to_z w64 (of_z w64 c.args.to) -ℤ pos 1))) c.width_of-width.result c.window_of-2.result
-    (power-windows c.args.p c.width_of-width.result (power-low c.args.p c.requires.power) c.width_of-width.ensures) (omega (arith, ints)) (omega (arith, ints)) (before-end c.args.from c.args.to range) c.window_of-2.ensures
+    let first = c.aligned-grid.ensures.first_is in
+    subst (IsWindow c.aligned-grid.result.first c.aligned-grid.result.width) (sym (last-number _ _ _ _ _ range c.number_of.ensures))
+    (window-around c.aligned-grid.result.first c.aligned-grid.result.width (c.args.to -ℤ pos 1) (aligned-grid c.args.p _ _ c.aligned-grid.ensures) (omega (arith, ints)) (omega (arith, ints)))
 
-pub cells_between-requires-clause-windows : goal.cells_between-requires-clause-windows
-cells_between-requires-clause-windows c =
-    power-windows c.args.p c.width_of-width.result (power-low c.args.p c.requires.power) c.width_of-width.ensures
-
-pub cells_between-requires-clause-from : goal.cells_between-requires-clause-from
-cells_between-requires-clause-from c =
-    let fits : SFits w64 c.window_start-begin.result = search rules in
-    let at : c.window_start-begin.result ≡ window_at FIRST c.width_of-width.result c.window_of.result = c.window_start-begin.ensures in
-    let low : FIRST ≤ℤ window_at FIRST c.width_of-width.result c.window_of.result = omega (arith, ints) in
-    subst (λ z. FIRST ≤ℤ z) (sym (to_z-of_z w64 c.window_start-begin.result fits ∙ at)) low
+pub cells_between-requires-clause-grid : goal.cells_between-requires-clause-grid
+cells_between-requires-clause-grid c = aligned-grid c.args.p _ _ c.aligned-grid.ensures
 
 pub cells_between-requires-clause-to : goal.cells_between-requires-clause-to
 cells_between-requires-clause-to c =
@@ -55,15 +55,21 @@ cells_between-requires-clause-to c =
     let begins = range.begins in
     let full = range.not_empty in
     let ends = range.ends in
-    let fits : SFits w64 c.window_end-end.result = search rules in
-    subst (λ z. z ≤ℤ END) (sym (to_z-of_z w64 c.window_end-end.result fits ∙ c.window_end-end.ensures))
-    (aligned-ends (c.args.to -ℤ pos 1) (to_z w64 (of_z w64 (to_z w64 (of_z w64 c.args.to) -ℤ pos 1))) c.args.p c.width_of-width.result c.window_of-2.result (power-low c.args.p c.requires.power) c.width_of-width.ensures (omega (arith, ints)) (omega (arith, ints)) (before-end c.args.from c.args.to range) c.window_of-2.ensures)
+    let fits : SFits w64 c.end_of-end.result = search rules in
+    let first = c.aligned-grid.result.first in
+    let width = c.aligned-grid.result.width in
+    let is = to_z-of_z w64 c.end_of-end.result fits ∙ c.end_of-end.ensures ∙ ap (λ k. window_at first width (k + 1)) (last-number first _ _ width _ range c.number_of.ensures) in
+    subst (λ z. z ≤ℤ END) (sym is) (aligned-ends c.args.p first width (c.args.to -ℤ pos 1) c.aligned-grid.ensures (omega (arith, ints)) (omega (arith, ints)))
 
 pub returns : goal.returns
 returns c =
     let range = range-bounds c.args.from c.args.to c.requires.range in
-    let begin_fits : SFits w64 c.window_start-begin.result = search rules in
-    let end_fits : SFits w64 c.window_end-end.result = search rules in
+    let first = c.aligned-grid.result.first in
+    let width = c.aligned-grid.result.width in
+    let begin_fits : SFits w64 c.begin_of-begin.result = search rules in
+    let end_fits : SFits w64 c.end_of-end.result = search rules in
+    let begin = to_z-of_z w64 c.begin_of-begin.result begin_fits ∙ c.begin_of-begin.ensures ∙ ap (begin_of first width) (begin-word c.args.from c.args.to range) in
+    let end = to_z-of_z w64 c.end_of-end.result end_fits ∙ c.end_of-end.ensures ∙ ap (λ k. window_at first width (k + 1)) (last-number first _ _ width _ range c.number_of.ensures) in
     subst (λ (cs : List Cell). IfOk c.cells_between.result (λ v. v.items ≡ cs))
-    (aligned-is c.args.from c.args.to (to_z w64 (of_z w64 c.args.from)) (to_z w64 (of_z w64 (to_z w64 (of_z w64 c.args.to) -ℤ pos 1))) (to_z w64 (of_z w64 c.window_start-begin.result)) (to_z w64 (of_z w64 c.window_end-end.result)) c.args.p c.width_of-width.result c.window_of.result c.window_of-2.result c.args.points.now (to_z-of_z w64 c.window_start-begin.result begin_fits ∙ c.window_start-begin.ensures) c.window_of.ensures (begin-word c.args.from c.args.to range) (to_z-of_z w64 c.window_end-end.result end_fits ∙ c.window_end-end.ensures) c.window_of-2.ensures (before-end c.args.from c.args.to range) c.width_of-width.ensures)
+    (aligned-cells c.args.p first width c.args.from c.args.to _ _ c.args.points.now c.aligned-grid.ensures begin end)
     c.cells_between.ensures

@@ -3,7 +3,7 @@ use Rattle.std.proofs.lemmas.Int.{to_z-of_z}
 use Rattle.btr_base.specs.declared.limits.TheConstants.{FIRST, END}
 use Rattle.btr_base.specs.declared.point.Point.{Point}
 use Rattle.btr_base.specs.Point.{InDomain}
-use Rattle.btr_base.specs.Range.{covered, spans}
+use Rattle.btr_base.specs.Range.{covered, contains}
 use Rattle.btr_base.specs.Bag.{IsInOrder, within, sort}
 use Rattle.btr_base.specs.Changes.{differ_at, slot_around}
 use Rattle.btr_base.proofs.PointLemmas.{sort-in_order}
@@ -48,7 +48,7 @@ loop-point-preserved c =
       | then-differ_at+in_ok-add w ↦ λ t.
           let slot : w.slot_around.result ≡ slot_around p q.time = w.slot_around.ensures ∙ ap (slot_around p) fits in
           hits-more p old new t ps i d (covered c.loop-point.found t) (covered c.if-differ_at.found t) c.loop-point-test.true (sym differ ∙ w.if-differ_at.true) (c.loop-point.invariant t)
-          (ap (λ rs. covered rs t) w.found-is ∙ w.in_ok-add.ensures.times t ∙ ap (λ r. spans r t || covered c.loop-point.found t) slot)
+          (ap (λ rs. covered rs t) w.found-is ∙ w.in_ok-add.ensures.times t ∙ ap (λ r. contains r t || covered c.loop-point.found t) slot)
       | else-differ_at w ↦ λ t.
           hits-same p old new t ps i d (covered c.loop-point.found t) (covered c.if-differ_at.found t) c.loop-point-test.true (sym differ ∙ w.if-differ_at.false) (c.loop-point.invariant t)
           (ap (λ rs. covered rs t) w.found-is)

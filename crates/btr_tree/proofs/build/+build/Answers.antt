@@ -7,7 +7,7 @@ use Rattle.btr_tree.specs.Crowd.{bottom, HasRoom, IsFirstCrowd}
 use Rattle.btr_tree.proofs.SlotSplitLemmas.{parted-at, parted-inside, parted-same, crowding-part, room-more}
 use Rattle.btr_tree.proofs.NodeLemmas.{slot-end}
 use Rattle.btr_base.specs.Bag.{within, IsInOrder}
-use Rattle.btr_base.specs.Span.{at, width, SpanValue, IsSpan}
+use Rattle.btr_base.specs.Span.{time_at, width, SpanValue, IsSpan}
 use Rattle.btr_base.proofs.SpanLemmas.{width-positive}
 use Rattle.btr_tree.specs.History.{bag}
 use Rattle.btr_tree.specs.Nodes.{points_of, is_inner}
@@ -41,7 +41,7 @@ build-returns-then-span-eq0-clause-fault t c =
     let same : points_of 0 c.args.span.start c.args.points.now ≡ c.args.points.now = subst (λ k. within c.args.span.start (c.args.span.start +ℤ pos (width k)) c.args.points.now ≡ c.args.points.now) low c.requires.inside in
     let start : to_z w64 (of_z w64 c.span.inside.start) ≡ c.args.span.start = omega (arith, ints) in
     let begins = span.1.start in
-    let is : c.args.span.start ≡ bottom span.0 = begins ∙ ap (λ k. at (span.0 * width k)) low in
+    let is : c.args.span.start ≡ bottom span.0 = begins ∙ ap (λ k. time_at (span.0 * width k)) low in
     let positive = width-positive c.args.span.height in (
       span.0,
       subst (λ x. IsFirstCrowd c.args.span.start (end_of c.args.span) c.args.points.now x span.0) (sym start) (record {
