@@ -3,6 +3,7 @@ use Rattle.std.specs.Prelude.{◌≡◌, ℕ, ◌*◌, length}
 use Rattle.std.proofs.Common.{sym, ◌∙◌, arith}
 use Rattle.std.proofs.lemmas.List.{length-replicate}
 use Rattle.btr_disk.specs.Bytes.{Image, Has}
+use Rattle.btr_disk.specs.Gate.{mark, zeros, gate_block, IsOpen, IsClosed}
 use Rattle.btr_disk.proofs.ByteLemmas.{Has-append}
 use Rattle.btr_disk.specs.Gate.{IsClosed, IsOpen, mark, zeros, gate_block}
 

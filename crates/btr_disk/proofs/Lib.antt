@@ -2,6 +2,8 @@ pub mod ByteLemmas
 pub mod GateLemmas
 pub mod ImageLemmas
 pub mod MomentLemmas
-mod Steps
-mod Others
+mod PublishCalls
+mod NeitherByte
+mod TornBlocks
+mod FuseImages
 mod Recording

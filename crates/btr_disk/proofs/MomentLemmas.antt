@@ -1,12 +1,17 @@
--- Lemmas on moments, for each crash proof above: how runs of calls begin, go on, compose and weaken.
+-- Lemmas on moments, for each crash proof above: how sequences of calls begin, go on, compose and weaken.
 use Rattle.std.specs.Prelude.{ℕ, ◌≤◌}
-use Rattle.std.proofs.Common.{inl, inr, ⊎_elim, arith}
+use Rattle.std.proofs.Common.{sym, subst, inl, inr, ⊎_elim, arith}
 use Rattle.btr_disk.specs.Bytes.{Image, Same}
-use Rattle.btr_disk.specs.Images.{SameImages}
+use Rattle.btr_disk.specs.Images.{Only, SameImages}
 use Rattle.btr_disk.specs.Causes.{Counted}
-use Rattle.btr_disk.specs.Moments.{Elapses, Leaves, WroteNothing}
-use Rattle.btr_disk.proofs.ByteLemmas.{Same-refl, Same-trans}
-use Rattle.btr_disk.proofs.ImageLemmas.{SameImages-refl, SameImages-trans}
+use Rattle.btr_disk.specs.Moments.{Elapses, Leaves, WroteNothing, IsUnwritten}
+use Rattle.btr_disk.proofs.ByteLemmas.{Same-refl, Same-sym, Same-trans, Same-is}
+use Rattle.btr_disk.proofs.ImageLemmas.{SameImages-refl, SameImages-trans, Only-along}
+
+-- after a sync that succeeded a crash leaves what it might have left before
+synced_back : (contents mid : Image) (old new : Image → Type 0) → old contents → Same contents mid → Only mid new → (c : Image) → new c → old c
+synced_back contents mid old new reads same only c left =
+    subst old (sym (Same-is contents c (Same-trans contents mid c same (only.each c left)))) reads
 
 module _ {D : Type 0} (calls : D → ℕ) (since : D → ℕ → Image → Type 0) where
   -- before the first call
@@ -68,3 +73,19 @@ module _ {D : Type 0} (calls : D → ℕ) (since : D → ℕ → Image → Type 
     -- after a run whose images have P
     pub nothing_after : (old mid new : D) (P : Image → Type 0) → Leaves calls since old mid P → ((c : Image) → image mid c → P c) → WroteNothing calls contents image since mid new → Leaves calls since old new P
     nothing_after old mid new P so_far here nothing = composes old mid new P so_far (weakens mid new (image mid) P here nothing.moments)
+
+    -- what only a sync leaves, calls that write nothing leave
+    pub Only-kept : (mid new : D) → Only (contents mid) (image mid) → WroteNothing calls contents image since mid new → Only (contents new) (image new)
+    Only-kept mid new only nothing =
+        Only-along (contents mid) (contents new) (image mid) (image new) (Same-sym (contents mid) (contents new) nothing.same) nothing.images only
+
+    -- a sync that succeeded, and then calls that write nothing: `only_now` and `reads_as_image` are the device's laws
+    pub unwritten_synced : (old mid new : D) → ((c : Image) → since old (calls old) c → image old c) → image old (contents old) → Counted (calls old) (calls mid) → Elapses (calls old) (since old) (since mid) (image mid) → Same (contents old) (contents mid) → Only (contents mid) (image mid) → WroteNothing calls contents image since mid new → IsUnwritten calls contents image since old new
+    unwritten_synced old mid new now reads counted time same only nothing =
+        let back : (c : Image) → image mid c → image old c = synced_back (contents old) (contents mid) (image old) (image mid) reads same only in
+        record {
+          same = Same-trans (contents old) (contents mid) (contents new) same nothing.same;
+          moments = composes old mid new (image old)
+              (goes_on old old mid (image old) (image mid) (begins old (image old) now) counted time back)
+              (weakens mid new (image mid) (image old) back nothing.moments);
+        }

@@ -1,18 +1,31 @@
--- How the images of a device in memory change as a call enters its record.
-use Rattle.std.specs.Prelude.{◌≡◌, ℕ, ◌+◌, ◌-◌, ◌<◌, ◌≤◌, Bool, true, false, List, [], ◌∷◌, ◌++◌, length, take, drop, reverse, MatchBool}
+-- How the images of a device in memory change as a call enters its record, or is left out of it.
+use Rattle.std.specs.Prelude.{◌≡◌, ℕ, ◌+◌, ◌-◌, ◌*◌, ◌/◌, ◌<◌, ◌≤◌, ◌⊎◌, Bool, true, false, Some, slice_get, List, [], ◌∷◌, ◌++◌, length, take, drop, reverse, MatchBool}
 use Rattle.std.proofs.Common.{get_or, refl, sym, ◌∙◌, ap, subst, inl, inr, ⊎_elim, arith, length-append, length-take, get_or-take, get_or-drop}
+use Rattle.std.proofs.lemmas.Bool.{cases_lt}
 use Rattle.std.proofs.lemmas.List.{get_or_append_left, get_or-append_right, reverse-append, length-reverse, take_at, drop_at, append-nil}
-use Rattle.btr_disk.specs.Bytes.{Image, Has, Same, SameBut, AreBytes}
-use Rattle.btr_disk.specs.Images.{Torn, MayTear}
+use Rattle.btr_disk.specs.Bytes.{Image, Has, Same, SameBut, IsOutside, AreBytes}
+use Rattle.btr_disk.specs.Images.{Torn, MayTear, Tears}
 use Rattle.btr_disk.specs.Moments.{Elapses}
 use Rattle.btr_disk.proofs.ByteLemmas.{Has-at, Has-from_each, Same-is, Same-refl, SameBut-refl, SameBut-at, SameBut-sym, SameBut-patched, patched, patched-inside, AreBytes-patched, cases_range}
-use Rattle.btr_disk.specs.History.{contents_of, MayLeave, MayHaveLeft, IsBefore, replaced_before, newest_first, call_count, Records, Counts, IsIdle}
-use Rattle.btr_disk.specs.declared.history.Event.{Event}
-use Rattle.btr_disk.specs.declared.history.Event.TheVariants.{Nothing, Wrote, Synced}
-use Rattle.btr_disk.specs.declared.history.History.{History}
+use Rattle.btr_disk.specs.CallRecord.{contents_of, MayLeave, MayHaveLeft, IsBefore, IsUnsyncedAt, replaced_before, newest_first, call_count, Records, IsLeftOut, TearsOnly}
+use Rattle.btr_disk.specs.Torn.{IsTornAt, Tore}
+use Rattle.btr_disk.proofs.TornBlocks.{is_torn, same_torn, more_torn}
+use Rattle.btr_disk.specs.declared.call_record.Call.{Call}
+use Rattle.btr_disk.specs.declared.call_record.Call.TheVariants.{Nothing, Wrote, Synced}
+use Rattle.btr_disk.specs.declared.call_record.CallRecord.{CallRecord}
+use Rattle.btr_disk.specs.RecordLaws.{MayLeave-torn}
 
--- a call enters: what a read gave before it is known, and so is what earlier writes replaced
-pub enters : (call : Event) (calls : List Event) (was now : Image) (replaced after : List ℕ) → IsBefore call after now was → ((past : Image) → IsBefore call after now past → Same past was) → replaced_before call after ≡ replaced → Elapses (length calls) (MayHaveLeft was calls replaced) (MayHaveLeft now (call ∷ calls) after) (MayLeave now (call ∷ calls))
+-- what a crash may have left since a call number
+abbrev since : Image → CallRecord → ℕ → Image → Type 0
+since now made t c =
+    MayLeave now (newest_first made) made.torn.flags.items c ⊎ MayHaveLeft now (newest_first made) made.replaced.items t c
+
+-- what it may leave now
+abbrev left_now : Image → CallRecord → Image → Type 0
+left_now now made = MayLeave now (newest_first made) made.torn.flags.items
+
+-- a call enters: what a read returned before it is known, and so is what earlier writes replaced
+enters : (call : Call) (calls : List Call) (was now : Image) (replaced after : List ℕ) → IsBefore call after now was → ((past : Image) → IsBefore call after now past → Same past was) → replaced_before call after ≡ replaced → Elapses (length calls) (MayHaveLeft was calls replaced) (MayHaveLeft now (call ∷ calls) after) (MayLeave now (call ∷ calls) [])
 enters call calls was now replaced after before one rest = record {
   nothing_else = λ t c le left.
       ⊎_elim (λ here. inr here)
@@ -23,54 +36,69 @@ enters call calls was now replaced after before one rest = record {
   keeps = λ t c le left. inr (le, (was, before, subst (λ (l : List ℕ). MayHaveLeft was calls l t c) (sym rest) left));
 }
 
+from_now : (now : Image) (calls : List Call) (replaced : List ℕ) (t : ℕ) (c : Image) → MayLeave now calls [] c → MayHaveLeft now calls replaced t c
+from_now now [] replaced t c left = left
+from_now now (call ∷ earlier) replaced t c left = inl left
+
+-- no block of a record that is not full is torn
+untorn : (made : CallRecord) → made.unrecorded ≡ 0 → (now : Image) (t : ℕ) (c : Image) → since now made t c → MayHaveLeft now (newest_first made) made.replaced.items t c
+untorn made none now t c =
+    ⊎_elim
+    (λ left. from_now now (newest_first made) made.replaced.items t c (record { bytes = left.bytes; synced = λ k no _. left.synced k no (made.untorn none (k / 4096)) }))
+    (λ left. left)
+
 -- the same over the record of the device
-recorded : (call : Event) (bytes : List ℕ) (was now : Image) (old new : History) → Records call bytes old new → Elapses (length (newest_first old)) (MayHaveLeft was (newest_first old) old.replaced.items) (MayHaveLeft now (call ∷ newest_first old) new.replaced.items) (MayLeave now (call ∷ newest_first old)) → Elapses (call_count old) (MayHaveLeft was (newest_first old) old.replaced.items) (MayHaveLeft now (newest_first new) new.replaced.items) (MayLeave now (newest_first new))
+recorded : (call : Call) (bytes : List ℕ) (was now : Image) (old new : CallRecord) → Records call bytes old new → Elapses (length (newest_first old)) (MayHaveLeft was (newest_first old) old.replaced.items) (MayHaveLeft now (call ∷ newest_first old) new.replaced.items) (MayLeave now (call ∷ newest_first old) []) → Elapses (call_count old) (since was old) (since now new) (left_now now new)
 recorded call bytes was now old new it time =
-    let newest : newest_first new ≡ call ∷ newest_first old = ap reverse it.calls ∙ reverse-append old.events.items (call ∷ []) in
-    let size : length (newest_first old) ≡ call_count old = omega (arith, length-reverse old.events.items, it.none_unrecorded) in
-    subst (λ (n : ℕ). Elapses n (MayHaveLeft was (newest_first old) old.replaced.items) (MayHaveLeft now (newest_first new) new.replaced.items) (MayLeave now (newest_first new))) size
-    (subst (λ (l : List Event). Elapses (length (newest_first old)) (MayHaveLeft was (newest_first old) old.replaced.items) (MayHaveLeft now l new.replaced.items) (MayLeave now l)) (sym newest) time)
+    let newest : newest_first new ≡ call ∷ newest_first old = ap reverse it.calls ∙ reverse-append old.calls.items (call ∷ []) in
+    let size : length (newest_first old) ≡ call_count old = omega (arith, length-reverse old.calls.items, it.none_unrecorded) in
+    record {
+      nothing_else = λ t c le left.
+          ⊎_elim (λ here. inr here)
+          (λ past.
+          ⊎_elim (λ before. inl (inr before))
+          (λ here. inr (MayLeave-torn now (newest_first new) new.torn.flags.items c (subst (λ (l : List Call). MayLeave now l [] c) (sym newest) here)))
+          (time.nothing_else t c (omega (arith, le, size)) (subst (λ (l : List Call). MayHaveLeft now l new.replaced.items t c) newest past)))
+          left;
+      keeps = λ t c le left.
+          inr (subst (λ (l : List Call). MayHaveLeft now l new.replaced.items t c) (sym newest)
+          (time.keeps t c (omega (arith, le, size)) (untorn old it.none_unrecorded was t c left)));
+    }
 
 -- a call that does nothing, as a read
-pub nothing_recorded : (now : Image) (old new : History) → Records Nothing [] old new → Elapses (call_count old) (MayHaveLeft now (newest_first old) old.replaced.items) (MayHaveLeft now (newest_first new) new.replaced.items) (MayLeave now (newest_first new))
+pub nothing_recorded : (now : Image) (old new : CallRecord) → Records Nothing [] old new → Elapses (call_count old) (since now old) (since now new) (left_now now new)
 nothing_recorded now old new it =
     recorded Nothing [] now now old new it
     (enters Nothing (newest_first old) now now old.replaced.items new.replaced.items (Same-refl now) (λ past same k. sym (same k)) (it.replaced ∙ append-nil old.replaced.items))
 
-pub sync_recorded : (now : Image) (old new : History) → Records Synced [] old new → Elapses (call_count old) (MayHaveLeft now (newest_first old) old.replaced.items) (MayHaveLeft now (newest_first new) new.replaced.items) (MayLeave now (newest_first new))
+pub sync_recorded : (now : Image) (old new : CallRecord) → Records Synced [] old new → Elapses (call_count old) (since now old) (since now new) (left_now now new)
 sync_recorded now old new it =
     recorded Synced [] now now old new it
     (enters Synced (newest_first old) now now old.replaced.items new.replaced.items (Same-refl now) (λ past same k. sym (same k)) (it.replaced ∙ append-nil old.replaced.items))
 
--- a call that found no room
-pub counted_alone : (now : Image) (old new : History) → Counts old new → Elapses (call_count old) (MayHaveLeft now (newest_first old) old.replaced.items) (MayHaveLeft now (newest_first new) new.replaced.items) (MayLeave now (newest_first new))
-counted_alone now old new it =
-    let newest : newest_first old ≡ newest_first new = ap reverse (sym it.calls) in
-    let replaced : old.replaced.items ≡ new.replaced.items = sym it.replaced in
+-- a call that was left out, and after it blocks may be torn
+left_out : (now : Image) (old new : CallRecord) → new.calls.items ≡ old.calls.items → new.replaced.items ≡ old.replaced.items → ((k : ℕ) → IsTornAt old.torn.flags.items k → IsTornAt new.torn.flags.items k) → Elapses (call_count old) (since now old) (since now new) (left_now now new)
+left_out now old new same_calls same_replaced more =
+    let newest : newest_first new ≡ newest_first old = ap reverse same_calls in
     record {
       nothing_else = λ t c le left.
-          inl (subst (λ (l : List Event). MayHaveLeft now l old.replaced.items t c) (sym newest) (subst (λ (l : List ℕ). MayHaveLeft now (newest_first new) l t c) (sym replaced) left));
+          ⊎_elim (λ here. inr here)
+          (λ p. inl (inr (subst (λ (l : List Call). MayHaveLeft now l old.replaced.items t c) newest (subst (λ (l : List ℕ). MayHaveLeft now (newest_first new) l t c) same_replaced p)))) left;
       keeps = λ t c le left.
-          subst (λ (l : List ℕ). MayHaveLeft now (newest_first new) l t c) replaced (subst (λ (l : List Event). MayHaveLeft now l old.replaced.items t c) newest left);
+          ⊎_elim
+          (λ here.
+          let still : MayLeave now (newest_first old) new.torn.flags.items c = record { bytes = here.bytes; synced = λ k no whole. here.synced k no (λ is. whole (more k is)) } in
+          inl (subst (λ (l : List Call). MayLeave now l new.torn.flags.items c) (sym newest) still))
+          (λ p. inr (subst (λ (l : List ℕ). MayHaveLeft now (newest_first new) l t c) (sym same_replaced) (subst (λ (l : List Call). MayHaveLeft now l old.replaced.items t c) (sym newest) p))) left;
     }
 
--- a call that did nothing, in the record or not
-pub idle : (now : Image) (old new : History) → IsIdle old new → Elapses (call_count old) (MayHaveLeft now (newest_first old) old.replaced.items) (MayHaveLeft now (newest_first new) new.replaced.items) (MayLeave now (newest_first new))
-idle now old new (inl it) = nothing_recorded now old new it
-idle now old new (inr it) = counted_alone now old new it
+pub counted_alone : (now : Image) (old new : CallRecord) → IsLeftOut old new → Elapses (call_count old) (since now old) (since now new) (left_now now new)
+counted_alone now old new it =
+    left_out now old new it.calls it.replaced (λ k is. subst (λ l. IsTornAt l k) (sym it.torn) is)
 
-pub nothing_either : (r : Bool) (now : Image) (old new : History) → MatchBool r (Records Nothing [] old new) (IsIdle old new) → Elapses (call_count old) (MayHaveLeft now (newest_first old) old.replaced.items) (MayHaveLeft now (newest_first new) new.replaced.items) (MayLeave now (newest_first new))
+pub nothing_either : (r : Bool) (now : Image) (old new : CallRecord) → MatchBool r (Records Nothing [] old new) (IsLeftOut old new) → Elapses (call_count old) (since now old) (since now new) (left_now now new)
 nothing_either true now old new it = nothing_recorded now old new it
-nothing_either false now old new it = idle now old new it
-
--- it leaves no new image
-pub idle_torn : (address n : ℕ) (now : Image) (old new : History) → IsIdle old new → Torn address n (MayLeave now (newest_first old)) (MayLeave now (newest_first new))
-idle_torn address n now old new (inl it) c left =
-    let newest : newest_first new ≡ Nothing ∷ newest_first old = ap reverse it.calls ∙ reverse-append old.events.items (Nothing ∷ []) in
-    let here : MayLeave now (Nothing ∷ newest_first old) c = subst (λ (l : List Event). MayLeave now l c) newest left in
-    (c, record { bytes = here.bytes; synced = here.synced }, SameBut-refl address n c)
-idle_torn address n now old new (inr it) c left =
-    (c, subst (λ (l : List Event). MayLeave now (reverse l) c) it.calls left, SameBut-refl address n c)
+nothing_either false now old new it = counted_alone now old new it
 
 -- two images that are one but for a range, and have the same bytes there, are the same
 same_by_parts : (address n : ℕ) (bytes : List ℕ) (now was past : Image) → length bytes ≡ n → SameBut address n now was → Has was address bytes → SameBut address n now past → Has past address bytes → Same past was
@@ -85,7 +113,7 @@ same_by_parts address n bytes now was past size but has other_but other_has k =
     (cases_range address n k)
 
 -- a write
-pub write_recorded : (address n : ℕ) (bytes : List ℕ) (was now : Image) (old new : History) → length bytes ≡ n → Records (Wrote address n) bytes old new → Has was address bytes → SameBut address n was now → Elapses (call_count old) (MayHaveLeft was (newest_first old) old.replaced.items) (MayHaveLeft now (newest_first new) new.replaced.items) (MayLeave now (newest_first new))
+pub write_recorded : (address n : ℕ) (bytes : List ℕ) (was now : Image) (old new : CallRecord) → length bytes ≡ n → Records (Wrote address n) bytes old new → Has was address bytes → SameBut address n was now → Elapses (call_count old) (since was old) (since now new) (left_now now new)
 write_recorded address n bytes was now old new size it has but =
     let total : length new.replaced.items ≡ length old.replaced.items + n = ap length it.replaced ∙ length-append old.replaced.items bytes ∙ ap (λ (x : ℕ). length old.replaced.items + x) size in
     let start : length new.replaced.items - n ≡ length old.replaced.items = omega arith in
@@ -99,43 +127,94 @@ write_recorded address n bytes was now old new size it has but =
     (λ past p. same_by_parts address n bytes now was past size (SameBut-sym address n was now but) has p.0 (subst (λ (l : List ℕ). Has past address l) last p.1))
     rest)
 
-module _ (address n : ℕ) (bytes : List ℕ) (was now : Image) (old new : History) (it : Records (Wrote address n) bytes old new) (but : SameBut address n was now) where
+module _ (address n : ℕ) (bytes : List ℕ) (was now : Image) (old new : CallRecord) (it : Records (Wrote address n) bytes old new) (but : SameBut address n was now) where
   newest : newest_first new ≡ Wrote address n ∷ newest_first old
-  newest = ap reverse it.calls ∙ reverse-append old.events.items (Wrote address n ∷ [])
+  newest = ap reverse it.calls ∙ reverse-append old.calls.items (Wrote address n ∷ [])
 
-  pub write_torn : AreBytes was → Torn address n (MayLeave was (newest_first old)) (MayLeave now (newest_first new))
+  write_torn : AreBytes was → Torn address n (left_now was old) (left_now now new)
   write_torn are c left =
-      let here : MayLeave now (Wrote address n ∷ newest_first old) c = subst (λ (l : List Event). MayLeave now l c) newest left in
+      let here : MayLeave now (Wrote address n ∷ newest_first old) new.torn.flags.items c = subst (λ (l : List Call). MayLeave now l new.torn.flags.items c) newest left in
       let d : Image = patched address n was c in (
         d,
         record {
           bytes = AreBytes-patched address n was c are here.bytes;
-          synced = λ k no.
+          synced = λ k no whole.
               ⊎_elim
               (λ inside. patched-inside address n was c k inside.0 inside.1)
               (λ outside.
               SameBut-at address n c d (SameBut-patched address n was c) k outside
-              ∙ here.synced k (⊎_elim (λ range. absurd (omega (arith, range.0, range.1, outside range.0))) no)
+              ∙ here.synced k (⊎_elim (λ range. absurd (omega (arith, range.0, range.1, outside range.0))) no) (λ is. whole (subst (λ l. IsTornAt l k) it.torn is))
               ∙ SameBut-at address n was now but k outside)
               (cases_range address n k);
         },
         SameBut-sym address n c d (SameBut-patched address n was c),
       )
 
-  pub write_tears : MayTear address n (MayLeave was (newest_first old)) (MayLeave now (newest_first new))
+  write_tears : MayTear address n (left_now was old) (left_now now new)
   write_tears c d left same are =
-      subst (λ (l : List Event). MayLeave now l c) (sym newest)
+      subst (λ (l : List Call). MayLeave now l new.torn.flags.items c) (sym newest)
       (record {
         bytes = are;
-        synced = λ k no.
+        synced = λ k no whole.
             ⊎_elim
             (λ inside. absurd (no (inl inside)))
             (λ outside.
             SameBut-at address n d c same k outside
-            ∙ left.synced k (λ un. no (inr un))
+            ∙ left.synced k (λ un. no (inr un)) (λ is. whole (subst (λ l. IsTornAt l k) (sym it.torn) is))
             ∙ sym (SameBut-at address n was now but k outside))
             (cases_range address n k);
       })
+
+  pub write_images : AreBytes was → Tears address n (left_now was old) (left_now now new)
+  write_images are = record { torn = write_torn are; unsynced = write_tears }
+
+-- a write that was left out, and whose blocks were marked as torn
+module _ (first count : ℕ) (now : Image) (old mid new : CallRecord) (out : IsLeftOut old mid) (it : TearsOnly first count mid new) where
+  same_calls : newest_first new ≡ newest_first old
+  same_calls = ap reverse (it.calls ∙ out.calls)
+
+  tore : Tore first count old.torn.flags.items new.torn.flags.items
+  tore = subst (λ l. Tore first count l new.torn.flags.items) out.torn it.torn
+
+  pub tear_time : Elapses (call_count old) (since now old) (since now new) (left_now now new)
+  tear_time = left_out now old new (it.calls ∙ out.calls) (it.replaced ∙ out.replaced) (more_torn first count old.torn.flags.items new.torn.flags.items tore)
+
+  tear_torn : AreBytes now → Torn (4096 * first) (4096 * count) (left_now now old) (left_now now new)
+  tear_torn are c left =
+      let a = 4096 * first in
+      let n = 4096 * count in
+      let d : Image = patched a n now c in (
+        d,
+        record {
+          bytes = AreBytes-patched a n now c are left.bytes;
+          synced = λ k no whole.
+              ⊎_elim
+              (λ inside. patched-inside a n now c k inside.0 inside.1)
+              (λ outside.
+              SameBut-at a n c d (SameBut-patched a n now c) k outside
+              ∙ left.synced k (λ un. no (subst (λ (l : List Call). IsUnsyncedAt l k) same_calls un)) (λ is. whole (sym (same_torn first count old.torn.flags.items new.torn.flags.items tore k outside) ∙ is)))
+              (cases_range a n k);
+        },
+        SameBut-sym a n c d (SameBut-patched a n now c),
+      )
+
+  tear_tears : MayTear (4096 * first) (4096 * count) (left_now now old) (left_now now new)
+  tear_tears c d left same are =
+      let a = 4096 * first in
+      let n = 4096 * count in
+      record {
+        bytes = are;
+        synced = λ k no whole.
+            ⊎_elim
+            (λ inside. absurd (whole (is_torn first count old.torn.flags.items new.torn.flags.items tore k inside.0 inside.1)))
+            (λ outside.
+            SameBut-at a n d c same k outside
+            ∙ left.synced k (λ un. no (subst (λ (l : List Call). IsUnsyncedAt l k) (sym same_calls) un)) (λ is. whole (same_torn first count old.torn.flags.items new.torn.flags.items tore k outside ∙ is)))
+            (cases_range a n k);
+      }
+
+  pub tear_images : AreBytes now → Tears (4096 * first) (4096 * count) (left_now now old) (left_now now new)
+  tear_images are = record { torn = tear_torn are; unsynced = tear_tears }
 
 -- a part of the contents, by the address where it begins
 pub Has-part : (bytes : List ℕ) (address n : ℕ) → address + n ≤ length bytes → Has (contents_of bytes) address (take n (drop address bytes))

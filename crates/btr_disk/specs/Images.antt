@@ -20,6 +20,11 @@ Torn address length old new = (c : Image) → new c → (d : Image) × old d × 
 abbrev pub MayTear : ℕ → ℕ → (Image → Type 0) → (Image → Type 0) → Type 0
 MayTear address length old new = (c d : Image) → old d → SameBut address length d c → AreBytes c → new c
 
+-- The new images are exactly the old ones with any bytes at the `length` addresses from this one on.
+pub record Tears (address length : ℕ) (old new : Image → Type 0) : Type 0 where
+  pub torn : Torn address length old new
+  pub unsynced : MayTear address length old new
+
 -- two ranges in place of one: each new image is an old one but for these
 abbrev pub TornTwice : ℕ → ℕ → ℕ → ℕ → (Image → Type 0) → (Image → Type 0) → Type 0
 TornTwice address length other more old new =

@@ -2,9 +2,11 @@ pub mod Bytes
 pub mod Images
 pub mod Moments
 pub mod Causes
-pub mod Publish
-pub mod History
-pub mod Memory
 pub mod Gate
-pub mod HistoryLaws
+pub mod Publish
+pub mod Memory
 pub mod Fuse
+pub mod Torn
+pub mod CallRecord
+pub mod RecordLaws
+pub mod FuseLaws

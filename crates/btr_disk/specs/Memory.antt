@@ -1,21 +1,24 @@
 -- What a device in memory means: its images now, those since a call number, and which of its calls fail.
-use Rattle.std.specs.Prelude.{ℕ, ◌==◌, Bool, length, IsTrue, IsFalse}
+use Rattle.std.specs.Prelude.{ℕ, ◌⊎◌, ◌==◌, Bool, length, IsTrue, IsFalse}
 use Rattle.std.specs.List.{list_any}
 use Rattle.btr_disk.specs.Bytes.{Image}
-use Rattle.btr_disk.specs.History.{HasRoom, contents_of, MayLeave, MayHaveLeft, newest_first}
+use Rattle.btr_disk.specs.CallRecord.{CanRecord, contents_of, MayLeave, MayHaveLeft, newest_first}
 use Rattle.btr_disk.specs.declared.memory.MemDisk.{MemDisk}
 
+-- What a crash may leave now.
 abbrev pub images_of : MemDisk → Image → Type 0
-images_of disk = MayLeave (contents_of disk.bytes.items) (newest_first disk.history)
+images_of disk = MayLeave (contents_of disk.bytes.items) (newest_first disk.made) disk.made.torn.flags.items
 
+-- What a crash may leave now, or may have left after the call number or a later call of the record.
 abbrev pub since_of : MemDisk → ℕ → Image → Type 0
-since_of disk = MayHaveLeft (contents_of disk.bytes.items) (newest_first disk.history) disk.history.replaced.items
+since_of disk t c =
+    images_of disk c ⊎ MayHaveLeft (contents_of disk.bytes.items) (newest_first disk.made) disk.made.replaced.items t c
 
--- the number of the next call is in the list of those that fail
+-- The number of the next call is in the list of those that fail.
 abbrev pub is_listed : MemDisk → Bool
-is_listed disk = list_any (λ call. call == length disk.history.events.items) disk.failing.items
+is_listed disk = list_any (λ call. call == length disk.made.calls.items) disk.failing.items
 
 -- A call that is listed fails, and no other fails while the record has room for it and for the bytes that it replaces.
 pub record FailsAsListed (bytes : ℕ) (disk : MemDisk) (fails : Type 0) : Type 0 where
   pub listed : IsTrue (is_listed disk) → fails
-  pub alone : IsFalse (is_listed disk) → HasRoom disk.history bytes → fails → ⊥
+  pub alone : IsFalse (is_listed disk) → CanRecord disk.made bytes → fails → ⊥

@@ -1,7 +1,7 @@
-// The device, and what each of its calls does to what a read gives and to what a crash may leave.
+//! The block device, and what each of its calls does to what a read returns and to what a crash may leave.
 ghost use Rattle.std.specs.Prelude.{◌≡◌, ◌*◌, ◌≤◌, ℕ, length, OnOk, OnErr};
 ghost use Rattle.btr_disk.specs.Bytes.{Image, Has, Same, SameBut, AreBytes, IsBlockRange};
-ghost use Rattle.btr_disk.specs.Images.{Only, SameImages, Torn, MayTear};
+ghost use Rattle.btr_disk.specs.Images.{Only, SameImages, Tears};
 ghost use Rattle.btr_disk.specs.Moments.{Elapses};
 ghost use Rattle.btr_disk.specs.Causes.{Counted, HasCause};
 
@@ -14,32 +14,32 @@ pub struct Failed;
 
 /// A device of blocks of 4096 bytes.
 ///
-/// A buffer is a whole positive number of blocks inside the device, which is the caller's
-/// condition. No call takes memory. Each call is counted, and so is each failure.
+/// The caller passes a buffer that is a whole positive number of blocks inside the device. No call
+/// allocates memory. Each call is counted, and so is each failure.
 ///
-/// A device of a type that `tells` promises what a read gives and what a crash may leave. Between
-/// two syncs that succeed each block that was written may hold any bytes after a crash, and each
-/// other block holds what a read gives; a write or sync that fails leaves its blocks so.
+/// A device whose type is observable promises what a read returns and what a crash may leave. After a
+/// write, whether it succeeds or fails, a crash may leave any bytes in the written blocks. A sync
+/// that succeeds ends this: a crash then leaves what a read returns. A sync that fails changes nothing.
 pub trait Disk {
-    /// Do the devices of this type tell what they hold?
+    /// Whether the contracts of this type speak of contents and images.
     ghost is_observable: { Type 0 };
 
     /// The number of blocks.
     ghost size: { Self → ℕ };
 
-    /// What a read gives, by the address of the byte.
+    /// What a read returns, by the address of the byte.
     ghost contents: { Self → Image };
 
     /// What a crash may leave now.
     ghost images_now: { Self → Image → Type 0 };
 
-    /// What a crash at some moment from this call number on may have left, inside a call too.
+    /// What a crash may have left at some moment from this call number on, also inside a call.
     ghost images_since: { Self → ℕ → Image → Type 0 };
 
-    /// How many calls of `read`, `write` and `sync` were made.
+    /// The number of calls of `read`, `write` and `sync`, failed ones included.
     ghost calls: { Self → ℕ };
 
-    /// How many of them failed.
+    /// The number of calls that failed.
     ghost faults: { Self → ℕ };
 
     /// The number of blocks.
@@ -48,7 +48,7 @@ pub trait Disk {
 
     /// Reads the blocks from `first` on into `buf`, which is whole blocks inside the device.
     ///
-    /// A read changes nothing, whether it succeeds or fails.
+    /// A read changes nothing on the device, whether it succeeds or fails.
     fn read(&mut self, first: u64, buf: &mut [u8]) -> Result<(), Failed>
         requires { IsBlockRange (size self.old) first (length buf.old) }
         ensures size { size self.new ≡ size self.old }
@@ -61,8 +61,8 @@ pub trait Disk {
 
     /// Writes `bytes`, which are whole blocks inside the device, at block `first`.
     ///
-    /// Until a sync succeeds a crash may leave any bytes in these blocks. Where the write fails,
-    /// these blocks hold any bytes too, and all else is as before.
+    /// Until a sync succeeds a crash may leave any bytes in these blocks, also if the write fails. If it
+    /// fails, a read of these blocks may give any bytes too. All other blocks are as before.
     fn write(&mut self, first: u64, bytes: &[u8]) -> Result<(), Failed>
         requires { IsBlockRange (size self.old) first (length bytes.now) }
         ensures size { size self.new ≡ size self.old }
@@ -70,11 +70,10 @@ pub trait Disk {
         ensures cause { HasCause (faults self.old) (faults self.new) result }
         ensures written { is_observable → OnOk result (Has (contents self.new) (4096 * first) bytes.now) }
         ensures elsewhere { is_observable → SameBut (4096 * first) (length bytes.now) (contents self.old) (contents self.new) }
-        ensures torn { is_observable → Torn (4096 * first) (length bytes.now) (images_now self.old) (images_now self.new) }
-        ensures unsynced { is_observable → OnOk result (MayTear (4096 * first) (length bytes.now) (images_now self.old) (images_now self.new)) }
+        ensures images { is_observable → Tears (4096 * first) (length bytes.now) (images_now self.old) (images_now self.new) }
         ensures time { is_observable → Elapses (calls self.old) (images_since self.old) (images_since self.new) (images_now self.new) };
 
-    /// After a sync that succeeds a crash leaves what a read gives. One that fails changes nothing.
+    /// After a sync that succeeds a crash leaves what a read returns. A sync that fails changes nothing.
     fn sync(&mut self) -> Result<(), Failed>
         ensures size { size self.new ≡ size self.old }
         ensures calls { Counted (calls self.old) (calls self.new) }

@@ -1,8 +1,13 @@
-// The block that decides whether what stands behind it counts.
-ghost use Rattle.std.specs.Prelude.{◌≡◌, ◌↔◌, ◌≤◌, ℕ, ◌++◌, length, take, replicate, IsTrue};
+//! Gates: a gate is the block that decides whether the body after it counts, and `publish` opens one.
+ghost use Rattle.std.specs.Prelude.{◌≡◌, ◌↔◌, ◌≤◌, ◌*◌, ℕ, ◌++◌, length, take, replicate, IsTrue, OnOk};
+ghost use Rattle.btr_disk.specs.Bytes.{IsBlockRange, IsOutside};
+ghost use Rattle.btr_disk.specs.Causes.{CountsCalls, HasCause};
 ghost use Rattle.btr_disk.specs.Gate.{mark, gate_block};
+ghost use Rattle.btr_disk.specs.Images.{Only};
+ghost use Rattle.btr_disk.specs.Moments.{Leaves};
+ghost use Rattle.btr_disk.specs.Publish.{IsBeforeOrHasBody, Published};
 
-use crate::BLOCK;
+use crate::{BLOCK, Disk, Failed};
 
 /// The first eight bytes of an open gate: ASCII `BTR-GATE`.
 pub const GATE_MARK: [u8; 8] = *b"BTR-GATE";
@@ -23,4 +28,38 @@ pub fn open_gate() -> [u8; BLOCK]
     let mut block = [0; BLOCK];
     block[..8].copy_from_slice(&GATE_MARK);
     block
+}
+
+/// Makes `body` durable at block `first`, and then writes `gate`, one block, at block `at`, durably.
+///
+/// Both are whole blocks inside the device, and the gate's block is outside the body's. Four calls:
+/// a write and a sync for each. A crash before the gate is written leaves all blocks but the body's
+/// as they were, the gate's old block among them; a crash from then on finds the whole body. After
+/// `Ok` both stand there and no crash takes them away. `Failed` comes from the device, and leaves
+/// what a crash at that moment might.
+pub fn publish<D: Disk>(
+    device: &mut D,
+    first: u64,
+    body: &[u8],
+    at: u64,
+    gate: &[u8],
+) -> Result<(), Failed>
+    requires body { IsBlockRange (D.size device.old) first (length body.now) }
+    requires gate { IsBlockRange (D.size device.old) at (length gate.now) }
+    requires one_block { length gate.now ≡ 4096 }
+    requires apart { IsOutside (4096 * first) (length body.now) (4096 * at) }
+    ensures size { D.size device.new ≡ D.size device.old }
+    ensures calls { CountsCalls 4 (D.calls device.old) (D.calls device.new) result }
+    ensures cause { HasCause (D.faults device.old) (D.faults device.new) result }
+    ensures published { D.is_observable
+        → OnOk result (Published (D.contents device.old) (4096 * first) body.now (4096 * at) gate.now (D.contents device.new)) }
+    ensures synced { D.is_observable → OnOk result (Only (D.contents device.new) (D.images_now device.new)) }
+    // where a crash before it left what a read gives
+    ensures moments { D.is_observable → Only (D.contents device.old) (D.images_now device.old)
+        → Leaves D.calls D.images_since device.old device.new (IsBeforeOrHasBody (D.contents device.old) (4096 * first) body.now (4096 * at)) }
+{
+    device.write(first, body)?;
+    device.sync()?;
+    device.write(at, gate)?;
+    device.sync()
 }

@@ -1,4 +1,4 @@
-// What follows from the contracts of a device, each as the contract of a small function over any device.
+//! What follows from the contracts of a device, each as the contract of a small function over any device.
 ghost use Rattle.std.specs.Prelude.{◌≡◌, ◌*◌, ℕ, length, OnOk};
 ghost use Rattle.btr_disk.specs.Bytes.{Has, IsBlockRange, IsOutside};
 ghost use Rattle.btr_disk.specs.Images.{Only, AllHave, DifferIn, IsUnsynced, MayTearTwice, TornTwice};
@@ -6,8 +6,8 @@ ghost use Rattle.btr_disk.specs.Causes.{HasCause};
 
 use crate::{Disk, Failed};
 
-/// Two writes without a sync between leave one unsynced set: an image is one from before but for
-/// the blocks of both, and each such image may be left.
+/// Two writes without a sync between them leave one unsynced set: the images are exactly those from
+/// before with any bytes in the blocks of both.
 pub fn write_two<D: Disk>(
     device: &mut D,
     first: u64,
@@ -28,13 +28,13 @@ pub fn write_two<D: Disk>(
     device.write(second, others)
 }
 
-/// A write leaves each address outside its blocks as it is in every image, where it fails too.
+/// A write leaves each address outside its blocks as it is in every image, also if it fails.
 pub fn write_elsewhere<D: Disk>(device: &mut D, first: u64, bytes: &[u8]) -> Result<(), Failed>
     requires { IsBlockRange (D.size device.old) first (length bytes.now) }
     ensures size { D.size device.new ≡ D.size device.old }
     ensures cause { HasCause (D.faults device.old) (D.faults device.new) result }
     ensures written { D.is_observable → OnOk result (Has (D.contents device.new) (4096 * first) bytes.now) }
-    ensures kept { D.is_observable → (k byte : ℕ) → IsOutside (4096 * first) (length bytes.now) k
+    ensures elsewhere { D.is_observable → (k byte : ℕ) → IsOutside (4096 * first) (length bytes.now) k
         → AllHave k byte (D.images_now device.old) → AllHave k byte (D.images_now device.new) }
 {
     device.write(first, bytes)
@@ -52,14 +52,14 @@ pub fn sync_and_write<D: Disk>(device: &mut D, first: u64, bytes: &[u8]) -> Resu
     device.write(first, bytes)
 }
 
-/// A written block may be found, until a sync, as it was, as it was written, or with bytes that
-/// are neither.
+/// Until a sync, a crash may leave a written block as it was, as a read returns it, or with bytes that are
+/// neither. This holds also if the write fails.
 pub fn write_unsynced<D: Disk>(device: &mut D, first: u64, bytes: &[u8]) -> Result<(), Failed>
     requires { IsBlockRange (D.size device.old) first (length bytes.now) }
     ensures size { D.size device.new ≡ D.size device.old }
     ensures cause { HasCause (D.faults device.old) (D.faults device.new) result }
     ensures unsynced { D.is_observable
-        → OnOk result (IsUnsynced (4096 * first) (length bytes.now) (D.contents device.old) (D.contents device.new) (D.images_now device.new)) }
+        → IsUnsynced (4096 * first) (length bytes.now) (D.contents device.old) (D.contents device.new) (D.images_now device.new) }
 {
     device.write(first, bytes)
 }

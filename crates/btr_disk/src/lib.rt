@@ -5,19 +5,18 @@
 //! written may hold any bytes, and all else what a read gives.
 #![tactic(auto)]
 
+mod call_record;
 mod disk;
 mod fuse;
 mod gate;
-mod history;
 pub mod laws;
 mod memory;
-mod publishing;
+mod torn;
 
 pub use disk::{BLOCK, Disk, Failed};
 pub use fuse::FuseDisk;
-pub use gate::{GATE_MARK, is_open_gate, open_gate};
-pub use memory::{MemDisk, Room};
-pub use publishing::publish;
+pub use gate::{GATE_MARK, is_open_gate, open_gate, publish};
+pub use memory::{Capacity, MemDisk};
 
 #[cfg(test)]
 mod tests;

@@ -1,93 +1,96 @@
-// A device in memory, for tests.
+//! A device in memory, for tests.
 ghost use Rattle.std.specs.Prelude.{◌≡◌, ◌+◌, ◌-◌, min, ◌*◌, ◌/◌, ◌%◌, ◌<◌, ◌≤◌, ◌^◌, ℕ, length, IfOk, IsErr, slice_index};
 ghost use Rattle.btr_disk.specs.Bytes.{AreBytes, Has, SameBut};
-ghost use Rattle.btr_disk.specs.History.{IsRoomFor, contents_of};
+ghost use Rattle.btr_disk.specs.CallRecord.{HasCapacity, contents_of};
 ghost use Rattle.btr_disk.specs.Images.{Only};
 ghost use Rattle.btr_disk.specs.Causes.{Counted};
 
-use crate::history::{Event, History};
+use crate::call_record::{Call, CallRecord};
 use crate::{BLOCK, Disk, Failed};
 use std::alloc::{AllocError, Global};
 
-/// How much a [`MemDisk`] can remember: so many calls, and so many blocks that are written.
+/// How much a [`MemDisk`] can remember.
 #[derive(Clone, Copy)]
-pub struct Room {
+pub struct Capacity {
+    /// The number of calls.
     pub calls: usize,
-    /// At most 2^32.
+
+    /// The number of blocks that are written, at most 2^32.
     pub blocks: usize,
 }
 
-/// A device in memory, which tells what it holds.
+/// A device in memory whose contracts say what it holds.
 ///
-/// The calls with the numbers of its list fail, the first call being 0. A call past its room fails
-/// too and changes nothing; no other call fails. A write of the list that fails leaves its blocks
-/// unsynced. It remembers its calls and the bytes that writes replaced, so that what a crash at
-/// any moment may leave follows from what it holds.
+/// The calls whose numbers are in its list fail; the first call is number 0. The first call beyond its
+/// capacity fails too, and so does each call after it; no other call fails. A write that fails
+/// leaves the contents as they are and its blocks unsynced.
 ///
-/// A read or write costs the bytes that it copies and the length of the list.
+/// It remembers its calls and the bytes that writes replaced, so what a crash at any moment may leave
+/// follows from what it holds. A read or write costs the bytes that it copies and the length of the list.
 #[derive(Drop)]
 pub struct MemDisk {
     bytes: Vec<u8>,
-    history: History,
+    made: CallRecord,
     failing: Vec<u64>,
     faults: u64,
     ghost are_bytes: { (k : ℕ) → slice_index bytes.items k < 256 },
-    ghost whole_blocks: { length bytes.items % 4096 ≡ 0 },
+    ghost whole_blocks: { length bytes.items ≡ 4096 * length made.torn.flags.items },
 }
 
 impl MemDisk {
     ghost use Rattle.btr_disk.specs.Memory.{is_listed};
 
-    /// A device of so many blocks of zeros, at most 2^32, on which nothing was done.
+    /// A device of `blocks` blocks of zeros, at most 2^32, on which no call was made.
     ///
-    /// The calls numbered in `failing` will fail. The error is want of memory.
+    /// The calls whose numbers are in `failing` will fail. The error means out of memory.
     pub fn new(
         alloc: Global,
         blocks: usize,
-        room: Room,
+        capacity: Capacity,
         failing: Vec<u64>,
     ) -> Result<MemDisk, AllocError>
         requires blocks { blocks ≤ 2 ^ 32 }
-        requires room { room.blocks ≤ 2 ^ 32 }
+        requires capacity { capacity.blocks ≤ 2 ^ 32 }
         ensures size { IfOk result (λ disk. ⟦<MemDisk as Disk>⟧.size disk ≡ blocks) }
         ensures zeros { IfOk result (λ disk. (k : ℕ) → ⟦<MemDisk as Disk>⟧.contents disk k ≡ 0) }
         ensures settled { IfOk result (λ disk. Only (⟦<MemDisk as Disk>⟧.contents disk) (⟦<MemDisk as Disk>⟧.images_now disk)) }
         ensures calls { IfOk result (λ disk. ⟦<MemDisk as Disk>⟧.calls disk ≡ 0) }
         ensures faults { IfOk result (λ disk. ⟦<MemDisk as Disk>⟧.faults disk ≡ 0) }
         ensures failing { IfOk result (λ disk. disk.failing.items ≡ failing.items) }
-        ensures room { IfOk result (λ disk. IsRoomFor room.calls room.blocks disk.history) }
+        ensures capacity { IfOk result (λ disk. HasCapacity capacity.calls capacity.blocks disk.made) }
     {
-        MemDisk::from_bytes(alloc, vec![in alloc; 0; blocks * BLOCK]?, room, failing)
+        MemDisk::from_bytes(alloc, vec![in alloc; 0; blocks * BLOCK]?, capacity, failing)
     }
 
-    /// A device that holds these bytes, whole blocks, on which nothing was done.
+    /// A device that holds these bytes, which are whole blocks, and on which no call was made.
     ///
-    /// The calls numbered in `failing` will fail. The error is want of memory.
+    /// The calls whose numbers are in `failing` will fail. The error means out of memory.
     pub fn from_bytes(
         alloc: Global,
         bytes: Vec<u8>,
-        room: Room,
+        capacity: Capacity,
         failing: Vec<u64>,
     ) -> Result<MemDisk, AllocError>
         requires whole { length bytes.items % 4096 ≡ 0 }
-        requires room { room.blocks ≤ 2 ^ 32 }
+        requires capacity { capacity.blocks ≤ 2 ^ 32 }
         ensures size { IfOk result (λ disk. 4096 * ⟦<MemDisk as Disk>⟧.size disk ≡ length bytes.items) }
         ensures contents { IfOk result (λ disk. (k : ℕ) → ⟦<MemDisk as Disk>⟧.contents disk k ≡ slice_index bytes.items k) }
         ensures settled { IfOk result (λ disk. Only (⟦<MemDisk as Disk>⟧.contents disk) (⟦<MemDisk as Disk>⟧.images_now disk)) }
         ensures calls { IfOk result (λ disk. ⟦<MemDisk as Disk>⟧.calls disk ≡ 0) }
         ensures faults { IfOk result (λ disk. ⟦<MemDisk as Disk>⟧.faults disk ≡ 0) }
         ensures failing { IfOk result (λ disk. disk.failing.items ≡ failing.items) }
-        ensures room { IfOk result (λ disk. IsRoomFor room.calls room.blocks disk.history) }
+        ensures capacity { IfOk result (λ disk. HasCapacity capacity.calls capacity.blocks disk.made) }
     {
+        let blocks = bytes.len() / BLOCK;
         Ok(MemDisk {
             bytes,
-            history: History::new(alloc, room)?,
+            made: CallRecord::new(alloc, capacity, blocks)?,
             failing,
             faults: 0,
         })
     }
 
-    /// What a read of all blocks gives.
+    /// The bytes that a read of all blocks returns.
     pub fn into_bytes(self) -> Vec<u8>
         ensures length { length result.items ≡ 4096 * ⟦<MemDisk as Disk>⟧.size self }
         ensures bytes { (k : ℕ) → slice_index result.items k ≡ ⟦<MemDisk as Disk>⟧.contents self k }
@@ -96,29 +99,29 @@ impl MemDisk {
         bytes
     }
 
-    /// How many calls were made, up to the greatest that a u64 holds.
+    /// The number of calls that were made, up to the greatest that a u64 holds.
     pub fn calls(&self) -> u64
         ensures { result ≡ min (⟦<MemDisk as Disk>⟧.calls self.now) (2 ^ 64 - 1) }
     {
-        self.history.calls()
+        self.made.count()
     }
 
-    /// How many of them failed.
+    /// The number of calls that failed.
     pub fn faults(&self) -> u64
         ensures { result ≡ ⟦<MemDisk as Disk>⟧.faults self.now }
     {
         self.faults
     }
 
-    // Is the next call one of the list?
+    /// Whether the number of the next call is in the list.
     fn fails_now(&self) -> bool
         ensures { result ≡ is_listed self.now }
     {
-        self.failing.contains(&(self.history.recorded() as u64))
+        self.failing.contains(&(self.made.recorded() as u64))
     }
 }
 
-// Counts a fault.
+/// Counts a fault.
 fn fault(faults: &mut u64) -> Failed
     ensures { Counted faults.old faults.new }
 {
@@ -126,7 +129,7 @@ fn fault(faults: &mut u64) -> Failed
     Failed
 }
 
-// Writes the bytes at an address.
+/// Writes `bytes` at the address `at`.
 fn overwrite(file: &mut Vec<u8>, at: usize, bytes: &[u8])
     requires { at + length bytes.now ≤ length file.old.items }
     ensures length { length file.new.items ≡ length file.old.items }
@@ -140,12 +143,12 @@ fn overwrite(file: &mut Vec<u8>, at: usize, bytes: &[u8])
 impl Disk for MemDisk {
     ghost use Rattle.std.specs.Prelude.{◌≡◌, ◌*◌, ◌/◌, ◌%◌, length, refl, IsErr, OnOk, OnErr};
     ghost use Rattle.btr_disk.specs.Bytes.{Has, IsBlockRange, Same, SameBut};
-    ghost use Rattle.btr_disk.specs.Images.{Only, SameImages, Torn, MayTear};
+    ghost use Rattle.btr_disk.specs.Images.{Only, SameImages, Tears};
     ghost use Rattle.btr_disk.specs.Moments.{Elapses};
     ghost use Rattle.btr_disk.specs.Causes.{Counted, HasCause};
-    ghost use Rattle.btr_disk.specs.History.{HasRoom, contents_of, newest_first, call_count};
+    ghost use Rattle.btr_disk.specs.CallRecord.{HasCapacity, contents_of, newest_first, call_count};
     ghost use Rattle.btr_disk.specs.Memory.{images_of, since_of, FailsAsListed};
-    ghost use Rattle.btr_disk.specs.HistoryLaws.{counts_now_of, only_now_of, fewer_later_of};
+    ghost use Rattle.btr_disk.specs.RecordLaws.{counts_now_of, only_now_of, fewer_later_of};
 
     ghost is_observable = { Unit {0} };
 
@@ -157,19 +160,19 @@ impl Disk for MemDisk {
 
     ghost images_since = { λ disk. since_of disk };
 
-    ghost calls = { λ disk. call_count disk.history };
+    ghost calls = { λ disk. call_count disk.made };
 
     ghost faults = { λ disk. disk.faults };
 
     ghost image_bytes = { λ _ disk c left. left.bytes };
 
-    ghost reads_as_image = { λ _ disk. record { bytes = disk.are_bytes; synced = λ k no. refl } };
+    ghost reads_as_image = { λ _ disk. record { bytes = disk.are_bytes; synced = λ k no whole. refl } };
 
-    ghost counts_now = { λ _ disk t c le left. counts_now_of (contents_of disk.bytes.items) (newest_first disk.history) disk.history.replaced.items t c left };
+    ghost counts_now = { λ _ disk t c le left. counts_now_of (contents_of disk.bytes.items) disk.made t c left };
 
-    ghost only_now = { λ _ disk c left. only_now_of (contents_of disk.bytes.items) disk.history c left };
+    ghost only_now = { λ _ disk c left. only_now_of (contents_of disk.bytes.items) disk.made c left };
 
-    ghost fewer_later = { λ _ disk s t c earlier le left. fewer_later_of (contents_of disk.bytes.items) (newest_first disk.history) disk.history.replaced.items s t c earlier left };
+    ghost fewer_later = { λ _ disk s t c earlier le left. fewer_later_of (contents_of disk.bytes.items) disk.made s t c earlier left };
 
     fn blocks(&self) -> u64 {
         (self.bytes.len() / BLOCK) as u64
@@ -179,17 +182,17 @@ impl Disk for MemDisk {
     fn read(&mut self, first: u64, buf: &mut [u8]) -> Result<(), Failed>
         requires { IsBlockRange (length self.old.bytes.items / 4096) first (length buf.old) }
         ensures size { length self.new.bytes.items / 4096 ≡ length self.old.bytes.items / 4096 }
-        ensures calls { Counted (call_count self.old.history) (call_count self.new.history) }
+        ensures calls { Counted (call_count self.old.made) (call_count self.new.made) }
         ensures cause { HasCause self.old.faults self.new.faults result }
         ensures fails { FailsAsListed 0 self.old (IsErr result) }
         ensures bytes { OnOk result (Has (contents_of self.old.bytes.items) (4096 * first) buf.new) }
         ensures contents { Same (contents_of self.old.bytes.items) (contents_of self.new.bytes.items) }
         ensures images { SameImages (images_of self.old) (images_of self.new) }
-        ensures time { Elapses (call_count self.old.history) (since_of self.old) (since_of self.new) (images_of self.new) }
+        ensures time { Elapses (call_count self.old.made) (since_of self.old) (since_of self.new) (images_of self.new) }
     {
         let at = BLOCK * first as usize;
         let fails = self.fails_now();
-        if !self.history.note(Event::Nothing, &[]) {
+        if !self.made.note(Call::Nothing, &[]) {
             return Err(fault(&mut self.faults));
         }
         if fails {
@@ -199,27 +202,26 @@ impl Disk for MemDisk {
         Ok(())
     }
 
-    // The clauses of the trait, and two more: which calls fail, and that where the record has room a
-    // write that fails leaves its blocks unsynced too.
+    // The clauses of the trait, and one more: which calls fail.
     fn write(&mut self, first: u64, bytes: &[u8]) -> Result<(), Failed>
         requires { IsBlockRange (length self.old.bytes.items / 4096) first (length bytes.now) }
         ensures size { length self.new.bytes.items / 4096 ≡ length self.old.bytes.items / 4096 }
-        ensures calls { Counted (call_count self.old.history) (call_count self.new.history) }
+        ensures calls { Counted (call_count self.old.made) (call_count self.new.made) }
         ensures cause { HasCause self.old.faults self.new.faults result }
         ensures fails { FailsAsListed (length bytes.now) self.old (IsErr result) }
         ensures written { OnOk result (Has (contents_of self.new.bytes.items) (4096 * first) bytes.now) }
         ensures elsewhere { SameBut (4096 * first) (length bytes.now) (contents_of self.old.bytes.items) (contents_of self.new.bytes.items) }
-        ensures torn { Torn (4096 * first) (length bytes.now) (images_of self.old) (images_of self.new) }
-        ensures unsynced { OnOk result (MayTear (4096 * first) (length bytes.now) (images_of self.old) (images_of self.new)) }
-        ensures unsynced_too { HasRoom self.old.history (length bytes.now)
-            → MayTear (4096 * first) (length bytes.now) (images_of self.old) (images_of self.new) }
-        ensures time { Elapses (call_count self.old.history) (since_of self.old) (since_of self.new) (images_of self.new) }
+        ensures images { Tears (4096 * first) (length bytes.now) (images_of self.old) (images_of self.new) }
+        ensures time { Elapses (call_count self.old.made) (since_of self.old) (since_of self.new) (images_of self.new) }
     {
         let at = BLOCK * first as usize;
         let end = at + bytes.len();
         let fails = self.fails_now();
-        let event = Event::Wrote(at, bytes.len());
-        if !self.history.note(event, &self.bytes[at..end]) {
+        if !self
+            .made
+            .note(Call::Wrote(at, bytes.len()), &self.bytes[at..end])
+        {
+            self.made.tear(first as usize, bytes.len() / BLOCK);
             return Err(fault(&mut self.faults));
         }
         if fails {
@@ -232,19 +234,19 @@ impl Disk for MemDisk {
     // The clauses of the trait, and one more: which calls fail.
     fn sync(&mut self) -> Result<(), Failed>
         ensures size { length self.new.bytes.items / 4096 ≡ length self.old.bytes.items / 4096 }
-        ensures calls { Counted (call_count self.old.history) (call_count self.new.history) }
+        ensures calls { Counted (call_count self.old.made) (call_count self.new.made) }
         ensures cause { HasCause self.old.faults self.new.faults result }
         ensures fails { FailsAsListed 0 self.old (IsErr result) }
         ensures contents { Same (contents_of self.old.bytes.items) (contents_of self.new.bytes.items) }
         ensures synced { OnOk result (Only (contents_of self.new.bytes.items) (images_of self.new)) }
         ensures unsynced { OnErr result (SameImages (images_of self.old) (images_of self.new)) }
-        ensures time { Elapses (call_count self.old.history) (since_of self.old) (since_of self.new) (images_of self.new) }
+        ensures time { Elapses (call_count self.old.made) (since_of self.old) (since_of self.new) (images_of self.new) }
     {
         if self.fails_now() {
-            self.history.note(Event::Nothing, &[]);
+            self.made.note(Call::Nothing, &[]);
             return Err(fault(&mut self.faults));
         }
-        if !self.history.note(Event::Synced, &[]) {
+        if !self.made.note(Call::Synced, &[]) {
             return Err(fault(&mut self.faults));
         }
         Ok(())

@@ -7,7 +7,7 @@ use std::alloc::{AllocError, Global};
 use std::process::Abort;
 use std::test::Fail;
 
-const ROOM: Room = Room {
+const CAPACITY: Capacity = Capacity {
     calls: 8,
     blocks: 4,
 };
@@ -23,7 +23,7 @@ fn block(alloc: Global, value: u8) -> Result<Vec<u8>, AllocError>
 fn disk(alloc: Global, failing: Vec<u64>) -> Result<MemDisk, AllocError>
     ensures { IfOk result (λ disk. ⟦<MemDisk as Disk>⟧.size disk ≡ 8) }
 {
-    MemDisk::new(alloc, 8, ROOM, failing)
+    MemDisk::new(alloc, 8, CAPACITY, failing)
 }
 
 #[test]
@@ -70,12 +70,12 @@ fn the_calls_of_the_list_fail(rt: HostRuntime) -> Result<(), Fail> {
 #[test]
 fn a_call_past_the_room_fails(rt: HostRuntime) -> Result<(), Fail> {
     let alloc = rt.alloc();
-    let room = Room {
+    let capacity = Capacity {
         calls: 4,
         blocks: 1,
     };
     let bytes = vec![in alloc; 1; 8192]?;
-    let mut disk = MemDisk::from_bytes(alloc, bytes, room, Vec::new(alloc))?;
+    let mut disk = MemDisk::from_bytes(alloc, bytes, capacity, Vec::new(alloc))?;
     let seven = block(alloc, 7)?;
     let mut buf = block(alloc, 0)?;
     assert!(rt; disk.write(0, &seven).is_ok());
@@ -140,7 +140,7 @@ fn a_body_is_published_before_its_gate(rt: HostRuntime) -> Result<(), Fail> {
 #[test]
 fn a_fuse_passes_its_calls_and_then_none(rt: HostRuntime) -> Result<(), Fail> {
     let alloc = rt.alloc();
-    let mut fuse = FuseDisk::new(disk(alloc, Vec::new(alloc))?, 2);
+    let mut fuse = FuseDisk::new(alloc, disk(alloc, Vec::new(alloc))?, 2)?;
     let mut buf = block(alloc, 9)?;
     assert_eq!(rt; fuse.blocks(), 8);
     assert!(rt; fuse.write(1, &block(alloc, 7)?).is_ok());

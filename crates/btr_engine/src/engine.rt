@@ -62,7 +62,7 @@ impl<D: Disk> Engine<D> {
     pub fn is_stopped(&self) -> bool
         ensures { result ≡ is_stopped self.now }
     {
-        self.log.is_stopped()
+        self.log.stopped()
     }
 
     /// The device, as the engine's calls left it.

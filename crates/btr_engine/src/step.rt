@@ -66,7 +66,7 @@ impl<D: Disk> Engine<D> {
         ensures durable { D.is_observable → (more : List AnEntry) → (is_stopped self.old ≡ false → IsAtRest self.old) → IsDurable self.old more
             → IsDurable self.new (left_over result more entry.now) }
     {
-        if self.log.is_stopped() {
+        if self.log.stopped() {
             return Err(StepFault::Stopped {
                 entries: self.log.extents(),
             });

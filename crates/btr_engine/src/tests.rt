@@ -3,21 +3,21 @@ ghost use Rattle.std.specs.Prelude.{◌≡◌, IfOk};
 
 use super::*;
 use btr_base::{Bag, END, FIRST, Point, Range, Ranges, Toward};
-use btr_disk::{Disk, MemDisk, Room};
+use btr_disk::{Disk, MemDisk, Capacity};
 use btr_hist::{Answer, At, Entry, History, Query, Rejection, Rows};
 use btr_super::format;
 use std::alloc::{AllocError, Global};
 use std::process::Abort;
 use std::test::Fail;
 
-const ROOM: Room = Room {
+const CAPACITY: Capacity = Capacity {
     calls: 64,
     blocks: 128,
 };
 
 // A device of 64 blocks, on which a format made a store of 16 with the first eight calls. The calls in the list fail.
 fn formatted(alloc: Global, failing: &[u64]) -> Result<MemDisk, Fail> {
-    let mut disk = MemDisk::new(alloc, 64, ROOM, failing.to_vec(alloc)?)?;
+    let mut disk = MemDisk::new(alloc, 64, CAPACITY, failing.to_vec(alloc)?)?;
     let made = format(&mut disk, 16);
     if made.is_err() {
         return Err("no store was made".into());
@@ -149,7 +149,7 @@ fn a_device_that_fails_stops_the_engine(rt: HostRuntime) -> Result<(), Fail> {
 #[test]
 fn what_is_not_opened_is_handed_back(rt: HostRuntime) -> Result<(), Fail> {
     let alloc = rt.alloc();
-    let empty = MemDisk::new(alloc, 64, ROOM, Vec::new(alloc))?;
+    let empty = MemDisk::new(alloc, 64, CAPACITY, Vec::new(alloc))?;
     match open_store(alloc, empty) {
         Ok(_) => assert!(rt; false, "it was opened"),
         Err(fault) => {
@@ -363,7 +363,7 @@ fn are_same(a: &Answer, b: &Answer) -> bool {
 #[test]
 fn the_engine_answers_as_the_history(rt: HostRuntime) -> Result<(), Fail> {
     let alloc = rt.alloc();
-    let room = Room {
+    let capacity = Capacity {
         calls: 64,
         blocks: 256,
     };

@@ -1,8 +1,8 @@
 -- What an append promises: which runs it takes, when each answer comes, and what the log is then.
-use Rattle.std.specs.Prelude.{◌≡◌, ◌⊎◌, ℕ, ◌+◌, ◌-◌, ◌*◌, ◌<◌, false, true, List, [], ◌∷◌, ◌++◌, length, take, IsTrue, IsFalse}
+use Rattle.std.specs.Prelude.{◌≡◌, ◌⊎◌, ℕ, ◌+◌, ◌-◌, ◌*◌, ◌<◌, ◌≤◌, false, true, List, [], ◌∷◌, ◌++◌, length, take, IsTrue, IsFalse}
 use Rattle.btr_disk.specs.declared.disk.Disk.{Ghosts}
 use Rattle.btr_disk.specs.Bytes.{Image}
-use Rattle.btr_disk.specs.Causes.{Rose}
+use Rattle.btr_disk.specs.Causes.{Rose, CountedTimes}
 use Rattle.btr_disk.specs.Gate.{zeros}
 use Rattle.btr_log.specs.declared.head.Head.{Head}
 use Rattle.btr_log.specs.declared.log.Log.{Log}
@@ -36,9 +36,10 @@ module _ {D : Type 0} {disk : Ghosts D} where
   abbrev pub IsTooLong : Log D disk → List ℕ → Type 0
   IsTooLong log run = room_of log < need (body_of run)
 
-  -- its device has failed and it is stopped; it has no extent more
+  -- its device has failed within four calls and it is stopped; it has no extent more
   pub record StopsByFault (old new : Log D disk) : Type 0 where
     pub rose : Rose (disk.faults (device old)) (disk.faults (device new))
+    pub calls : disk.calls (device new) ≤ disk.calls (device old) + 4
     pub stopped : is_stopped new ≡ true
     pub tail : tail_of new ≡ tail_of old
     pub extents : extents_of new ≡ extents_of old
@@ -51,9 +52,10 @@ module _ {D : Type 0} {disk : Ghosts D} where
   AppendCause old new run (Stopped extents) =
       IsTrue (is_stopped old) × (extents ≡ extents_of old) × (new ≡ old)
 
-  -- the log has one extent more
+  -- the log has one extent more, by four calls of the device
   pub record IsAppended (old new : Log D disk) (run : List ℕ) : Type 0 where
     pub tail : tail_of new ≡ tail_of old + need (body_of run)
     pub extents : extents_of new ≡ extents_of old + 1
+    pub calls : CountedTimes 4 (disk.calls (device old)) (disk.calls (device new))
     pub ran : is_stopped old ≡ false
     pub runs : is_stopped new ≡ false

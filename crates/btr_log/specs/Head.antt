@@ -35,6 +35,18 @@ pub record IsHead (head : Head) : Type 0 where
   pub blocks : head.n ≡ content_blocks head.length + head.nodes
   pub fits : FitsFields head
 
+-- The head of the entry with this number and a content of `length` bytes, in a body without node blocks.
+abbrev pub entry_head : ℕ → ℕ → Head
+entry_head number length = record {
+  kind = 1;
+  format = 1;
+  number = number;
+  n = content_blocks length;
+  length = length;
+  nodes = 0;
+  root = 0;
+}
+
 -- the 64 bytes of a head: the mark, the fields with the highest byte first, and zeros
 unfoldable pub head_bytes : Head → List ℕ
 head_bytes head =

@@ -1,6 +1,6 @@
 // The first 64 bytes of an extent's body: what the body is, and how many blocks it has.
 ghost use Rattle.std.specs.Prelude.{◌≡◌, ◌+◌, ◌≤◌, ◌↔◌, ◌++◌, length, take, IfSome, IsNone, IsTrue};
-ghost use Rattle.btr_log.specs.Head.{number_at, number_4_at, head_at, head_bytes, content_blocks, IsHead, IsNoHead, Spells};
+ghost use Rattle.btr_log.specs.Head.{number_at, number_4_at, head_at, head_bytes, content_blocks, entry_head, IsHead, IsNoHead, Spells};
 
 /// Bytes in a head.
 pub const HEAD_BYTES: usize = 64;
@@ -32,6 +32,21 @@ pub struct Head {
 }
 
 impl Head {
+    /// The head of the entry with this number and a content of `length` bytes, in a body without node blocks.
+    pub fn for_entry(number: u64, length: u64) -> Head
+        ensures { result ≡ entry_head number length }
+    {
+        Head {
+            kind: 1,
+            format: 1,
+            number,
+            n: blocks_of_content(length),
+            length,
+            nodes: 0,
+            root: 0,
+        }
+    }
+
     /// Writes the head's 64 bytes, its one spelling. The head keeps the grammar, which is the caller's condition.
     pub fn encode(&self, to: &mut [u8; HEAD_BYTES])
         requires { IsHead self.now }

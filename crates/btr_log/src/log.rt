@@ -31,7 +31,7 @@ pub struct Log<D: Disk> {
 }
 
 impl<D: Disk> Log<D> {
-    ghost use Rattle.btr_log.specs.Log.{device, tail_of, room_of, extents_of, is_stopped, IsMadeOf};
+    ghost use Rattle.btr_log.specs.Log.{device, tail_of, room_of, extents_of, is_stopped, faults_at, IsMadeOf};
 
     /// The log on this device whose gate at the end is `tail`, with `extents` before it and
     /// `blocks` blocks to use. It is not stopped.
@@ -77,9 +77,10 @@ impl<D: Disk> Log<D> {
         self.extents
     }
 
-    /// Whether an append has failed by the device.
-    pub fn is_stopped(&self) -> bool
-        ensures { result ≡ is_stopped self.now }
+    /// Whether the device failed in an append. Then its count of faults is above the one when the log was made.
+    pub fn stopped(&self) -> bool
+        ensures stopped { result ≡ is_stopped self.now }
+        ensures faulted { IsTrue result → Rose (faults_at self.now) (D.faults (device self.now)) }
     {
         self.stopped
     }

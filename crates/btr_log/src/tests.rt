@@ -9,12 +9,12 @@ use super::*;
 use crate::head::put;
 use crate::laws::is_same_head;
 use crate::read::{copy_to_prefix, zeroed};
-use btr_disk::{BLOCK, GATE_MARK, MemDisk, Room, is_open_gate};
+use btr_disk::{BLOCK, Capacity, GATE_MARK, MemDisk, is_open_gate};
 use std::alloc::{AllocError, Global};
 use std::process::Abort;
 use std::test::Fail;
 
-const ROOM: Room = Room {
+const CAPACITY: Capacity = Capacity {
     calls: 32,
     blocks: 64,
 };
@@ -92,7 +92,7 @@ fn log_of(alloc: Global, blocks: u64, failing: Vec<u64>) -> Result<Log<MemDisk>,
     requires few { blocks ≤ 2 ^ 10 }
     ensures { IfOk result (λ log. blocks_of log ≡ blocks) }
 {
-    let disk = MemDisk::new(alloc, blocks as usize, ROOM, failing)?;
+    let disk = MemDisk::new(alloc, blocks as usize, CAPACITY, failing)?;
     Ok(Log::at(disk, 4, blocks, 0))
 }
 
@@ -108,7 +108,7 @@ fn what_is_appended_is_found(rt: HostRuntime) -> Result<(), Fail> {
     assert_eq!(rt; log.tail(), 9);
     assert_eq!(rt; log.room(), 6);
     assert_eq!(rt; log.extents(), 2);
-    assert!(rt; !log.is_stopped());
+    assert!(rt; !log.stopped());
     expect_extent(&rt, &mut log, 4, &first, 6)?;
     expect_extent(&rt, &mut log, 6, &second, 9)?;
     assert!(rt; matches!(log.read_extent(alloc, 9), Ok(Found::Closed)));
@@ -160,7 +160,7 @@ fn an_append_needs_its_blocks_and_one_more(rt: HostRuntime) -> Result<(), Fail> 
         Err(AppendFault::Full { need: 3, left: 2 })
     );
     assert_eq!(rt; full.tail(), 4);
-    assert!(rt; !full.is_stopped());
+    assert!(rt; !full.stopped());
     assert_eq!(rt; full.into_disk().calls(), 0);
     Ok(())
 }
@@ -172,7 +172,7 @@ fn a_log_whose_device_failed_is_stopped(rt: HostRuntime) -> Result<(), Fail> {
     for call in 0..4 {
         let mut log = log_of(alloc, 8, vec![in alloc; call]?)?;
         assert_eq!(rt; log.append(&run), Err(AppendFault::Fault), "at {call}");
-        assert!(rt; log.is_stopped(), "at {call}");
+        assert!(rt; log.stopped(), "at {call}");
         assert_eq!(rt;
             log.append(&run),
             Err(AppendFault::Stopped { extents: 0 }),
@@ -216,7 +216,7 @@ fn found_at(
     requires asked { asked < 8 }
 {
     let bytes = image_of(alloc, gate, head)?;
-    let disk = MemDisk::from_bytes(alloc, bytes, ROOM, Vec::new(alloc))?;
+    let disk = MemDisk::from_bytes(alloc, bytes, CAPACITY, Vec::new(alloc))?;
     Ok(Log::at(disk, 4, 8, 0).read_extent(alloc, asked))
 }
 

@@ -1,6 +1,5 @@
 pub mod ChoiceLemmas
 pub mod SuperLemmas
-mod Unwritten
 mod Fields
 mod Prefix
 mod Answered

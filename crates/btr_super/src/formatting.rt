@@ -3,7 +3,7 @@ ghost use Rattle.std.specs.Prelude.{◌≡◌, ◌≢◌, ◌↔◌, ◌⊎◌, 
 ghost use Rattle.btr_disk.specs.Bytes.{Has, SameBut, SameButTwo};
 ghost use Rattle.btr_disk.specs.Images.{Only};
 ghost use Rattle.btr_disk.specs.Moments.{Leaves};
-ghost use Rattle.btr_disk.specs.Causes.{HasCause};
+ghost use Rattle.btr_disk.specs.Causes.{CountsCalls, HasCause};
 ghost use Rattle.btr_disk.specs.Gate.{gate_block, zeros};
 ghost use Rattle.btr_super.specs.declared.formatting.FormatFault.TheVariants.{Fault};
 ghost use Rattle.btr_super.specs.Super.{super_bytes, first_super};
@@ -47,6 +47,7 @@ impl From<Failed> for FormatFault {
 fn write_bodies<D: Disk>(device: &mut D, blocks: u64) -> Result<(), Failed>
     requires { 8 ≤ D.size device.old }
     ensures size { D.size device.new ≡ D.size device.old }
+    ensures calls { CountsCalls 3 (D.calls device.old) (D.calls device.new) result }
     ensures cause { HasCause (D.faults device.old) (D.faults device.new) result }
     ensures body { D.is_observable → OnOk result (Has (D.contents device.new) (4096 * 1) (super_bytes (first_super blocks))) }
     ensures log { D.is_observable → OnOk result (Has (D.contents device.new) (4096 * 4) (zeros 4096)) }
@@ -72,6 +73,7 @@ fn write_bodies<D: Disk>(device: &mut D, blocks: u64) -> Result<(), Failed>
 fn open_first_gate<D: Disk>(device: &mut D) -> Result<(), Failed>
     requires { 8 ≤ D.size device.old }
     ensures size { D.size device.new ≡ D.size device.old }
+    ensures calls { CountsCalls 2 (D.calls device.old) (D.calls device.new) result }
     ensures cause { HasCause (D.faults device.old) (D.faults device.new) result }
     ensures gate { D.is_observable → OnOk result (Has (D.contents device.new) (4096 * 0) gate_block) }
     ensures elsewhere { D.is_observable → SameBut (4096 * 0) 4096 (D.contents device.old) (D.contents device.new) }
@@ -89,6 +91,7 @@ fn write_store<D: Disk>(device: &mut D, blocks: u64) -> Result<(), Failed>
     requires greatest { blocks ≤ 2 ^ 32 }
     requires inside { blocks ≤ D.size device.old }
     ensures size { D.size device.new ≡ D.size device.old }
+    ensures calls { CountsCalls 5 (D.calls device.old) (D.calls device.new) result }
     ensures cause { HasCause (D.faults device.old) (D.faults device.new) result }
     ensures formatted { D.is_observable → HasClosedGates (D.contents device.old)
         → OnOk result (Formatted (D.size device.old) blocks (D.contents device.old) (D.contents device.new)) }
@@ -111,6 +114,7 @@ pub fn format<D: Disk>(device: &mut D, blocks: u64) -> Result<(), FormatFault>
     ensures size { D.size device.new ≡ D.size device.old }
     ensures too_small { (asked has : ℕ) → (result ≡ Err (FormatFault.TooSmall asked has)) ↔ IsTooSmall (D.size device.old) blocks asked has }
     ensures uncalled { D.size device.old < blocks → device.new ≡ device.old }
+    ensures calls { CountsCalls 8 (D.calls device.old) (D.calls device.new) result }
     ensures cause { CausesFault (D.faults device.old) (D.faults device.new) (result ≡ Err FormatFault.Fault) }
     ensures occupied { D.is_observable → blocks ≤ D.size device.old → result ≢ Err FormatFault.Fault
         → (block : ℕ) → (result ≡ Err (FormatFault.Occupied block)) ↔ IsOccupied (D.contents device.old) block }

@@ -2,7 +2,7 @@
 ghost use Rattle.std.specs.Prelude.{◌≡◌, ◌↔◌, ◌<◌, ◌≤◌, IsTrue, IfOk, OnOk};
 ghost use Rattle.btr_disk.specs.Images.{Only};
 ghost use Rattle.btr_disk.specs.Moments.{WroteNothing};
-ghost use Rattle.btr_disk.specs.Causes.{HasCause};
+ghost use Rattle.btr_disk.specs.Causes.{CountsCalls, HasCause};
 ghost use Rattle.btr_disk.specs.Gate.{IsOpen};
 ghost use Rattle.btr_disk.specs.Moments.{IsUnwritten};
 
@@ -12,6 +12,7 @@ use btr_disk::{BLOCK, Disk, Failed, is_open_gate};
 pub(crate) fn read_gate<D: Disk>(device: &mut D, block: u64) -> Result<bool, Failed>
     requires { block < D.size device.old }
     ensures size { D.size device.new ≡ D.size device.old }
+    ensures calls { CountsCalls 1 (D.calls device.old) (D.calls device.new) result }
     ensures cause { HasCause (D.faults device.old) (D.faults device.new) result }
     ensures gate { D.is_observable → IfOk result (λ yes. IsTrue yes ↔ IsOpen (D.contents device.old) block) }
     ensures nothing { D.is_observable → WroteNothing D.calls D.contents D.images_now D.images_since device.old device.new }
@@ -25,6 +26,7 @@ pub(crate) fn read_gate<D: Disk>(device: &mut D, block: u64) -> Result<bool, Fai
 pub(crate) fn read_gates<D: Disk>(device: &mut D) -> Result<(bool, bool), Failed>
     requires { 4 ≤ D.size device.old }
     ensures size { D.size device.new ≡ D.size device.old }
+    ensures calls { CountsCalls 3 (D.calls device.old) (D.calls device.new) result }
     ensures cause { HasCause (D.faults device.old) (D.faults device.new) result }
     ensures first { D.is_observable → IfOk result (λ yes. IsTrue yes.0 ↔ IsOpen (D.contents device.old) 0) }
     ensures second { D.is_observable → IfOk result (λ yes. IsTrue yes.1 ↔ IsOpen (D.contents device.old) 2) }

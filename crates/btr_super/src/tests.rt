@@ -2,11 +2,11 @@
 ghost use Rattle.std.specs.Prelude.{◌≡◌, ◌*◌, ◌%◌, ◌≤◌, IfOk, length};
 
 use super::*;
-use btr_disk::{Disk, MemDisk, Room};
+use btr_disk::{Capacity, Disk, MemDisk};
 use std::alloc::{AllocError, Global};
 use std::test::Fail;
 
-const ROOM: Room = Room {
+const CAPACITY: Capacity = Capacity {
     calls: 16,
     blocks: 16,
 };
@@ -34,7 +34,7 @@ fn formatted(alloc: Global) -> Result<Vec<u8>, AllocError>
     ensures { IfOk result (λ bytes. length bytes.items ≡ 32768) }
 {
     let bytes = filled(alloc, 8, 0xaa)?;
-    let mut disk = MemDisk::from_bytes(alloc, bytes, ROOM, Vec::new(alloc))?;
+    let mut disk = MemDisk::from_bytes(alloc, bytes, CAPACITY, Vec::new(alloc))?;
     let _ = format(&mut disk, 8);
     Ok(disk.into_bytes())
 }
@@ -62,14 +62,14 @@ fn twice(alloc: Global) -> Result<Vec<u8>, AllocError>
 fn chosen(alloc: Global, bytes: Vec<u8>) -> Result<Result<Super, ChooseFault>, AllocError>
     requires { length bytes.items % 4096 ≡ 0 }
 {
-    let mut disk = MemDisk::from_bytes(alloc, bytes, ROOM, Vec::new(alloc))?;
+    let mut disk = MemDisk::from_bytes(alloc, bytes, CAPACITY, Vec::new(alloc))?;
     Ok(choose(&mut disk))
 }
 
 #[test]
 fn a_store_is_made_and_chosen(rt: HostRuntime) -> Result<(), Fail> {
     let alloc = rt.alloc();
-    let mut disk = MemDisk::new(alloc, 9, ROOM, Vec::new(alloc))?;
+    let mut disk = MemDisk::new(alloc, 9, CAPACITY, Vec::new(alloc))?;
     assert_eq!(rt; choose(&mut disk), Err(ChooseFault::NotAStore));
     assert_eq!(rt; disk.calls(), 1);
     assert_eq!(rt; format(&mut disk, 8), Ok(()));
@@ -88,7 +88,7 @@ fn a_store_is_made_and_chosen(rt: HostRuntime) -> Result<(), Fail> {
 #[test]
 fn a_device_that_is_too_small_is_not_called(rt: HostRuntime) -> Result<(), Fail> {
     let alloc = rt.alloc();
-    let mut disk = MemDisk::new(alloc, 8, ROOM, Vec::new(alloc))?;
+    let mut disk = MemDisk::new(alloc, 8, CAPACITY, Vec::new(alloc))?;
     let outcome = format(&mut disk, 9);
     assert_eq!(rt;
         outcome,
@@ -219,7 +219,7 @@ fn a_device_has_its_blocks_alone(rt: HostRuntime) -> Result<(), Fail> {
 fn a_store_on_the_second_side_is_not_overwritten(rt: HostRuntime) -> Result<(), Fail> {
     let alloc = rt.alloc();
     let bytes = with_piece(twice(alloc)?, 0, &[0]);
-    let mut disk = MemDisk::from_bytes(alloc, bytes, ROOM, Vec::new(alloc))?;
+    let mut disk = MemDisk::from_bytes(alloc, bytes, CAPACITY, Vec::new(alloc))?;
     assert_eq!(rt;
         format(&mut disk, 8),
         Err(FormatFault::Occupied { block: 2 })
@@ -233,7 +233,7 @@ fn each_call_may_fail(rt: HostRuntime) -> Result<(), Fail> {
     let alloc = rt.alloc();
     for call in 0..8 {
         let failing = vec![in alloc; call]?;
-        let mut disk = MemDisk::from_bytes(alloc, filled(alloc, 8, 0xaa)?, ROOM, failing)?;
+        let mut disk = MemDisk::from_bytes(alloc, filled(alloc, 8, 0xaa)?, CAPACITY, failing)?;
         assert_eq!(rt;
             format(&mut disk, 8),
             Err(FormatFault::Fault),
@@ -254,7 +254,7 @@ fn each_call_may_fail(rt: HostRuntime) -> Result<(), Fail> {
 #[test]
 fn a_fault_is_told(rt: HostRuntime) -> Result<(), Fail> {
     let alloc = rt.alloc();
-    let mut disk = MemDisk::new(alloc, 8, ROOM, vec![in alloc; 0]?)?;
+    let mut disk = MemDisk::new(alloc, 8, CAPACITY, vec![in alloc; 0]?)?;
     assert_eq!(rt; choose(&mut disk), Err(ChooseFault::Fault));
     assert_eq!(rt; disk.faults(), 1);
     Ok(())

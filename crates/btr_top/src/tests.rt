@@ -2,7 +2,7 @@
 ghost use Rattle.std.specs.Prelude.{◌≤◌};
 
 use super::*;
-use btr_disk::{Disk, MemDisk, Room};
+use btr_disk::{Disk, MemDisk, Capacity};
 use btr_io::{MemSink, MemSource};
 use std::alloc::Global;
 use std::test::Fail;
@@ -11,7 +11,7 @@ mod asking;
 mod crashes;
 mod live;
 
-const ROOM: Room = Room {
+const CAPACITY: Capacity = Capacity {
     calls: 64,
     blocks: 128,
 };
@@ -25,7 +25,7 @@ fn shown(
     sink_fails: &[u64],
 ) -> Result<String, Fail> {
     let alloc = rt.alloc();
-    let mut disk = MemDisk::new(alloc, 64, ROOM, disk_fails.to_vec(alloc)?)?;
+    let mut disk = MemDisk::new(alloc, 64, CAPACITY, disk_fails.to_vec(alloc)?)?;
     let mut text = String::new(alloc);
     for words in runs {
         let mut source = MemSource::new(Vec::new(alloc), 1, Vec::new(alloc));
@@ -134,7 +134,7 @@ fn words_that_are_no_command_make_no_call(rt: HostRuntime) -> Result<(), Fail> {
     let alloc = rt.alloc();
     let mut source = MemSource::new(Vec::new(alloc), 1, Vec::new(alloc));
     let mut sink = MemSink::new(alloc, 100, 7, Vec::new(alloc))?;
-    let disk = MemDisk::new(alloc, 8, ROOM, Vec::new(alloc))?;
+    let disk = MemDisk::new(alloc, 8, CAPACITY, Vec::new(alloc))?;
     let (status, disk) = ran(&rt, "format --blocks 9 9", &mut source, &mut sink, disk)?;
     assert_eq!(rt; (status, disk.calls()), (2, 0));
     let (status, disk) = ran(&rt, "format --blocks 9", &mut source, &mut sink, disk)?;

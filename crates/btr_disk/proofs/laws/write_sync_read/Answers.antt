@@ -2,7 +2,7 @@ use Rattle.std.specs.Prelude.{◌≡◌, ◌*◌, length}
 use Rattle.std.proofs.Common.{arith}
 use Rattle.btr_disk.specs.Bytes.{Has}
 use Rattle.btr_disk.proofs.ByteLemmas.{Has-Same, Has-one}
-use Rattle.btr_disk.proofs.Steps.{both_ok}
+use Rattle.btr_disk.proofs.PublishCalls.{both_ok}
 use Rattle.btr_disk.proofs.laws.write_sync_read.Goals as goal
 
 pub returns-clause-read : goal.returns-clause-read

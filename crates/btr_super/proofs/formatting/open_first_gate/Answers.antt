@@ -25,7 +25,7 @@ returns-clause-moments g c is_observable settled =
     let old = disk.contents d0 in
     let P : Image → Type 0 = SameBut (4096 * 0) 4096 old in
     let n : length c.open_gate.result ≡ 4096 = ap length c.open_gate.ensures ∙ length-gate_block in
-    let torn : Torn (4096 * 0) 4096 (disk.images_now d0) (disk.images_now d1) = rw n at c.write.ensures.torn is_observable in
+    let torn : Torn (4096 * 0) 4096 (disk.images_now d0) (disk.images_now d1) = rw n at (c.write.ensures.images is_observable).torn in
     let but : SameBut (4096 * 0) 4096 old (disk.contents d1) = rw n at c.write.ensures.elsewhere is_observable in
     let first = first_step disk.calls disk.images_since disk.images_now P d0 d1 (g.met.D.Disk.only_now is_observable d0) (record { counted = c.write.ensures.calls; time = c.write.ensures.time is_observable })
     (λ x left. SameBut-from_Same (4096 * 0) 4096 old x (settled.each x left)) (Torn-Only (4096 * 0) 4096 old (disk.images_now d0) (disk.images_now d1) settled torn) in

@@ -14,7 +14,7 @@ returns-in_err-write-clause-moments g c is_observable settled =
     let d0 = c.args.device.now in
     let d1 = c.write.new.self in
     let n : length c.encode.result ≡ 4096 = ap length c.encode.ensures ∙ length-super_bytes (first_super c.args.blocks) in
-    let torn : Torn (4096 * 1) 4096 (disk.images_now d0) (disk.images_now d1) = rw n at c.write.ensures.torn is_observable in
+    let torn : Torn (4096 * 1) 4096 (disk.images_now d0) (disk.images_now d1) = rw n at (c.write.ensures.images is_observable).torn in
     one_written disk.calls disk.images_since disk.images_now d0 (g.met.D.Disk.only_now is_observable d0) (disk.contents d0) settled (4096 * 1) 4096 (4096 * 4) 4096 d1
     (record { counted = c.write.ensures.calls; time = c.write.ensures.time is_observable }) torn
 
@@ -33,10 +33,10 @@ returns-in_err-write-2-clause-moments g c is_observable settled =
     let d0 = c.args.device.now in
     let d1 = c.write.new.self in
     let n : length c.encode.result ≡ 4096 = ap length c.encode.ensures ∙ length-super_bytes (first_super c.args.blocks) in
-    let torn : Torn (4096 * 1) 4096 (disk.images_now d0) (disk.images_now d1) = rw n at c.write.ensures.torn is_observable in
+    let torn : Torn (4096 * 1) 4096 (disk.images_now d0) (disk.images_now d1) = rw n at (c.write.ensures.images is_observable).torn in
     two_written disk.calls disk.images_since disk.images_now d0 (g.met.D.Disk.only_now is_observable d0) (disk.contents d0) settled (4096 * 1) 4096 (4096 * 4) 4096 d1 c.write-2.new.self
     (record { counted = c.write.ensures.calls; time = c.write.ensures.time is_observable }) torn
-    (record { counted = c.write-2.ensures.calls; time = c.write-2.ensures.time is_observable }) (c.write-2.ensures.torn is_observable)
+    (record { counted = c.write-2.ensures.calls; time = c.write-2.ensures.time is_observable }) (c.write-2.ensures.images is_observable).torn
 
 pub returns-clause-body : goal.returns-clause-body
 returns-clause-body g c is_observable =
@@ -80,15 +80,15 @@ returns-clause-moments g c is_observable settled =
     let old = disk.contents d0 in
     let P : Image → Type 0 = SameButTwo (4096 * 1) 4096 (4096 * 4) 4096 old in
     let n : length c.encode.result ≡ 4096 = ap length c.encode.ensures ∙ length-super_bytes (first_super c.args.blocks) in
-    let torn : Torn (4096 * 1) 4096 (disk.images_now d0) (disk.images_now d1) = rw n at c.write.ensures.torn is_observable in
+    let torn : Torn (4096 * 1) 4096 (disk.images_now d0) (disk.images_now d1) = rw n at (c.write.ensures.images is_observable).torn in
     let but : SameBut (4096 * 1) 4096 old (disk.contents d1) = rw n at c.write.ensures.elsewhere is_observable in
     let two : SameButTwo (4096 * 1) 4096 (4096 * 4) 4096 old (disk.contents d2) =
     SameButTwo-from (4096 * 1) 4096 (4096 * 4) 4096 old (disk.contents d1) (disk.contents d2) but (c.write-2.ensures.elsewhere is_observable) in
     next_step disk.calls disk.images_since disk.images_now P d0 d2 d3
     (two_written disk.calls disk.images_since disk.images_now d0 (g.met.D.Disk.only_now is_observable d0) old settled (4096 * 1) 4096 (4096 * 4) 4096 d1 d2
     (record { counted = c.write.ensures.calls; time = c.write.ensures.time is_observable }) torn
-    (record { counted = c.write-2.ensures.calls; time = c.write-2.ensures.time is_observable }) (c.write-2.ensures.torn is_observable))
+    (record { counted = c.write-2.ensures.calls; time = c.write-2.ensures.time is_observable }) (c.write-2.ensures.images is_observable).torn)
     (record { counted = c.sync.ensures.calls; time = c.sync.ensures.time is_observable })
     (after_sync c.sync.result (disk.contents d3) (disk.images_now d2) (disk.images_now d3) P (c.sync.ensures.synced is_observable) (c.sync.ensures.unsynced is_observable)
     (λ x same. SameButTwo-Same (4096 * 1) 4096 (4096 * 4) 4096 old (disk.contents d2) x two (Same-trans (disk.contents d2) (disk.contents d3) x (c.sync.ensures.contents is_observable) same))
-    (torn_again (4096 * 1) 4096 (4096 * 4) 4096 old (disk.images_now d0) (disk.images_now d1) (disk.images_now d2) settled torn (c.write-2.ensures.torn is_observable)))
+    (torn_again (4096 * 1) 4096 (4096 * 4) 4096 old (disk.images_now d0) (disk.images_now d1) (disk.images_now d2) settled torn (c.write-2.ensures.images is_observable).torn))

@@ -1,13 +1,13 @@
 use Rattle.std.specs.Prelude.{◌≡◌, ◌+◌, ◌-◌, ◌*◌, ◌≤◌, ℕ, List, length, take, drop}
 use Rattle.std.proofs.Common.{arith, ap, ◌∙◌, sym, subst}
 use Rattle.btr_disk.specs.Bytes.{Has}
-use Rattle.btr_disk.specs.History.{contents_of}
-use Rattle.btr_disk.proofs.Recording.{idle, nothing_recorded, Has-part}
+use Rattle.btr_disk.specs.CallRecord.{contents_of}
+use Rattle.btr_disk.proofs.Recording.{counted_alone, nothing_recorded, Has-part}
 use Rattle.btr_disk.proofs.memory.MemDiskDisk.read.Goals as goal
 
 pub returns-then-fails-clause-time : goal.returns-then-fails-clause-time
 returns-then-fails-clause-time c =
-    nothing_recorded (contents_of c.args.self.now.bytes.items) c.args.self.now.history c.note.new.self c.if-not-note.ensures.recorded
+    nothing_recorded (contents_of c.args.self.now.bytes.items) c.args.self.now.made c.note.new.self c.if-not-note.ensures.recorded
 
 pub returns-clause-bytes : goal.returns-clause-bytes
 returns-clause-bytes c =
@@ -22,8 +22,8 @@ returns-clause-bytes c =
 
 pub returns-clause-time : goal.returns-clause-time
 returns-clause-time c =
-    nothing_recorded (contents_of c.args.self.now.bytes.items) c.args.self.now.history c.note.new.self c.if-not-note.ensures.recorded
+    nothing_recorded (contents_of c.args.self.now.bytes.items) c.args.self.now.made c.note.new.self c.if-not-note.ensures.recorded
 
 pub returns-then-not-note-clause-time : goal.returns-then-not-note-clause-time
 returns-then-not-note-clause-time c =
-    idle (contents_of c.args.self.now.bytes.items) c.args.self.now.history c.note.new.self c.if-not-note.ensures.recorded
+    counted_alone (contents_of c.args.self.now.bytes.items) c.args.self.now.made c.note.new.self c.if-not-note.ensures.recorded

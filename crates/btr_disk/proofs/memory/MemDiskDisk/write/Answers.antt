@@ -1,9 +1,11 @@
-use Rattle.std.specs.Prelude.{◌≡◌, ◌+◌, ◌-◌, ◌*◌, ◌≤◌, ℕ, List, length, take, drop}
+use Rattle.std.specs.Prelude.{◌≡◌, ◌+◌, ◌-◌, ◌*◌, ◌/◌, ◌≤◌, ℕ, List, length, take, drop}
 use Rattle.std.proofs.Common.{arith, ap, ◌∙◌, sym, subst, length-take, length-drop}
 use Rattle.btr_disk.specs.Bytes.{Image, Has}
 use Rattle.btr_disk.proofs.ByteLemmas.{SameBut-refl}
-use Rattle.btr_disk.specs.History.{contents_of}
-use Rattle.btr_disk.proofs.Recording.{Has-part, idle, idle_torn, write_recorded, write_tears, write_torn}
+use Rattle.btr_disk.specs.Images.{Tears}
+use Rattle.btr_disk.specs.Memory.{images_of}
+use Rattle.btr_disk.specs.CallRecord.{contents_of, newest_first, MayLeave}
+use Rattle.btr_disk.proofs.Recording.{Has-part, tear_time, tear_images, write_recorded, write_images}
 use Rattle.btr_disk.proofs.memory.MemDiskDisk.write.Goals as goal
 
 -- the bytes that a write replaces, as the code takes them
@@ -19,12 +21,12 @@ module _ (bytes taken : List ℕ) (a n : ℕ) (fits : a + n ≤ length bytes) (s
   part_length : length (take ((a + n) - a) (drop a taken)) ≡ n
   part_length = ap length part ∙ omega (arith, length-take n (drop a bytes), length-drop a bytes)
 
-pub returns-then-fails-clause-torn : goal.returns-then-fails-clause-torn
-returns-then-fails-clause-torn c =
+pub returns-then-fails-clause-images : goal.returns-then-fails-clause-images
+returns-then-fails-clause-images c =
     let was : Image = contents_of c.args.self.now.bytes.items in
     let a = 4096 * c.args.first in
     let n = length c.args.bytes.now in
-    write_torn a n _ was was c.args.self.now.history c.note.new.self c.if-not-note.ensures.recorded (SameBut-refl a n was) c.args.self.now.are_bytes
+    write_images a n _ was was c.args.self.now.made c.note.new.self c.if-not-note.ensures.recorded (SameBut-refl a n was) c.args.self.now.are_bytes
 
 pub returns-then-fails-clause-time : goal.returns-then-fails-clause-time
 returns-then-fails-clause-time c =
@@ -33,14 +35,14 @@ returns-then-fails-clause-time c =
     let a = 4096 * c.args.first in
     let n = length c.args.bytes.now in
     let fits : a + n ≤ length bytes = omega (arith, c.requires.inside) in
-    write_recorded a n _ was was c.args.self.now.history c.note.new.self (part_length bytes c.deref.result.now a n fits c.deref.ensures.value) c.if-not-note.ensures.recorded
+    write_recorded a n _ was was c.args.self.now.made c.note.new.self (part_length bytes c.deref.result.now a n fits c.deref.ensures.value) c.if-not-note.ensures.recorded
     (part_has bytes c.deref.result.now a n fits c.deref.ensures.value) (SameBut-refl a n was)
 
-pub returns-clause-torn : goal.returns-clause-torn
-returns-clause-torn c =
+pub returns-clause-images : goal.returns-clause-images
+returns-clause-images c =
     let was : Image = contents_of c.args.self.now.bytes.items in
     let now : Image = contents_of c.overwrite.new.file.items in
-    write_torn (4096 * c.args.first) (length c.args.bytes.now) _ was now c.args.self.now.history c.note.new.self c.if-not-note.ensures.recorded c.overwrite.ensures.elsewhere c.args.self.now.are_bytes
+    write_images (4096 * c.args.first) (length c.args.bytes.now) _ was now c.args.self.now.made c.note.new.self c.if-not-note.ensures.recorded c.overwrite.ensures.elsewhere c.args.self.now.are_bytes
 
 pub returns-clause-time : goal.returns-clause-time
 returns-clause-time c =
@@ -49,20 +51,17 @@ returns-clause-time c =
     let a = 4096 * c.args.first in
     let n = length c.args.bytes.now in
     let fits : a + n ≤ length bytes = omega (arith, c.requires.inside) in
-    write_recorded a n _ (contents_of bytes) now c.args.self.now.history c.note.new.self (part_length bytes c.deref.result.now a n fits c.deref.ensures.value) c.if-not-note.ensures.recorded
+    write_recorded a n _ (contents_of bytes) now c.args.self.now.made c.note.new.self (part_length bytes c.deref.result.now a n fits c.deref.ensures.value) c.if-not-note.ensures.recorded
     (part_has bytes c.deref.result.now a n fits c.deref.ensures.value) c.overwrite.ensures.elsewhere
 
-pub returns-then-not-note-clause-torn : goal.returns-then-not-note-clause-torn
-returns-then-not-note-clause-torn c =
-    idle_torn (4096 * c.args.first) (length c.args.bytes.now) (contents_of c.args.self.now.bytes.items) c.args.self.now.history c.note.new.self c.if-not-note.ensures.recorded
+pub returns-then-not-note-clause-images : goal.returns-then-not-note-clause-images
+returns-then-not-note-clause-images c =
+    let disk = c.args.self.now in
+    let n = length c.args.bytes.now in
+    let whole : 4096 * (n / 4096) ≡ n = omega (arith, c.requires.whole) in
+    subst (λ (x : ℕ). Tears (4096 * c.args.first) x (images_of disk) (MayLeave (contents_of disk.bytes.items) (newest_first c.tear.new.self) c.tear.new.self.torn.flags.items)) whole
+    (tear_images c.args.first (n / 4096) (contents_of disk.bytes.items) disk.made c.note.new.self c.tear.new.self c.if-not-note.ensures.recorded c.tear.ensures disk.are_bytes)
 
 pub returns-then-not-note-clause-time : goal.returns-then-not-note-clause-time
 returns-then-not-note-clause-time c =
-    idle (contents_of c.args.self.now.bytes.items) c.args.self.now.history c.note.new.self c.if-not-note.ensures.recorded
-
-pub returns-then-fails-clause-unsynced_too : goal.returns-then-fails-clause-unsynced_too
-returns-then-fails-clause-unsynced_too c _ =
-    let was : Image = contents_of c.args.self.now.bytes.items in
-    let a = 4096 * c.args.first in
-    let n = length c.args.bytes.now in
-    write_tears a n _ was was c.args.self.now.history c.note.new.self c.if-not-note.ensures.recorded (SameBut-refl a n was)
+    tear_time c.args.first (length c.args.bytes.now / 4096) (contents_of c.args.self.now.bytes.items) c.args.self.now.made c.note.new.self c.tear.new.self c.if-not-note.ensures.recorded c.tear.ensures

@@ -7,8 +7,8 @@ use Rattle.btr_disk.specs.Moments.{Elapses, Leaves}
 use Rattle.btr_disk.specs.Publish.{IsBeforeOrHasBody}
 use Rattle.btr_disk.proofs.ByteLemmas.{Has-Same, SameBut-trans, SameBut-from_Same, Same-trans}
 use Rattle.btr_disk.proofs.MomentLemmas.{begins, goes_on}
-use Rattle.btr_disk.proofs.Steps.{after_sync, on_ok, body_torn, body_synced, gate_torn, gate_written, gate_synced, Published-Same}
-use Rattle.btr_disk.proofs.publishing.publish.Goals as goal
+use Rattle.btr_disk.proofs.PublishCalls.{after_sync, on_ok, body_torn, body_synced, gate_torn, gate_written, gate_synced, Published-Same}
+use Rattle.btr_disk.proofs.gate.publish.Goals as goal
 
 -- what a call leaves to the rest of the run
 record Step {D : Type 0} (calls : D → ℕ) (since : D → ℕ → Image → Type 0) (image : D → Image → Type 0) (old new : D) : Type 0 where
@@ -34,7 +34,7 @@ returns-in_err-write-clause-moments g c is_observable settled =
     let disk = g.D.Disk in
     let d0 = c.args.device.now in
     to_first disk.calls disk.images_since disk.images_now disk.contents d0 (4096 * c.args.first) c.args.body.now (4096 * c.args.at) c.write.new.self (g.met.D.Disk.only_now is_observable d0) settled
-    (record { counted = c.write.ensures.calls; time = c.write.ensures.time is_observable }) (c.write.ensures.torn is_observable)
+    (record { counted = c.write.ensures.calls; time = c.write.ensures.time is_observable }) (c.write.ensures.images is_observable).torn
 
 pub returns-in_err-sync-clause-moments : goal.returns-in_err-sync-clause-moments
 returns-in_err-sync-clause-moments g c is_observable settled =
@@ -45,10 +45,10 @@ returns-in_err-sync-clause-moments g c is_observable settled =
     let body = c.args.body.now in
     let p = 4096 * c.args.at in
     let first = to_first disk.calls disk.images_since disk.images_now disk.contents d0 a body p d1 (g.met.D.Disk.only_now is_observable d0) settled
-    (record { counted = c.write.ensures.calls; time = c.write.ensures.time is_observable }) (c.write.ensures.torn is_observable) in
+    (record { counted = c.write.ensures.calls; time = c.write.ensures.time is_observable }) (c.write.ensures.images is_observable).torn in
     to_next disk.calls disk.images_since disk.images_now disk.contents d0 a body p d1 c.sync.new.self first
     (record { counted = c.sync.ensures.calls; time = c.sync.ensures.time is_observable })
-    (λ x left. body_torn (disk.contents d0) a body p (disk.images_now d0) (disk.images_now d1) settled (c.write.ensures.torn is_observable) x ((c.in_err-sync.ensures.unsynced is_observable).none_new x left))
+    (λ x left. body_torn (disk.contents d0) a body p (disk.images_now d0) (disk.images_now d1) settled (c.write.ensures.images is_observable).torn x ((c.in_err-sync.ensures.unsynced is_observable).none_new x left))
 
 pub returns-in_err-write-2-clause-moments : goal.returns-in_err-write-2-clause-moments
 returns-in_err-write-2-clause-moments g c is_observable settled =
@@ -61,7 +61,7 @@ returns-in_err-write-2-clause-moments g c is_observable settled =
     let body = c.args.body.now in
     let p = 4096 * c.args.at in
     let first = to_first disk.calls disk.images_since disk.images_now disk.contents d0 a body p d1 (g.met.D.Disk.only_now is_observable d0) settled
-    (record { counted = c.write.ensures.calls; time = c.write.ensures.time is_observable }) (c.write.ensures.torn is_observable) in
+    (record { counted = c.write.ensures.calls; time = c.write.ensures.time is_observable }) (c.write.ensures.images is_observable).torn in
     let but : SameBut a (length body) (disk.contents d0) (disk.contents d2) = SameBut-trans a (length body) (disk.contents d0) (disk.contents d1) (disk.contents d2) (c.write.ensures.elsewhere is_observable)
     (SameBut-from_Same a (length body) (disk.contents d1) (disk.contents d2) (c.sync.ensures.contents is_observable)) in
     let has : Has (disk.contents d2) a body = Has-Same (disk.contents d1) (disk.contents d2) a body (c.sync.ensures.contents is_observable) (c.in_ok-write.ensures.written is_observable) in
@@ -70,7 +70,7 @@ returns-in_err-write-2-clause-moments g c is_observable settled =
     (record { counted = c.sync.ensures.calls; time = c.sync.ensures.time is_observable })
     (λ x left. body_synced (disk.contents d0) a body p (disk.contents d2) but x (synced.each x left)) in
     let above : p < a → p + 4096 ≤ a = λ lt. omega arith in
-    let torn : Torn p 4096 (disk.images_now d2) (disk.images_now d3) = rw c.requires.one_block at c.write-2.ensures.torn is_observable in
+    let torn : Torn p 4096 (disk.images_now d2) (disk.images_now d3) = rw c.requires.one_block at (c.write-2.ensures.images is_observable).torn in
     to_next disk.calls disk.images_since disk.images_now disk.contents d0 a body p d2 d3 second
     (record { counted = c.write-2.ensures.calls; time = c.write-2.ensures.time is_observable })
     (gate_torn (disk.contents d0) a body p c.requires.apart above (disk.contents d2) (disk.images_now d2) (disk.images_now d3) has but synced torn)
@@ -110,7 +110,7 @@ returns-clause-moments g c is_observable settled =
     let p = 4096 * c.args.at in
     let P : Image → Type 0 = IsBeforeOrHasBody (disk.contents d0) a body p in
     let first = to_first disk.calls disk.images_since disk.images_now disk.contents d0 a body p d1 (g.met.D.Disk.only_now is_observable d0) settled
-    (record { counted = c.write.ensures.calls; time = c.write.ensures.time is_observable }) (c.write.ensures.torn is_observable) in
+    (record { counted = c.write.ensures.calls; time = c.write.ensures.time is_observable }) (c.write.ensures.images is_observable).torn in
     let but : SameBut a (length body) (disk.contents d0) (disk.contents d2) = SameBut-trans a (length body) (disk.contents d0) (disk.contents d1) (disk.contents d2) (c.write.ensures.elsewhere is_observable)
     (SameBut-from_Same a (length body) (disk.contents d1) (disk.contents d2) (c.sync.ensures.contents is_observable)) in
     let has : Has (disk.contents d2) a body = Has-Same (disk.contents d1) (disk.contents d2) a body (c.sync.ensures.contents is_observable) (c.in_ok-write.ensures.written is_observable) in
@@ -119,7 +119,7 @@ returns-clause-moments g c is_observable settled =
     (record { counted = c.sync.ensures.calls; time = c.sync.ensures.time is_observable })
     (λ x left. body_synced (disk.contents d0) a body p (disk.contents d2) but x (synced.each x left)) in
     let above : p < a → p + 4096 ≤ a = λ lt. omega arith in
-    let torn : Torn p 4096 (disk.images_now d2) (disk.images_now d3) = rw c.requires.one_block at c.write-2.ensures.torn is_observable in
+    let torn : Torn p 4096 (disk.images_now d2) (disk.images_now d3) = rw c.requires.one_block at (c.write-2.ensures.images is_observable).torn in
     let then : SameBut p 4096 (disk.contents d2) (disk.contents d3) = rw c.requires.one_block at c.write-2.ensures.elsewhere is_observable in
     let at_gate = gate_torn (disk.contents d0) a body p c.requires.apart above (disk.contents d2) (disk.images_now d2) (disk.images_now d3) has but synced torn in
     let third = to_next disk.calls disk.images_since disk.images_now disk.contents d0 a body p d2 d3 second

@@ -1,0 +1,100 @@
+//! What a device in memory remembers of its calls. The memory for it is allocated when the device is made.
+ghost use Rattle.std.specs.Prelude.{◌≡◌, ◌+◌, ◌-◌, ◌^◌, ◌<◌, ◌≤◌, ℕ, min, [], ◌++◌, ◌↔◌, length, IfOk, IsTrue, MatchBool, vec_len, vec_capacity};
+ghost use Rattle.btr_disk.specs.Torn.{IsUntorn};
+
+use crate::torn::TornBlocks;
+use crate::{BLOCK, Capacity};
+use std::alloc::{AllocError, Global};
+
+/// What a call did.
+#[derive(Clone, Copy)]
+pub(crate) enum Call {
+    /// It changed nothing, as a read does.
+    Nothing,
+    /// A write at an address, of this many bytes.
+    Wrote(usize, usize),
+    /// A sync that succeeded.
+    Synced,
+}
+
+/// The calls so far, and the bytes that writes replaced, the newest last.
+#[derive(Drop)]
+pub(crate) struct CallRecord {
+    calls: Vec<Call>,
+    replaced: Vec<u8>,
+    /// The number of calls since the record is full: the first that did not fit, and each one after it.
+    unrecorded: u64,
+    /// The blocks that these calls wrote.
+    torn: TornBlocks,
+    ghost untorn: { unrecorded ≡ 0 → IsUntorn torn.flags.items },
+}
+
+impl CallRecord {
+    ghost use Rattle.btr_disk.specs.CallRecord.{Records, IsLeftOut, CanRecord, HasCapacity, IsEmpty, TearsOnly, call_count};
+
+    /// The record of a device of `blocks` blocks on which no call was made.
+    pub(crate) fn new(
+        alloc: Global,
+        capacity: Capacity,
+        blocks: usize,
+    ) -> Result<CallRecord, AllocError>
+        requires { capacity.blocks ≤ 2 ^ 32 }
+        ensures empty { IfOk result IsEmpty }
+        ensures blocks { IfOk result (λ made. length made.torn.flags.items ≡ blocks) }
+        ensures capacity { IfOk result (HasCapacity capacity.calls capacity.blocks) }
+    {
+        Ok(CallRecord {
+            calls: Vec::with_capacity(alloc, capacity.calls)?,
+            replaced: Vec::with_capacity(alloc, capacity.blocks * BLOCK)?,
+            unrecorded: 0,
+            torn: TornBlocks::new(alloc, blocks)?,
+        })
+    }
+
+    /// Takes a call into the record, with the bytes that it replaces. Returns whether both fit.
+    ///
+    /// If they do not fit, the record is full from then on, and the call is counted alone.
+    pub(crate) fn note(&mut self, call: Call, bytes: &[u8]) -> bool
+        ensures recorded { MatchBool result (Records call bytes.now self.old self.new) (IsLeftOut self.old self.new) }
+        ensures fits { CanRecord self.old (length bytes.now) → IsTrue result }
+    {
+        if !self.has_room(bytes.len()) {
+            self.unrecorded = self.unrecorded.saturating_add(1);
+            return false;
+        }
+        self.replaced.extend_from_slice(bytes).is_ok() && self.calls.push(call).is_ok()
+    }
+
+    /// Whether the record has room for a call that replaces this many bytes.
+    fn has_room(&self, bytes: usize) -> bool
+        ensures { IsTrue result ↔ CanRecord self.now bytes }
+    {
+        self.unrecorded == 0
+            && self.calls.len() < self.calls.capacity()
+            && self.replaced.len() <= self.replaced.capacity()
+            && bytes <= self.replaced.capacity() - self.replaced.len()
+    }
+
+    /// Marks `count` blocks from `first` on as torn by a write that is not in the record.
+    pub(crate) fn tear(&mut self, first: usize, count: usize)
+        requires full { 0 < self.old.unrecorded }
+        requires inside { first + count ≤ length self.old.torn.flags.items }
+        ensures { TearsOnly first count self.old self.new }
+    {
+        self.torn.tear(first, count);
+    }
+
+    /// The number of calls that were made, up to the greatest that a u64 holds.
+    pub(crate) fn count(&self) -> u64
+        ensures { result ≡ min (call_count self.now) (2 ^ 64 - 1) }
+    {
+        self.unrecorded.saturating_add(self.calls.len() as u64)
+    }
+
+    /// The number of calls in the record.
+    pub(crate) fn recorded(&self) -> usize
+        ensures { result ≡ length self.now.calls.items }
+    {
+        self.calls.len()
+    }
+}
