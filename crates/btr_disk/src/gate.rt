@@ -1,7 +1,7 @@
 //! Gates: a gate is the block that decides whether the body after it counts, and `publish` opens one.
 ghost use Rattle.std.specs.Prelude.{◌≡◌, ◌↔◌, ◌≤◌, ◌*◌, ℕ, ◌++◌, length, take, replicate, IsTrue, OnOk};
 ghost use Rattle.btr_disk.specs.Bytes.{IsBlockRange, IsOutside};
-ghost use Rattle.btr_disk.specs.Causes.{CountsCalls, HasCause};
+ghost use Rattle.btr_disk.specs.Causes.{CountsCalls, HasCause, Rose};
 ghost use Rattle.btr_disk.specs.Gate.{mark, gate_block};
 ghost use Rattle.btr_disk.specs.Images.{Only};
 ghost use Rattle.btr_disk.specs.Moments.{Leaves};
@@ -49,6 +49,7 @@ pub fn publish<D: Disk>(
     requires one_block { length gate.now ≡ 4096 }
     requires apart { IsOutside (4096 * first) (length body.now) (4096 * at) }
     ensures size { D.size device.new ≡ D.size device.old }
+    ensures called { Rose (D.calls device.old) (D.calls device.new) }
     ensures calls { CountsCalls 4 (D.calls device.old) (D.calls device.new) result }
     ensures cause { HasCause (D.faults device.old) (D.faults device.new) result }
     ensures published { D.is_observable

@@ -367,7 +367,7 @@ fn the_engine_answers_as_the_history(rt: HostRuntime) -> Result<(), Fail> {
         calls: 64,
         blocks: 256,
     };
-    let mut disk = MemDisk::new(alloc, 64, room, Vec::new(alloc))?;
+    let mut disk = MemDisk::new(alloc, 64, capacity, Vec::new(alloc))?;
     assert!(rt; format(&mut disk, 64).is_ok());
     let mut engine = opened(alloc, disk)?;
     let mut history = History::empty(alloc);

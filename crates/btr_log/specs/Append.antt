@@ -36,10 +36,11 @@ module _ {D : Type 0} {disk : Ghosts D} where
   abbrev pub IsTooLong : Log D disk → List ℕ → Type 0
   IsTooLong log run = room_of log < need (body_of run)
 
-  -- its device has failed within four calls and it is stopped; it has no extent more
+  -- its device has failed, within one to four calls, and it is stopped; it has no extent more
   pub record StopsByFault (old new : Log D disk) : Type 0 where
     pub rose : Rose (disk.faults (device old)) (disk.faults (device new))
-    pub calls : disk.calls (device new) ≤ disk.calls (device old) + 4
+    pub called : Rose (disk.calls (device old)) (disk.calls (device new))
+    pub at_most : disk.calls (device new) ≤ disk.calls (device old) + 4
     pub stopped : is_stopped new ≡ true
     pub tail : tail_of new ≡ tail_of old
     pub extents : extents_of new ≡ extents_of old

@@ -2,13 +2,11 @@
 ghost use Rattle.std.specs.Prelude.{◌≡◌, ◌≢◌, ◌↔◌, ◌⊎◌, ℕ, ◌*◌, ◌^◌, ◌<◌, ◌≤◌, OnOk};
 ghost use Rattle.btr_disk.specs.Bytes.{Has, SameBut, SameButTwo};
 ghost use Rattle.btr_disk.specs.Images.{Only};
-ghost use Rattle.btr_disk.specs.Moments.{Leaves};
-ghost use Rattle.btr_disk.specs.Causes.{CountsCalls, HasCause};
+ghost use Rattle.btr_disk.specs.Moments.{IsUnwritten, Leaves};
+ghost use Rattle.btr_disk.specs.Causes.{CountsCalls, HasCause, UsesDevice};
 ghost use Rattle.btr_disk.specs.Gate.{gate_block, zeros};
 ghost use Rattle.btr_super.specs.declared.formatting.FormatFault.TheVariants.{Fault};
 ghost use Rattle.btr_super.specs.Super.{super_bytes, first_super};
-ghost use Rattle.btr_disk.specs.Moments.{IsUnwritten};
-ghost use Rattle.btr_disk.specs.Causes.{CausesFault};
 ghost use Rattle.btr_super.specs.Format.{IsTooSmall, IsOccupied, HasClosedGates, Formatted, IsFormatting, WritesFrom};
 
 use crate::codec::encode;
@@ -111,11 +109,9 @@ fn write_store<D: Disk>(device: &mut D, blocks: u64) -> Result<(), Failed>
 pub fn format<D: Disk>(device: &mut D, blocks: u64) -> Result<(), FormatFault>
     requires least { 8 ≤ blocks }
     requires greatest { blocks ≤ 2 ^ 32 }
-    ensures size { D.size device.new ≡ D.size device.old }
+    ensures counts { UsesDevice 8 D.size D.calls D.faults device.old device.new result (result ≡ Err FormatFault.Fault) }
     ensures too_small { (asked has : ℕ) → (result ≡ Err (FormatFault.TooSmall asked has)) ↔ IsTooSmall (D.size device.old) blocks asked has }
     ensures uncalled { D.size device.old < blocks → device.new ≡ device.old }
-    ensures calls { CountsCalls 8 (D.calls device.old) (D.calls device.new) result }
-    ensures cause { CausesFault (D.faults device.old) (D.faults device.new) (result ≡ Err FormatFault.Fault) }
     ensures occupied { D.is_observable → blocks ≤ D.size device.old → result ≢ Err FormatFault.Fault
         → (block : ℕ) → (result ≡ Err (FormatFault.Occupied block)) ↔ IsOccupied (D.contents device.old) block }
     ensures refused { D.is_observable → (block : ℕ) → result ≡ Err (FormatFault.Occupied block)

@@ -1,7 +1,7 @@
 // Scripts that are played on a device in memory: what each line replies, the status, and the bytes of the device.
 ghost use Rattle.std.specs.Prelude.{◌≡◌, ◌%◌, length, IfOk};
 
-use super::{ROOM, ran};
+use super::{CAPACITY, ran};
 use btr_disk::MemDisk;
 use btr_io::{MemSink, MemSource};
 use std::alloc::{AllocError, Global};
@@ -32,7 +32,7 @@ pub(super) fn formatted(
     failing: &[u64],
 ) -> Result<MemDisk, Fail> {
     let alloc = rt.alloc();
-    let disk = MemDisk::new(alloc, 64, ROOM, failing.to_vec(alloc)?)?;
+    let disk = MemDisk::new(alloc, 64, CAPACITY, failing.to_vec(alloc)?)?;
     let mut source = MemSource::new(Vec::new(alloc), 1, Vec::new(alloc));
     let mut sink = MemSink::new(alloc, 100, 100, Vec::new(alloc))?;
     let words = format!(in alloc; "format --blocks {blocks}")?;
@@ -363,13 +363,13 @@ fn an_input_that_is_too_long_is_not_played(rt: HostRuntime) -> Result<(), Fail> 
 pub(super) fn device(alloc: Global, bytes: Vec<u8>) -> Result<MemDisk, AllocError>
     requires { length bytes.items % 4096 ≡ 0 }
 {
-    MemDisk::from_bytes(alloc, bytes, ROOM, Vec::new(alloc))
+    MemDisk::from_bytes(alloc, bytes, CAPACITY, Vec::new(alloc))
 }
 
 #[test]
 fn what_is_no_store_is_not_opened(rt: HostRuntime) -> Result<(), Fail> {
     let alloc = rt.alloc();
-    let zeros = MemDisk::new(alloc, 64, ROOM, Vec::new(alloc))?;
+    let zeros = MemDisk::new(alloc, 64, CAPACITY, Vec::new(alloc))?;
     let (text, _) = played_on(&rt, b"create U\n", zeros)?;
     assert_eq!(rt; text.as_str(), "no store\n6;");
     let (_, disk) = played_on(&rt, b"create U\ncreate V\n", formatted(&rt, "64", &[])?)?;
