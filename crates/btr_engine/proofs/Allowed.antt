@@ -16,7 +16,8 @@ use Rattle.btr_base.specs.Commit.{Change}
 use Rattle.btr_hist.specs.History.{ids, latest}
 use Rattle.btr_hist.specs.Legal.{when, first_out_of_domain, next_bag, change_rejection, points_rejection, rejection}
 use Rattle.btr_hist.proofs.RejectionLemmas.{first_none, rest_none, map_none, when_none, none_out_of_domain}
-use Rattle.btr_entry.specs.Grammar.{AreInDomain, IsBounded, IsWithinBounds}
+use Rattle.btr_base.specs.Point.{AreInDomain}
+use Rattle.btr_entry.specs.Grammar.{IsBounded, IsWithinBounds}
 
 some_of_them : (a b : ℕ) → (a == 0 && b == 0) ≡ false → 0 < a + b
 some_of_them a b h = grind (arith, nat_tests)

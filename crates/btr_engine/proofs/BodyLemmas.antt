@@ -16,7 +16,7 @@ use Rattle.btr_log.specs.Extents.{IsBody, need}
 use Rattle.btr_hist.specs.declared.entry.Entry.{Entry}
 use Rattle.btr_hist.specs.declared.entry.Entry.TheVariants.{Create, Commit}
 use Rattle.btr_entry.specs.Grammar.{number, signed, range, point, listed, spelling, IsSpelled}
-use Rattle.btr_entry.proofs.Spellings.{same_entry}
+use Rattle.btr_entry.proofs.SpellingLemmas.{same_entry}
 use Rattle.btr_engine.specs.Body.{head_of, padding, body_of, need_of, bodies_from, bodies}
 
 -- ---- how long a spelling is

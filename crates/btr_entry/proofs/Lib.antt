@@ -1,4 +1,4 @@
-pub mod Numbers
-pub mod Once
-pub mod Items
-pub mod Spellings
+pub mod NumberLemmas
+pub mod ItemLemmas
+pub mod FrameLemmas
+pub mod SpellingLemmas

@@ -1,4 +1,4 @@
--- which entries have a spelling, and the one spelling of each
+-- Which entries have a spelling, and the one spelling of each.
 pub mod Grammar
--- the pieces that decoding takes one after the other
+-- What the private functions promise: the pieces that decoding takes one after another.
 pub mod Fields

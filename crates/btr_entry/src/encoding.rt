@@ -1,13 +1,15 @@
 ghost use Rattle.std.specs.Prelude.{◌≡◌, ◌++◌, ◌∷◌, ℕ, ◌+◌, ◌*◌, length, List, IfOk, OnOk};
 ghost use Rattle.std.specs.Int.{w32, w64, w128};
 ghost use Rattle.std.specs.List.{flat_map};
-ghost use Rattle.btr_entry.specs.Grammar.{number, signed, range, point, listed, spelling, IsBounded, IsWithinBounds, IsCommit, IsSpelled, IsEntry, ValuesFit};
+ghost use Rattle.btr_entry.specs.Grammar.{number, signed, range, point, listed, spelling};
+ghost use Rattle.btr_entry.specs.Grammar.{IsBounded, IsWithinBounds, IsCommit, IsSpelled, IsEntry, ValuesFit};
 
 use btr_base::{Bag, Point, Range, Ranges};
 use btr_hist::Entry;
 use std::alloc::{AllocError, Global};
 
-/// The one spelling of an entry, in a vector of exactly that capacity. It takes time linear in the spelling.
+/// Encodes an entry as its one spelling, in a vector of exactly that capacity. It takes time linear in the spelling. An
+/// `Err` means out of memory.
 pub fn encode(alloc: Global, entry: &Entry) -> Result<Vec<u8>, AllocError>
     requires { IsWithinBounds entry.now }
     ensures { IfOk result (λ v. IsEntry v.items entry.now) }
@@ -17,7 +19,7 @@ pub fn encode(alloc: Global, entry: &Entry) -> Result<Vec<u8>, AllocError>
     Ok(out)
 }
 
-/// How many bytes the spelling of an entry has. It takes constant time and no memory.
+/// Returns the number of bytes of an entry's spelling. It takes constant time and no memory.
 pub fn spelling_length(entry: &Entry) -> u64
     requires { IsWithinBounds entry.now }
     ensures { result ≡ length (spelling entry.now) }
@@ -32,7 +34,7 @@ pub fn spelling_length(entry: &Entry) -> u64
     }
 }
 
-/// Writes the spelling at the end.
+/// Appends the spelling of an entry.
 fn put_entry(out: &mut Vec<u8>, entry: &Entry) -> Result<(), AllocError>
     requires { IsWithinBounds entry.now }
     ensures bytes { OnOk result (out.new.items ≡ out.old.items ++ spelling entry.now) }
@@ -44,6 +46,7 @@ fn put_entry(out: &mut Vec<u8>, entry: &Entry) -> Result<(), AllocError>
     }
 }
 
+/// Appends the spelling of a create.
 fn put_create(out: &mut Vec<u8>, id: u128) -> Result<(), AllocError>
     ensures { OnOk result (out.new.items ≡ out.old.items ++ 1 ∷ number w128 id) }
 {
@@ -51,9 +54,11 @@ fn put_create(out: &mut Vec<u8>, id: u128) -> Result<(), AllocError>
     put_id(out, id)
 }
 
+/// Appends the spelling of a commit.
 fn put_commit(out: &mut Vec<u8>, stream: u32, cut: &Ranges, added: &Bag) -> Result<(), AllocError>
     requires { IsBounded cut.now added.now }
-    ensures bytes { OnOk result (out.new.items ≡ out.old.items ++ 2 ∷ (number w32 stream ++ listed range cut.now ++ listed point added.now)) }
+    ensures bytes { OnOk result (out.new.items
+        ≡ out.old.items ++ 2 ∷ (number w32 stream ++ listed range cut.now ++ listed point added.now)) }
     ensures spelled { OnOk result (IsCommit stream cut.now added.now) }
 {
     out.push(2)?;
@@ -63,7 +68,7 @@ fn put_commit(out: &mut Vec<u8>, stream: u32, cut: &Ranges, added: &Bag) -> Resu
     Ok(())
 }
 
-/// Writes the ranges at the end.
+/// Appends the number of ranges and each range.
 fn put_ranges(out: &mut Vec<u8>, ranges: &[Range]) -> Result<(), AllocError>
     ensures { OnOk result (out.new.items ≡ out.old.items ++ listed range ranges.now) }
 {
@@ -75,7 +80,7 @@ fn put_ranges(out: &mut Vec<u8>, ranges: &[Range]) -> Result<(), AllocError>
     Ok(())
 }
 
-/// Writes the points at the end.
+/// Appends the number of points and each point.
 fn put_points(out: &mut Vec<u8>, points: &[Point]) -> Result<(), AllocError>
     ensures bytes { OnOk result (out.new.items ≡ out.old.items ++ listed point points.now) }
     ensures values { OnOk result (ValuesFit points.now) }
@@ -88,6 +93,7 @@ fn put_points(out: &mut Vec<u8>, points: &[Point]) -> Result<(), AllocError>
     Ok(())
 }
 
+/// Appends an id in sixteen bytes.
 #[tactic(auto, unfolding(crate::specs::Grammar::number))]
 fn put_id(out: &mut Vec<u8>, id: u128) -> Result<(), AllocError>
     ensures { OnOk result (out.new.items ≡ out.old.items ++ number w128 id) }
@@ -95,6 +101,7 @@ fn put_id(out: &mut Vec<u8>, id: u128) -> Result<(), AllocError>
     out.extend_from_slice(&id.to_be_bytes())
 }
 
+/// Appends the number of a stream in four bytes.
 #[tactic(auto, unfolding(crate::specs::Grammar::number))]
 fn put_stream(out: &mut Vec<u8>, stream: u32) -> Result<(), AllocError>
     ensures { OnOk result (out.new.items ≡ out.old.items ++ number w32 stream) }
@@ -102,6 +109,7 @@ fn put_stream(out: &mut Vec<u8>, stream: u32) -> Result<(), AllocError>
     out.extend_from_slice(&stream.to_be_bytes())
 }
 
+/// Appends a count in eight bytes.
 #[tactic(auto, unfolding(crate::specs::Grammar::number))]
 fn put_count(out: &mut Vec<u8>, count: usize) -> Result<(), AllocError>
     ensures { OnOk result (out.new.items ≡ out.old.items ++ number w64 count) }
@@ -109,6 +117,7 @@ fn put_count(out: &mut Vec<u8>, count: usize) -> Result<(), AllocError>
     out.extend_from_slice(&(count as u64).to_be_bytes())
 }
 
+/// Appends a signed number in eight bytes.
 #[tactic(auto, unfolding(crate::specs::Grammar::number, crate::specs::Grammar::signed))]
 fn put_signed(out: &mut Vec<u8>, z: i64) -> Result<(), AllocError>
     ensures { OnOk result (out.new.items ≡ out.old.items ++ signed z) }

@@ -1,12 +1,12 @@
 ghost use Rattle.std.specs.Prelude.{◌≡◌, ◌≢◌, ◌<◌, ◌≤◌, ◌^◌, ◌++◌, ℕ, List, length, IfSome, IfNone};
 ghost use Rattle.std.specs.Int.{w32, w64, w128};
 ghost use Rattle.btr_entry.specs.Grammar.{number, signed};
-ghost use Rattle.btr_entry.specs.Fields.{IsCounted};
+ghost use Rattle.btr_entry.specs.Fields.{IsItems};
 
 use btr_base::MAX_COMMIT_POINTS;
 
-/// The number in all of the bytes, or `None` where these are not sixteen.
-pub fn u128_of(bytes: &[u8]) -> Option<u128>
+/// Reads the number of all sixteen bytes. Returns `None` if there are more or fewer.
+pub fn read_u128(bytes: &[u8]) -> Option<u128>
     ensures some { IfSome result (λ n. bytes.now ≡ number w128 n) }
     ensures none { IfNone result (length bytes.now ≢ 16) }
 {
@@ -14,8 +14,8 @@ pub fn u128_of(bytes: &[u8]) -> Option<u128>
     Some(u128::from_be_bytes(array))
 }
 
-/// The number in the first four bytes and the bytes behind it, or `None` where there are fewer.
-pub fn u32_at(bytes: &[u8]) -> Option<(u32, &[u8])>
+/// Reads a number from the first four bytes, and returns it with the bytes after it. Returns `None` if there are fewer.
+pub fn read_u32(bytes: &[u8]) -> Option<(u32, &[u8])>
     ensures some { IfSome result (λ x. bytes.now ≡ number w32 x.0 ++ x.1.now) }
     ensures fits { IfSome result (λ x. x.0 < 2 ^ 32) }
     ensures none { IfNone result (length bytes.now < 4) }
@@ -28,8 +28,8 @@ pub fn u32_at(bytes: &[u8]) -> Option<(u32, &[u8])>
     Some((number, rest))
 }
 
-/// The number in the first eight bytes and the bytes behind it, or `None` where there are fewer.
-fn u64_at(bytes: &[u8]) -> Option<(u64, &[u8])>
+/// Reads a number from the first eight bytes, and returns it with the bytes after it. Returns `None` if there are fewer.
+fn read_u64(bytes: &[u8]) -> Option<(u64, &[u8])>
     ensures some { IfSome result (λ x. bytes.now ≡ number w64 x.0 ++ x.1.now) }
     ensures fits { IfSome result (λ x. x.0 < 2 ^ 64) }
     ensures none { IfNone result (length bytes.now < 8) }
@@ -44,9 +44,9 @@ fn u64_at(bytes: &[u8]) -> Option<(u64, &[u8])>
     Some((number, rest))
 }
 
-/// The signed number in the first eight bytes, and the bytes behind it.
+/// Reads a signed number from the first eight bytes, and returns it with the bytes after it.
 #[tactic(auto, unfolding(crate::specs::Grammar::number, crate::specs::Grammar::signed))]
-pub fn i64_at(bytes: &[u8]) -> (i64, &[u8])
+pub fn read_i64(bytes: &[u8]) -> (i64, &[u8])
     requires { 8 ≤ length bytes.now }
     ensures { bytes.now ≡ signed result.0 ++ result.1.now }
 {
@@ -57,13 +57,13 @@ pub fn i64_at(bytes: &[u8]) -> (i64, &[u8])
     (number, rest)
 }
 
-/// The bytes of the items that stand behind their number, sixteen for each, and the bytes behind these. `None` where
-/// there are fewer bytes than the number needs, or the number is too great for a commit.
-pub fn counted(bytes: &[u8]) -> Option<(&[u8], &[u8])>
-    ensures some { IfSome result (λ x. IsCounted bytes.now x.0.now x.1.now) }
-    ensures none { IfNone result ((items rest : List ℕ) → IsCounted bytes.now items rest → ⊥) }
+/// Reads a count, and splits the bytes after it into the items, sixteen bytes for each, and the rest. Returns `None` if
+/// there are fewer bytes than the count needs, or the count is above that of a commit.
+pub fn split_items(bytes: &[u8]) -> Option<(&[u8], &[u8])>
+    ensures some { IfSome result (λ x. IsItems bytes.now x.0.now x.1.now) }
+    ensures none { IfNone result ((items rest : List ℕ) → IsItems bytes.now items rest → ⊥) }
 {
-    let (count, rest) = u64_at(bytes)?;
+    let (count, rest) = read_u64(bytes)?;
     if count > MAX_COMMIT_POINTS as u64 {
         return None;
     }

@@ -1,29 +1,29 @@
 ghost use Rattle.std.specs.Prelude.{◌≡◌, ℕ, ◌%◌, ◌++◌, List, length, ◌↔◌, IsTrue, IfOk, IfSome, IfNone};
 ghost use Rattle.std.specs.List.{flat_map, AllByRecursion};
 ghost use Rattle.btr_base.specs.Range.{RangeValue, IsRange, IsCut};
-ghost use Rattle.btr_base.specs.declared.point.Point.{Point as APoint};
+ghost use Rattle.btr_base.specs.declared.point.Point.{Point as PointSpec};
 ghost use Rattle.btr_base.specs.Bag.{IsInOrder};
-ghost use Rattle.btr_entry.specs.Grammar.{range, point, AreInDomain};
-ghost use Rattle.btr_entry.specs.Fields.{HasRoom, IsAdded};
+ghost use Rattle.btr_entry.specs.Grammar.{range, point};
+ghost use Rattle.btr_entry.specs.Fields.{PointFits, IsAdded};
 
-use crate::fields::i64_at;
-use btr_base::{Bag, END, FIRST, Point, Range, Ranges};
+use crate::fields::read_i64;
+use btr_base::{Bag, Point, Range, Ranges, are_in_domain};
 use std::alloc::{AllocError, Global};
 
-/// The ranges that the bytes are, or `None` where they are none that a commit can have.
-pub fn ranges_of(alloc: Global, bytes: &[u8]) -> Result<Option<Ranges>, AllocError>
+/// Reads the ranges of a commit. Returns `None` if no commit can have these ranges. An `Err` means out of memory.
+pub fn read_ranges(alloc: Global, bytes: &[u8]) -> Result<Option<Ranges>, AllocError>
     requires { length bytes.now % 16 ≡ 0 }
     ensures found { IfOk result (λ o. IfSome o (λ rs. IsCut rs × (flat_map range rs ≡ bytes.now))) }
     ensures none { IfOk result (λ o. IfNone o ((rs : List RangeValue) → IsCut rs → flat_map range rs ≡ bytes.now → ⊥)) }
 {
-    match each_range(alloc, bytes)? {
+    match read_each_range(alloc, bytes)? {
         Some(ranges) => Ok(Ranges::from_ranges(ranges)),
         None => Ok(None),
     }
 }
 
-/// Each of the ranges, in any order, or `None` where one is empty or reaches out of the domain.
-fn each_range(alloc: Global, bytes: &[u8]) -> Result<Option<Vec<Range>>, AllocError>
+/// Reads ranges in any order. Returns `None` if one is empty or not within the domain.
+fn read_each_range(alloc: Global, bytes: &[u8]) -> Result<Option<Vec<Range>>, AllocError>
     requires { length bytes.now % 16 ≡ 0 }
     ensures found { IfOk result (λ o. IfSome o (λ v. AllByRecursion IsRange v.items × (flat_map range v.items ≡ bytes.now))) }
     ensures none { IfOk result (λ o. IfNone o ((rs : List RangeValue) → AllByRecursion IsRange rs → flat_map range rs ≡ bytes.now → ⊥)) }
@@ -31,8 +31,8 @@ fn each_range(alloc: Global, bytes: &[u8]) -> Result<Option<Vec<Range>>, AllocEr
     let mut ranges = Vec::with_capacity(alloc, bytes.len() / 16)?;
     let mut rest = bytes;
     while !rest.is_empty() {
-        let (from, after) = i64_at(rest);
-        let (to, after) = i64_at(after);
+        let (from, after) = read_i64(rest);
+        let (to, after) = read_i64(after);
         let Some(range) = Range::new(from, to) else {
             return Ok(None);
         };
@@ -42,13 +42,13 @@ fn each_range(alloc: Global, bytes: &[u8]) -> Result<Option<Vec<Range>>, AllocEr
     Ok(Some(ranges))
 }
 
-/// The points that the bytes are, or `None` where they are none that a commit can add.
-pub fn bag_of(alloc: Global, bytes: &[u8]) -> Result<Option<Bag>, AllocError>
+/// Reads the points that a commit adds. Returns `None` if no commit can add these points. An `Err` means out of memory.
+pub fn read_bag(alloc: Global, bytes: &[u8]) -> Result<Option<Bag>, AllocError>
     requires { length bytes.now % 16 ≡ 0 }
     ensures found { IfOk result (λ o. IfSome o (λ b. IsAdded b × (flat_map point b ≡ bytes.now))) }
-    ensures none { IfOk result (λ o. IfNone o ((b : List APoint) → IsAdded b → flat_map point b ≡ bytes.now → ⊥)) }
+    ensures none { IfOk result (λ o. IfNone o ((b : List PointSpec) → IsAdded b → flat_map point b ≡ bytes.now → ⊥)) }
 {
-    let points = points_of(alloc, bytes)?;
+    let points = read_points(alloc, bytes)?;
     if !are_in_order(&points) {
         return Ok(None);
     }
@@ -58,38 +58,26 @@ pub fn bag_of(alloc: Global, bytes: &[u8]) -> Result<Option<Bag>, AllocError>
     Ok(Some(Bag::from_points(points)))
 }
 
-/// Each of the points, in any order and at any time.
-fn points_of(alloc: Global, bytes: &[u8]) -> Result<Vec<Point>, AllocError>
+/// Reads points in any order and at any time.
+fn read_points(alloc: Global, bytes: &[u8]) -> Result<Vec<Point>, AllocError>
     requires { length bytes.now % 16 ≡ 0 }
     ensures bytes { IfOk result (λ v. flat_map point v.items ≡ bytes.now) }
-    ensures room { IfOk result (λ v. AllByRecursion HasRoom v.items) }
+    ensures room { IfOk result (λ v. AllByRecursion PointFits v.items) }
 {
     let mut points = Vec::with_capacity(alloc, bytes.len() / 16)?;
     let mut rest = bytes;
     while !rest.is_empty() {
-        let (time, after) = i64_at(rest);
-        let (value, after) = i64_at(after);
+        let (time, after) = read_i64(rest);
+        let (value, after) = read_i64(after);
         points.push(Point { time, value })?;
         rest = after;
     }
     Ok(points)
 }
 
-/// Whether the points stand in order.
+/// Returns whether the points are in order.
 fn are_in_order(points: &[Point]) -> bool
     ensures { IsTrue result ↔ IsInOrder points.now }
 {
     points.is_sorted()
-}
-
-/// Whether the time of each point is inside the domain.
-fn are_in_domain(points: &[Point]) -> bool
-    ensures { IsTrue result ↔ AreInDomain points.now }
-{
-    for point in points {
-        if point.time < FIRST || END <= point.time {
-            return false;
-        }
-    }
-    true
 }

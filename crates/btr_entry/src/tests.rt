@@ -1,4 +1,4 @@
-//! The worked examples of the format, and bytes that are refused.
+//! Worked examples of the format, and bytes that are refused.
 
 use crate::decoding::decode;
 use crate::encoding::{encode, spelling_length};
@@ -8,18 +8,20 @@ use btr_hist::Entry;
 use std::alloc::{AllocError, Global};
 use std::test::Fail;
 
+/// The bytes of a create.
 const CREATE: [u8; 17] = [
     0x01, 0x11, 0x11, 0x11, 0x11, 0x11, 0x11, 0x41, 0x11, 0x81, 0x11, 0x11, 0x11, 0x11, 0x11, 0x11,
     0x11,
 ];
 
+/// The points of `INSERT`.
 const POINTS: [Point; 3] = [
     Point { time: 0, value: 5 },
     Point { time: 3, value: 7 },
     Point { time: 4, value: -2 },
 ];
 
-/// A commit that adds these points to stream 0.
+/// The bytes of a commit that adds `POINTS` to stream 0.
 const INSERT: [u8; 69] = [
     2, 0, 0, 0, 0, // kind and stream
     0, 0, 0, 0, 0, 0, 0, 0, // number of ranges
@@ -29,7 +31,7 @@ const INSERT: [u8; 69] = [
     0, 0, 0, 0, 0, 0, 0, 4, 0xff, 0xff, 0xff, 0xff, 0xff, 0xff, 0xff, 0xfe,
 ];
 
-/// A commit of stream 258 with these ranges and points, as they stand.
+/// Returns the bytes of a commit to stream 258 with these ranges and points, in this order.
 fn commit(
     alloc: Global,
     ranges: &[(i64, i64)],
@@ -41,6 +43,7 @@ fn commit(
     Ok(bytes)
 }
 
+/// Appends the number of pairs and each pair.
 fn push_pairs(bytes: &mut Vec<u8>, pairs: &[(i64, i64)]) -> Result<(), AllocError> {
     bytes.extend_from_slice(&(pairs.len() as u64).to_be_bytes())?;
     for (first, second) in pairs {
@@ -50,12 +53,13 @@ fn push_pairs(bytes: &mut Vec<u8>, pairs: &[(i64, i64)]) -> Result<(), AllocErro
     Ok(())
 }
 
+/// Returns whether the bytes are those of no entry.
 fn is_refused(alloc: Global, bytes: &[u8]) -> Result<bool, AllocError> {
     Ok(decode(alloc, bytes)?.is_none())
 }
 
-/// Whether the bytes are those of an entry, which has them as its spelling again.
-fn is_spelled_again(alloc: Global, bytes: &[u8]) -> Result<bool, AllocError> {
+/// Returns whether the bytes are those of an entry whose spelling is these bytes.
+fn round_trips(alloc: Global, bytes: &[u8]) -> Result<bool, AllocError> {
     match decode(alloc, bytes)? {
         Some(entry) => {
             let length = spelling_length(&entry);
@@ -74,7 +78,7 @@ fn create_has_its_spelling(rt: HostRuntime) -> Result<(), Fail> {
     let bytes = encode(rt.alloc(), &entry)?;
     assert_eq!(rt; bytes.as_slice(), CREATE.as_slice());
     assert_eq!(rt; spelling_length(&entry), 17);
-    assert!(rt; is_spelled_again(rt.alloc(), &CREATE)?);
+    assert!(rt; round_trips(rt.alloc(), &CREATE)?);
     one_spelling();
     Ok(())
 }
@@ -90,7 +94,7 @@ fn insert_is_read_and_spelled_again(rt: HostRuntime) -> Result<(), Fail> {
         }
         Entry::Create { .. } => return Err("the bytes are no commit".into()),
     }
-    assert!(rt; is_spelled_again(rt.alloc(), &INSERT)?);
+    assert!(rt; round_trips(rt.alloc(), &INSERT)?);
     Ok(())
 }
 
@@ -101,7 +105,7 @@ fn commits_at_the_bounds_are_read(rt: HostRuntime) -> Result<(), Fail> {
     let apart = commit(alloc, &[(0, 1), (2, 3)], &[(FIRST, 0), (END - 1, -1)])?;
     let equal = commit(alloc, &[], &[(7, 1), (7, 1), (7, 2)])?;
     for bytes in [&whole, &apart, &equal] {
-        assert!(rt; is_spelled_again(alloc, bytes)?);
+        assert!(rt; round_trips(alloc, bytes)?);
     }
     Ok(())
 }
@@ -123,7 +127,7 @@ fn bytes_outside_the_grammar_are_refused(rt: HostRuntime) -> Result<(), Fail> {
     let unordered_ranges = commit(alloc, &[(4, 5), (0, 1)], &[])?;
     let before = commit(alloc, &[], &[(FIRST - 1, 0)])?;
     let at_the_end = commit(alloc, &[], &[(END, 0)])?;
-    let behind = commit(alloc, &[(0, END + 1)], &[])?;
+    let past_the_end = commit(alloc, &[(0, END + 1)], &[])?;
     for bytes in [
         &longer,
         &unordered,
@@ -134,7 +138,7 @@ fn bytes_outside_the_grammar_are_refused(rt: HostRuntime) -> Result<(), Fail> {
     ] {
         assert!(rt; is_refused(alloc, bytes)?);
     }
-    for bytes in [&unordered_ranges, &before, &at_the_end, &behind] {
+    for bytes in [&unordered_ranges, &before, &at_the_end, &past_the_end] {
         assert!(rt; is_refused(alloc, bytes)?);
     }
     assert!(rt; is_refused(alloc, &four)?);

@@ -5,7 +5,7 @@ use Rattle.std.proofs.lemmas.Int.{to_z-of_z}
 use Rattle.btr_base.specs.declared.point.Point.{Point}
 use Rattle.btr_base.proofs.ListLemmas.{each-append}
 use Rattle.btr_entry.specs.Grammar.{signed, point, ValuesFit}
-use Rattle.btr_entry.proofs.Items.{Taken-wrote}
+use Rattle.btr_entry.proofs.ItemLemmas.{Taken-wrote}
 use Rattle.btr_entry.proofs.encoding.put_points.Goals as goal
 
 pub loop-point-preserved : goal.loop-point-preserved

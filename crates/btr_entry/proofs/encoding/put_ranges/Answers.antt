@@ -3,7 +3,7 @@ use Rattle.std.proofs.lemmas.List.{take_more}
 use Rattle.std.proofs.lemmas.Int.{to_z-of_z}
 use Rattle.btr_base.specs.Range.{RangeValue}
 use Rattle.btr_entry.specs.Grammar.{signed, range}
-use Rattle.btr_entry.proofs.Items.{Taken-wrote, from_fits, to_fits}
+use Rattle.btr_entry.proofs.ItemLemmas.{Taken-wrote, from_fits, to_fits}
 use Rattle.btr_entry.proofs.encoding.put_ranges.Goals as goal
 
 pub loop-range-preserved : goal.loop-range-preserved

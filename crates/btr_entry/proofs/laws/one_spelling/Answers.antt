@@ -1,4 +1,4 @@
-use Rattle.btr_entry.proofs.Spellings.{same_entry}
+use Rattle.btr_entry.proofs.SpellingLemmas.{same_entry}
 use Rattle.btr_entry.proofs.laws.one_spelling.Goals as goal
 
 pub returns : goal.returns
