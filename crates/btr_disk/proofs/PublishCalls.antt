@@ -42,7 +42,7 @@ module _ (old : Image) (address : ℕ) (body : List ℕ) (place : ℕ) where
 
     with_body : (mid c : Image) → Has mid address body → SameBut address (length body) old mid → SameBut place 4096 mid c → HasBody old address body place c
     with_body mid c has but then = record {
-      stands = Has-along mid c address body has (λ k low high. SameBut-at place 4096 mid c then k (apart k low high));
+      stored = Has-along mid c address body has (λ k low high. SameBut-at place 4096 mid c then k (apart k low high));
       elsewhere = SameButTwo-from address (length body) place 4096 old mid c but then;
     }
 
@@ -54,9 +54,9 @@ module _ (old : Image) (address : ℕ) (body : List ℕ) (place : ℕ) where
 
     -- what stands after it, where it succeeded
     pub gate_written : (mid c : Image) (gate : List ℕ) → Has mid address body → SameBut address (length body) old mid → SameBut place 4096 mid c → Has c place gate → Published old address body place gate c
-    gate_written mid c gate has but then stands =
+    gate_written mid c gate has but then stored =
         let it = with_body mid c has but then in
-        record { body_stands = it.stands; gate_stands = stands; elsewhere = it.elsewhere }
+        record { body_stored = it.stored; gate_stored = stored; elsewhere = it.elsewhere }
 
     -- the second sync
     pub gate_synced : (mid c d : Image) → Has mid address body → SameBut address (length body) old mid → SameBut place 4096 mid c → Same c d → IsBeforeOrHasBody old address body place d
@@ -65,7 +65,7 @@ module _ (old : Image) (address : ℕ) (body : List ℕ) (place : ℕ) where
 
 pub Published-Same : (old : Image) (address : ℕ) (body : List ℕ) (place : ℕ) (gate : List ℕ) (c d : Image) → Published old address body place gate c → Same c d → Published old address body place gate d
 Published-Same old address body place gate c d it same = record {
-  body_stands = Has-Same c d address body same it.body_stands;
-  gate_stands = Has-Same c d place gate same it.gate_stands;
+  body_stored = Has-Same c d address body same it.body_stored;
+  gate_stored = Has-Same c d place gate same it.gate_stored;
   elsewhere = λ k out out_too. same k ∙ it.elsewhere k out out_too;
 }

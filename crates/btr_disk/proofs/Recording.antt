@@ -225,17 +225,17 @@ Has-part bytes address n fits =
     sym (get_or-take n (drop address bytes) k 0 few ∙ get_or-drop address bytes k 0))
 
 -- bytes that were put in the middle of a list, of which no more than `size` is kept
-pub Has-placed : (size address : ℕ) (prefix bytes behind rest : List ℕ) → address ≤ length prefix → address + length bytes ≤ size → Has (contents_of (take size ((take address prefix ++ (bytes ++ behind)) ++ rest))) address bytes
-Has-placed size address prefix bytes behind rest within fits =
+pub Has-placed : (size address : ℕ) (prefix bytes after rest : List ℕ) → address ≤ length prefix → address + length bytes ≤ size → Has (contents_of (take size ((take address prefix ++ (bytes ++ after)) ++ rest))) address bytes
+Has-placed size address prefix bytes after rest within fits =
     let start = take address prefix in
-    let middle = bytes ++ behind in
+    let middle = bytes ++ after in
     let length_start : length start ≡ address = omega (arith, length-take address prefix) in
     Has-from_each _ address bytes
     (λ k lt.
-    let inner : address + k < length (start ++ middle) = omega (arith, length-append start middle, length-append bytes behind) in
+    let inner : address + k < length (start ++ middle) = omega (arith, length-append start middle, length-append bytes after) in
     let at : (address + k) - address ≡ k = omega arith in
     get_or-take size ((start ++ middle) ++ rest) (address + k) 0 (omega arith)
     ∙ get_or_append_left (start ++ middle) rest 0 (address + k) inner
     ∙ get_or-append_right start middle address (address + k) 0 length_start (omega arith)
     ∙ ap (λ (i : ℕ). get_or middle i 0) at
-    ∙ get_or_append_left bytes behind 0 k lt)
+    ∙ get_or_append_left bytes after 0 k lt)

@@ -50,19 +50,19 @@ run_of_entry h e copy number made run copied allowed numbered spelled made_is ru
 module _ {D : Type 0} {disk : Ghosts D} (old : Engine D disk) (e : Entry) (run : List ℕ) (is : IsRunOf (history_of old) e run) where
   -- the answer of an append of the run to a log that is too short for it
   abbrev pub full : Answer
-  full = Err (Full (need (append.body_of run)) (room_of old))
+  full = Err (Full (need (append.body_in_run run)) (room_of old))
 
   -- such a log always answers so
   abbrev pub TellsFull : Answer → Type 0
   TellsFull answer = IsFalse (is_stopped old) → append.IsTooLong old.log run → answer ≡ full
 
-  needed : need (append.body_of run) ≡ need_of e
+  needed : need (append.body_in_run run) ≡ need_of e
   needed = needs (length (history_of old) + 1) e run is.bytes
 
   -- an append that answers otherwise found room
   pub fits_unless_full : (answer : Answer) → IsFalse (is_stopped old) → TellsFull answer → (answer ≡ full → ⊥) → need_of e ≤ room_of old
   fits_unless_full answer runs tells_full other =
-      let size : need (append.body_of run) ≡ need_of e = needed in
+      let size : need (append.body_in_run run) ≡ need_of e = needed in
       ⊎_elim (λ short. absurd (other (tells_full runs (omega arith)))) (λ le. le) (cases_lt (room_of old) (need_of e))
 
   -- ---- where it fails
@@ -83,7 +83,7 @@ module _ {D : Type 0} {disk : Ghosts D} (old : Engine D disk) (e : Entry) (run :
   -- ---- at each moment of it
 
   -- the body that it brings is the entry's
-  its_body : append.body_of run ≡ body_of (length (history_of old) + 1) e
+  its_body : append.body_in_run run ≡ body_of (length (history_of old) + 1) e
   its_body = brings (length (history_of old) + 1) e run is.bytes
 
   -- there is a block behind it for the next gate
@@ -92,16 +92,16 @@ module _ {D : Type 0} {disk : Ghosts D} (old : Engine D disk) (e : Entry) (run :
       let below : tail_of old < blocks_of old = old.log.tail_inside in
       omega arith
 
-  pub moments : (after : Log D disk) → need_of e ≤ room_of old → IsAtRest old → log.LogLeaves old.log after (append.IsMoment (disk.contents (device old)) (tail_of old) (bodies (history_of old)) (append.body_of run)) → log.LogLeaves old.log after (IsBeforeOrAfter (disk.size (device old)) (history_of old) e)
+  pub moments : (after : Log D disk) → need_of e ≤ room_of old → IsAtRest old → log.LogLeaves old.log after (append.IsMoment (disk.contents (device old)) (tail_of old) (bodies (history_of old)) (append.body_in_run run)) → log.LogLeaves old.log after (IsBeforeOrAfter (disk.size (device old)) (history_of old) e)
   moments after fits rest leaves =
       let h = history_of old in
       let contents = disk.contents (device old) in
-      weakens disk.calls disk.images_since (device old) (log.device after) (append.IsMoment contents (tail_of old) (bodies h) (append.body_of run)) (IsBeforeOrAfter (disk.size (device old)) h e)
-      (before_or_after (disk.size (device old)) contents (blocks_of old) (tail_of old) h rest.stands e is.spelled is.allowed (inside fits) (append.body_of run) its_body)
+      weakens disk.calls disk.images_since (device old) (log.device after) (append.IsMoment contents (tail_of old) (bodies h) (append.body_in_run run)) (IsBeforeOrAfter (disk.size (device old)) h e)
+      (before_or_after (disk.size (device old)) contents (blocks_of old) (tail_of old) h rest.stands e is.spelled is.allowed (inside fits) (append.body_in_run run) its_body)
       leaves
 
   -- where it fails: without a call of the device, or by the device
-  pub moments_of_fault : (after : Log D disk) (fault : AppendFault) → IsFalse (is_stopped old) → TellsFull (Err fault) → append.AppendCause old.log after run fault → ((c : Image) → disk.images_since (device old) (disk.calls (device old)) c → disk.images_now (device old) c) → IsAtRest old → log.LogLeaves old.log after (append.IsMoment (disk.contents (device old)) (tail_of old) (bodies (history_of old)) (append.body_of run)) → log.LogLeaves old.log after (IsBeforeOrAfter (disk.size (device old)) (history_of old) e)
+  pub moments_of_fault : (after : Log D disk) (fault : AppendFault) → IsFalse (is_stopped old) → TellsFull (Err fault) → append.AppendCause old.log after run fault → ((c : Image) → disk.images_since (device old) (disk.calls (device old)) c → disk.images_now (device old) c) → IsAtRest old → log.LogLeaves old.log after (append.IsMoment (disk.contents (device old)) (tail_of old) (bodies (history_of old)) (append.body_in_run run)) → log.LogLeaves old.log after (IsBeforeOrAfter (disk.size (device old)) (history_of old) e)
   moments_of_fault after (Full n room) runs tells_full cause only_now rest leaves =
       subst (λ l. log.LogLeaves old.log l (IsBeforeOrAfter (disk.size (device old)) (history_of old) e)) (sym cause.4) (no_moment old e only_now rest)
   moments_of_fault after Fault runs tells_full cause only_now rest leaves =
@@ -124,13 +124,13 @@ module _ {D : Type 0} {disk : Ghosts D} (old : Engine D disk) (e : Entry) (run :
       is_receipt = is_receipt;
     }
 
-    pub at_rest : need_of e ≤ room_of old → log.KeepsBounds old.log new.log → IsAtRest old → Published (disk.contents (device old)) (4096 * (tail_of old + 1)) run (4096 * tail_of old) gate_block (disk.contents (device new)) → log.IsAtRest new.log (bodies (history_of old) ++ append.body_of run ∷ []) → IsAtRest new
+    pub at_rest : need_of e ≤ room_of old → log.KeepsBounds old.log new.log → IsAtRest old → Published (disk.contents (device old)) (4096 * (tail_of old + 1)) run (4096 * tail_of old) gate_block (disk.contents (device new)) → log.IsAtRest new.log (bodies (history_of old) ++ append.body_in_run run ∷ []) → IsAtRest new
     at_rest fits kept rest written log_rests =
         let h = history_of old in
         let size = disk.size (device old) in
         let now = disk.contents (device new) in
         let below : (k : ℕ) → k < 4096 * tail_of old → now k ≡ disk.contents (device old) k = λ k lt. written.elsewhere k (λ le. absurd (omega arith)) (λ le. absurd (omega arith)) in
-        let its_log = AtRest-IsLog now (disk.images_now (device new)) (tail_of new) (bodies h ++ append.body_of run ∷ []) log_rests in
+        let its_log = AtRest-IsLog now (disk.images_now (device new)) (tail_of new) (bodies h ++ append.body_in_run run ∷ []) log_rests in
         let stands : StandsTo size now (blocks_of old) (tail_of old + need_of e) (h ++ e ∷ []) = stands_with size (disk.contents (device old)) (blocks_of old) (tail_of old) h rest.stands e is.spelled is.allowed (inside fits) now below (subst (λ b. IsLog now first_gate (bodies h ++ b ∷ [])) its_body its_log) in
         let sized = subst (λ n. StandsTo n now (blocks_of old) (tail_of old + need_of e) (h ++ e ∷ [])) (sym kept.device_kept.same_size) stands in
         let blocked = subst (λ n. StandsTo (disk.size (device new)) now n (tail_of old + need_of e) (h ++ e ∷ [])) (sym kept.blocks) sized in

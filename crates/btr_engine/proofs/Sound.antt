@@ -47,7 +47,7 @@ bodies-one number (e ∷ h) (f ∷ k) some few all all_too same =
 -- the numbers of a history's entries are small
 short : (size : ℕ) (image : Image) (blocks tail : ℕ) (h : List Entry) → StandsTo size image blocks tail h → 1 + length h < 2 ^ 64
 short size image blocks tail h st =
-    omega (arith, extents-long image first_gate 1 h tail st.extents, st.inside, st.same_blocks, st.chosen.stands.spelled.keeps.blocks_to)
+    omega (arith, extents-long image first_gate 1 h tail st.extents, st.inside, st.same_blocks, st.chosen.stored.spelled.keeps.blocks_to)
 
 pub one_history : OneHistoryStands
 one_history size image h k first second =
@@ -70,13 +70,13 @@ module _ (image : Image) (blocks gate block : ℕ) (before : List Entry) (e : En
 
   head_stands : Has image (4096 * (gate + 1)) (head_bytes head)
   head_stands =
-      subst (Has image (4096 * (gate + 1))) extent.is_body.spells.spelling (Has-take image (4096 * (gate + 1)) 64 body extent.stands)
+      subst (Has image (4096 * (gate + 1))) extent.is_body.spells.spelling (Has-take image (4096 * (gate + 1)) 64 body extent.stored)
 
   -- the head there is the body's
   one_head : (other : Head) → SpellsAt image (gate + 1) other → other ≡ head
   one_head other at =
       head_bytes-one other head at.is_head extent.is_body.spells.is_head
-      (Has-one image (4096 * (gate + 1)) (head_bytes other) (head_bytes head) (length-head_bytes other ∙ sym (length-head_bytes head)) at.stands head_stands)
+      (Has-one image (4096 * (gate + 1)) (head_bytes other) (head_bytes head) (length-head_bytes other ∙ sym (length-head_bytes head)) at.stored head_stands)
 
   room : (other : Head) → SpellsAt image (gate + 1) other → blocks ≤ gate + other.n + 1 → ⊥
   room other at much =
@@ -87,13 +87,13 @@ module _ (image : Image) (blocks gate block : ℕ) (before : List Entry) (e : En
   extent_sound damaged =
       ⊎_elim
       (λ end. let at = end.0 in omega (arith, at, inside))
-      (λ cause. ⊎_elim (λ none. none head (record { is_head = extent.is_body.spells.is_head; stands = head_stands })) (λ much. room much.0 much.1 much.2) cause.2)
+      (λ cause. ⊎_elim (λ none. none head (record { is_head = extent.is_body.spells.is_head; stored = head_stands })) (λ much. room much.0 much.1 much.2) cause.2)
       damaged.damage
 
   refusal_sound : IsRefusedExtent image blocks gate before block → ⊥
   refusal_sound r =
       let other = body_of (length before + 1) r.entry in
-      let same = IsBody-one image (4096 * (gate + 1)) other body r.head head r.extent.is_body extent.is_body r.extent.stands extent.stands in
+      let same = IsBody-one image (4096 * (gate + 1)) other body r.head head r.extent.is_body extent.is_body r.extent.stored extent.stored in
       let entry : r.entry ≡ e = body_of-one (length before + 1) r.entry e (omega arith) few r.spelled spelled same in
       let none : rejection before r.entry ≡ None = ap (rejection before) entry ∙ allowed in
       let some = r.refused in
@@ -102,7 +102,7 @@ module _ (image : Image) (blocks gate block : ℕ) (before : List Entry) (e : En
   entry_sound : IsDamagedEntry image blocks gate before block → ⊥
   entry_sound damage =
       ⊎_elim extent_sound
-      (λ n. ⊎_elim (λ o. o.no_entry e spelled (IsBody-one image (4096 * (gate + 1)) o.body body o.head head o.extent.is_body extent.is_body o.extent.stands extent.stands)) refusal_sound n)
+      (λ n. ⊎_elim (λ o. o.no_entry e spelled (IsBody-one image (4096 * (gate + 1)) o.body body o.head head o.extent.is_body extent.is_body o.extent.stored extent.stored)) refusal_sound n)
       damage
 
 -- two walks from one gate behind the same entries, of which one comes to a closed gate, and the other to a damaged entry
@@ -118,7 +118,7 @@ walk_sound image blocks block gate number before (e ∷ h) [] tail other at few 
     let extent = subst (λ n. IsExtent image gate (body_of n e) x.0.0) at x.0.1 in
     entry_sound image blocks gate block before e x.0.0 (omega (arith, at, few)) all.0 allowed extent (omega (arith, le, inside, need-body_of number e)) here
 walk_sound image blocks block gate number before (e ∷ h) (f ∷ k) tail other at few all all_too legal x closed inside y damage =
-    let same = IsBody-one image (4096 * (gate + 1)) (body_of number e) (body_of number f) x.0.0 y.0.0 x.0.1.is_body y.0.1.is_body x.0.1.stands y.0.1.stands in
+    let same = IsBody-one image (4096 * (gate + 1)) (body_of number e) (body_of number f) x.0.0 y.0.0 x.0.1.is_body y.0.1.is_body x.0.1.stored y.0.1.stored in
     let entry : e ≡ f = body_of-one number e f (omega (arith, at)) (omega (arith, few)) all.0 all_too.0 same in
     let rest = subst (λ b. Extents image (gate + need b) (bodies_from (suc number) k) other) (sym same) y.1 in
     let behind = subst (λ l. IsDamagedEntry image blocks other l block) (sym (append_assoc before (e ∷ []) k)) (subst (λ g. IsDamagedEntry image blocks other (before ++ g ∷ k) block) (sym entry) damage) in

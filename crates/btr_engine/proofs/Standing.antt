@@ -34,14 +34,14 @@ HasSuper-along size old new s agree has =
       opened = (has.opened.0, IsOpen-along old new (2 * s.side) (λ k low high. agree k (omega arith)) has.opened.1);
       spelled = record {
         has_block = has.spelled.has_block;
-        stands = Has-along old new (4096 * (2 * s.side + 1)) (super_bytes s) has.spelled.stands (λ k low high. agree k (omega (arith, length-super_bytes s)));
+        stored = Has-along old new (4096 * (2 * s.side + 1)) (super_bytes s) has.spelled.stored (λ k low high. agree k (omega (arith, length-super_bytes s)));
         keeps = has.spelled.keeps;
       };
     }
 
 IsChosen-along : (size : ℕ) (old new : Image) (s : Super) → AgreeInPrefix old new → IsChosen size old s → IsChosen size new s
 IsChosen-along size old new s agree chosen = record {
-  stands = HasSuper-along size old new s agree chosen.stands;
+  stored = HasSuper-along size old new s agree chosen.stored;
   newest = λ opened.
       let back = chosen.newest (opened.0, IsOpen-along new old (2 * (1 - s.side)) (λ k low high. sym (agree k (omega arith))) opened.1) in
       (back.0, HasSuper-along size old new back.0 agree back.1, back.2, back.3);

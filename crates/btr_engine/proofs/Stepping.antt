@@ -12,7 +12,7 @@ use Rattle.btr_disk.proofs.GateLemmas.{length-zeros}
 use Rattle.btr_disk.proofs.MomentLemmas.{begins}
 use Rattle.btr_log.specs.Extents.{need}
 use Rattle.btr_log.specs.Append as append
-use Rattle.btr_log.proofs.AppendLemmas.{body_of-append, IsAppendRun-from}
+use Rattle.btr_log.proofs.AppendLemmas.{body_in_run-append, IsAppendRun-from}
 use Rattle.btr_log.specs.Log as log
 use Rattle.btr_hist.specs.declared.entry.Entry.{Entry}
 use Rattle.btr_hist.specs.declared.entry.Entry.TheVariants.{Create, Commit}
@@ -37,10 +37,10 @@ use Rattle.btr_engine.proofs.Standing.{stands_still}
 
 module _ (number : ℕ) (e : Entry) (run : List ℕ) (is : run ≡ body_of number e ++ zeros 4096) where
   -- the body that it brings
-  pub brings : append.body_of run ≡ body_of number e
-  brings = ap append.body_of is ∙ body_of-append (body_of number e)
+  pub brings : append.body_in_run run ≡ body_of number e
+  brings = ap append.body_in_run is ∙ body_in_run-append (body_of number e)
 
-  pub needs : need (append.body_of run) ≡ need_of e
+  pub needs : need (append.body_in_run run) ≡ need_of e
   needs = ap need brings ∙ need-body_of number e
 
   pub is_append_run : 1 ≤ number → number < 2 ^ 64 → IsSpelled e → append.IsAppendRun run

@@ -6,18 +6,18 @@ use Rattle.btr_disk.specs.Gate.{zeros}
 use Rattle.btr_disk.proofs.GateLemmas.{length-zeros}
 use Rattle.btr_log.specs.declared.head.Head.{Head}
 use Rattle.btr_log.specs.Extents.{IsBody, need}
-use Rattle.btr_log.specs.Append.{body_of, IsAppendRun}
+use Rattle.btr_log.specs.Append.{body_in_run, IsAppendRun}
 
-pub body_of-append : (body : List ℕ) → body_of (body ++ zeros 4096) ≡ body
-body_of-append body =
+pub body_in_run-append : (body : List ℕ) → body_in_run (body ++ zeros 4096) ≡ body
+body_in_run-append body =
     take_at body (zeros 4096) (length (body ++ zeros 4096) - 4096) (omega (arith, length-append body (zeros 4096), length-zeros 4096))
 
 pub IsAppendRun-from : (body : List ℕ) (head : Head) → IsBody body head → IsAppendRun (body ++ zeros 4096)
 IsAppendRun-from body head is =
-    let e = sym (body_of-append body) in
-    record { body = (head, subst (λ b. IsBody b head) e is); closed_behind = ap (λ b. b ++ zeros 4096) e }
+    let e = sym (body_in_run-append body) in
+    record { body = (head, subst (λ b. IsBody b head) e is); closed_after = ap (λ b. b ++ zeros 4096) e }
 
 -- the bytes of a run are the blocks that it needs
-pub length-run : (run : List ℕ) → IsAppendRun run → length run ≡ 4096 * need (body_of run)
+pub length-run : (run : List ℕ) → IsAppendRun run → length run ≡ 4096 * need (body_in_run run)
 length-run run is =
-    omega (arith, ap length is.closed_behind, length-append (body_of run) (zeros 4096), length-zeros 4096, is.body.1.whole)
+    omega (arith, ap length is.closed_after, length-append (body_in_run run) (zeros 4096), length-zeros 4096, is.body.1.whole)

@@ -62,7 +62,7 @@ Extents-along old new gate (body ∷ rest) tail agree is =
         record {
           is_open = IsOpen-along old new gate (λ k low high. agree k low (omega arith)) one.is_open;
           is_body = one.is_body;
-          stands = Has-along old new (4096 * (gate + 1)) body one.stands (λ k low high. agree k (omega arith) (omega arith));
+          stored = Has-along old new (4096 * (gate + 1)) body one.stored (λ k low high. agree k (omega arith) (omega arith));
         },
       ),
       Extents-along old new (gate + need body) rest tail (λ k low high. agree k (omega arith) high) is.1,
@@ -94,7 +94,7 @@ Extents-one image gate [] (b ∷ ys) tail other x closed y closed_too =
 Extents-one image gate (a ∷ xs) [] tail other x closed y closed_too =
     absurd (closed_too (subst (IsOpen image) y x.0.1.is_open))
 Extents-one image gate (a ∷ xs) (b ∷ ys) tail other x closed y closed_too =
-    let same : a ≡ b = IsBody-one image (4096 * (gate + 1)) a b x.0.0 y.0.0 x.0.1.is_body y.0.1.is_body x.0.1.stands y.0.1.stands in
+    let same : a ≡ b = IsBody-one image (4096 * (gate + 1)) a b x.0.0 y.0.0 x.0.1.is_body y.0.1.is_body x.0.1.stored y.0.1.stored in
     let rest : Extents image (gate + need a) ys other = subst (λ c. Extents image (gate + need c) ys other) (sym same) y.1 in
     let more = Extents-one image (gate + need a) xs ys tail other x.1 closed rest closed_too in
     (cc, more.1)

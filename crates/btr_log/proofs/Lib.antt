@@ -4,5 +4,5 @@ pub mod FoundLemmas
 pub mod HeadLemmas
 pub mod LogLemmas
 mod Pieces
-mod Growth
-mod Prefixes
+mod AppendImages
+mod GateAndHead

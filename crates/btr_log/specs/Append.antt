@@ -12,13 +12,13 @@ use Rattle.btr_log.specs.Extents.{IsBody, need, IsLog, first_gate}
 use Rattle.btr_log.specs.Log.{device, tail_of, room_of, extents_of, is_stopped}
 
 -- the body that a run brings: all but its last block
-abbrev pub body_of : List ℕ → List ℕ
-body_of run = take (length run - 4096) run
+abbrev pub body_in_run : List ℕ → List ℕ
+body_in_run run = take (length run - 4096) run
 
 -- a body, and then a block of zeros for the place of the next gate
 pub record IsAppendRun (run : List ℕ) : Type 0 where
-  pub body : (head : Head) × IsBody (body_of run) head
-  pub closed_behind : run ≡ body_of run ++ zeros 4096
+  pub body : (head : Head) × IsBody (body_in_run run) head
+  pub closed_after : run ≡ body_in_run run ++ zeros 4096
 
 -- the image is the log of these bodies, or of these and one more
 abbrev pub IsLogOrMore : List (List ℕ) → List ℕ → Image → Type 0
@@ -34,7 +34,7 @@ pub record IsMoment (old : Image) (tail : ℕ) (bodies : List (List ℕ)) (body 
 module _ {D : Type 0} {disk : Ghosts D} where
   -- there are fewer blocks behind the tail than the run needs
   abbrev pub IsTooLong : Log D disk → List ℕ → Type 0
-  IsTooLong log run = room_of log < need (body_of run)
+  IsTooLong log run = room_of log < need (body_in_run run)
 
   -- its device has failed, within one to four calls, and it is stopped; it has no extent more
   pub record StopsByFault (old new : Log D disk) : Type 0 where
@@ -48,14 +48,14 @@ module _ {D : Type 0} {disk : Ghosts D} where
   -- why an append fails, and what the log is then
   abbrev pub AppendCause : Log D disk → Log D disk → List ℕ → AppendFault → Type 0
   AppendCause old new run (Full needed room) =
-      IsFalse (is_stopped old) × IsTooLong old run × (needed ≡ need (body_of run)) × (room ≡ room_of old) × (new ≡ old)
+      IsFalse (is_stopped old) × IsTooLong old run × (needed ≡ need (body_in_run run)) × (room ≡ room_of old) × (new ≡ old)
   AppendCause old new run Fault = IsFalse (is_stopped old) × StopsByFault old new
   AppendCause old new run (Stopped extents) =
       IsTrue (is_stopped old) × (extents ≡ extents_of old) × (new ≡ old)
 
   -- the log has one extent more, by four calls of the device
   pub record IsAppended (old new : Log D disk) (run : List ℕ) : Type 0 where
-    pub tail : tail_of new ≡ tail_of old + need (body_of run)
+    pub tail : tail_of new ≡ tail_of old + need (body_in_run run)
     pub extents : extents_of new ≡ extents_of old + 1
     pub calls : CountedTimes 4 (disk.calls (device old)) (disk.calls (device new))
     pub ran : is_stopped old ≡ false

@@ -27,7 +27,7 @@ left blocks tail = blocks - 1 - tail
 pub record IsExtent (image : Image) (gate : ℕ) (body : List ℕ) (head : Head) : Type 0 where
   pub is_open : IsOpen image gate
   pub is_body : IsBody body head
-  pub stands : Has image (4096 * (gate + 1)) body
+  pub stored : Has image (4096 * (gate + 1)) body
 
 -- the extents with these bodies stand one behind the other from one gate to another
 abbrev pub Extents : Image → ℕ → List (List ℕ) → ℕ → Type 0

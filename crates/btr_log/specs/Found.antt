@@ -17,7 +17,7 @@ use Rattle.btr_log.specs.Log.{device, blocks_of}
 -- a body with its head, and the gate behind it, which is inside the log's blocks
 pub record IsWholeExtent (blocks gate : ℕ) (head : Head) (body : List ℕ) (next : ℕ) : Type 0 where
   pub is_body : IsBody body head
-  pub behind : next ≡ gate + head.n + 1
+  pub follows : next ≡ gate + head.n + 1
   pub inside : next < blocks
 
 -- whatever the device tells
@@ -26,14 +26,14 @@ IsWhole blocks gate Closed = Unit {0}
 IsWhole blocks gate (Extent head body next) = IsWholeExtent blocks gate head body.items next
 
 -- what stands on the device
-abbrev pub Stands : Image → ℕ → Found → Type 0
-Stands image gate Closed = IsClosed image gate
-Stands image gate (Extent head body next) = IsOpen image gate × Has image (4096 * (gate + 1)) body.items
+abbrev pub MatchesDevice : Image → ℕ → Found → Type 0
+MatchesDevice image gate Closed = IsClosed image gate
+MatchesDevice image gate (Extent head body next) = IsOpen image gate × Has image (4096 * (gate + 1)) body.items
 
 -- in this image the block begins with the head
 pub record SpellsAt (image : Image) (block : ℕ) (head : Head) : Type 0 where
   pub is_head : IsHead head
-  pub stands : Has image (4096 * block) (head_bytes head)
+  pub stored : Has image (4096 * block) (head_bytes head)
 
 -- the block begins with no head
 abbrev pub HasNoHead : Image → ℕ → Type 0

@@ -4,7 +4,7 @@ ghost use Rattle.btr_disk.specs.Gate.{gate_block};
 ghost use Rattle.btr_disk.specs.Publish.{Published};
 ghost use Rattle.btr_log.specs.Extents.{need};
 ghost use Rattle.btr_log.specs.Log.{device, tail_of, room_of, extents_of, is_stopped, IsAtRest, LogLeaves, KeepsBounds};
-ghost use Rattle.btr_log.specs.Append.{body_of, IsAppendRun, IsTooLong, IsMoment, AppendCause, IsAppended};
+ghost use Rattle.btr_log.specs.Append.{body_in_run, IsAppendRun, IsTooLong, IsMoment, AppendCause, IsAppended};
 
 use crate::Log;
 use btr_disk::{BLOCK, Disk, open_gate, publish};
@@ -34,7 +34,7 @@ impl<D: Disk> Log<D> {
         ensures stopped { IsTrue (is_stopped self.old)
             → result ≡ Err (AppendFault.Stopped (extents_of self.old)) }
         ensures full { IsFalse (is_stopped self.old) → IsTooLong self.old run.now
-            → result ≡ Err (AppendFault.Full (need (body_of run.now)) (room_of self.old)) }
+            → result ≡ Err (AppendFault.Full (need (body_in_run run.now)) (room_of self.old)) }
         ensures cause { IfErr result (AppendCause self.old self.new run.now) }
         ensures kept { KeepsBounds self.old self.new }
         ensures appended { OnOk result (IsAppended self.old self.new run.now) }
@@ -42,9 +42,9 @@ impl<D: Disk> Log<D> {
             → OnOk result (Published (D.contents (device self.old)) (4096 * (tail_of self.old + 1)) run.now (4096 * tail_of self.old) gate_block (D.contents (device self.new))) }
         // where the log was at rest with some bodies
         ensures at_rest { D.is_observable → (bodies : List (List ℕ)) → IsAtRest self.old bodies
-            → OnOk result (IsAtRest self.new (bodies ++ body_of run.now ∷ [])) }
+            → OnOk result (IsAtRest self.new (bodies ++ body_in_run run.now ∷ [])) }
         ensures moments { D.is_observable → (bodies : List (List ℕ)) → IsAtRest self.old bodies
-            → LogLeaves self.old self.new (IsMoment (D.contents (device self.old)) (tail_of self.old) bodies (body_of run.now)) }
+            → LogLeaves self.old self.new (IsMoment (D.contents (device self.old)) (tail_of self.old) bodies (body_in_run run.now)) }
     {
         if self.stopped {
             return Err(AppendFault::Stopped {

@@ -5,7 +5,7 @@ ghost use Rattle.btr_log.specs.Head.{Spells, IsNoHead};
 ghost use Rattle.btr_disk.specs.Moments.{WroteNothing};
 ghost use Rattle.btr_disk.specs.Causes.{KeepsCounts};
 ghost use Rattle.btr_log.specs.Log.{device, blocks_of, KeepsLog, KeepsDevice, LogWroteNothing};
-ghost use Rattle.btr_log.specs.Found.{IsWhole, Stands, FindCause, ReadCause, ExtentCause};
+ghost use Rattle.btr_log.specs.Found.{IsWhole, MatchesDevice, FindCause, ReadCause, ExtentCause};
 
 use crate::{ExtentFault, Found, HEAD_BYTES, Head, Log};
 use btr_disk::{BLOCK, Disk, is_open_gate};
@@ -24,7 +24,7 @@ impl<D: Disk> Log<D> {
         ensures device { KeepsDevice self.old self.new }
         ensures unwritten { D.is_observable → LogWroteNothing self.old self.new }
         ensures whole { IfOk result (IsWhole (blocks_of self.old) gate) }
-        ensures stands { D.is_observable → IfOk result (Stands (D.contents (device self.old)) gate) }
+        ensures matches { D.is_observable → IfOk result (MatchesDevice (D.contents (device self.old)) gate) }
         ensures cause { IfErr result (ExtentCause self.old self.new gate) }
     {
         find_extent(alloc, &mut self.disk, self.blocks, gate)
@@ -44,7 +44,7 @@ fn find_extent<D: Disk>(
     ensures counts { KeepsCounts D.size D.calls D.faults disk.old disk.new }
     ensures unwritten { D.is_observable → WroteNothing D.calls D.contents D.images_now D.images_since disk.old disk.new }
     ensures whole { IfOk result (IsWhole blocks gate) }
-    ensures stands { D.is_observable → IfOk result (Stands (D.contents disk.old) gate) }
+    ensures matches { D.is_observable → IfOk result (MatchesDevice (D.contents disk.old) gate) }
     ensures cause { IfErr result (FindCause D.is_observable (D.contents disk.old) blocks gate (D.faults disk.old) (D.faults disk.new)) }
 {
     if gate + 1 == blocks {
@@ -76,7 +76,7 @@ fn find_at_end<D: Disk>(alloc: Global, disk: &mut D, gate: u64) -> Result<Found,
     ensures counts { KeepsCounts D.size D.calls D.faults disk.old disk.new }
     ensures unwritten { D.is_observable → WroteNothing D.calls D.contents D.images_now D.images_since disk.old disk.new }
     ensures whole { IfOk result (IsWhole (gate + 1) gate) }
-    ensures stands { D.is_observable → IfOk result (Stands (D.contents disk.old) gate) }
+    ensures matches { D.is_observable → IfOk result (MatchesDevice (D.contents disk.old) gate) }
     ensures cause { IfErr result (FindCause D.is_observable (D.contents disk.old) (gate + 1) gate (D.faults disk.old) (D.faults disk.new)) }
 {
     let block = read_blocks(alloc, disk, gate, 1)?;
@@ -110,7 +110,7 @@ fn read_blocks<D: Disk>(
     ensures counts { KeepsCounts D.size D.calls D.faults disk.old disk.new }
     ensures unwritten { D.is_observable → WroteNothing D.calls D.contents D.images_now D.images_since disk.old disk.new }
     ensures length { IfOk result (λ bytes. length bytes.items ≡ 4096 * count) }
-    ensures stands { D.is_observable → IfOk result (λ bytes. Has (D.contents disk.old) (4096 * first) bytes.items) }
+    ensures stored { D.is_observable → IfOk result (λ bytes. Has (D.contents disk.old) (4096 * first) bytes.items) }
     ensures cause { IfErr result (ReadCause (D.faults disk.old) (D.faults disk.new)) }
 {
     let mut bytes = zeroed(alloc, count)?;
@@ -142,17 +142,17 @@ fn read_body<D: Disk>(
     ensures unwritten { D.is_observable → WroteNothing D.calls D.contents D.images_now D.images_since disk.old disk.new }
     ensures length { IfOk result (λ body. length body.items ≡ 4096 * n) }
     ensures prefix { IfOk result (λ body. take 4096 body.items ≡ prefix.now) }
-    ensures stands { D.is_observable → Has (D.contents disk.old) (4096 * first) prefix.now
+    ensures stored { D.is_observable → Has (D.contents disk.old) (4096 * first) prefix.now
         → IfOk result (λ body. Has (D.contents disk.old) (4096 * first) body.items) }
     ensures cause { IfErr result (ReadCause (D.faults disk.old) (D.faults disk.new)) }
 {
-    let mut body = begun(alloc, prefix, n)?;
-    read_behind(disk, first, &mut body)?;
+    let mut body = with_first_block(alloc, prefix, n)?;
+    read_rest(disk, first, &mut body)?;
     Ok(body)
 }
 
 // Room for a body of n blocks, with the first of them.
-fn begun(alloc: Global, prefix: &[u8], n: u64) -> Result<Vec<u8>, AllocError>
+fn with_first_block(alloc: Global, prefix: &[u8], n: u64) -> Result<Vec<u8>, AllocError>
     requires prefix { length prefix.now ≡ 4096 }
     requires some { 1 ≤ n }
     requires addressable { n ≤ 2 ^ 32 }
@@ -173,14 +173,14 @@ pub(crate) fn copy_to_prefix(body: &mut [u8], prefix: &[u8])
 }
 
 // Reads the blocks behind the first one of a body, if there are any.
-fn read_behind<D: Disk>(disk: &mut D, first: u64, body: &mut [u8]) -> Result<(), ExtentFault>
+fn read_rest<D: Disk>(disk: &mut D, first: u64, body: &mut [u8]) -> Result<(), ExtentFault>
     requires some { 4096 ≤ length body.old }
     requires run { IsBlockRange (D.size disk.old) first (length body.old) }
     requires addressable { first < 2 ^ 32 }
     ensures counts { KeepsCounts D.size D.calls D.faults disk.old disk.new }
     ensures unwritten { D.is_observable → WroteNothing D.calls D.contents D.images_now D.images_since disk.old disk.new }
     ensures prefix { take 4096 body.new ≡ take 4096 body.old }
-    ensures stands { D.is_observable → Has (D.contents disk.old) (4096 * first) (take 4096 body.old)
+    ensures stored { D.is_observable → Has (D.contents disk.old) (4096 * first) (take 4096 body.old)
         → OnOk result (Has (D.contents disk.old) (4096 * first) body.new) }
     ensures cause { IfErr result (ReadCause (D.faults disk.old) (D.faults disk.new)) }
 {

@@ -128,7 +128,7 @@ fn expect_extent(
     log: &mut Log<MemDisk>,
     gate: u64,
     wanted: &Head,
-    behind: u64,
+    following: u64,
 ) -> Result<(), Fail>
     requires { gate < blocks_of log.old }
     ensures { blocks_of log.new ≡ blocks_of log.old }
@@ -136,7 +136,7 @@ fn expect_extent(
     match log.read_extent(rt.alloc(), gate) {
         Ok(Found::Extent { head, body, next }) => {
             assert_eq!(rt; head, *wanted);
-            assert_eq!(rt; next, behind);
+            assert_eq!(rt; next, following);
             assert_eq!(rt; body.len() as u64, 4096 * wanted.n);
             assert_eq!(rt; body[0], b'B');
             assert_eq!(rt; body[body.len() - 1], 7);

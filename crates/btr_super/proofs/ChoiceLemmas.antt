@@ -13,9 +13,9 @@ module _ (size : ℕ) (image : Image) where
   -- one side has one superblock at most
   pub one_of_side : (a b : Super) → HasSuper size image a → HasSuper size image b → a.side ≡ b.side → a ≡ b
   one_of_side a b first second sides =
-      let there : Has image (4096 * (2 * b.side + 1)) (super_bytes a) = subst (λ side. Has image (4096 * (2 * side + 1)) (super_bytes a)) sides first.spelled.stands in
+      let there : Has image (4096 * (2 * b.side + 1)) (super_bytes a) = subst (λ side. Has image (4096 * (2 * side + 1)) (super_bytes a)) sides first.spelled.stored in
       super_bytes-injective a b (FitsFields-from_table size a first.spelled.keeps) (FitsFields-from_table size b second.spelled.keeps) sides
-      (Has-one image (4096 * (2 * b.side + 1)) (super_bytes a) (super_bytes b) (length-super_bytes a ∙ sym (length-super_bytes b)) there second.spelled.stands)
+      (Has-one image (4096 * (2 * b.side + 1)) (super_bytes a) (super_bytes b) (length-super_bytes a ∙ sym (length-super_bytes b)) there second.spelled.stored)
 
   opened_on : (a b : ℕ) → a ≡ b → IsOpenAt size image (2 * a) → IsOpenAt size image (2 * b)
   opened_on a b same opened = subst (λ side. IsOpenAt size image (2 * side)) same opened
@@ -30,31 +30,31 @@ module _ (size : ℕ) (image : Image) where
   pub one_chosen : (s t : Super) → IsChosen size image s → IsChosen size image t → s ≡ t
   one_chosen s t first second =
       ⊎_elim
-      (λ same. one_of_side s t first.stands second.stands same)
+      (λ same. one_of_side s t first.stored second.stored same)
       (λ apart.
-      let a : s.side ≤ 1 = first.stands.spelled.keeps.has_side in
-      let b : t.side ≤ 1 = second.stands.spelled.keeps.has_side in
+      let a : s.side ≤ 1 = first.stored.spelled.keeps.has_side in
+      let b : t.side ≤ 1 = second.stored.spelled.keeps.has_side in
       let ne : s.side ≡ t.side → ⊥ = apart in
-      let p : t.seq < s.seq = chosen_newest s t first second.stands (omega (arith, a, b, ne)) in
-      let q : s.seq < t.seq = chosen_newest t s second first.stands (omega (arith, a, b, ne)) in
+      let p : t.seq < s.seq = chosen_newest s t first second.stored (omega (arith, a, b, ne)) in
+      let q : s.seq < t.seq = chosen_newest t s second first.stored (omega (arith, a, b, ne)) in
       absurd (omega arith))
       (cases_eq s.side t.side)
 
   pub chosen_not_none : (s : Super) → IsChosen size image s → HasNoSuper size image → ⊥
   chosen_not_none s chosen none =
-      let a : s.side ≤ 1 = chosen.stands.spelled.keeps.has_side in
+      let a : s.side ≤ 1 = chosen.stored.spelled.keeps.has_side in
       ⊎_elim
-      (λ zero_side. none.first_closed (opened_on s.side 0 zero_side chosen.stands.opened))
+      (λ zero_side. none.first_closed (opened_on s.side 0 zero_side chosen.stored.opened))
       (λ apart.
       let ne : s.side ≡ 0 → ⊥ = apart in
-      none.second_closed (opened_on s.side 1 (omega (arith, a, ne)) chosen.stands.opened))
+      none.second_closed (opened_on s.side 1 (omega (arith, a, ne)) chosen.stored.opened))
       (cases_eq s.side 0)
 
   pub chosen_not_broken : (s : Super) (side : ℕ) → side ≤ 1 → IsChosen size image s → IsBroken size image side → ⊥
   chosen_not_broken s side le chosen broken =
-      let a : s.side ≤ 1 = chosen.stands.spelled.keeps.has_side in
+      let a : s.side ≤ 1 = chosen.stored.spelled.keeps.has_side in
       ⊎_elim
-      (λ same. broken.unspelled s same (subst (λ x. Spells size image (2 * x + 1) s) same chosen.stands.spelled))
+      (λ same. broken.unspelled s same (subst (λ x. Spells size image (2 * x + 1) s) same chosen.stored.spelled))
       (λ apart.
       let ne : s.side ≡ side → ⊥ = apart in
       let e : side ≡ 1 - s.side = omega (arith, a, le, ne) in
@@ -65,17 +65,17 @@ module _ (size : ℕ) (image : Image) where
 
   pub chosen_not_equal : (s a b : Super) → IsChosen size image s → HasEqualSeq size image a b → ⊥
   chosen_not_equal s a b chosen equal =
-      let side : s.side ≤ 1 = chosen.stands.spelled.keeps.has_side in
+      let side : s.side ≤ 1 = chosen.stored.spelled.keeps.has_side in
       ⊎_elim
       (λ zero_side.
-      let same : s ≡ a = one_of_side s a chosen.stands equal.first (zero_side ∙ sym equal.sides.0) in
+      let same : s ≡ a = one_of_side s a chosen.stored equal.first (zero_side ∙ sym equal.sides.0) in
       let less : b.seq < s.seq = chosen_newest s b chosen equal.second (omega (arith, zero_side, equal.sides.1)) in
       let seqs : s.seq ≡ a.seq = ap (λ x. x.seq) same in
       absurd (omega (arith, equal.equal)))
       (λ apart.
       let ne : s.side ≡ 0 → ⊥ = apart in
       let one_side : s.side ≡ 1 = omega (arith, side, ne) in
-      let same : s ≡ b = one_of_side s b chosen.stands equal.second (one_side ∙ sym equal.sides.1) in
+      let same : s ≡ b = one_of_side s b chosen.stored equal.second (one_side ∙ sym equal.sides.1) in
       let less : a.seq < s.seq = chosen_newest s a chosen equal.first (omega (arith, one_side, equal.sides.0)) in
       let seqs : s.seq ≡ b.seq = ap (λ x. x.seq) same in
       absurd (omega (arith, equal.equal)))

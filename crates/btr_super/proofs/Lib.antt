@@ -2,5 +2,5 @@ pub mod ChoiceLemmas
 pub mod SuperLemmas
 mod Fields
 mod Prefix
-mod Answered
+mod ChoiceIsUnique
 mod Writing

@@ -25,7 +25,7 @@ IsBlockOf-part prefix block k size le =
     record {
       inside = le;
       whole = length-take-le k (drop (4096 * block) prefix) le2 ∙ size;
-      stands = λ image has. Has-take image (4096 * block) k (drop (4096 * block) prefix) (Has-drop image (4096 * block) prefix (omega arith) has);
+      stored = λ image has. Has-take image (4096 * block) k (drop (4096 * block) prefix) (Has-drop image (4096 * block) prefix (omega arith) has);
     }
 
 -- the gate's block as bytes
@@ -39,4 +39,4 @@ open_from_bytes image block bytes has marked = subst (Has image (4096 * block)) 
 -- the bytes of a block that spells a superblock
 pub spelled_bytes : (size : ℕ) (image : Image) (block : ℕ) (bytes : List ℕ) (s : Super) → length bytes ≡ 4096 → Has image (4096 * block) bytes → Spells size image block s → bytes ≡ super_bytes s
 spelled_bytes size image block bytes s whole has spelled =
-    Has-one image (4096 * block) bytes (super_bytes s) (whole ∙ sym (length-super_bytes s)) has spelled.stands
+    Has-one image (4096 * block) bytes (super_bytes s) (whole ∙ sym (length-super_bytes s)) has spelled.stored

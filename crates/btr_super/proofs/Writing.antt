@@ -64,7 +64,7 @@ module _ (size blocks : ℕ) (least : 8 ≤ blocks) (greatest : blocks ≤ 2 ^ 3
   pub empty_store : (c : Image) → IsOpen c 0 → IsClosed c 2 → Has c (4096 * 1) (super_bytes (first_super blocks)) → Has c (4096 * 4) (zeros 4096) → IsEmptyStore size blocks c
   empty_store c opened closed body log = record {
     chosen = record {
-      stands = record { opened = (omega arith, opened); spelled = record { has_block = omega arith; stands = body; keeps = first_in_table } };
+      stored = record { opened = (omega arith, opened); spelled = record { has_block = omega arith; stored = body; keeps = first_in_table } };
       newest = λ other. absurd (closed other.1);
     };
     no_entry = zeros_are_closed c 4 log;

@@ -12,7 +12,7 @@ IsOpenAt size image block = (block < size) × IsOpen image block
 -- the device has this block, and it spells a superblock that keeps the table
 pub record Spells (size : ℕ) (image : Image) (block : ℕ) (s : Super) : Type 0 where
   pub has_block : block < size
-  pub stands : Has image (4096 * block) (super_bytes s)
+  pub stored : Has image (4096 * block) (super_bytes s)
   pub keeps : IsSuper size s
 
 -- the gate of its side is open, and the block behind it spells the superblock
@@ -22,7 +22,7 @@ pub record HasSuper (size : ℕ) (image : Image) (s : Super) : Type 0 where
 
 -- it stands there, and where the other gate is open there is one with a lesser number
 pub record IsChosen (size : ℕ) (image : Image) (s : Super) : Type 0 where
-  pub stands : HasSuper size image s
+  pub stored : HasSuper size image s
   pub newest : IsOpenAt size image (2 * (1 - s.side)) → (other : Super) × HasSuper size image other × (other.side ≡ 1 - s.side) × (other.seq < s.seq)
 
 -- neither gate is open

@@ -10,15 +10,15 @@ use Rattle.btr_super.specs.Choose.{IsOpenAt, HasSuper, IsChosen, HasNoSuper, IsB
 pub record IsBlockOf (prefix : List ℕ) (block : ℕ) (bytes : List ℕ) : Type 0 where
   pub inside : 4096 * block + 4096 ≤ length prefix
   pub whole : length bytes ≡ 4096
-  pub stands : (image : Image) → Has image 0 prefix → Has image (4096 * block) bytes
+  pub stored : (image : Image) → Has image 0 prefix → Has image (4096 * block) bytes
 
 -- the superblock of one side, if its gate is open
-abbrev pub TellsSide : ℕ → Image → ℕ → Result (Option Super) ChooseFault → Type 0
-TellsSide size image side (Ok None) = IsOpenAt size image (2 * side) → ⊥
-TellsSide size image side (Ok (Some s)) = (s.side ≡ side) × HasSuper size image s
-TellsSide size image side (Err NotAStore) = ⊥
-TellsSide size image side (Err (Damaged block)) = (block ≡ 2 * side + 1) × IsBroken size image side
-TellsSide size image side (Err Fault) = ⊥
+abbrev pub SideIs : ℕ → Image → ℕ → Result (Option Super) ChooseFault → Type 0
+SideIs size image side (Ok None) = IsOpenAt size image (2 * side) → ⊥
+SideIs size image side (Ok (Some s)) = (s.side ≡ side) × HasSuper size image s
+SideIs size image side (Err NotAStore) = ⊥
+SideIs size image side (Err (Damaged block)) = (block ≡ 2 * side + 1) × IsBroken size image side
+SideIs size image side (Err Fault) = ⊥
 
 -- of two superblocks the one with the greater number, or block 3 where both have the same
 abbrev pub IsLater : Super → Super → Result Super ChooseFault → Type 0
@@ -28,8 +28,8 @@ IsLater first second (Err (Damaged block)) = (block ≡ 3) × (first.seq ≡ sec
 IsLater first second (Err Fault) = ⊥
 
 -- the answer that fits the device
-abbrev pub Tells : ℕ → Image → Result Super ChooseFault → Type 0
-Tells size image (Ok s) = IsChosen size image s
-Tells size image (Err NotAStore) = HasNoSuper size image
-Tells size image (Err (Damaged block)) = IsDamagedSuper size image block
-Tells size image (Err Fault) = ⊥
+abbrev pub ChoiceIs : ℕ → Image → Result Super ChooseFault → Type 0
+ChoiceIs size image (Ok s) = IsChosen size image s
+ChoiceIs size image (Err NotAStore) = HasNoSuper size image
+ChoiceIs size image (Err (Damaged block)) = IsDamagedSuper size image block
+ChoiceIs size image (Err Fault) = ⊥

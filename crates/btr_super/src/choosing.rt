@@ -7,7 +7,7 @@ ghost use Rattle.btr_super.specs.declared.superblock.Super.{Super};
 ghost use Rattle.btr_super.specs.declared.choosing.ChooseFault.TheVariants.{Fault};
 ghost use Rattle.btr_super.specs.Super.{IsSuper};
 ghost use Rattle.btr_super.specs.Choose.{IsOpenAt, Spells, IsChosen, HasNoSuper, IsDamagedSuper};
-ghost use Rattle.btr_super.specs.Chosen.{IsBlockOf, TellsSide, IsLater, Tells};
+ghost use Rattle.btr_super.specs.Chosen.{IsBlockOf, SideIs, IsLater, ChoiceIs};
 ghost use Rattle.btr_disk.specs.Causes.{CausesFault};
 
 use crate::codec::{decode, keeps_table};
@@ -85,7 +85,7 @@ fn spelled(prefix: &[u8], block: usize, side: u8, size: u64) -> Option<Super>
 fn open_super(prefix: &[u8], side: u8, size: u64) -> Result<Option<Super>, ChooseFault>
     requires side { side ≤ 1 }
     requires prefix { length prefix.now ≡ 4096 * min 4 size }
-    ensures { (image : Image) → Has image 0 prefix.now → TellsSide size image side result }
+    ensures { (image : Image) → Has image 0 prefix.now → SideIs size image side result }
 {
     let gate = 2 * side as usize;
     if !has_open_gate(prefix, gate, size) {
@@ -115,7 +115,7 @@ fn later(first: Super, second: Super) -> Result<Super, ChooseFault>
 /// What a device of `size` blocks has, by its first blocks.
 fn choose_in(prefix: &[u8], size: u64) -> Result<Super, ChooseFault>
     requires { length prefix.now ≡ 4096 * min 4 size }
-    ensures { (image : Image) → Has image 0 prefix.now → Tells size image result }
+    ensures { (image : Image) → Has image 0 prefix.now → ChoiceIs size image result }
 {
     let first = open_super(prefix, 0, size)?;
     let second = open_super(prefix, 1, size)?;

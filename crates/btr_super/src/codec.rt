@@ -5,7 +5,7 @@ ghost use Rattle.btr_disk.specs.Gate.{zeros};
 ghost use Rattle.btr_super.specs.declared.superblock.Super.{Super};
 ghost use Rattle.btr_super.specs.Super.{super_bytes, IsSuper, FitsFields};
 
-use crate::superblock::{FORMAT, LOG_START, SUPER_MARK, Super};
+use crate::superblock::{FORMAT, LOG_START, MAX_BLOCKS, MIN_BLOCKS, SUPER_MARK, Super};
 use btr_disk::BLOCK;
 
 /// Writes `bytes` into `block` from the index `at` on.
@@ -80,8 +80,8 @@ pub(crate) fn keeps_table(s: &Super, size: u64) -> bool
     ensures { IsTrue result ↔ IsSuper size s.now }
 {
     s.format == FORMAT
-        && 8 <= s.blocks
-        && s.blocks <= 1 << 32
+        && MIN_BLOCKS <= s.blocks
+        && s.blocks <= MAX_BLOCKS
         && s.blocks <= size
         && s.checkpoint == 0
         && s.tail == LOG_START

@@ -13,7 +13,7 @@ mod superblock;
 
 pub use choosing::{ChooseFault, choose};
 pub use formatting::{FormatFault, format};
-pub use superblock::{FORMAT, LOG_START, SUPER_MARK, Super};
+pub use superblock::{FORMAT, LOG_START, MAX_BLOCKS, MIN_BLOCKS, SUPER_MARK, Super};
 
 #[cfg(test)]
 mod tests;

@@ -1,4 +1,4 @@
-// What a superblock says, and the table that it keeps.
+//! Superblocks: what one says, and the limits of its fields.
 
 /// The format of a superblock that [`format`](crate::format) writes.
 pub const FORMAT: u32 = 1;
@@ -6,22 +6,33 @@ pub const FORMAT: u32 = 1;
 /// The block at which the log begins: a gate.
 pub const LOG_START: u64 = 4;
 
+/// The least number of blocks of a store.
+pub const MIN_BLOCKS: u64 = 8;
+
+/// The greatest number of blocks of a store.
+pub const MAX_BLOCKS: u64 = 1 << 32;
+
 /// The first eight bytes of a superblock's body: ASCII `BTR-SUPR`.
 pub const SUPER_MARK: [u8; 8] = *b"BTR-SUPR";
 
-/// A superblock.
+/// A superblock: which blocks a store has, and from which gate its log is read.
 #[derive(Clone, Copy, Debug, PartialEq, Eq)]
 pub struct Super {
     /// Of two open superblocks the one with the greater number counts. At least 1.
     pub seq: u64,
+
     /// 0 for superblock A (blocks 0 and 1), 1 for superblock B (blocks 2 and 3).
     pub side: u8,
-    /// The blocks of the store, of 4096 bytes: 8 to 2^32, and at most those of the device.
+
+    /// The number of blocks of the store: [`MIN_BLOCKS`] to [`MAX_BLOCKS`], and at most those of the device.
     pub blocks: u64,
+
     /// The gate from which the log is read.
     pub tail: u64,
+
     /// Always 0: there is no checkpoint, and the log is read from its beginning.
     pub checkpoint: u64,
+
     /// The format of the device: [`FORMAT`].
     pub format: u32,
 }

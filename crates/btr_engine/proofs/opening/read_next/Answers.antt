@@ -3,7 +3,7 @@ use Rattle.std.specs.Option.{IfSome, IfNone}
 use Rattle.std.proofs.Common.{sym, ◌∙◌, subst, inl}
 use Rattle.btr_log.specs.Log.{device as disk_of}
 use Rattle.btr_log.specs.Log.{blocks_of}
-use Rattle.btr_log.specs.Found.{IsWhole, Stands}
+use Rattle.btr_log.specs.Found.{IsWhole, MatchesDevice}
 use Rattle.btr_hist.specs.Legal.{rejection}
 use Rattle.btr_entry.specs.Grammar.{IsSpelled}
 use Rattle.btr_engine.specs.Body.{body_of}
@@ -40,7 +40,7 @@ returns-in_default-2-clause-cause g c r =
     damaged_next size image blocks c.args.gate h _
     (no_entry_next size image blocks c.args.gate h c.args.number c.requires.number x.head x.body.items x.next
     (subst (IsWhole blocks c.args.gate) x.is c.in-Ok.ensures.whole)
-    (subst (Stands image c.args.gate) x.is (c.in-Ok.ensures.stands r.0))
+    (subst (MatchesDevice image c.args.gate) x.is (c.in-Ok.ensures.matches r.0))
     (subst (IsNoEntryBody c.args.number) c.deref.ensures.value none))
     r.1 r.2 r.3
 
@@ -61,7 +61,7 @@ returns-in-Ok-push-clause-next g c =
       c.in-Ok-push.ensures.allowed,
       gate_behind blocks c.args.gate x.head x.body.items x.next whole c.args.number e same,
       whole.inside,
-      λ is_observable. (x.head, extent_of blocks c.args.gate x.head x.body.items x.next whole c.args.number e same image (subst (Stands image c.args.gate) x.is (c.in-Ok.ensures.stands is_observable))),
+      λ is_observable. (x.head, extent_of blocks c.args.gate x.head x.body.items x.next whole c.args.number e same image (subst (MatchesDevice image c.args.gate) x.is (c.in-Ok.ensures.matches is_observable))),
     )
 
 pub returns-in-Err-Rejected-clause-cause : goal.returns-in-Err-Rejected-clause-cause
@@ -80,6 +80,6 @@ returns-in-Err-Rejected-clause-cause g c r =
     damaged_next size image blocks c.args.gate h _
     (refused_next size image blocks c.args.gate h c.args.number c.requires.number x.head x.body.items x.next
     (subst (IsWhole blocks c.args.gate) x.is c.in-Ok.ensures.whole)
-    (subst (Stands image c.args.gate) x.is (c.in-Ok.ensures.stands r.0))
+    (subst (MatchesDevice image c.args.gate) x.is (c.in-Ok.ensures.matches r.0))
     e why found.0 (sym c.deref.ensures.value ∙ found.1) refused)
     r.1 r.2 r.3

@@ -2,7 +2,7 @@ use Rattle.std.specs.Prelude.{◌≡◌, ◌*◌, length, take}
 use Rattle.std.proofs.Common.{sym, ◌∙◌, ap, subst, arith}
 use Rattle.btr_log.specs.Head.{head_bytes}
 use Rattle.btr_log.specs.Extents.{IsBody}
-use Rattle.btr_log.proofs.Prefixes.{written_whole}
+use Rattle.btr_log.proofs.GateAndHead.{written_whole}
 use Rattle.btr_log.proofs.tests.body_of.Goals as goal
 
 pub returns : goal.returns

@@ -5,7 +5,7 @@ use Rattle.btr_super.proofs.choosing.has_open_gate.Goals as goal
 pub returns-in-Some : goal.returns-in-Some
 returns-in-Some c image has =
     let there = c.in-Some.ensures.there in
-    let stands = there.stands image has in (
-      λ yes. (omega (arith, there.inside), open_from_bytes image c.args.block c.in-Some.bytes.now stands (c.is_open_gate.ensures.0 yes)),
-      λ opened. c.is_open_gate.ensures.1 (open_as_bytes image c.args.block c.in-Some.bytes.now there.whole stands opened.1),
+    let stored = there.stored image has in (
+      λ yes. (omega (arith, there.inside), open_from_bytes image c.args.block c.in-Some.bytes.now stored (c.is_open_gate.ensures.0 yes)),
+      λ opened. c.is_open_gate.ensures.1 (open_as_bytes image c.args.block c.in-Some.bytes.now there.whole stored opened.1),
     )

@@ -13,7 +13,7 @@ returns-in_err-found c image has =
     rw c.from_residual-in_err-found.ensures
     (λ s side spelled.
     let e = c.in_err-found.ensures.only s side (FitsFields-from_table c.args.size s spelled.keeps)
-    (spelled_bytes c.args.size image c.args.block bytes s there.whole (there.stands image has) spelled) in
+    (spelled_bytes c.args.size image c.args.block bytes s there.whole (there.stored image has) spelled) in
     absurd (cc))
 
 pub returns-then-keeps_table : goal.returns-then-keeps_table
@@ -23,7 +23,7 @@ returns-then-keeps_table c image has =
       found.0,
       record {
         has_block = omega (arith, there.inside);
-        stands = subst (Has image (4096 * c.args.block)) found.1 (there.stands image has);
+        stored = subst (Has image (4096 * c.args.block)) found.1 (there.stored image has);
         keeps = search rules;
       },
     )
@@ -33,7 +33,7 @@ returns-else-keeps_table c image has s side spelled =
     let there = c.in_ok-block_of.ensures.there in
     let bytes = c.in_ok-block_of.field-0.now in
     let e = c.in_ok-found.ensures.only s side (FitsFields-from_table c.args.size s spelled.keeps)
-    (spelled_bytes c.args.size image c.args.block bytes s there.whole (there.stands image has) spelled) in
+    (spelled_bytes c.args.size image c.args.block bytes s there.whole (there.stored image has) spelled) in
     let same : c.in_ok-found.found ≡ s = cc in
     let keeps : IsSuper c.args.size c.in_ok-found.found = subst (IsSuper c.args.size) (sym same) spelled.keeps in
     absurd (false≢true (c.if-keeps_table.ensures.1 keeps))

@@ -2,8 +2,8 @@ use Rattle.std.specs.Prelude.{◌≡◌, ◌+◌, ◌*◌, false, is_err}
 use Rattle.std.proofs.Common.{sym, ◌∙◌}
 use Rattle.btr_disk.proofs.MomentLemmas.{weakens}
 use Rattle.btr_disk.specs.Publish.{IsBeforeOrHasBody}
-use Rattle.btr_log.specs.Append.{body_of, IsMoment}
-use Rattle.btr_log.proofs.Growth.{from_ok, at_a_moment, at_the_end}
+use Rattle.btr_log.specs.Append.{body_in_run, IsMoment}
+use Rattle.btr_log.proofs.AppendImages.{from_ok, at_a_moment, at_the_end}
 use Rattle.btr_log.proofs.log.Log.append.Goals as goal
 
 pub returns-then-is_err-clause-moments : goal.returns-then-is_err-clause-moments
@@ -12,7 +12,7 @@ returns-then-is_err-clause-moments g c is_observable bodies rest =
     let log = c.args.self.now in
     let old = disk.contents log.disk in
     let run = c.args.run.now in
-    weakens disk.calls disk.images_since log.disk c.publish-written.new.device (IsBeforeOrHasBody old (4096 * (log.tail + 1)) run (4096 * log.tail)) (IsMoment old log.tail bodies (body_of run))
+    weakens disk.calls disk.images_since log.disk c.publish-written.new.device (IsBeforeOrHasBody old (4096 * (log.tail + 1)) run (4096 * log.tail)) (IsMoment old log.tail bodies (body_in_run run))
     (at_a_moment old log.tail bodies run c.requires rest.extents rest.closed)
     (c.publish-written.ensures.moments is_observable rest.only)
 
@@ -22,7 +22,7 @@ returns-clause-moments g c is_observable bodies rest =
     let log = c.args.self.now in
     let old = disk.contents log.disk in
     let run = c.args.run.now in
-    weakens disk.calls disk.images_since log.disk c.publish-written.new.device (IsBeforeOrHasBody old (4096 * (log.tail + 1)) run (4096 * log.tail)) (IsMoment old log.tail bodies (body_of run))
+    weakens disk.calls disk.images_since log.disk c.publish-written.new.device (IsBeforeOrHasBody old (4096 * (log.tail + 1)) run (4096 * log.tail)) (IsMoment old log.tail bodies (body_in_run run))
     (at_a_moment old log.tail bodies run c.requires rest.extents rest.closed)
     (c.publish-written.ensures.moments is_observable rest.only)
 

@@ -16,8 +16,8 @@ pub written_whole : (len : ℕ) (xs items : List ℕ) → length xs ≡ len → 
 written_whole len xs items size = take_at xs (drop (length xs) items) len size
 
 -- all but the first block, as a slice from there on
-abbrev pub behind : List ℕ → List ℕ
-behind prefix = take (length prefix - 4096) (drop 4096 prefix)
+abbrev pub after_first : List ℕ → List ℕ
+after_first prefix = take (length prefix - 4096) (drop 4096 prefix)
 
 -- a body whose first block was read before, and the others now
 pub Has-put_mid : (image : Image) (first : ℕ) (body rest : List ℕ) → 4096 ≤ length body → Has image (4096 * first) (take 4096 body) → Has image (4096 * (first + 1)) rest → Has image (4096 * first) (put_mid 4096 (length body - 4096) body rest)
@@ -29,8 +29,8 @@ Has-put_mid image first body rest size has has_rest =
     (subst (λ a. Has image a (rest ++ drop (length body - 4096) (drop 4096 body))) place (subst (Has image (4096 * (first + 1))) (sym all) has_rest))
 
 module _ (image : Image) (gate : ℕ) (prefix : List ℕ) (size : length prefix ≡ 8192) (has : Has image (4096 * gate) prefix) where
-  pub Has-behind : Has image (4096 * (gate + 1)) (behind prefix)
-  Has-behind =
+  pub Has-rest : Has image (4096 * (gate + 1)) (after_first prefix)
+  Has-rest =
       let parts = Has-append image (4096 * gate) (take 4096 prefix) (drop 4096 prefix) (subst (Has image (4096 * gate)) (sym (take-append-drop 4096 prefix)) has) in
       let le : 4096 ≤ length prefix = omega arith in
       let place : 4096 * gate + length (take 4096 prefix) ≡ 4096 * (gate + 1) = omega (arith, length-take-le 4096 prefix le) in
@@ -39,30 +39,30 @@ module _ (image : Image) (gate : ℕ) (prefix : List ℕ) (size : length prefix 
   pub is_open_prefix : take 8 prefix ≡ mark → IsOpen image gate
   is_open_prefix begins = subst (Has image (4096 * gate)) begins (Has-take image (4096 * gate) 8 prefix has)
 
-  length-head : length (take 64 (behind prefix)) ≡ 64
+  length-head : length (take 64 (after_first prefix)) ≡ 64
   length-head =
       let le : 64 ≤ length prefix - 4096 = omega arith in
       let drops : length (drop 4096 prefix) ≡ 4096 = omega (arith, length-drop 4096 prefix) in
       ap length (take-take 64 (length prefix - 4096) (drop 4096 prefix) le) ∙ length-take-le 64 (drop 4096 prefix) (omega arith)
 
   -- the head that stands in the image is the one that was read
-  pub SpellsAt-prefix : (head : Head) → Spells (take 64 (behind prefix)) head → SpellsAt image (gate + 1) head
+  pub SpellsAt-prefix : (head : Head) → Spells (take 64 (after_first prefix)) head → SpellsAt image (gate + 1) head
   SpellsAt-prefix head spells = record {
     is_head = spells.is_head;
-    stands = subst (Has image (4096 * (gate + 1))) spells.spelling (Has-take image (4096 * (gate + 1)) 64 (behind prefix) Has-behind);
+    stored = subst (Has image (4096 * (gate + 1))) spells.spelling (Has-take image (4096 * (gate + 1)) 64 (after_first prefix) Has-rest);
   }
 
-  pub HasNoHead-prefix : IsNoHead (take 64 (behind prefix)) → HasNoHead image (gate + 1)
+  pub HasNoHead-prefix : IsNoHead (take 64 (after_first prefix)) → HasNoHead image (gate + 1)
   HasNoHead-prefix none head at =
-      let same : take 64 (behind prefix) ≡ head_bytes head = Has-one image (4096 * (gate + 1)) (take 64 (behind prefix)) (head_bytes head) (length-head ∙ sym (length-head_bytes head)) (Has-take image (4096 * (gate + 1)) 64 (behind prefix) Has-behind) at.stands in
+      let same : take 64 (after_first prefix) ≡ head_bytes head = Has-one image (4096 * (gate + 1)) (take 64 (after_first prefix)) (head_bytes head) (length-head ∙ sym (length-head_bytes head)) (Has-take image (4096 * (gate + 1)) 64 (after_first prefix) Has-rest) at.stored in
       none head (record { is_head = at.is_head; spelling = same })
 
   module _ (blocks : ℕ) (below : gate + 1 < blocks) (begins : take 8 prefix ≡ mark) where
-    pub damaged_by_no_head : IsNoHead (take 64 (behind prefix)) → IsDamagedExtent image blocks gate (gate + 1)
+    pub damaged_by_no_head : IsNoHead (take 64 (after_first prefix)) → IsDamagedExtent image blocks gate (gate + 1)
     damaged_by_no_head none =
         record { is_open = is_open_prefix begins; damage = inr (below, refl, inl (HasNoHead-prefix none)) }
 
-    pub damaged_by_no_room : (head : Head) → Spells (take 64 (behind prefix)) head → blocks ≤ gate + head.n + 1 → IsDamagedExtent image blocks gate (gate + 1)
+    pub damaged_by_no_room : (head : Head) → Spells (take 64 (after_first prefix)) head → blocks ≤ gate + head.n + 1 → IsDamagedExtent image blocks gate (gate + 1)
     damaged_by_no_room head spells much =
         record { is_open = is_open_prefix begins; damage = inr (below, refl, inr (head, SpellsAt-prefix head spells, much)) }
 
@@ -70,4 +70,4 @@ module _ (image : Image) (gate : ℕ) (prefix : List ℕ) (size : length prefix 
 pub whole_extent : (blocks gate : ℕ) (head : Head) (prefix body : List ℕ) → Spells (take 64 prefix) head → length body ≡ 4096 * head.n → take 4096 body ≡ prefix → gate + head.n + 1 < blocks → IsWholeExtent blocks gate head body (gate + head.n + 1)
 whole_extent blocks gate head prefix body spells size begins inside =
     let same : take 64 prefix ≡ take 64 body = ap (take 64) (sym begins) ∙ take-take 64 4096 body (omega arith) in
-    record { is_body = record { spells = subst (λ b. Spells b head) same spells; whole = size }; behind = refl; inside = inside }
+    record { is_body = record { spells = subst (λ b. Spells b head) same spells; whole = size }; follows = refl; inside = inside }

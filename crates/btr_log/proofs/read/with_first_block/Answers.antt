@@ -1,7 +1,7 @@
 use Rattle.std.specs.Prelude.{◌≡◌, length, take}
 use Rattle.std.proofs.Common.{◌∙◌, ap, subst, arith}
-use Rattle.btr_log.proofs.Prefixes.{written_whole}
-use Rattle.btr_log.proofs.read.begun.Goals as goal
+use Rattle.btr_log.proofs.GateAndHead.{written_whole}
+use Rattle.btr_log.proofs.read.with_first_block.Goals as goal
 
 pub returns-clause-prefix : goal.returns-clause-prefix
 returns-clause-prefix c =
