@@ -1,5 +1,6 @@
 pub mod AggLemmas
 pub mod ChangesLemmas
+pub mod CrowdedLemmas
 pub mod Joining
 pub mod Last
 pub mod ListLemmas

@@ -1,8 +1,8 @@
 -- What differs between two bags: the aligned slots of time in which some time has other points in the one than in the other.
-use Rattle.std.specs.Prelude.{ℕ, ◌+◌, ◌^◌, ℤ, Bool, true, false, not, ◌&&◌, int_le, int_lt, List, [], ◌∷◌, ◌++◌, map, if◌then◌else◌}
+use Rattle.std.specs.Prelude.{ℕ, ◌+◌, ◌^◌, ℤ, Bool, true, false, not, ◌&&◌, int_le, List, [], ◌∷◌, ◌++◌, map, if◌then◌else◌}
 use Rattle.std.specs.Ordering.{int_eq}
 use Rattle.std.specs.List.{filter}
-use Rattle.btr_base.specs.declared.limits.TheConstants.{FIRST, END}
+use Rattle.btr_base.specs.declared.limits.TheConstants.{FIRST}
 use Rattle.btr_base.specs.declared.point.Point.{Point}
 use Rattle.btr_base.specs.Point.{same_point, in_domain}
 use Rattle.btr_base.specs.Range.{RangeValue}

@@ -5,6 +5,7 @@ pub mod Span
 -- what a stream holds, and what a commit does to it
 pub mod Bag
 pub mod Commit
+pub mod Crowded
 -- what is asked of points
 pub mod Agg
 pub mod Nearest

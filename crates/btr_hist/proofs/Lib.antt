@@ -1,7 +1,7 @@
 pub mod HistoryLemmas
 pub mod RejectionLemmas
 mod Steps
-mod Crowd
+mod CrowdedWalk
 mod Stays
 mod Domain
 mod Machine

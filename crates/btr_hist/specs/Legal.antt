@@ -11,7 +11,7 @@ use Rattle.btr_hist.specs.declared.rejection.Rejection.TheVariants.{NoStream, St
 use Rattle.btr_base.specs.declared.limits.TheConstants.{MAX_STREAMS, MAX_VERSIONS, MAX_POINTS, MAX_COMMIT_POINTS, MAX_COMMIT_RANGES}
 use Rattle.btr_base.specs.Commit.{Change, after}
 use Rattle.btr_hist.specs.History.{ids, latest, bag}
-use Rattle.btr_hist.specs.Crowded.{crowded}
+use Rattle.btr_base.specs.Crowded.{crowded}
 
 -- the first that there is
 abbrev pub first_some : {A : Type 0} → List (Option A) → Option A

@@ -1,7 +1,6 @@
 -- what a version holds
 pub mod History
 -- which entries are allowed
-pub mod Crowded
 pub mod Legal
 -- what is asked and answered
 pub mod Query

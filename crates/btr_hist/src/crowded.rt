@@ -1,39 +1,40 @@
-ghost use Rattle.std.specs.Prelude.{◌≡◌, ◌<◌, nat_lt, Option, length, drop, slice_index_or};
-ghost use Rattle.btr_base.specs.declared.point.Point.{Point as APoint};
+//! The first crowded bottom span.
+ghost use Rattle.std.specs.Prelude.{◌≡◌, ◌<◌, length, drop, slice_index_or};
+ghost use Rattle.std.specs.Ordering.{int_eq};
+ghost use Rattle.btr_base.specs.declared.point.Point.{Point as PointSpec};
 ghost use Rattle.btr_base.specs.Bag.{IsInOrder};
-ghost use Rattle.btr_base.specs.declared.limits.TheConstants.{LEAF_POINTS};
-ghost use Rattle.btr_hist.specs.Crowded.{crowded, beside, bottom_start, shares_bottom};
+ghost use Rattle.btr_base.specs.Crowded.{bottom_start, is_crowded, crowded};
 
 use btr_base::{BOTTOM_WIDTH, LEAF_POINTS, Point};
 
-/// The start of the first bottom span that holds more points than it may, in nanoseconds, if there is one. It takes
-/// time linear in the number of points and no memory.
+/// The start of the first bottom span that holds more than [`LEAF_POINTS`] points, in nanoseconds, if there is one. It takes
+/// time linear in the number of points, and no memory.
 pub fn first_crowded(points: &[Point]) -> Option<i64>
     requires { IsInOrder points.now }
     ensures { result ≡ crowded points.now }
 {
-    for (place, point) in points.iter().enumerate() {
-        if is_crowded_from(points, place) {
+    for (index, point) in points.iter().enumerate() {
+        if is_crowded_from(points, index) {
             return Some(bottom_start(point.time));
         }
     }
     None
 }
 
-/// Whether too many points stand in the bottom span of the point at a place, from there on. In a list in order they
-/// stand side by side.
-fn is_crowded_from(points: &[Point], place: usize) -> bool
+/// Whether too many of the points from this index on lie in the bottom span of the first of them. Points of one bottom span
+/// are neighbours in a list in order.
+fn is_crowded_from(points: &[Point], index: usize) -> bool
     requires order { IsInOrder points.now }
-    requires within { place < length points.now }
-    ensures { (d : APoint) → result ≡ nat_lt LEAF_POINTS (beside (drop place points.now) (slice_index_or points.now place d)) }
+    requires within { index < length points.now }
+    ensures { (d : PointSpec) → result ≡ is_crowded (drop index points.now) (bottom_start (slice_index_or points.now index d).time) }
 {
-    let behind = place + LEAF_POINTS;
-    behind < points.len() && shares_bottom(&points[place], &points[behind])
+    let last = index + LEAF_POINTS;
+    last < points.len() && share_bottom(&points[index], &points[last])
 }
 
-/// Whether two points stand in one bottom span.
-fn shares_bottom(a: &Point, b: &Point) -> bool
-    ensures { result ≡ shares_bottom a.now b.now }
+/// Whether two points lie in the same bottom span.
+fn share_bottom(a: &Point, b: &Point) -> bool
+    ensures { result ≡ int_eq (bottom_start a.now.time) (bottom_start b.now.time) }
 {
     bottom_start(a.time) == bottom_start(b.time)
 }

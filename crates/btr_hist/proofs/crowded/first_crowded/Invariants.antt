@@ -1,8 +1,7 @@
-use Rattle.std.proofs.Common.{◌≡◌, nat_lt, take, None}
+use Rattle.std.proofs.Common.{◌≡◌, take, None}
 use Rattle.std.specs.List.{find}
-use Rattle.btr_base.specs.declared.limits.TheConstants.{LEAF_POINTS}
-use Rattle.btr_hist.specs.Crowded.{beside}
+use Rattle.btr_base.specs.Crowded.{bottom_start, is_crowded}
 use Rattle.btr_hist.proofs.crowded.first_crowded.Given as goal
 
-abbrev pub invariant-loop-place : goal.invariant-loop-place
-invariant-loop-place l = find (λ p. nat_lt LEAF_POINTS (beside l.points p)) (take l.place l.points) ≡ None
+abbrev pub invariant-loop-index : goal.invariant-loop-index
+invariant-loop-index l = find (λ p. is_crowded l.points (bottom_start p.time)) (take l.index l.points) ≡ None
