@@ -5,19 +5,19 @@ ghost use Rattle.btr_base.specs.Bag.{within};
 ghost use Rattle.btr_base.specs.declared.limits.TheConstants.{FIRST as FIRST_TIME};
 ghost use Rattle.btr_base.specs.declared.point.Point.{Point as APoint};
 ghost use Rattle.btr_tree.specs.History.{Commit, bag};
-ghost use Rattle.btr_tree.specs.Nodes.{points_of, no_span};
-ghost use Rattle.btr_tree.specs.Shape.{IsPlace, HasSlots, HasChildren, slot_start};
-ghost use Rattle.btr_tree.specs.Change.{Stands, StandsInner, end_of};
+ghost use Rattle.btr_tree.specs.Nodes.{points_of, above_root};
+ghost use Rattle.btr_tree.specs.Shape.{IsChild, HasSlots, HasChildren, slot_start};
+ghost use Rattle.btr_tree.specs.Change.{IsSomeChild, AreSomeSlots, end_of};
 ghost use Rattle.btr_tree.specs.Root.{AreInDomain};
 
 use crate::slots::previous_slot;
 use btr_base::{END, FIRST, Point, Span, parted};
-use btr_tree::{Node, Place, SLOTS, Slot, Steps, opened, root_span};
+use btr_tree::{Node, Child, SLOTS, Slot, Steps, visit, root_span};
 
 /// The last point of the root's place before a time. It opens at most 21 nodes.
-pub(crate) fn previous_in_root(place: &Place, time: i64, steps: &mut Steps) -> Option<Point>
-    requires { Stands 10 FIRST_TIME place.now 0 }
-    ensures point { (h : List Commit) → IsPlace 10 FIRST_TIME no_span h place.now → AreInDomain (bag h) → result ≡ last_or None (filter (λ p. int_lt p.time time) (bag h)) }
+pub(crate) fn previous_in_root(place: &Child, time: i64, steps: &mut Steps) -> Option<Point>
+    requires { IsSomeChild 10 FIRST_TIME place.now 0 }
+    ensures point { (h : List Commit) → IsChild 10 FIRST_TIME above_root h place.now → AreInDomain (bag h) → result ≡ last_or None (filter (λ p. int_lt p.time time) (bag h)) }
     ensures few { steps.new ≤ steps.old + 21 }
     ensures kept { steps.old ≤ steps.new }
 {
@@ -33,16 +33,16 @@ pub(crate) fn previous_in_root(place: &Place, time: i64, steps: &mut Steps) -> O
 /// The last point of a place before a time, which lies behind its span's start and not behind its end. It opens at most two
 /// nodes a height, and at most one where it finds none.
 #[cycle(previous)]
-fn previous_in_place(span: Span, place: &Place, time: i64, steps: &mut Steps) -> Option<Point>
-    requires stands { Stands span.height span.start place.now 0 }
+fn previous_in_place(span: Span, place: &Child, time: i64, steps: &mut Steps) -> Option<Point>
+    requires stands { IsSomeChild span.height span.start place.now 0 }
     requires begins { span.start <ℤ time }
     requires ends { time ≤ℤ end_of span }
-    ensures point { (above : List APoint → Bool) (h : List Commit) → IsPlace span.height span.start above h place.now → result ≡ last_or None (within span.start time (bag h)) }
+    ensures point { (above : List APoint → Bool) (h : List Commit) → IsChild span.height span.start above h place.now → result ≡ last_or None (within span.start time (bag h)) }
     ensures few { steps.new ≤ steps.old + 2 * span.height + 1 }
     ensures none { IsNone result → steps.new ≤ steps.old + span.height + 1 }
     ensures kept { steps.old ≤ steps.new }
 {
-    match opened(place, steps)? {
+    match visit(place, steps)? {
         Node::Leaf { points, .. } => {
             let (before, _) = parted(points, time);
             last_of(before)
@@ -60,11 +60,11 @@ fn previous_in_place(span: Span, place: &Place, time: i64, steps: &mut Steps) ->
 fn previous_in_slots(
     span: Span,
     slots: &[Slot],
-    children: &[Place],
+    children: &[Child],
     time: i64,
     steps: &mut Steps,
 ) -> Option<Point>
-    requires stands { (below : ℕ) × (span.height ≡ suc below) × StandsInner below span.start slots.now children.now 0 }
+    requires stands { (below : ℕ) × (span.height ≡ suc below) × AreSomeSlots below span.start slots.now children.now 0 }
     requires begins { span.start <ℤ time }
     requires ends { time ≤ℤ end_of span }
     ensures point { (below : ℕ) (h : List Commit) → span.height ≡ suc below → HasSlots below span.start h 64 slots.now children.now → HasChildren below span.start h 64 children.now → result ≡ last_or None (within span.start time (bag h)) }
@@ -81,13 +81,13 @@ fn previous_in_slots(
 
 /// The last point of a place. It opens at most one node a height.
 #[cycle(last)]
-fn last_in_place(span: Span, place: &Place, steps: &mut Steps) -> Option<Point>
-    requires { Stands span.height span.start place.now 0 }
-    ensures point { (above : List APoint → Bool) (h : List Commit) → IsPlace span.height span.start above h place.now → result ≡ last_or None (points_of span.height span.start (bag h)) }
+fn last_in_place(span: Span, place: &Child, steps: &mut Steps) -> Option<Point>
+    requires { IsSomeChild span.height span.start place.now 0 }
+    ensures point { (above : List APoint → Bool) (h : List Commit) → IsChild span.height span.start above h place.now → result ≡ last_or None (points_of span.height span.start (bag h)) }
     ensures few { steps.new ≤ steps.old + span.height + 1 }
     ensures kept { steps.old ≤ steps.new }
 {
-    match opened(place, steps)? {
+    match visit(place, steps)? {
         Node::Leaf { points, .. } => last_of(points),
         Node::Inner {
             slots,
@@ -102,11 +102,11 @@ fn last_in_place(span: Span, place: &Place, steps: &mut Steps) -> Option<Point>
 fn last_in_slots(
     span: Span,
     slots: &[Slot],
-    children: &[Place],
+    children: &[Child],
     to: u8,
     steps: &mut Steps,
 ) -> Option<Point>
-    requires stands { (below : ℕ) × (span.height ≡ suc below) × StandsInner below span.start slots.now children.now 0 }
+    requires stands { (below : ℕ) × (span.height ≡ suc below) × AreSomeSlots below span.start slots.now children.now 0 }
     requires place { to ≤ 64 }
     ensures point { (below : ℕ) (h : List Commit) → span.height ≡ suc below → HasSlots below span.start h 64 slots.now children.now → HasChildren below span.start h 64 children.now → result ≡ last_or None (within span.start (slot_start below span.start to) (bag h)) }
     ensures few { steps.new ≤ steps.old + span.height }

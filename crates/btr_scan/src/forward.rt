@@ -4,19 +4,19 @@ ghost use Rattle.btr_base.specs.Bag.{within};
 ghost use Rattle.btr_base.specs.declared.limits.TheConstants.{FIRST as FIRST_TIME};
 ghost use Rattle.btr_base.specs.declared.point.Point.{Point as APoint};
 ghost use Rattle.btr_tree.specs.History.{Commit, bag};
-ghost use Rattle.btr_tree.specs.Nodes.{points_of, no_span};
-ghost use Rattle.btr_tree.specs.Shape.{IsPlace, HasSlots, HasChildren, slot_start};
-ghost use Rattle.btr_tree.specs.Change.{Stands, StandsInner, end_of};
+ghost use Rattle.btr_tree.specs.Nodes.{points_of, above_root};
+ghost use Rattle.btr_tree.specs.Shape.{IsChild, HasSlots, HasChildren, slot_start};
+ghost use Rattle.btr_tree.specs.Change.{IsSomeChild, AreSomeSlots, end_of};
 ghost use Rattle.btr_tree.specs.Root.{AreInDomain};
 
 use crate::slots::next_slot;
 use btr_base::{END, FIRST, Point, Span, parted};
-use btr_tree::{Node, Place, Slot, Steps, opened, root_span};
+use btr_tree::{Node, Child, Slot, Steps, visit, root_span};
 
 /// The first point of the root's place at or behind a time. It opens at most 21 nodes.
-pub(crate) fn next_in_root(place: &Place, time: i64, steps: &mut Steps) -> Option<Point>
-    requires { Stands 10 FIRST_TIME place.now 0 }
-    ensures point { (h : List Commit) → IsPlace 10 FIRST_TIME no_span h place.now → AreInDomain (bag h) → result ≡ slice_get (filter (λ p. int_le time p.time) (bag h)) 0 }
+pub(crate) fn next_in_root(place: &Child, time: i64, steps: &mut Steps) -> Option<Point>
+    requires { IsSomeChild 10 FIRST_TIME place.now 0 }
+    ensures point { (h : List Commit) → IsChild 10 FIRST_TIME above_root h place.now → AreInDomain (bag h) → result ≡ slice_get (filter (λ p. int_le time p.time) (bag h)) 0 }
     ensures few { steps.new ≤ steps.old + 21 }
     ensures kept { steps.old ≤ steps.new }
 {
@@ -32,16 +32,16 @@ pub(crate) fn next_in_root(place: &Place, time: i64, steps: &mut Steps) -> Optio
 /// The first point of a place at or behind a time of its span. It opens at most two nodes a height, and at most one where it
 /// finds none.
 #[cycle(next)]
-fn next_in_place(span: Span, place: &Place, time: i64, steps: &mut Steps) -> Option<Point>
-    requires stands { Stands span.height span.start place.now 0 }
+fn next_in_place(span: Span, place: &Child, time: i64, steps: &mut Steps) -> Option<Point>
+    requires stands { IsSomeChild span.height span.start place.now 0 }
     requires begins { span.start ≤ℤ time }
     requires ends { time <ℤ end_of span }
-    ensures point { (above : List APoint → Bool) (h : List Commit) → IsPlace span.height span.start above h place.now → result ≡ slice_get (within time (end_of span) (bag h)) 0 }
+    ensures point { (above : List APoint → Bool) (h : List Commit) → IsChild span.height span.start above h place.now → result ≡ slice_get (within time (end_of span) (bag h)) 0 }
     ensures few { steps.new ≤ steps.old + 2 * span.height + 1 }
     ensures none { IsNone result → steps.new ≤ steps.old + span.height + 1 }
     ensures kept { steps.old ≤ steps.new }
 {
-    match opened(place, steps)? {
+    match visit(place, steps)? {
         Node::Leaf { points, .. } => {
             let (_, behind) = parted(points, time);
             first_of(behind)
@@ -59,11 +59,11 @@ fn next_in_place(span: Span, place: &Place, time: i64, steps: &mut Steps) -> Opt
 fn next_in_slots(
     span: Span,
     slots: &[Slot],
-    children: &[Place],
+    children: &[Child],
     time: i64,
     steps: &mut Steps,
 ) -> Option<Point>
-    requires stands { (below : ℕ) × (span.height ≡ suc below) × StandsInner below span.start slots.now children.now 0 }
+    requires stands { (below : ℕ) × (span.height ≡ suc below) × AreSomeSlots below span.start slots.now children.now 0 }
     requires begins { span.start ≤ℤ time }
     requires ends { time <ℤ end_of span }
     ensures point { (below : ℕ) (h : List Commit) → span.height ≡ suc below → HasSlots below span.start h 64 slots.now children.now → HasChildren below span.start h 64 children.now → result ≡ slice_get (within time (end_of span) (bag h)) 0 }
@@ -80,13 +80,13 @@ fn next_in_slots(
 
 /// The first point of a place. It opens at most one node a height.
 #[cycle(first)]
-fn first_in_place(span: Span, place: &Place, steps: &mut Steps) -> Option<Point>
-    requires { Stands span.height span.start place.now 0 }
-    ensures point { (above : List APoint → Bool) (h : List Commit) → IsPlace span.height span.start above h place.now → result ≡ slice_get (points_of span.height span.start (bag h)) 0 }
+fn first_in_place(span: Span, place: &Child, steps: &mut Steps) -> Option<Point>
+    requires { IsSomeChild span.height span.start place.now 0 }
+    ensures point { (above : List APoint → Bool) (h : List Commit) → IsChild span.height span.start above h place.now → result ≡ slice_get (points_of span.height span.start (bag h)) 0 }
     ensures few { steps.new ≤ steps.old + span.height + 1 }
     ensures kept { steps.old ≤ steps.new }
 {
-    match opened(place, steps)? {
+    match visit(place, steps)? {
         Node::Leaf { points, .. } => first_of(points),
         Node::Inner {
             slots,
@@ -101,11 +101,11 @@ fn first_in_place(span: Span, place: &Place, steps: &mut Steps) -> Option<Point>
 fn first_in_slots(
     span: Span,
     slots: &[Slot],
-    children: &[Place],
+    children: &[Child],
     from: u8,
     steps: &mut Steps,
 ) -> Option<Point>
-    requires stands { (below : ℕ) × (span.height ≡ suc below) × StandsInner below span.start slots.now children.now 0 }
+    requires stands { (below : ℕ) × (span.height ≡ suc below) × AreSomeSlots below span.start slots.now children.now 0 }
     requires place { from ≤ 64 }
     ensures point { (below : ℕ) (h : List Commit) → span.height ≡ suc below → HasSlots below span.start h 64 slots.now children.now → HasChildren below span.start h 64 children.now → result ≡ slice_get (within (slot_start below span.start from) (end_of span) (bag h)) 0 }
     ensures few { steps.new ≤ steps.old + span.height }

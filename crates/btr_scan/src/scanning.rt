@@ -4,12 +4,12 @@ ghost use Rattle.btr_base.specs.Bag.{within};
 ghost use Rattle.btr_base.specs.declared.point.Point.{Point as APoint};
 ghost use Rattle.btr_tree.specs.History.{Commit, bag};
 ghost use Rattle.btr_tree.specs.Nodes.{points_of};
-ghost use Rattle.btr_tree.specs.Shape.{IsPlace, HasSlots, HasChildren};
-ghost use Rattle.btr_tree.specs.Change.{Stands, StandsInner, end_of};
+ghost use Rattle.btr_tree.specs.Shape.{IsChild, HasSlots, HasChildren};
+ghost use Rattle.btr_tree.specs.Change.{IsSomeChild, AreSomeSlots, end_of};
 ghost use Rattle.btr_tree.specs.Root.{IsTree};
 
 use btr_base::{Point, Range, Span, points_between};
-use btr_tree::{Node, Place, Slot, Steps, Tree, opened, root_span};
+use btr_tree::{Node, Child, Slot, Steps, Tree, visit, root_span};
 use std::alloc::{AllocError, Global};
 
 /// The points of a version with `from <= time < to`, by time and value, each equal one (BTrDB's GetRange). It costs its
@@ -29,17 +29,17 @@ pub fn range(alloc: Global, tree: &Tree, range: Range) -> Result<Vec<Point>, All
 #[cycle(walk)]
 fn walk_place(
     span: Span,
-    place: &Place,
+    place: &Child,
     range: Range,
     rows: &mut Vec<Point>,
     steps: &mut Steps,
 ) -> Result<(), AllocError>
-    requires stands { Stands span.height span.start place.now 0 }
+    requires stands { IsSomeChild span.height span.start place.now 0 }
     requires begins { range.from <ℤ end_of span }
     requires ends { span.start <ℤ range.to }
-    ensures { OnOk result ((above : List APoint → Bool) (h : List Commit) → IsPlace span.height span.start above h place.now → rows.new.items ≡ rows.old.items ++ within range.from range.to (points_of span.height span.start (bag h))) }
+    ensures { OnOk result ((above : List APoint → Bool) (h : List Commit) → IsChild span.height span.start above h place.now → rows.new.items ≡ rows.old.items ++ within range.from range.to (points_of span.height span.start (bag h))) }
 {
-    match opened(place, steps) {
+    match visit(place, steps) {
         None => Ok(()),
         Some(node) => match node {
             Node::Leaf { points, .. } => {
@@ -59,12 +59,12 @@ fn walk_place(
 fn walk_slots(
     span: Span,
     slots: &[Slot],
-    children: &[Place],
+    children: &[Child],
     range: Range,
     rows: &mut Vec<Point>,
     steps: &mut Steps,
 ) -> Result<(), AllocError>
-    requires stands { (below : ℕ) × (span.height ≡ suc below) × StandsInner below span.start slots.now children.now 0 }
+    requires stands { (below : ℕ) × (span.height ≡ suc below) × AreSomeSlots below span.start slots.now children.now 0 }
     requires begins { range.from <ℤ end_of span }
     requires ends { span.start <ℤ range.to }
     ensures { OnOk result ((below : ℕ) (h : List Commit) → span.height ≡ suc below → HasSlots below span.start h 64 slots.now children.now → HasChildren below span.start h 64 children.now → rows.new.items ≡ rows.old.items ++ within range.from range.to (points_of span.height span.start (bag h))) }
@@ -84,15 +84,15 @@ fn walk_slots(
 fn walk_slot(
     span: Span,
     count: u64,
-    place: &Place,
+    place: &Child,
     range: Range,
     rows: &mut Vec<Point>,
     steps: &mut Steps,
 ) -> Result<(), AllocError>
-    requires stands { Stands span.height span.start place.now 0 }
+    requires stands { IsSomeChild span.height span.start place.now 0 }
     requires begins { range.from <ℤ end_of span }
     requires ends { span.start <ℤ range.to }
-    ensures { OnOk result ((above : List APoint → Bool) (h : List Commit) → IsPlace span.height span.start above h place.now → count ≡ length (points_of span.height span.start (bag h)) → rows.new.items ≡ rows.old.items ++ within range.from range.to (points_of span.height span.start (bag h))) }
+    ensures { OnOk result ((above : List APoint → Bool) (h : List Commit) → IsChild span.height span.start above h place.now → count ≡ length (points_of span.height span.start (bag h)) → rows.new.items ≡ rows.old.items ++ within range.from range.to (points_of span.height span.start (bag h))) }
 {
     if count == 0 {
         return Ok(());

@@ -13,9 +13,9 @@ use Rattle.btr_base.proofs.ListLemmas.{length-filter}
 use Rattle.btr_tree.specs.declared.limits.TheConstants.{LEAF_POINTS}
 use Rattle.btr_tree.specs.declared.node.Slot.{Slot}
 use Rattle.btr_tree.specs.History.{Commit, bag}
-use Rattle.btr_tree.specs.Nodes.{points_of, has_points, touches, is_inner, is_node, stamp}
+use Rattle.btr_tree.specs.Nodes.{points_of, has_points, touches, is_inner, is_node, last_change}
 use Rattle.btr_tree.proofs.VersionLemmas.{points-after}
-use Rattle.btr_tree.specs.Shape.{Child, slot_start, HasSlots, HasChildren, IsPlace}
+use Rattle.btr_tree.specs.Shape.{Child, slot_start, HasSlots, HasChildren, IsChild}
 use Rattle.btr_tree.proofs.NodeLemmas.{slot-at, points-slot}
 use Rattle.btr_tree.proofs.CutLemmas.{outside-alike}
 use Rattle.btr_tree.proofs.UntouchedNodeLemmas.{many-inner, some-has}
@@ -55,13 +55,13 @@ touched-fresh k s above h c v points number same touched small =
       small = small;
     }
 
-pub stamp-touched : (was : List Point → Bool) (k : ℕ) (s : ℤ) (h : List Commit) (c : Commit) (v : ℕ) → v ≡ c.version → touches c k s (bag h) ≡ true → v ≡ stamp was k s (c ∷ h)
-stamp-touched was k s h c v number touched =
-    number ∙ sym (ap (λ t. cond (t || not (was (bag h))) c.version (stamp was k s h)) touched)
+pub last_change-touched : (was : List Point → Bool) (k : ℕ) (s : ℤ) (h : List Commit) (c : Commit) (v : ℕ) → v ≡ c.version → touches c k s (bag h) ≡ true → v ≡ last_change was k s (c ∷ h)
+last_change-touched was k s h c v number touched =
+    number ∙ sym (ap (λ t. cond (t || not (was (bag h))) c.version (last_change was k s h)) touched)
 
-pub inner-place_on : (k below : ℕ) (s : ℤ) (above : List Point → Bool) (h : List Commit) (c : Commit) (v : ℕ) (ss : List Slot) (cs : List Child) (p : Child) → k ≡ suc below → v ≡ c.version → touches c k s (bag h) ≡ true → LEAF_POINTS < length (points_of k s (bag (c ∷ h))) → HasSlots below s (c ∷ h) 64 ss cs → HasChildren below s (c ∷ h) 64 cs → IsInnerOf v ss cs p → IsPlace k s above (c ∷ h) p
+pub inner-place_on : (k below : ℕ) (s : ℤ) (above : List Point → Bool) (h : List Commit) (c : Commit) (v : ℕ) (ss : List Slot) (cs : List Child) (p : Child) → k ≡ suc below → v ≡ c.version → touches c k s (bag h) ≡ true → LEAF_POINTS < length (points_of k s (bag (c ∷ h))) → HasSlots below s (c ∷ h) 64 ss cs → HasChildren below s (c ∷ h) 64 cs → IsInnerOf v ss cs p → IsChild k s above (c ∷ h) p
 inner-place_on k below s above h c v ss cs p e number touched many slots each is =
-    subst (λ j. IsPlace j s above (c ∷ h) p) (sym e) (inner-place below s above h c v ss cs p number (ap (λ t. t || not (is_node above (suc below) s (bag h))) (subst (λ j. touches c j s (bag h) ≡ true) e touched)) (subst (λ j. LEAF_POINTS < length (points_of j s (bag (c ∷ h)))) e many) slots each is)
+    subst (λ j. IsChild j s above (c ∷ h) p) (sym e) (inner-place below s above h c v ss cs p number (ap (λ t. t || not (is_node above (suc below) s (bag h))) (subst (λ j. touches c j s (bag h) ≡ true) e touched)) (subst (λ j. LEAF_POINTS < length (points_of j s (bag (c ∷ h)))) e many) slots each is)
 
 -- ---- whether a commit touches a span
 
@@ -118,7 +118,7 @@ parted-of span part below i b e place p aligned =
 -- what the walk knows of a slot
 pub record IsStep (span part : SpanValue) (below i : ℕ) (h : List Commit) (c : Commit) (slot : Slot) (child : Child) (cut : List RangeValue) (here : List Point) (v : ℕ) : Type 0 where
   pub was : is_inner (suc below) span.start (bag h) ≡ true
-  pub holds : IsPlace part.height part.start (is_inner (suc below) span.start) h child
+  pub holds : IsChild part.height part.start (is_inner (suc below) span.start) h child
   pub slot_is : slot ≡ slot_at (is_inner (suc below) span.start) part.height part.start h
   pub change : IsChange part.height part.start c cut here v
 

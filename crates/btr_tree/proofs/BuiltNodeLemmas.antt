@@ -12,8 +12,8 @@ use Rattle.btr_tree.specs.declared.node.Node.{Node, out-Node}
 use Rattle.btr_tree.specs.declared.node.Node.TheOpen.{Node-F}
 use Rattle.btr_tree.specs.declared.node.Slot.{Slot}
 use Rattle.btr_tree.specs.History.{Commit, bag}
-use Rattle.btr_tree.specs.Nodes.{points_of, touches, is_inner, is_node, stamp, node_version}
-use Rattle.btr_tree.specs.Shape.{Child, ByKind, slot_start, slot_of_points, IsLeaf, HasSlots, HasChildren, IsPlace}
+use Rattle.btr_tree.specs.Nodes.{points_of, touches, is_inner, is_node, last_change, node_version}
+use Rattle.btr_tree.specs.Shape.{Child, ByKind, slot_start, slot_of_points, IsLeaf, HasSlots, HasChildren, IsChild}
 use Rattle.btr_tree.proofs.NodeLemmas.{slot-fewer}
 use Rattle.btr_tree.specs.Change.{IsFresh, IsLeafOf, IsInnerOf}
 
@@ -30,7 +30,7 @@ by_kind-gives P Q R (Node-F.Inner version slots children) f g h = g version slot
 -- a node that a commit touches or makes carries its version
 pub version-fresh : (k : ℕ) (s : ℤ) (above : List Point → Bool) (h : List Commit) (c : Commit) (v : ℕ) → v ≡ c.version → (touches c k s (bag h) || not (is_node above k s (bag h))) ≡ true → v ≡ node_version above k s (c ∷ h)
 version-fresh k s above h c v e fresh =
-    e ∙ sym (ap (λ t. cond t c.version (stamp (is_node above k s) k s h)) fresh)
+    e ∙ sym (ap (λ t. cond t c.version (last_change (is_node above k s) k s h)) fresh)
 
 leaf-of : (k : ℕ) (s : ℤ) (above : List Point → Bool) (h : List Commit) (c : Commit) (v : ℕ) (points : List Point) → IsFresh k s above h c v points → 0 < length points → length points ≤ LEAF_POINTS → (w : ℕ) (ps : List Point) → (w ≡ v) × (ps ≡ points) → IsLeaf k s above (c ∷ h) w ps
 leaf-of k s above h c v points f some few w ps e =
@@ -41,7 +41,7 @@ leaf-of k s above h c v points f some few w ps e =
       version = version-fresh k s above h c w (e.0 ∙ f.number) f.fresh;
     }
 
-pub leaf-place : (k : ℕ) (s : ℤ) (above : List Point → Bool) (h : List Commit) (c : Commit) (v : ℕ) (points : List Point) (p : Child) → IsFresh k s above h c v points → 0 < length points → length points ≤ LEAF_POINTS → IsLeafOf v points p → IsPlace k s above (c ∷ h) p
+pub leaf-place : (k : ℕ) (s : ℤ) (above : List Point → Bool) (h : List Commit) (c : Commit) (v : ℕ) (points : List Point) (p : Child) → IsFresh k s above h c v points → 0 < length points → length points ≤ LEAF_POINTS → IsLeafOf v points p → IsChild k s above (c ∷ h) p
 leaf-place k s above h c v points None f some few is = absurd is
 leaf-place zero s above h c v points (Some a) f some few is =
     by_kind-weaker _ _ _ _ (out-Node a.value) (leaf-of zero s above h c v points f some few) (λ _ _ _ x. x) is
@@ -53,7 +53,7 @@ slots-as k s h n ss ts cs ds p q x =
     subst (λ y. HasSlots k s h n y ds) (sym p) (subst (HasSlots k s h n ss) (sym q) x)
 
 -- an inner node of slots, where the commit touches it or makes it
-pub inner-place : (below : ℕ) (s : ℤ) (above : List Point → Bool) (h : List Commit) (c : Commit) (v : ℕ) (ss : List Slot) (cs : List Child) (p : Child) → v ≡ c.version → (touches c (suc below) s (bag h) || not (is_node above (suc below) s (bag h))) ≡ true → LEAF_POINTS < length (points_of (suc below) s (bag (c ∷ h))) → HasSlots below s (c ∷ h) 64 ss cs → HasChildren below s (c ∷ h) 64 cs → IsInnerOf v ss cs p → IsPlace (suc below) s above (c ∷ h) p
+pub inner-place : (below : ℕ) (s : ℤ) (above : List Point → Bool) (h : List Commit) (c : Commit) (v : ℕ) (ss : List Slot) (cs : List Child) (p : Child) → v ≡ c.version → (touches c (suc below) s (bag h) || not (is_node above (suc below) s (bag h))) ≡ true → LEAF_POINTS < length (points_of (suc below) s (bag (c ∷ h))) → HasSlots below s (c ∷ h) 64 ss cs → HasChildren below s (c ∷ h) 64 cs → IsInnerOf v ss cs p → IsChild (suc below) s above (c ∷ h) p
 inner-place below s above h c v ss cs None number fresh many slots each is = absurd is
 inner-place below s above h c v ss cs (Some a) number fresh many slots each is =
     by_kind-weaker _ _ _ _ (out-Node a.value) (λ _ _ x. absurd x) (λ w ts ds e. (
@@ -65,9 +65,9 @@ inner-place below s above h c v ss cs (Some a) number fresh many slots each is =
       subst (HasChildren below s (c ∷ h) 64) (sym e.2) each,
     )) is
 
-pub inner-place_at : (k below : ℕ) (s : ℤ) (above : List Point → Bool) (h : List Commit) (c : Commit) (v : ℕ) (points : List Point) (ss : List Slot) (cs : List Child) (p : Child) → k ≡ suc below → IsFresh k s above h c v points → LEAF_POINTS < length points → HasSlots below s (c ∷ h) 64 ss cs → HasChildren below s (c ∷ h) 64 cs → IsInnerOf v ss cs p → IsPlace k s above (c ∷ h) p
+pub inner-place_at : (k below : ℕ) (s : ℤ) (above : List Point → Bool) (h : List Commit) (c : Commit) (v : ℕ) (points : List Point) (ss : List Slot) (cs : List Child) (p : Child) → k ≡ suc below → IsFresh k s above h c v points → LEAF_POINTS < length points → HasSlots below s (c ∷ h) 64 ss cs → HasChildren below s (c ∷ h) 64 cs → IsInnerOf v ss cs p → IsChild k s above (c ∷ h) p
 inner-place_at k below s above h c v points ss cs p e f many slots each is =
-    subst (λ j. IsPlace j s above (c ∷ h) p) (sym e) (inner-place below s above h c v ss cs p f.number (subst (λ j. (touches c j s (bag h) || not (is_node above j s (bag h))) ≡ true) e f.fresh) (subst (λ j. LEAF_POINTS < length (points_of j s (bag (c ∷ h)))) e (subst (λ x. LEAF_POINTS < length x) f.same many)) slots each is)
+    subst (λ j. IsChild j s above (c ∷ h) p) (sym e) (inner-place below s above h c v ss cs p f.number (subst (λ j. (touches c j s (bag h) || not (is_node above j s (bag h))) ≡ true) e f.fresh) (subst (λ j. LEAF_POINTS < length (points_of j s (bag (c ∷ h)))) e (subst (λ x. LEAF_POINTS < length x) f.same many)) slots each is)
 
 -- ---- one slot more
 
@@ -101,7 +101,7 @@ slot-by a b v w p q = cc
 
 pub slot-made : (below : ℕ) (s : ℤ) (i : ℕ) (h : List Commit) (c : Commit) (v : ℕ) (points : List Point) (x : Slot) → v ≡ c.version → points ≡ points_of below (slot_start below s i) (bag (c ∷ h)) → (touches c below (slot_start below s i) (bag h) || not (is_inner (suc below) s (bag h))) ≡ true → x ≡ record { agg = agg points; version = v; child = 0 } → x ≡ slot_of_points (suc below) s below (slot_start below s i) (c ∷ h)
 slot-made below s i h c v points x number same fresh e =
-    e ∙ slot-by _ _ _ _ (ap agg same) (number ∙ sym (ap (λ t. cond t c.version (stamp (is_inner (suc below) s) below (slot_start below s i) h)) fresh))
+    e ∙ slot-by _ _ _ _ (ap agg same) (number ∙ sym (ap (λ t. cond t c.version (last_change (is_inner (suc below) s) below (slot_start below s i) h)) fresh))
 
 each_push : {X : Type 0} (xs : List X) (y : X) (P : ℕ → X → Type 0) (n : ℕ) → length xs ≡ n → ((i : ℕ) (d : X) → i < n → P i (slice_index_or xs i d)) → P n y → (i : ℕ) (d : X) → i < n + 1 → P i (slice_index_or (xs ++ y ∷ []) i d)
 each_push xs y P n long h last i d lt =
@@ -123,6 +123,6 @@ slots-push below s h n ss cs x p holds e =
       each = λ i d lt. each_push ss x (λ j y. y ≡ slot_of_points (suc below) s below (slot_start below s j) h) n long (λ j f k. holds.each j f k) e i d lt;
     }
 
-pub children-push : (below : ℕ) (s : ℤ) (h : List Commit) (n : ℕ) (cs : List Child) (p : Child) → length cs ≡ n → HasChildren below s h n cs → IsPlace below (slot_start below s n) (is_inner (suc below) s) h p → HasChildren below s h (n + 1) (cs ++ p ∷ [])
+pub children-push : (below : ℕ) (s : ℤ) (h : List Commit) (n : ℕ) (cs : List Child) (p : Child) → length cs ≡ n → HasChildren below s h n cs → IsChild below (slot_start below s n) (is_inner (suc below) s) h p → HasChildren below s h (n + 1) (cs ++ p ∷ [])
 children-push below s h n cs p long each last i d lt =
-    each_push cs p (λ j q. IsPlace below (slot_start below s j) (is_inner (suc below) s) h q) n long each last i d lt
+    each_push cs p (λ j q. IsChild below (slot_start below s j) (is_inner (suc below) s) h q) n long each last i d lt

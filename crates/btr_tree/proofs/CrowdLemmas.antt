@@ -12,19 +12,19 @@ use Rattle.btr_base.proofs.ListLemmas.{length-filter}
 use Rattle.btr_tree.specs.declared.limits.TheConstants.{LEAF_POINTS}
 use Rattle.btr_tree.specs.Nodes.{points_of}
 use Rattle.btr_tree.specs.Change.{end_of}
-use Rattle.btr_tree.specs.Crowd.{bottom, HasRoom, IsFirstCrowd}
+use Rattle.btr_tree.specs.Crowd.{bottom, HasNoCrowdedSpan, IsFirstCrowd}
 
-pub room-few : (a b : ℤ) (xs : List Point) → length xs ≤ LEAF_POINTS → HasRoom a b xs
+pub room-few : (a b : ℤ) (xs : List Point) → length xs ≤ LEAF_POINTS → HasNoCrowdedSpan a b xs
 room-few a b xs few j low high =
     let fewer = length-filter (is_within (bottom j) (bottom j +ℤ pos (width 0))) xs in omega arith
 
-pub room-none : (a : ℤ) (xs : List Point) → HasRoom a a xs
+pub room-none : (a : ℤ) (xs : List Point) → HasNoCrowdedSpan a a xs
 room-none a xs j low high = absurd (omega (arith, ints))
 
-pub room-join : (a m b : ℤ) (xs : List Point) → HasRoom a m xs → HasRoom m b xs → HasRoom a b xs
+pub room-join : (a m b : ℤ) (xs : List Point) → HasNoCrowdedSpan a m xs → HasNoCrowdedSpan m b xs → HasNoCrowdedSpan a b xs
 room-join a m b xs h k j low high = by_lt_z (bottom j) m (λ lt. h j low lt) (λ le. k j le high)
 
-pub room-to : (a m b : ℤ) (xs : List Point) → m ≤ℤ b → HasRoom a b xs → HasRoom a m xs
+pub room-to : (a m b : ℤ) (xs : List Point) → m ≤ℤ b → HasNoCrowdedSpan a b xs → HasNoCrowdedSpan a m xs
 room-to a m b xs le h j low high = h j low (omega (arith, ints))
 
 -- each bottom span that starts before the end ends by it
@@ -47,16 +47,16 @@ bottom-same : (a b : ℤ) (xs : List Point) (j : ℕ) → Whole b → a ≤ℤ b
 bottom-same a b xs j whole low high =
     within-nested a b (bottom j) (bottom j +ℤ pos (width 0)) xs low (whole j high)
 
-pub room-part : (a b : ℤ) (xs : List Point) → Whole b → HasRoom a b (within a b xs) → HasRoom a b xs
+pub room-part : (a b : ℤ) (xs : List Point) → Whole b → HasNoCrowdedSpan a b (within a b xs) → HasNoCrowdedSpan a b xs
 room-part a b xs whole h j low high =
     subst (λ ps. length ps ≤ LEAF_POINTS) (bottom-same a b xs j whole low high) (h j low high)
 
-pub room-of : (a b : ℤ) (xs : List Point) → Whole b → HasRoom a b xs → HasRoom a b (within a b xs)
+pub room-of : (a b : ℤ) (xs : List Point) → Whole b → HasNoCrowdedSpan a b xs → HasNoCrowdedSpan a b (within a b xs)
 room-of a b xs whole h j low high =
     subst (λ ps. length ps ≤ LEAF_POINTS) (sym (bottom-same a b xs j whole low high)) (h j low high)
 
 -- a part's first crowded span is the whole's, where there is none before the part
-pub crowd-part : (a b c d : ℤ) (xs : List Point) (start : ℤ) (j : ℕ) → Whole d → a ≤ℤ c → d ≤ℤ b → HasRoom a c xs → IsFirstCrowd c d (within c d xs) start j → IsFirstCrowd a b xs start j
+pub crowd-part : (a b c d : ℤ) (xs : List Point) (start : ℤ) (j : ℕ) → Whole d → a ≤ℤ c → d ≤ℤ b → HasNoCrowdedSpan a c xs → IsFirstCrowd c d (within c d xs) start j → IsFirstCrowd a b xs start j
 crowd-part a b c d xs start j whole low high room h =
     let is = h.is in
     let begins = h.begins in

@@ -11,18 +11,18 @@ use Rattle.btr_tree.specs.declared.limits.TheConstants.{LEAF_POINTS}
 use Rattle.btr_tree.specs.declared.node.Slot.{Slot}
 use Rattle.btr_tree.specs.History.{Commit, bag, IsBefore}
 use Rattle.btr_tree.specs.Page.{Page}
-use Rattle.btr_tree.specs.Nodes.{points_of, has_points, touches, is_inner, is_node, stamp, node_version}
+use Rattle.btr_tree.specs.Nodes.{points_of, has_points, touches, is_inner, is_node, last_change, node_version}
 use Rattle.btr_tree.proofs.VersionLemmas.{points-untouched}
 use Rattle.btr_tree.specs.Shape.{Child, slot_start, slot_of_points, HasSlots}
-use Rattle.btr_tree.proofs.UntouchedNodeLemmas.{touches-slot, stamp-kept, some-has, many-inner}
+use Rattle.btr_tree.proofs.UntouchedNodeLemmas.{touches-slot, last_change-kept, some-has, many-inner}
 use Rattle.btr_tree.specs.Pages.{first_of, slots_of, page, own_page, pages}
 
-pub stamp-before : (was : List Point → Bool) (k : ℕ) (s : ℤ) (h : List Commit) (v : ℕ) → 0 < v → IsBefore v h → stamp was k s h < v
-stamp-before was k s [] v some before = some
-stamp-before was k s (c ∷ h) v some before =
-    elim (touches c k s (bag h) || not (was (bag h))) as (λ t. cond t c.version (stamp was k s h) < v) [
+pub last_change-before : (was : List Point → Bool) (k : ℕ) (s : ℤ) (h : List Commit) (v : ℕ) → 0 < v → IsBefore v h → last_change was k s h < v
+last_change-before was k s [] v some before = some
+last_change-before was k s (c ∷ h) v some before =
+    elim (touches c k s (bag h) || not (was (bag h))) as (λ t. cond t c.version (last_change was k s h) < v) [
       | true ↦ before.0
-      | false ↦ stamp-before was k s h v some before.1
+      | false ↦ last_change-before was k s h v some before.1
     ]
 
 pub first-next : {X : Type 0} (n : ℕ) (f : ℕ → List X) → first_of (n + 1) f ≡ first_of n f ++ f n
@@ -124,8 +124,8 @@ own-kept k s above h c v w e some before =
     let same = points-untouched k s c h e in
     has-cases (points_of k s (bag h)) _ (λ none. own-none k s above (c ∷ h) v (none-node above k s (bag (c ∷ h)) (same ∙ none))) (λ more.
     let node : is_node above k s (bag h) ≡ true = ap (λ t. t && has_points (points_of k s (bag h))) w ∙ some-has (points_of k s (bag h)) more in
-    let old = stamp-before (is_node above k s) k s h v some before in
-    let kept = stamp-kept (is_node above k s) k s h c e node in
+    let old = last_change-before (is_node above k s) k s h v some before in
+    let kept = last_change-kept (is_node above k s) k s h c e node in
     own-other k s above (c ∷ h) v (subst (λ x. x < v) (sym kept) old))
 
 pub pages-kept : (k : ℕ) (s : ℤ) (above : List Point → Bool) (h : List Commit) (c : Commit) (v : ℕ) → above (bag h) ≡ true → touches c k s (bag h) ≡ false → 0 < v → IsBefore v h → pages k s above (c ∷ h) v ≡ []

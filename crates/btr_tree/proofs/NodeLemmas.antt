@@ -22,7 +22,7 @@ use Rattle.btr_tree.specs.History.{Commit, bag}
 use Rattle.btr_tree.specs.Nodes.{points_of, is_inner}
 use Rattle.btr_tree.proofs.VersionLemmas.{bag-in_order}
 use Rattle.btr_tree.specs.Change.{joined_all}
-use Rattle.btr_tree.specs.Shape.{Child, ByKind, slot_start, slot_of_points, IsLeaf, IsInner, HasSlots, HasChildren, IsNode, IsPlace}
+use Rattle.btr_tree.specs.Shape.{Child, ByKind, slot_start, slot_of_points, IsLeaf, IsInner, HasSlots, HasChildren, IsNode, IsChild}
 
 -- ---- a node
 
@@ -56,11 +56,11 @@ inner-is (suc k) s above h n v ss cs e holds =
     let body : IsInner k s above h v ss.items cs.items × HasChildren k s h 64 cs.items = by_inner _ _ n v ss cs e holds in
     record { below = k; height = refl; inner = body.0; each = body.1 }
 
-pub place-is : (k : ℕ) (s : ℤ) (above : List Point → Bool) (h : List Commit) (place : Child) (a : Arc Node Global) → place ≡ Some a → IsPlace k s above h place → IsNode k s above h a.value
-place-is k s above h place a e holds = subst (IsPlace k s above h) e holds
+pub place-is : (k : ℕ) (s : ℤ) (above : List Point → Bool) (h : List Commit) (place : Child) (a : Arc Node Global) → place ≡ Some a → IsChild k s above h place → IsNode k s above h a.value
+place-is k s above h place a e holds = subst (IsChild k s above h) e holds
 
-pub none-is : (k : ℕ) (s : ℤ) (above : List Point → Bool) (h : List Commit) (place : Child) → place ≡ None → IsPlace k s above h place → points_of k s (bag h) ≡ []
-none-is k s above h place e holds = subst (IsPlace k s above h) e holds
+pub none-is : (k : ℕ) (s : ℤ) (above : List Point → Bool) (h : List Commit) (place : Child) → place ≡ None → IsChild k s above h place → points_of k s (bag h) ≡ []
+none-is k s above h place e holds = subst (IsChild k s above h) e holds
 
 -- ---- the slots of a span
 
@@ -151,17 +151,17 @@ slot-fewer below s i b place =
 -- what is known of a slot's child and aggregate
 pub record IsSlotAt (below : ℕ) (s : ℤ) (h : List Commit) (i : ℕ) (part : SpanValue) (slot : Slot) (child : Child) : Type 0 where
   pub is : part ≡ record { start = slot_start below s i; height = below }
-  pub holds : IsPlace part.height part.start (is_inner (suc below) s) h child
+  pub holds : IsChild part.height part.start (is_inner (suc below) s) h child
   pub counted : slot.agg ≡ agg (points_of part.height part.start (bag h))
 
 pub slot-at : (span : SpanValue) (below : ℕ) (h : List Commit) (i j : ℕ) (part : SpanValue) (slot : Slot) (child : Child) (ss : List Slot) (cs : List Child) → span.height ≡ suc below → HasSlots below span.start h 64 ss cs → HasChildren below span.start h 64 cs → i < 64 → j ≡ i → part ≡ slot_of span i → slot ≡ slice_index_or ss j slot → child ≡ slice_index_or cs j child → IsSlotAt below span.start h i part slot child
 slot-at span below h i j part slot child ss cs e slots each place same p q r =
     let is : part ≡ record { start = slot_start below span.start i; height = below } = p ∙ slot-part span below i e in
-    let holds : IsPlace below (slot_start below span.start i) (is_inner (suc below) span.start) h child = subst (IsPlace below (slot_start below span.start i) (is_inner (suc below) span.start) h) (ap (λ k. slice_index_or cs k child) (sym same) ∙ sym r) (each i child place) in
+    let holds : IsChild below (slot_start below span.start i) (is_inner (suc below) span.start) h child = subst (IsChild below (slot_start below span.start i) (is_inner (suc below) span.start) h) (ap (λ k. slice_index_or cs k child) (sym same) ∙ sym r) (each i child place) in
     let counted : slot.agg ≡ agg (points_of below (slot_start below span.start i) (bag h)) = ap (λ x. x.agg) (q ∙ ap (λ k. slice_index_or ss k slot) same ∙ slots.each i slot place) in
     record {
       is = is;
-      holds = subst (λ u. IsPlace u.height u.start (is_inner (suc below) span.start) h child) (sym is) holds;
+      holds = subst (λ u. IsChild u.height u.start (is_inner (suc below) span.start) h child) (sym is) holds;
       counted = subst (λ (u : SpanValue). slot.agg ≡ agg (points_of u.height u.start (bag h))) (sym is) counted;
     }
 

@@ -19,10 +19,10 @@ use Rattle.btr_tree.specs.declared.limits.TheConstants.{VERSION_POINTS}
 use Rattle.btr_tree.specs.declared.fault.TreeFault.{TreeFault}
 use Rattle.btr_tree.specs.declared.fault.TreeFault.TheVariants.{Crowded, TooManyPoints, Want}
 use Rattle.btr_tree.specs.History.{Commit, bag}
-use Rattle.btr_tree.specs.Nodes.{points_of, no_span}
-use Rattle.btr_tree.specs.Shape.{Child, IsNode, IsPlace}
+use Rattle.btr_tree.specs.Nodes.{points_of, above_root}
+use Rattle.btr_tree.specs.Shape.{Child, IsNode, IsChild}
 use Rattle.btr_tree.specs.Change.{end_of, IsChange}
-use Rattle.btr_tree.specs.Crowd.{HasRoom, IsCrowding}
+use Rattle.btr_tree.specs.Crowd.{HasNoCrowdedSpan, IsCrowdedFault}
 use Rattle.btr_tree.proofs.UntouchedNodeLemmas.{place-room}
 use Rattle.btr_tree.specs.Root.{TreeValue, AreInDomain, IsTree, IsTreeFault}
 
@@ -51,11 +51,11 @@ pub domain-after : (h : List Commit) (c : Commit) → AreInDomain (bag h) → Ar
 domain-after h c old new =
     each-sort (λ p. InDomain p.time) (outside (bag h) c.cut ++ c.added) (each-append (λ p. InDomain p.time) (outside (bag h) c.cut) c.added (each-filter (λ p. InDomain p.time) (λ p. not (covered c.cut p.time)) (bag h) old) new)
 
-pub place-root : (h : List Commit) (p : Child) → MatchOption (option_map (λ a. a.value) p) (points_of 10 FIRST (bag h) ≡ []) (λ n. IsNode 10 FIRST no_span h n) → IsPlace 10 FIRST no_span h p
+pub place-root : (h : List Commit) (p : Child) → MatchOption (option_map (λ a. a.value) p) (points_of 10 FIRST (bag h) ≡ []) (λ n. IsNode 10 FIRST above_root h n) → IsChild 10 FIRST above_root h p
 place-root h None x = x
 place-root h (Some a) x = x
 
-pub root-place : (h : List Commit) (p : Child) → IsPlace 10 FIRST no_span h p → MatchOption (option_map (λ a. a.value) p) (points_of 10 FIRST (bag h) ≡ []) (λ n. IsNode 10 FIRST no_span h n)
+pub root-place : (h : List Commit) (p : Child) → IsChild 10 FIRST above_root h p → MatchOption (option_map (λ a. a.value) p) (points_of 10 FIRST (bag h) ≡ []) (λ n. IsNode 10 FIRST above_root h n)
 root-place h None x = x
 root-place h (Some a) x = x
 
@@ -63,7 +63,7 @@ pub tree-count : (h : List Commit) (t : TreeValue) → IsTree h t → t.total.co
 tree-count h t x = ap (λ u. u.count) x.total ∙ agg-count (bag h)
 
 -- the tree after a commit
-pub tree-of : (h : List Commit) (p : Child) (total : AggValue) → AreInDomain (bag h) → IsPlace 10 FIRST no_span h p → total ≡ agg (points_of 10 FIRST (bag h)) → total.count ≤ VERSION_POINTS → IsTree h (record { node = option_map (λ a. a.value) p; total = total })
+pub tree-of : (h : List Commit) (p : Child) (total : AggValue) → AreInDomain (bag h) → IsChild 10 FIRST above_root h p → total ≡ agg (points_of 10 FIRST (bag h)) → total.count ≤ VERSION_POINTS → IsTree h (record { node = option_map (λ a. a.value) p; total = total })
 tree-of h p total times holds counted few =
     let all = root-points (bag h) times in
     let is : total ≡ agg (bag h) = counted ∙ ap agg all in
@@ -75,14 +75,14 @@ tree-of h p total times holds counted few =
     }
 
 -- no bottom span is crowded
-pub tree-room : (h : List Commit) (p : Child) → AreInDomain (bag h) → IsPlace 10 FIRST no_span h p → HasRoom FIRST END (bag h)
+pub tree-room : (h : List Commit) (p : Child) → AreInDomain (bag h) → IsChild 10 FIRST above_root h p → HasNoCrowdedSpan FIRST END (bag h)
 tree-room h p times holds =
-    subst (λ e. HasRoom FIRST e (bag h)) end-root (subst (HasRoom FIRST (FIRST +ℤ pos (width 10))) (root-points (bag h) times) (place-room 10 FIRST no_span h p root-aligned holds))
+    subst (λ e. HasNoCrowdedSpan FIRST e (bag h)) end-root (subst (HasNoCrowdedSpan FIRST (FIRST +ℤ pos (width 10))) (root-points (bag h) times) (place-room 10 FIRST above_root h p root-aligned holds))
 
 -- what is crowded in the root's span is crowded
-pub root-fault : (h : List Commit) (e : TreeFault) → AreInDomain (bag h) → IsCrowding FIRST (end_of root_part) (points_of 10 FIRST (bag h)) e → IsTreeFault (bag h) e
+pub root-fault : (h : List Commit) (e : TreeFault) → AreInDomain (bag h) → IsCrowdedFault FIRST (end_of root_part) (points_of 10 FIRST (bag h)) e → IsTreeFault (bag h) e
 root-fault h (Crowded start) times x =
-    subst (λ y. IsCrowding FIRST y (bag h) (Crowded start)) end-root (subst (λ b. IsCrowding FIRST (end_of root_part) b (Crowded start)) (root-points (bag h) times) x)
+    subst (λ y. IsCrowdedFault FIRST y (bag h) (Crowded start)) end-root (subst (λ b. IsCrowdedFault FIRST (end_of root_part) b (Crowded start)) (root-points (bag h) times) x)
 root-fault h (TooManyPoints count) times x = absurd x
 root-fault h Want times x = tt
 
@@ -92,7 +92,7 @@ root-change c times = record { number = refl; points = sym (root-points c.added 
 
 -- what is known of the whole of a commit where the walk begins
 pub record IsRootStep (span : SpanValue) (h : List Commit) (c : Commit) (p : Child) (total : AggValue) (cut : List RangeValue) (given : List Point) : Type 0 where
-  pub holds : IsPlace span.height span.start no_span h p
+  pub holds : IsChild span.height span.start above_root h p
   pub counted : total ≡ agg (points_of span.height span.start (bag h))
   pub change : IsChange span.height span.start c cut given c.version
   pub inside : within span.start (end_of span) given ≡ given

@@ -15,7 +15,7 @@ use Rattle.btr_tree.specs.Nodes.{points_of}
 use Rattle.btr_tree.specs.Shape.{slot_start}
 use Rattle.btr_tree.proofs.NodeLemmas.{slot-part, slot-next, slot-from, slot-inside, points-slot}
 use Rattle.btr_tree.specs.Change.{end_of}
-use Rattle.btr_tree.specs.Crowd.{HasRoom, IsFirstCrowd, IsCrowding}
+use Rattle.btr_tree.specs.Crowd.{HasNoCrowdedSpan, IsFirstCrowd, IsCrowdedFault}
 use Rattle.btr_tree.proofs.CrowdLemmas.{Whole, span-whole, room-join, room-part, crowd-part}
 
 -- the points of a slot, and those behind it, of the points of a span
@@ -71,14 +71,14 @@ parted-same span part below i points here behind h at place same =
     ∙ points-slot below span.start i (bag h) place
 
 -- what is crowded in a slot is the first crowded, where there is none before
-pub crowding-part : (span part : SpanValue) (below i : ℕ) (points here behind : List Point) (fault : TreeFault) → IsPartedAt span part below i points here behind → HasRoom span.start (slot_start below span.start i) points → IsCrowding part.start (end_of part) here fault → IsCrowding span.start (end_of span) points fault
+pub crowding-part : (span part : SpanValue) (below i : ℕ) (points here behind : List Point) (fault : TreeFault) → IsPartedAt span part below i points here behind → HasNoCrowdedSpan span.start (slot_start below span.start i) points → IsCrowdedFault part.start (end_of part) here fault → IsCrowdedFault span.start (end_of span) points fault
 crowding-part span part below i points here behind (Crowded start) at room f =
     let crowd : IsFirstCrowd part.start (end_of part) (within part.start (end_of part) points) start f.0 = subst (λ x. IsFirstCrowd part.start (end_of part) x start f.0) at.has f.1 in
-    (f.0, crowd-part span.start (end_of span) part.start (end_of part) points start f.0 at.whole at.low at.high (subst (λ t. HasRoom span.start t points) (sym at.begins) room) crowd)
+    (f.0, crowd-part span.start (end_of span) part.start (end_of part) points start f.0 at.whole at.low at.high (subst (λ t. HasNoCrowdedSpan span.start t points) (sym at.begins) room) crowd)
 crowding-part span part below i points here behind (TooManyPoints count) at room f = absurd f
 crowding-part span part below i points here behind Want at room f = tt
 
-pub room-more : (span part : SpanValue) (below i : ℕ) (points here behind : List Point) → IsPartedAt span part below i points here behind → HasRoom span.start (slot_start below span.start i) points → HasRoom part.start (end_of part) here → HasRoom span.start (slot_start below span.start (i + 1)) points
+pub room-more : (span part : SpanValue) (below i : ℕ) (points here behind : List Point) → IsPartedAt span part below i points here behind → HasNoCrowdedSpan span.start (slot_start below span.start i) points → HasNoCrowdedSpan part.start (end_of part) here → HasNoCrowdedSpan span.start (slot_start below span.start (i + 1)) points
 room-more span part below i points here behind at room more =
-    let here_room = room-part part.start (end_of part) points at.whole (subst (HasRoom part.start (end_of part)) at.has more) in
-    subst (λ t. HasRoom span.start t points) at.next (room-join span.start part.start (end_of part) points (subst (λ t. HasRoom span.start t points) (sym at.begins) room) here_room)
+    let here_room = room-part part.start (end_of part) points at.whole (subst (HasNoCrowdedSpan part.start (end_of part)) at.has more) in
+    subst (λ t. HasNoCrowdedSpan span.start t points) at.next (room-join span.start part.start (end_of part) points (subst (λ t. HasNoCrowdedSpan span.start t points) (sym at.begins) room) here_room)

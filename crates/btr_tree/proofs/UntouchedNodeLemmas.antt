@@ -15,14 +15,14 @@ use Rattle.btr_tree.specs.declared.limits.TheConstants.{LEAF_POINTS}
 use Rattle.btr_tree.specs.declared.node.Node.{Node, out-Node}
 use Rattle.btr_tree.specs.declared.node.Slot.{Slot}
 use Rattle.btr_tree.specs.History.{Commit, bag}
-use Rattle.btr_tree.specs.Nodes.{points_of, has_points, touches, is_inner, is_node, stamp}
+use Rattle.btr_tree.specs.Nodes.{points_of, has_points, touches, is_inner, is_node, last_change}
 use Rattle.btr_tree.proofs.VersionLemmas.{points-untouched, points-after}
-use Rattle.btr_tree.specs.Shape.{Child, slot_start, IsLeaf, IsInner, IsNode, IsPlace}
+use Rattle.btr_tree.specs.Shape.{Child, slot_start, IsLeaf, IsInner, IsNode, IsChild}
 use Rattle.btr_tree.proofs.NodeLemmas.{points-slot, total-of, slot-part, slot-next, slot-first, slot-end}
 use Rattle.btr_tree.proofs.BuiltNodeLemmas.{by_kind-weaker, by_kind-gives}
 use Rattle.btr_tree.proofs.CutLemmas.{outside-length}
 use Rattle.btr_tree.specs.Change.{IsCounted}
-use Rattle.btr_tree.specs.Crowd.{HasRoom}
+use Rattle.btr_tree.specs.Crowd.{HasNoCrowdedSpan}
 use Rattle.btr_tree.proofs.CrowdLemmas.{span-whole, room-few, room-none, room-join, room-part}
 
 -- ---- what a commit does not touch
@@ -66,9 +66,9 @@ touches-slot below s i c b place e =
     ap (λ x. has_points x || list_any (λ p. covered c.cut p.time) (points_of below j b)) added_slot ∙ kept_slot
 
 -- a version stays where the commit does not touch the span, and it was what is asked
-pub stamp-kept : (was : List Point → Bool) (k : ℕ) (s : ℤ) (h : List Commit) (c : Commit) → touches c k s (bag h) ≡ false → was (bag h) ≡ true → stamp was k s (c ∷ h) ≡ stamp was k s h
-stamp-kept was k s h c e w =
-    ap (λ t. cond (t || not (was (bag h))) c.version (stamp was k s h)) e ∙ ap (λ t. cond (not t) c.version (stamp was k s h)) w
+pub last_change-kept : (was : List Point → Bool) (k : ℕ) (s : ℤ) (h : List Commit) (c : Commit) → touches c k s (bag h) ≡ false → was (bag h) ≡ true → last_change was k s (c ∷ h) ≡ last_change was k s h
+last_change-kept was k s h c e w =
+    ap (λ t. cond (t || not (was (bag h))) c.version (last_change was k s h)) e ∙ ap (λ t. cond (not t) c.version (last_change was k s h)) w
 
 leaf-kept : (k : ℕ) (s : ℤ) (above : List Point → Bool) (h : List Commit) (c : Commit) → above (bag h) ≡ true → touches c k s (bag h) ≡ false → (v : ℕ) (ps : List Point) → IsLeaf k s above h v ps → IsLeaf k s above (c ∷ h) v ps
 leaf-kept k s above h c w e v ps x =
@@ -78,7 +78,7 @@ leaf-kept k s above h c w e v ps x =
       same = x.same ∙ sym (points-untouched k s c h e);
       some = x.some;
       few = x.few;
-      version = x.version ∙ sym (stamp-kept (is_node above k s) k s h c e node);
+      version = x.version ∙ sym (last_change-kept (is_node above k s) k s h c e node);
     }
 
 pub many-inner : (k : ℕ) (s : ℤ) (b : List Point) → LEAF_POINTS < length (points_of k s b) → is_inner k s b ≡ true
@@ -95,13 +95,13 @@ inner-kept below s above h c w e v ss cs x =
     let inner = many-inner (suc below) s (bag h) x.many in
     record {
       many = subst (λ y. LEAF_POINTS < length y) (sym (points-untouched (suc below) s c h e)) x.many;
-      version = x.version ∙ sym (stamp-kept (is_node above (suc below) s) (suc below) s h c e node);
+      version = x.version ∙ sym (last_change-kept (is_node above (suc below) s) (suc below) s h c e node);
       all = record {
         slots_length = x.all.slots_length;
         children_length = x.all.children_length;
         each = λ i d place.
             let slot = touches-slot below s i c (bag h) place e in
-            x.all.each i d place ∙ slot-same _ _ _ _ (ap agg (sym (points-untouched below (slot_start below s i) c h slot))) (sym (stamp-kept (is_inner (suc below) s) below (slot_start below s i) h c slot inner));
+            x.all.each i d place ∙ slot-same _ _ _ _ (ap agg (sym (points-untouched below (slot_start below s i) c h slot))) (sym (last_change-kept (is_inner (suc below) s) below (slot_start below s i) h c slot inner));
       };
     }
 
@@ -116,14 +116,14 @@ node-kept (suc k) s above h c n w e x =
           match-weaker (slice_index_or cs i d) _ _ _ _ (λ none. points-untouched k (slot_start k s i) c h slot ∙ none) (λ a z. node-kept k (slot_start k s i) (is_inner (suc k) s) h c a.value (many-inner (suc k) s (bag h) y.0.many) slot z) (y.1 i d place),
     )) x
 
-pub place-kept : (k : ℕ) (s : ℤ) (above : List Point → Bool) (h : List Commit) (c : Commit) (p : Child) → above (bag h) ≡ true → touches c k s (bag h) ≡ false → IsPlace k s above h p → IsPlace k s above (c ∷ h) p
+pub place-kept : (k : ℕ) (s : ℤ) (above : List Point → Bool) (h : List Commit) (c : Commit) (p : Child) → above (bag h) ≡ true → touches c k s (bag h) ≡ false → IsChild k s above h p → IsChild k s above (c ∷ h) p
 place-kept k s above h c p w e x =
     match-weaker p _ _ _ _ (λ none. points-untouched k s c h e ∙ none) (λ a y. node-kept k s above h c a.value w e y) x
 
 -- ---- what a node shows
 
 -- the aggregates of its slots can be joined
-pub place-counted : (k : ℕ) (s : ℤ) (above : List Point → Bool) (h : List Commit) (p : Child) → length (points_of k s (bag h)) < 2 ^ 64 → IsPlace k s above h p → IsCounted p
+pub place-counted : (k : ℕ) (s : ℤ) (above : List Point → Bool) (h : List Commit) (p : Child) → length (points_of k s (bag h)) < 2 ^ 64 → IsChild k s above h p → IsCounted p
 place-counted zero s above h p few x =
     match-weaker p _ _ _ _ (λ _. tt) (λ a y. by_kind-weaker _ _ _ _ (out-Node a.value) (λ _ _ _. tt) (λ _ _ _ z. absurd z) y) x
 place-counted (suc k) s above h p few x =
@@ -136,25 +136,25 @@ after-fewer k s h c =
     omega (arith, ap length (points-after k s c (bag h)), length-sort (outside (points_of k s (bag h)) c.cut ++ points_of k s c.added), length-append (outside (points_of k s (bag h)) c.cut) (points_of k s c.added))
 
 -- no bottom span is crowded
-room-nothing : (a b : ℤ) (xs : List Point) → xs ≡ [] → HasRoom a b xs
+room-nothing : (a b : ℤ) (xs : List Point) → xs ≡ [] → HasNoCrowdedSpan a b xs
 room-nothing a b xs e =
     let few : length xs ≡ 0 = ap (length {A = Point}) e in room-few a b xs (omega arith)
 
-room-slots : (below : ℕ) (s : ℤ) (h : List Commit) → ((i : ℕ) → i < 64 → HasRoom (slot_start below s i) (slot_start below s (i + 1)) (points_of (suc below) s (bag h))) → (n : ℕ) → n ≤ 64 → HasRoom s (slot_start below s n) (points_of (suc below) s (bag h))
+room-slots : (below : ℕ) (s : ℤ) (h : List Commit) → ((i : ℕ) → i < 64 → HasNoCrowdedSpan (slot_start below s i) (slot_start below s (i + 1)) (points_of (suc below) s (bag h))) → (n : ℕ) → n ≤ 64 → HasNoCrowdedSpan s (slot_start below s n) (points_of (suc below) s (bag h))
 room-slots below s h each zero le =
-    subst (λ e. HasRoom s e (points_of (suc below) s (bag h))) (sym (slot-first below s)) (room-none s (points_of (suc below) s (bag h)))
+    subst (λ e. HasNoCrowdedSpan s e (points_of (suc below) s (bag h))) (sym (slot-first below s)) (room-none s (points_of (suc below) s (bag h)))
 room-slots below s h each (suc n) le =
     let next : n + 1 ≡ suc n = omega arith in
-    subst (λ j. HasRoom s (slot_start below s j) (points_of (suc below) s (bag h))) next (room-join s (slot_start below s n) (slot_start below s (n + 1)) (points_of (suc below) s (bag h)) (room-slots below s h each n (omega arith)) (each n (omega arith)))
+    subst (λ j. HasNoCrowdedSpan s (slot_start below s j) (points_of (suc below) s (bag h))) next (room-join s (slot_start below s n) (slot_start below s (n + 1)) (points_of (suc below) s (bag h)) (room-slots below s h each n (omega arith)) (each n (omega arith)))
 
-pub place-room : (k : ℕ) (s : ℤ) (above : List Point → Bool) (h : List Commit) (p : Child) → IsSpan (record { start = s; height = k }) → IsPlace k s above h p → HasRoom s (s +ℤ pos (width k)) (points_of k s (bag h))
+pub place-room : (k : ℕ) (s : ℤ) (above : List Point → Bool) (h : List Commit) (p : Child) → IsSpan (record { start = s; height = k }) → IsChild k s above h p → HasNoCrowdedSpan s (s +ℤ pos (width k)) (points_of k s (bag h))
 place-room k s above h None aligned x = room-nothing s (s +ℤ pos (width k)) (points_of k s (bag h)) x
 place-room zero s above h (Some a) aligned x =
-    by_kind-gives _ _ (HasRoom s (s +ℤ pos (width 0)) (points_of 0 s (bag h))) (out-Node a.value) (λ v ps leaf. room-few s (s +ℤ pos (width 0)) (points_of 0 s (bag h)) (subst (λ y. length y ≤ LEAF_POINTS) leaf.same leaf.few)) (λ v ss cs none. absurd none) x
+    by_kind-gives _ _ (HasNoCrowdedSpan s (s +ℤ pos (width 0)) (points_of 0 s (bag h))) (out-Node a.value) (λ v ps leaf. room-few s (s +ℤ pos (width 0)) (points_of 0 s (bag h)) (subst (λ y. length y ≤ LEAF_POINTS) leaf.same leaf.few)) (λ v ss cs none. absurd none) x
 place-room (suc k) s above h (Some a) aligned x =
-    by_kind-gives _ _ (HasRoom s (s +ℤ pos (width (suc k))) (points_of (suc k) s (bag h))) (out-Node a.value) (λ v ps leaf. room-few s (s +ℤ pos (width (suc k))) (points_of (suc k) s (bag h)) (subst (λ y. length y ≤ LEAF_POINTS) leaf.same leaf.few)) (λ v ss cs body.
-    subst (λ e. HasRoom s e (points_of (suc k) s (bag h))) (slot-end k s) (room-slots k s h (λ i place.
+    by_kind-gives _ _ (HasNoCrowdedSpan s (s +ℤ pos (width (suc k))) (points_of (suc k) s (bag h))) (out-Node a.value) (λ v ps leaf. room-few s (s +ℤ pos (width (suc k))) (points_of (suc k) s (bag h)) (subst (λ y. length y ≤ LEAF_POINTS) leaf.same leaf.few)) (λ v ss cs body.
+    subst (λ e. HasNoCrowdedSpan s e (points_of (suc k) s (bag h))) (slot-end k s) (room-slots k s h (λ i place.
     let part : IsSpan (record { start = slot_start k s i; height = k }) = subst IsSpan (slot-part (record { start = s; height = suc k }) k i refl) (64 * aligned.0 + i, slot-aligned (record { start = s; height = suc k }) aligned.0 i aligned.1 (omega arith) place) in
     let room = place-room k (slot_start k s i) (is_inner (suc k) s) h (slice_index_or cs i None) part (body.1 i None place) in
-    let inside : HasRoom (slot_start k s i) (slot_start k s i +ℤ pos (width k)) (points_of k (slot_start k s i) (points_of (suc k) s (bag h))) = subst (HasRoom (slot_start k s i) (slot_start k s i +ℤ pos (width k))) (sym (points-slot k s i (bag h) place)) room in
-    subst (λ e. HasRoom (slot_start k s i) e (points_of (suc k) s (bag h))) (sym (slot-next k s i)) (room-part (slot_start k s i) (slot_start k s i +ℤ pos (width k)) (points_of (suc k) s (bag h)) (span-whole (record { start = slot_start k s i; height = k }) part) inside)) 64 (omega arith))) x
+    let inside : HasNoCrowdedSpan (slot_start k s i) (slot_start k s i +ℤ pos (width k)) (points_of k (slot_start k s i) (points_of (suc k) s (bag h))) = subst (HasNoCrowdedSpan (slot_start k s i) (slot_start k s i +ℤ pos (width k))) (sym (points-slot k s i (bag h) place)) room in
+    subst (λ e. HasNoCrowdedSpan (slot_start k s i) e (points_of (suc k) s (bag h))) (sym (slot-next k s i)) (room-part (slot_start k s i) (slot_start k s i +ℤ pos (width k)) (points_of (suc k) s (bag h)) (span-whole (record { start = slot_start k s i; height = k }) part) inside)) 64 (omega arith))) x

@@ -10,7 +10,7 @@ use Rattle.btr_base.proofs.PointLemmas.{sort-in_order, sort-of_order}
 use Rattle.btr_base.specs.Span.{width}
 use Rattle.btr_base.proofs.WithinLemmas.{within-after, within-in_order}
 use Rattle.btr_tree.specs.History.{Commit, after, bag}
-use Rattle.btr_tree.specs.Nodes.{points_of, has_points, touches, stamp, up_to}
+use Rattle.btr_tree.specs.Nodes.{points_of, has_points, touches, last_change, up_to}
 
 pub bag-in_order : (h : List Commit) → IsInOrder (bag h)
 bag-in_order [] = tt
@@ -52,14 +52,14 @@ first-false : (a b : Bool) → (a || b) ≡ false → a ≡ false
 first-false a b h = grind arith
 
 -- a span has the same points in each version from the one that it carries to the latest
-pub points-since : (was : List Point → Bool) (k : ℕ) (s : ℤ) (h : List Commit) (w : ℕ) → stamp was k s h ≤ w → points_of k s (bag (up_to w h)) ≡ points_of k s (bag h)
+pub points-since : (was : List Point → Bool) (k : ℕ) (s : ℤ) (h : List Commit) (w : ℕ) → last_change was k s h ≤ w → points_of k s (bag (up_to w h)) ≡ points_of k s (bag h)
 points-since was k s [] w le = refl
 points-since was k s (c ∷ h) w le =
     elim (nat_lt w c.version) as (λ t. nat_lt w c.version ≡ t → points_of k s (bag (cond t (up_to w h) (c ∷ h))) ≡ points_of k s (bag (c ∷ h))) [
       | false ↦ λ e. refl
       | true ↦ λ e.
           let newer = less-from_test w c.version e in
-          elim (touches c k s (bag h) || not (was (bag h))) as (λ u. (touches c k s (bag h) || not (was (bag h))) ≡ u → cond u c.version (stamp was k s h) ≤ w → points_of k s (bag (up_to w h)) ≡ points_of k s (bag (c ∷ h))) [
+          elim (touches c k s (bag h) || not (was (bag h))) as (λ u. (touches c k s (bag h) || not (was (bag h))) ≡ u → cond u c.version (last_change was k s h) ≤ w → points_of k s (bag (up_to w h)) ≡ points_of k s (bag (c ∷ h))) [
             | true ↦ λ _ low. absurd (omega arith)
             | false ↦ λ same low.
                 points-since was k s h w low ∙ sym (points-untouched k s c h (first-false (touches c k s (bag h)) (not (was (bag h))) same))

@@ -7,9 +7,9 @@ use Rattle.btr_tree.specs.declared.limits.TheConstants.{LEAF_POINTS}
 use Rattle.btr_tree.specs.declared.node.Node.{out-Node}
 use Rattle.btr_tree.specs.declared.node.Slot.{Slot}
 use Rattle.btr_tree.specs.History.{Commit, bag}
-use Rattle.btr_tree.specs.Nodes.{points_of, touches, is_node, stamp}
+use Rattle.btr_tree.specs.Nodes.{points_of, touches, is_node, last_change}
 use Rattle.btr_base.specs.Agg.{agg, AggValue, no_points, joined}
-use Rattle.btr_tree.specs.Shape.{Child, ByKind, IsPlace, HasSlots, HasChildren}
+use Rattle.btr_tree.specs.Shape.{Child, ByKind, IsChild, HasSlots, HasChildren}
 
 -- the end of a span
 abbrev pub end_of : SpanValue → ℤ
@@ -21,14 +21,14 @@ IsCounted place =
     MatchOption place (Unit {0}) (λ a. ByKind (λ v ps. Unit {0}) (λ v ss cs. (joined_all ss).count < 2 ^ 64) (out-Node a.value))
 
 -- some history is of this place, and its points can be counted with so many more
-pub record Stands (height : ℕ) (start : ℤ) (place : Child) (more : ℕ) : Type 0 where
+pub record IsSomeChild (height : ℕ) (start : ℤ) (place : Child) (more : ℕ) : Type 0 where
   pub above : List Point → Bool
   pub commits : List Commit
-  pub holds : IsPlace height start above commits place
+  pub holds : IsChild height start above commits place
   pub few : length (points_of height start (bag commits)) + more < 2 ^ 64
 
 -- the same of the slots of an inner node
-pub record StandsInner (below : ℕ) (start : ℤ) (slots : List Slot) (children : List Child) (more : ℕ) : Type 0 where
+pub record AreSomeSlots (below : ℕ) (start : ℤ) (slots : List Slot) (children : List Child) (more : ℕ) : Type 0 where
   pub commits : List Commit
   pub holds : HasSlots below start commits 64 slots children
   pub each : HasChildren below start commits 64 children
@@ -64,17 +64,17 @@ pub record IsSplit (below : ℕ) (span : SpanValue) (h : List Commit) (c : Commi
   pub few : length (points_of (suc below) span.start (bag h)) ≤ LEAF_POINTS
 
 -- some history is of this place and this slot, and the points can be counted with so many more
-pub record StandsSlot (height : ℕ) (start : ℤ) (slot : Slot) (place : Child) (more : ℕ) : Type 0 where
+pub record IsSomeSlot (height : ℕ) (start : ℤ) (slot : Slot) (place : Child) (more : ℕ) : Type 0 where
   pub above : List Point → Bool
   pub commits : List Commit
-  pub holds : IsPlace height start above commits place
+  pub holds : IsChild height start above commits place
   pub counted : slot.agg ≡ agg (points_of height start (bag commits))
   pub few : length (points_of height start (bag commits)) + more < 2 ^ 64
 
 -- a slot of a span as commits leave it, by what its version asks of the span above
 abbrev pub slot_at : (List Point → Bool) → ℕ → ℤ → List Commit → Slot
 slot_at was height start h =
-    record { agg = agg (points_of height start (bag h)); version = stamp was height start h; child = 0 }
+    record { agg = agg (points_of height start (bag h)); version = last_change was height start h; child = 0 }
 
 -- the span of an inner node, and the part of a commit that is in it
 pub record IsApplied (below : ℕ) (span : SpanValue) (h : List Commit) (c : Commit) (cut : List RangeValue) (added : List Point) (version : ℕ) (slots : List Slot) (children : List Child) : Type 0 where

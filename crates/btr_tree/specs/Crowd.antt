@@ -12,8 +12,8 @@ abbrev pub bottom : ℕ → ℤ
 bottom place = time_at (place * width 0)
 
 -- no bottom span that starts from one time on and before another is crowded
-abbrev pub HasRoom : ℤ → ℤ → List Point → Type 0
-HasRoom from to b =
+abbrev pub HasNoCrowdedSpan : ℤ → ℤ → List Point → Type 0
+HasNoCrowdedSpan from to b =
     (place : ℕ) → from ≤ℤ bottom place → bottom place <ℤ to → length (points_of 0 (bottom place) b) ≤ LEAF_POINTS
 
 -- the first crowded bottom span that starts from one time on and before another starts at `start`
@@ -22,10 +22,10 @@ pub record IsFirstCrowd (from to : ℤ) (b : List Point) (start : ℤ) (place : 
   pub begins : from ≤ℤ start
   pub ends : start <ℤ to
   pub crowded : LEAF_POINTS < length (points_of 0 start b)
-  pub first : HasRoom from start b
+  pub first : HasNoCrowdedSpan from start b
 
 -- a fault of the points between two times
-abbrev pub IsCrowding : ℤ → ℤ → List Point → TreeFault → Type 0
-IsCrowding from to b (Crowded start) = (place : ℕ) × IsFirstCrowd from to b start place
-IsCrowding from to b (TooManyPoints count) = ⊥
-IsCrowding from to b Want = Unit {0}
+abbrev pub IsCrowdedFault : ℤ → ℤ → List Point → TreeFault → Type 0
+IsCrowdedFault from to b (Crowded start) = (place : ℕ) × IsFirstCrowd from to b start place
+IsCrowdedFault from to b (TooManyPoints count) = ⊥
+IsCrowdedFault from to b Want = Unit {0}

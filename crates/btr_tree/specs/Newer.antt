@@ -11,13 +11,13 @@ sum_of zero f = 0
 sum_of (suc n) f = sum_of n f + f n
 
 -- 1 where the span is a node that carries a version above this one
-abbrev pub newer_one : ℕ → ℤ → (List Point → Bool) → List Commit → ℕ → ℕ
-newer_one height start above h version =
+abbrev pub newer_here : ℕ → ℤ → (List Point → Bool) → List Commit → ℕ → ℕ
+newer_here height start above h version =
     if is_node above height start (bag h) && nat_lt version (node_version above height start h) then 1 else 0
 
 -- the nodes in a span that carry a version above this one
 abbrev pub newer_nodes : ℕ → ℤ → (List Point → Bool) → List Commit → ℕ → ℕ
-newer_nodes zero start above h version = newer_one zero start above h version
+newer_nodes zero start above h version = newer_here zero start above h version
 newer_nodes (suc below) start above h version =
-    newer_one (suc below) start above h version
+    newer_here (suc below) start above h version
     + (if is_inner (suc below) start (bag h) then sum_of 64 (λ i. newer_nodes below (slot_start below start i) (is_inner (suc below) start) h version) else 0)

@@ -33,23 +33,23 @@ abbrev pub is_node : (List Point → Bool) → ℕ → ℤ → List Point → Bo
 is_node above height start b = above b && has_points (points_of height start b)
 
 -- nothing is above the root
-abbrev pub no_span : List Point → Bool
-no_span b = true
+abbrev pub above_root : List Point → Bool
+above_root b = true
 
 -- the version of the newest commit that touches the span, or before which `was` did not hold
-abbrev pub stamp : (List Point → Bool) → ℕ → ℤ → List Commit → ℕ
-stamp was height start [] = 0
-stamp was height start (c ∷ h) =
-    if touches c height start (bag h) || not (was (bag h)) then c.version else stamp was height start h
+abbrev pub last_change : (List Point → Bool) → ℕ → ℤ → List Commit → ℕ
+last_change was height start [] = 0
+last_change was height start (c ∷ h) =
+    if touches c height start (bag h) || not (was (bag h)) then c.version else last_change was height start h
 
 -- the version that a node carries: that of the newest commit that touches its span, or before which the span was no node
 abbrev pub node_version : (List Point → Bool) → ℕ → ℤ → List Commit → ℕ
-node_version above height start h = stamp (is_node above height start) height start h
+node_version above height start h = last_change (is_node above height start) height start h
 
 -- the version that a slot carries: that of the newest commit that touches it, or before which the span above, of which it is a part, was no inner node
 abbrev pub slot_version : ℕ → ℤ → ℕ → ℤ → List Commit → ℕ
 slot_version above_height above_start height start h =
-    stamp (is_inner above_height above_start) height start h
+    last_change (is_inner above_height above_start) height start h
 
 -- the commits up to a version
 abbrev pub up_to : ℕ → List Commit → List Commit

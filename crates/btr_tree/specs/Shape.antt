@@ -1,20 +1,22 @@
--- Which trees in memory are those of a stream's commits.
-use Rattle.std.specs.Prelude.{◌≡◌, ℕ, zero, suc, ◌*◌, ◌<◌, ◌≤◌, ℤ, pos, ◌+ℤ◌, Bool, List, [], length, slice_index_or, Option, MatchOption}
+-- Which trees in memory are those of a stream's commits, and what a walk learns of a node that it visits.
+use Rattle.std.specs.Prelude.{◌≡◌, ℕ, zero, suc, ◌+◌, ◌*◌, ◌<◌, ◌≤◌, ℤ, pos, ◌+ℤ◌, Bool, List, [], length, min, slice_index_or, Option, MatchOption, IfSome, IsNone, IsSome}
+use Rattle.std.specs.Option.{option_map}
 use Rattle.btr_base.specs.declared.point.Point.{Point}
-use Rattle.btr_base.specs.Span.{width}
+use Rattle.btr_base.specs.Span.{width, SpanValue}
 use Rattle.btr_base.specs.Agg.{agg}
 use Rattle.btr_tree.specs.declared.limits.TheConstants.{LEAF_POINTS}
-use Rattle.btr_tree.specs.declared.node.Node.{Node, out-Node}
-use Rattle.btr_tree.specs.declared.node.Node.TheOpen.{Node-F}
+use Rattle.btr_tree.specs.declared.node.Child.{Child, out-Child}
+use Rattle.btr_tree.specs.declared.node.NodeData.{NodeData, out-NodeData}
+use Rattle.btr_tree.specs.declared.node.NodeData.TheOpen.{NodeData-F}
+use Rattle.btr_tree.specs.declared.node.Node.{Node}
+use Rattle.btr_tree.specs.declared.node.Node.TheVariants.{Leaf, Inner}
 use Rattle.btr_tree.specs.declared.node.Slot.{Slot}
-use Rattle.std.specs.declared.sync.Arc.{Arc}
-use Rattle.std.specs.declared.alloc.Global.{Global}
 use Rattle.btr_tree.specs.History.{Commit, bag}
 use Rattle.btr_tree.specs.Nodes.{points_of, is_inner, node_version, slot_version}
 
--- what an inner node has for a slot
-abbrev pub Child : Type 0
-Child = Option (Arc Node Global)
+-- the node of a link, if there is one
+abbrev pub node_of : Child → Option NodeData
+node_of child = option_map (λ a. a.value) (out-Child child).node
 
 -- where a slot of this height begins
 abbrev pub slot_start : ℕ → ℤ → ℕ → ℤ
@@ -49,24 +51,41 @@ pub record IsInner (below : ℕ) (start : ℤ) (above : List Point → Bool) (h 
   pub all : HasSlots below start h 64 slots children
 
 -- a fact for a leaf's version and points, and one for an inner node's version, slots and children
-abbrev pub ByKind : (ℕ → List Point → Type 0) → (ℕ → List Slot → List Child → Type 0) → Node-F Node → Type 0
-ByKind leaf inner (Node-F.Leaf version points) = leaf version points.items
-ByKind leaf inner (Node-F.Inner version slots children) = inner version slots.items children.items
+abbrev pub ByKind : (ℕ → List Point → Type 0) → (ℕ → List Slot → List Child → Type 0) → NodeData-F Child NodeData → Type 0
+ByKind leaf inner (NodeData-F.Leaf version points) = leaf version points.items
+ByKind leaf inner (NodeData-F.Inner version slots children) = inner version slots.items children.items
 
--- a node is that of a span after commits, and so is each below it; there is no child where a slot has no point
-abbrev pub IsNode : ℕ → ℤ → (List Point → Bool) → List Commit → Node → Type 0
-IsNode zero start above h n = ByKind (λ v ps. IsLeaf zero start above h v ps) (λ v ss cs. ⊥) (out-Node n)
-IsNode (suc below) start above h n =
+-- a node in memory is that of a span after commits, and so is each below it; a slot without a point has no child
+abbrev pub IsNodeData : ℕ → ℤ → (List Point → Bool) → List Commit → NodeData → Type 0
+IsNodeData zero start above h n =
+    ByKind (λ v ps. IsLeaf zero start above h v ps) (λ v ss cs. ⊥) (out-NodeData n)
+IsNodeData (suc below) start above h n =
     ByKind (λ v ps. IsLeaf (suc below) start above h v ps) (λ v ss cs.
     IsInner below start above h v ss cs
-    × ((i : ℕ) (d : Child) → i < 64 → MatchOption (slice_index_or cs i d) (points_of below (slot_start below start i) (bag h) ≡ []) (λ a. IsNode below (slot_start below start i) (is_inner (suc below) start) h a.value))) (out-Node n)
+    × ((i : ℕ) (d : Child) → i < 64 → MatchOption (node_of (slice_index_or cs i d)) (points_of below (slot_start below start i) (bag h) ≡ []) (λ m. IsNodeData below (slot_start below start i) (is_inner (suc below) start) h m))) (out-NodeData n)
 
 -- there is no node where the span has no point
-abbrev pub IsPlace : ℕ → ℤ → (List Point → Bool) → List Commit → Child → Type 0
-IsPlace height start above h place =
-    MatchOption place (points_of height start (bag h) ≡ []) (λ a. IsNode height start above h a.value)
+abbrev pub IsChild : ℕ → ℤ → (List Point → Bool) → List Commit → Child → Type 0
+IsChild height start above h child =
+    MatchOption (node_of child) (points_of height start (bag h) ≡ []) (λ n. IsNodeData height start above h n)
 
 -- the children of the first slots, so many
 abbrev pub HasChildren : ℕ → ℤ → List Commit → ℕ → List Child → Type 0
 HasChildren below start h n cs =
-    (i : ℕ) (d : Child) → i < n → IsPlace below (slot_start below start i) (is_inner (suc below) start) h (slice_index_or cs i d)
+    (i : ℕ) (d : Child) → i < n → IsChild below (slot_start below start i) (is_inner (suc below) start) h (slice_index_or cs i d)
+
+-- a node that was visited is that of a span after commits
+abbrev pub IsNode : ℕ → ℤ → (List Point → Bool) → List Commit → Node → Type 0
+IsNode height start above h (Leaf version points) = IsLeaf height start above h version points.now
+IsNode zero start above h (Inner version slots children) = ⊥
+IsNode (suc below) start above h (Inner version slots children) =
+    IsInner below start above h version slots.now children.now × HasChildren below start h 64 children.now
+
+-- a visit of a link: the span's node, which is one step, or none if the span has no point
+pub record IsVisit (child : Child) (result : Option Node) (before after : ℕ) : Type 0 where
+  pub none : IsNone result → (height : ℕ) (start : ℤ) (above : List Point → Bool) (h : List Commit) → IsChild height start above h child → points_of height start (bag h) ≡ []
+  pub node : IfSome result (λ n. (height : ℕ) (start : ℤ) (above : List Point → Bool) (h : List Commit) → IsChild height start above h child → IsNode height start above h n)
+  pub free : IsNone result → after ≡ before
+  pub counted : IsSome result → after ≡ min (before + 1) 18446744073709551615
+  pub at_most : after ≤ before + 1
+  pub never_falls : before ≤ after

@@ -6,9 +6,9 @@ ghost use Rattle.btr_base.specs.Range.{IsCut};
 ghost use Rattle.btr_base.specs.declared.point.Point.{Point as APoint};
 ghost use Rattle.btr_tree.specs.History.{Commit, bag, IsBefore};
 ghost use Rattle.btr_tree.specs.Nodes.{points_of, touches, is_inner};
-ghost use Rattle.btr_tree.specs.Shape.{IsPlace, HasSlots, HasChildren, slot_start};
-ghost use Rattle.btr_tree.specs.Change.{Stands, StandsInner, StandsSlot, IsChange, IsApplied, slot_at, end_of};
-ghost use Rattle.btr_tree.specs.Crowd.{IsCrowding};
+ghost use Rattle.btr_tree.specs.Shape.{IsChild, HasSlots, HasChildren, slot_start};
+ghost use Rattle.btr_tree.specs.Change.{IsSomeChild, AreSomeSlots, IsSomeSlot, IsChange, IsApplied, slot_at, end_of};
+ghost use Rattle.btr_tree.specs.Crowd.{IsCrowdedFault};
 ghost use Rattle.btr_tree.specs.Pages.{first_of, pages};
 ghost use Rattle.btr_tree.specs.declared.limits.TheConstants.{LEAF_POINTS as FEW};
 
@@ -16,7 +16,7 @@ use crate::build::{build, inner, put};
 use crate::fault::TreeFault;
 use crate::kept::{kept_in_slot, kept_in_slots};
 use crate::limits::{LEAF_POINTS, SLOTS};
-use crate::node::{NewNode, Node, Place, Slot};
+use crate::node::{NewNode, Node, Child, Slot};
 use crate::shared::shared;
 use crate::steps::Steps;
 use crate::total::agg_of_place;
@@ -29,23 +29,23 @@ pub(crate) fn apply_slot(
     alloc: Global,
     span: Span,
     slot: Slot,
-    place: &Place,
+    place: &Child,
     cut: &[Range],
     added: &[Point],
     version: u64,
     nodes: &mut Vec<NewNode>,
     steps: &mut Steps,
-) -> Result<(Slot, Place), TreeFault>
-    requires stands { StandsSlot span.height span.start slot place.now (length added.now) }
+) -> Result<(Slot, Child), TreeFault>
+    requires stands { IsSomeSlot span.height span.start slot place.now (length added.now) }
     requires cut { IsCut cut.now }
     requires order { IsInOrder added.now }
     requires inside { within span.start (end_of span) added.now ≡ added.now }
-    ensures place { IfOk result (λ r. (was : List APoint → Bool) (h : List Commit) (c : Commit) → was (bag h) ≡ true → IsPlace span.height span.start was h place.now → slot.agg ≡ agg (points_of span.height span.start (bag h)) → IsChange span.height span.start c cut.now added.now version → IsPlace span.height span.start was (c ∷ h) r.1) }
-    ensures agg { IfOk result (λ r. (was : List APoint → Bool) (h : List Commit) (c : Commit) → was (bag h) ≡ true → IsPlace span.height span.start was h place.now → slot.agg ≡ agg (points_of span.height span.start (bag h)) → IsChange span.height span.start c cut.now added.now version → r.0.agg ≡ agg (points_of span.height span.start (bag (c ∷ h)))) }
-    ensures slot { IfOk result (λ r. (was : List APoint → Bool) (h : List Commit) (c : Commit) → was (bag h) ≡ true → IsPlace span.height span.start was h place.now → slot ≡ slot_at was span.height span.start h → IsChange span.height span.start c cut.now added.now version → r.0 ≡ slot_at was span.height span.start (c ∷ h)) }
-    ensures nodes { OnOk result ((was : List APoint → Bool) (h : List Commit) (c : Commit) → was (bag h) ≡ true → was (bag (c ∷ h)) ≡ true → IsPlace span.height span.start was h place.now → slot.agg ≡ agg (points_of span.height span.start (bag h)) → IsChange span.height span.start c cut.now added.now version → 0 < version → IsBefore version h → nodes.new.items ≡ nodes.old.items ++ pages span.height span.start was (c ∷ h) version) }
+    ensures place { IfOk result (λ r. (was : List APoint → Bool) (h : List Commit) (c : Commit) → was (bag h) ≡ true → IsChild span.height span.start was h place.now → slot.agg ≡ agg (points_of span.height span.start (bag h)) → IsChange span.height span.start c cut.now added.now version → IsChild span.height span.start was (c ∷ h) r.1) }
+    ensures agg { IfOk result (λ r. (was : List APoint → Bool) (h : List Commit) (c : Commit) → was (bag h) ≡ true → IsChild span.height span.start was h place.now → slot.agg ≡ agg (points_of span.height span.start (bag h)) → IsChange span.height span.start c cut.now added.now version → r.0.agg ≡ agg (points_of span.height span.start (bag (c ∷ h)))) }
+    ensures slot { IfOk result (λ r. (was : List APoint → Bool) (h : List Commit) (c : Commit) → was (bag h) ≡ true → IsChild span.height span.start was h place.now → slot ≡ slot_at was span.height span.start h → IsChange span.height span.start c cut.now added.now version → r.0 ≡ slot_at was span.height span.start (c ∷ h)) }
+    ensures nodes { OnOk result ((was : List APoint → Bool) (h : List Commit) (c : Commit) → was (bag h) ≡ true → was (bag (c ∷ h)) ≡ true → IsChild span.height span.start was h place.now → slot.agg ≡ agg (points_of span.height span.start (bag h)) → IsChange span.height span.start c cut.now added.now version → 0 < version → IsBefore version h → nodes.new.items ≡ nodes.old.items ++ pages span.height span.start was (c ∷ h) version) }
     ensures counted { OnOk result (steps.new + length nodes.old.items ≤ steps.old + length nodes.new.items) }
-    ensures fault { IfErr result (λ e. (was : List APoint → Bool) (h : List Commit) (c : Commit) → was (bag h) ≡ true → IsPlace span.height span.start was h place.now → slot.agg ≡ agg (points_of span.height span.start (bag h)) → IsChange span.height span.start c cut.now added.now version → IsCrowding span.start (end_of span) (points_of span.height span.start (bag (c ∷ h))) e) }
+    ensures fault { IfErr result (λ e. (was : List APoint → Bool) (h : List Commit) (c : Commit) → was (bag h) ≡ true → IsChild span.height span.start was h place.now → slot.agg ≡ agg (points_of span.height span.start (bag h)) → IsChange span.height span.start c cut.now added.now version → IsCrowdedFault span.start (end_of span) (points_of span.height span.start (bag (c ∷ h))) e) }
 {
     let here = ranges_before(ranges_from(cut, span.start), span.end());
     if is_untouched(alloc, span, slot, place, here, added)? {
@@ -66,13 +66,13 @@ fn is_untouched(
     alloc: Global,
     span: Span,
     slot: Slot,
-    place: &Place,
+    place: &Child,
     cut: &[Range],
     added: &[Point],
 ) -> Result<bool, AllocError>
-    requires stands { Stands span.height span.start place.now 0 }
+    requires stands { IsSomeChild span.height span.start place.now 0 }
     requires cut { IsCut cut.now }
-    ensures { IfOk result (λ b. (was : List APoint → Bool) (h : List Commit) (c : Commit) (version : ℕ) → IsPlace span.height span.start was h place.now → slot.agg ≡ agg (points_of span.height span.start (bag h)) → IsChange span.height span.start c cut.now added.now version → b ≡ not (touches c span.height span.start (bag h))) }
+    ensures { IfOk result (λ b. (was : List APoint → Bool) (h : List Commit) (c : Commit) (version : ℕ) → IsChild span.height span.start was h place.now → slot.agg ≡ agg (points_of span.height span.start (bag h)) → IsChange span.height span.start c cut.now added.now version → b ≡ not (touches c span.height span.start (bag h))) }
 {
     if !added.is_empty() {
         return Ok(false);
@@ -88,21 +88,21 @@ fn is_untouched(
 pub(crate) fn apply_place(
     alloc: Global,
     span: Span,
-    place: &Place,
+    place: &Child,
     cut: &[Range],
     added: &[Point],
     version: u64,
     nodes: &mut Vec<NewNode>,
     steps: &mut Steps,
-) -> Result<Place, TreeFault>
-    requires stands { Stands span.height span.start place.now (length added.now) }
+) -> Result<Child, TreeFault>
+    requires stands { IsSomeChild span.height span.start place.now (length added.now) }
     requires cut { IsCut cut.now }
     requires order { IsInOrder added.now }
     requires inside { within span.start (end_of span) added.now ≡ added.now }
-    ensures place { IfOk result (λ p. (above : List APoint → Bool) (h : List Commit) (c : Commit) → IsPlace span.height span.start above h place.now → IsChange span.height span.start c cut.now added.now version → touches c span.height span.start (bag h) ≡ true → IsPlace span.height span.start above (c ∷ h) p) }
-    ensures nodes { OnOk result ((above : List APoint → Bool) (h : List Commit) (c : Commit) → IsPlace span.height span.start above h place.now → IsChange span.height span.start c cut.now added.now version → touches c span.height span.start (bag h) ≡ true → above (bag (c ∷ h)) ≡ true → 0 < version → IsBefore version h → nodes.new.items ≡ nodes.old.items ++ pages span.height span.start above (c ∷ h) version) }
+    ensures place { IfOk result (λ p. (above : List APoint → Bool) (h : List Commit) (c : Commit) → IsChild span.height span.start above h place.now → IsChange span.height span.start c cut.now added.now version → touches c span.height span.start (bag h) ≡ true → IsChild span.height span.start above (c ∷ h) p) }
+    ensures nodes { OnOk result ((above : List APoint → Bool) (h : List Commit) (c : Commit) → IsChild span.height span.start above h place.now → IsChange span.height span.start c cut.now added.now version → touches c span.height span.start (bag h) ≡ true → above (bag (c ∷ h)) ≡ true → 0 < version → IsBefore version h → nodes.new.items ≡ nodes.old.items ++ pages span.height span.start above (c ∷ h) version) }
     ensures counted { OnOk result (steps.new + length nodes.old.items ≤ steps.old + length nodes.new.items) }
-    ensures fault { IfErr result (λ e. (above : List APoint → Bool) (h : List Commit) (c : Commit) → IsPlace span.height span.start above h place.now → IsChange span.height span.start c cut.now added.now version → IsCrowding span.start (end_of span) (points_of span.height span.start (bag (c ∷ h))) e) }
+    ensures fault { IfErr result (λ e. (above : List APoint → Bool) (h : List Commit) (c : Commit) → IsChild span.height span.start above h place.now → IsChange span.height span.start c cut.now added.now version → IsCrowdedFault span.start (end_of span) (points_of span.height span.start (bag (c ∷ h))) e) }
 {
     match place {
         None => build(alloc, span, added, version, nodes, steps),
@@ -144,21 +144,21 @@ pub(crate) fn apply_inner(
     alloc: Global,
     span: Span,
     slots: &[Slot],
-    children: &[Place],
+    children: &[Child],
     cut: &[Range],
     added: &[Point],
     version: u64,
     nodes: &mut Vec<NewNode>,
     steps: &mut Steps,
-) -> Result<Place, TreeFault>
-    requires stands { (below : ℕ) × (span.height ≡ suc below) × StandsInner below span.start slots.now children.now (length added.now) }
+) -> Result<Child, TreeFault>
+    requires stands { (below : ℕ) × (span.height ≡ suc below) × AreSomeSlots below span.start slots.now children.now (length added.now) }
     requires cut { IsCut cut.now }
     requires order { IsInOrder added.now }
     requires inside { within span.start (end_of span) added.now ≡ added.now }
-    ensures place { IfOk result (λ p. (below : ℕ) (above : List APoint → Bool) (h : List Commit) (c : Commit) → IsApplied below span h c cut.now added.now version slots.now children.now → touches c span.height span.start (bag h) ≡ true → IsPlace span.height span.start above (c ∷ h) p) }
+    ensures place { IfOk result (λ p. (below : ℕ) (above : List APoint → Bool) (h : List Commit) (c : Commit) → IsApplied below span h c cut.now added.now version slots.now children.now → touches c span.height span.start (bag h) ≡ true → IsChild span.height span.start above (c ∷ h) p) }
     ensures nodes { OnOk result ((below : ℕ) (above : List APoint → Bool) (h : List Commit) (c : Commit) → IsApplied below span h c cut.now added.now version slots.now children.now → touches c span.height span.start (bag h) ≡ true → above (bag (c ∷ h)) ≡ true → 0 < version → IsBefore version h → nodes.new.items ≡ nodes.old.items ++ pages span.height span.start above (c ∷ h) version) }
     ensures counted { OnOk result (steps.new + length nodes.old.items ≤ steps.old + length nodes.new.items) }
-    ensures fault { IfErr result (λ e. (below : ℕ) (h : List Commit) (c : Commit) → IsApplied below span h c cut.now added.now version slots.now children.now → IsCrowding span.start (end_of span) (points_of span.height span.start (bag (c ∷ h))) e) }
+    ensures fault { IfErr result (λ e. (below : ℕ) (h : List Commit) (c : Commit) → IsApplied below span h c cut.now added.now version slots.now children.now → IsCrowdedFault span.start (end_of span) (points_of span.height span.start (bag (c ∷ h))) e) }
 {
     let mut none = Vec::new(alloc);
     let left = kept_in_slots(alloc, span, slots, children, cut, false, &mut none)?;
@@ -177,11 +177,11 @@ fn gathered(
     alloc: Global,
     span: Span,
     slots: &[Slot],
-    children: &[Place],
+    children: &[Child],
     cut: &[Range],
     added: &[Point],
 ) -> Result<Vec<Point>, AllocError>
-    requires stands { (below : ℕ) × (span.height ≡ suc below) × StandsInner below span.start slots.now children.now 0 }
+    requires stands { (below : ℕ) × (span.height ≡ suc below) × AreSomeSlots below span.start slots.now children.now 0 }
     requires cut { IsCut cut.now }
     requires added { IsInOrder added.now }
     ensures { IfOk result (λ v. (below : ℕ) (h : List Commit) → span.height ≡ suc below → HasSlots below span.start h 64 slots.now children.now → HasChildren below span.start h 64 children.now → v.items ≡ sort (outside (points_of span.height span.start (bag h)) cut.now ++ added.now)) }
@@ -197,21 +197,21 @@ pub(crate) fn apply_slots(
     alloc: Global,
     span: Span,
     slots: &[Slot],
-    children: &[Place],
+    children: &[Child],
     cut: &[Range],
     added: &[Point],
     version: u64,
     nodes: &mut Vec<NewNode>,
     steps: &mut Steps,
-) -> Result<(Vec<Slot>, Vec<Place>), TreeFault>
-    requires stands { (below : ℕ) × (span.height ≡ suc below) × StandsInner below span.start slots.now children.now (length added.now) }
+) -> Result<(Vec<Slot>, Vec<Child>), TreeFault>
+    requires stands { (below : ℕ) × (span.height ≡ suc below) × AreSomeSlots below span.start slots.now children.now (length added.now) }
     requires cut { IsCut cut.now }
     requires order { IsInOrder added.now }
     requires inside { within span.start (end_of span) added.now ≡ added.now }
     ensures slots { IfOk result (λ r. (below : ℕ) (h : List Commit) (c : Commit) → IsApplied below span h c cut.now added.now version slots.now children.now → HasSlots below span.start (c ∷ h) 64 r.0.items r.1.items × HasChildren below span.start (c ∷ h) 64 r.1.items) }
     ensures nodes { OnOk result ((below : ℕ) (h : List Commit) (c : Commit) → IsApplied below span h c cut.now added.now version slots.now children.now → FEW < length (points_of (suc below) span.start (bag (c ∷ h))) → 0 < version → IsBefore version h → nodes.new.items ≡ nodes.old.items ++ first_of 64 (λ i. pages below (slot_start below span.start i) (is_inner (suc below) span.start) (c ∷ h) version)) }
     ensures counted { OnOk result (steps.new + length nodes.old.items ≤ steps.old + length nodes.new.items) }
-    ensures fault { IfErr result (λ e. (below : ℕ) (h : List Commit) (c : Commit) → IsApplied below span h c cut.now added.now version slots.now children.now → IsCrowding span.start (end_of span) (points_of span.height span.start (bag (c ∷ h))) e) }
+    ensures fault { IfErr result (λ e. (below : ℕ) (h : List Commit) (c : Commit) → IsApplied below span h c cut.now added.now version slots.now children.now → IsCrowdedFault span.start (end_of span) (points_of span.height span.start (bag (c ∷ h))) e) }
 {
     let mut new_slots = Vec::new(alloc);
     let mut new_children = Vec::new(alloc);

@@ -5,15 +5,15 @@ ghost use Rattle.btr_base.specs.Bag.{IsInOrder, within};
 ghost use Rattle.btr_base.specs.declared.point.Point.{Point as APoint};
 ghost use Rattle.btr_tree.specs.History.{Commit, bag};
 ghost use Rattle.btr_tree.specs.Nodes.{points_of, is_inner};
-ghost use Rattle.btr_tree.specs.Shape.{IsPlace, HasSlots, HasChildren, slot_start};
+ghost use Rattle.btr_tree.specs.Shape.{IsChild, HasSlots, HasChildren, slot_start};
 ghost use Rattle.btr_tree.specs.Change.{IsFresh, IsLeafOf, IsInnerOf, IsSplit, end_of};
-ghost use Rattle.btr_tree.specs.Crowd.{HasRoom, IsCrowding};
+ghost use Rattle.btr_tree.specs.Crowd.{HasNoCrowdedSpan, IsCrowdedFault};
 ghost use Rattle.btr_tree.specs.Pages.{first_of, pages};
 ghost use Rattle.btr_tree.specs.declared.limits.TheConstants.{LEAF_POINTS as FEW};
 
 use crate::fault::TreeFault;
 use crate::limits::{LEAF_POINTS, SLOTS};
-use crate::node::{NewNode, Node, Place, Slot};
+use crate::node::{NewNode, Node, Child, Slot};
 use crate::steps::Steps;
 use crate::total::agg_of_points;
 use btr_base::{Point, Span, parted};
@@ -29,14 +29,14 @@ pub(crate) fn build(
     version: u64,
     nodes: &mut Vec<NewNode>,
     steps: &mut Steps,
-) -> Result<Place, TreeFault>
+) -> Result<Child, TreeFault>
     requires order { IsInOrder points.now }
     requires inside { within span.start (end_of span) points.now ≡ points.now }
-    ensures place { IfOk result (λ p. (above : List APoint → Bool) (h : List Commit) (c : Commit) → IsFresh span.height span.start above h c version points.now → IsPlace span.height span.start above (c ∷ h) p) }
+    ensures place { IfOk result (λ p. (above : List APoint → Bool) (h : List Commit) (c : Commit) → IsFresh span.height span.start above h c version points.now → IsChild span.height span.start above (c ∷ h) p) }
     ensures nodes { OnOk result ((above : List APoint → Bool) (h : List Commit) (c : Commit) → IsFresh span.height span.start above h c version points.now → above (bag (c ∷ h)) ≡ true → nodes.new.items ≡ nodes.old.items ++ pages span.height span.start above (c ∷ h) version) }
     ensures counted { OnOk result (steps.new + length nodes.old.items ≤ steps.old + length nodes.new.items) }
-    ensures room { OnOk result (HasRoom span.start (end_of span) points.now) }
-    ensures fault { IfErr result (λ e. IsCrowding span.start (end_of span) points.now e) }
+    ensures room { OnOk result (HasNoCrowdedSpan span.start (end_of span) points.now) }
+    ensures fault { IfErr result (λ e. IsCrowdedFault span.start (end_of span) points.now e) }
 {
     if points.is_empty() {
         return Ok(None);
@@ -60,15 +60,15 @@ pub(crate) fn build_slots(
     version: u64,
     nodes: &mut Vec<NewNode>,
     steps: &mut Steps,
-) -> Result<(Vec<Slot>, Vec<Place>), TreeFault>
+) -> Result<(Vec<Slot>, Vec<Child>), TreeFault>
     requires height { 1 ≤ span.height }
     requires order { IsInOrder points.now }
     requires inside { within span.start (end_of span) points.now ≡ points.now }
     ensures slots { IfOk result (λ r. (below : ℕ) (h : List Commit) (c : Commit) → IsSplit below span h c version points.now → HasSlots below span.start (c ∷ h) 64 r.0.items r.1.items × HasChildren below span.start (c ∷ h) 64 r.1.items) }
     ensures nodes { OnOk result ((below : ℕ) (h : List Commit) (c : Commit) → IsSplit below span h c version points.now → FEW < length points.now → nodes.new.items ≡ nodes.old.items ++ first_of 64 (λ i. pages below (slot_start below span.start i) (is_inner (suc below) span.start) (c ∷ h) version)) }
     ensures counted { OnOk result (steps.new + length nodes.old.items ≤ steps.old + length nodes.new.items) }
-    ensures room { OnOk result (HasRoom span.start (end_of span) points.now) }
-    ensures fault { IfErr result (λ e. IsCrowding span.start (end_of span) points.now e) }
+    ensures room { OnOk result (HasNoCrowdedSpan span.start (end_of span) points.now) }
+    ensures fault { IfErr result (λ e. IsCrowdedFault span.start (end_of span) points.now e) }
 {
     let mut slots = Vec::new(alloc);
     let mut children = Vec::new(alloc);
@@ -92,15 +92,15 @@ pub(crate) fn build_slot(
     version: u64,
     nodes: &mut Vec<NewNode>,
     steps: &mut Steps,
-) -> Result<(Slot, Place), TreeFault>
+) -> Result<(Slot, Child), TreeFault>
     requires order { IsInOrder points.now }
     requires inside { within span.start (end_of span) points.now ≡ points.now }
     ensures slot { IfOk result (λ r. r.0 ≡ record { agg = agg points.now; version = version; child = 0 }) }
-    ensures place { IfOk result (λ r. (above : List APoint → Bool) (h : List Commit) (c : Commit) → IsFresh span.height span.start above h c version points.now → IsPlace span.height span.start above (c ∷ h) r.1) }
+    ensures place { IfOk result (λ r. (above : List APoint → Bool) (h : List Commit) (c : Commit) → IsFresh span.height span.start above h c version points.now → IsChild span.height span.start above (c ∷ h) r.1) }
     ensures nodes { OnOk result ((above : List APoint → Bool) (h : List Commit) (c : Commit) → IsFresh span.height span.start above h c version points.now → above (bag (c ∷ h)) ≡ true → nodes.new.items ≡ nodes.old.items ++ pages span.height span.start above (c ∷ h) version) }
     ensures counted { OnOk result (steps.new + length nodes.old.items ≤ steps.old + length nodes.new.items) }
-    ensures room { OnOk result (HasRoom span.start (end_of span) points.now) }
-    ensures fault { IfErr result (λ e. IsCrowding span.start (end_of span) points.now e) }
+    ensures room { OnOk result (HasNoCrowdedSpan span.start (end_of span) points.now) }
+    ensures fault { IfErr result (λ e. IsCrowdedFault span.start (end_of span) points.now e) }
 {
     let child = build(alloc, span, points, version, nodes, steps)?;
     let agg = agg_of_points(points);
@@ -115,9 +115,9 @@ pub(crate) fn build_slot(
 /// Appends a slot and its child.
 pub(crate) fn put(
     slots: &mut Vec<Slot>,
-    children: &mut Vec<Place>,
+    children: &mut Vec<Child>,
     slot: Slot,
-    child: Place,
+    child: Child,
 ) -> Result<(), AllocError>
     ensures slots { OnOk result (slots.new.items ≡ slots.old.items ++ slot ∷ []) }
     ensures children { OnOk result (children.new.items ≡ children.old.items ++ child ∷ []) }
@@ -135,7 +135,7 @@ fn leaf(
     points: &[Point],
     nodes: &mut Vec<NewNode>,
     steps: &mut Steps,
-) -> Result<Place, AllocError>
+) -> Result<Child, AllocError>
     ensures place { IfOk result (λ p. IsLeafOf version points.now p) }
     ensures nodes { OnOk result (nodes.new.items ≡ nodes.old.items ++ record { span = span; version = version; points = points.now; slots = [] } ∷ []) }
     ensures counted { OnOk result (steps.new + length nodes.old.items ≤ steps.old + length nodes.new.items) }
@@ -165,10 +165,10 @@ pub(crate) fn inner(
     span: Span,
     version: u64,
     slots: Vec<Slot>,
-    children: Vec<Place>,
+    children: Vec<Child>,
     nodes: &mut Vec<NewNode>,
     steps: &mut Steps,
-) -> Result<Place, AllocError>
+) -> Result<Child, AllocError>
     ensures place { IfOk result (λ p. IsInnerOf version slots.items children.items p) }
     ensures nodes { OnOk result (nodes.new.items ≡ nodes.old.items ++ record { span = span; version = version; points = []; slots = slots.items } ∷ []) }
     ensures counted { OnOk result (steps.new + length nodes.old.items ≤ steps.old + length nodes.new.items) }

@@ -1,6 +1,10 @@
+//! Nodes in memory, and what a walk sees of them.
+ghost use Rattle.std.specs.Prelude.{◌≡◌, List, IfOk};
+ghost use Rattle.btr_tree.specs.Shape.{IsVisit};
+
+use crate::steps::Steps;
 use btr_base::{Agg, Point, Span};
-use std::alloc::Global;
-use std::marker::Model;
+use std::alloc::{AllocError, Global};
 use std::sync::Arc;
 
 /// What an inner node keeps of a slot beside its child.
@@ -12,50 +16,79 @@ pub struct Slot {
     /// The version of the newest commit that changed the slot's points, or that made the span above an inner node.
     pub version: u64,
 
-    /// The child's address on the device, 0 where it has none.
+    /// The child's address on the device, or 0 if it has none.
     pub child: u64,
 }
 
-/// A node that a commit wrote: a leaf has no slots, and an inner node no points.
-#[derive(Debug, Drop)]
-pub struct NewNode {
-    /// The times that it is about.
-    pub span: Span,
-
-    /// The commit's version.
-    pub version: u64,
-
-    /// The points of a leaf, by time and value.
-    pub points: Vec<Point>,
-
-    /// The 64 slots of an inner node, in order.
-    pub slots: Vec<Slot>,
+/// The link to the node of a span, or to none if the span has no point. [`visit`] is the only way from a link to its node.
+#[cycle(node)]
+#[derive(Drop)]
+pub struct Child {
+    pub(crate) node: Option<Arc<NodeData, Global>>,
 }
-
-impl Model for NewNode {
-    ghost use Rattle.btr_tree.specs.Page.{Page};
-
-    ghost Value = { Page };
-
-    ghost view = { λ n. record { span = n.span; version = n.version; points = n.points.items; slots = n.slots.items } };
-}
-
-/// The child of a slot, or the root; none where the span has no point. [`crate::opened`] tells what stands there.
-pub type Place = Option<Arc<Node, Global>>;
 
 /// What a tree keeps of a span that has a point (BTrDB, FAST 2016). Versions and threads share it.
+#[cycle(node)]
 #[derive(Drop)]
-pub enum Node {
+pub(crate) enum NodeData {
     /// The points, at most 252, by time and value.
-    Leaf {
-        version: u64,
-        points: Vec<Point>,
-    },
+    Leaf { version: u64, points: Vec<Point> },
 
-    /// More points, in 64 slots in order of time. A slot has a child where it has a point.
+    /// More than 252 points, in 64 slots in order of time. A slot has a child if it has a point.
     Inner {
         version: u64,
         slots: Vec<Slot>,
-        children: Vec<Place>,
+        children: Vec<Child>,
     },
+}
+
+/// A node that was visited.
+#[derive(Clone, Copy)]
+pub enum Node<'a> {
+    /// The points, at most 252, by time and value.
+    Leaf { version: u64, points: &'a [Point] },
+
+    /// More than 252 points, in 64 slots in order of time, and the link of each slot.
+    Inner {
+        version: u64,
+        slots: &'a [Slot],
+        children: &'a [Child],
+    },
+}
+
+/// Visits the node of a span, which is one step. Returns `None`, and counts none, if the span has no point. It takes no memory.
+pub fn visit<'a>(child: &'a Child, steps: &mut Steps) -> Option<Node<'a>>
+    ensures { IsVisit child.now result steps.old steps.new }
+{
+    match &child.node {
+        None => None,
+        Some(node) => {
+            steps.tick();
+            Some(match &**node {
+                NodeData::Leaf { version, points } => Node::Leaf {
+                    version: *version,
+                    points,
+                },
+                NodeData::Inner {
+                    version,
+                    slots,
+                    children,
+                } => Node::Inner {
+                    version: *version,
+                    slots,
+                    children,
+                },
+            })
+        }
+    }
+}
+
+/// The same link once more, in constant time.
+pub(crate) fn share(child: &Child) -> Result<Child, AllocError>
+    ensures { IfOk result (λ c. c ≡ child.now) }
+{
+    match &child.node {
+        None => Ok(Child { node: None }),
+        Some(node) => Ok(Child { node: Some(Arc::try_clone(node)?) }),
+    }
 }

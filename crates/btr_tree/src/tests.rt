@@ -4,8 +4,8 @@
 ghost use Rattle.std.specs.Prelude.{◌≡◌, ◌-◌};
 
 use crate::fault::TreeFault;
-use crate::node::{NewNode, Node, Place, Slot};
-use crate::opening::opened;
+use crate::node::{NewNode, Node, Child, Slot};
+use crate::opening::visit;
 use crate::root::are_in_domain;
 use crate::steps::Steps;
 use crate::tree::{Applied, Tree};
@@ -312,12 +312,12 @@ fn are_those_of(
 /// Appends the nodes that stand in a place, children before parents and in order of time.
 fn walk(
     alloc: Global,
-    place: &Place,
+    place: &Child,
     part: Part,
     nodes: &mut Vec<PlainNode>,
 ) -> Result<(), AllocError> {
     let mut steps = Steps::new();
-    let Some(node) = opened(place, &mut steps) else {
+    let Some(node) = visit(place, &mut steps) else {
         return Ok(());
     };
     let (version, points, slots) = match node {

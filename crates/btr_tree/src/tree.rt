@@ -2,17 +2,17 @@ ghost use Rattle.std.specs.Prelude.{◌≡◌, ◌<◌, ◌≤◌, ◌+◌, ◌*
 ghost use Rattle.btr_base.specs.Agg.{agg};
 ghost use Rattle.btr_base.specs.declared.limits.TheConstants.{FIRST as FIRST_TIME, END as END_TIME};
 ghost use Rattle.btr_tree.specs.History.{Commit, bag, IsBefore};
-ghost use Rattle.btr_tree.specs.Crowd.{HasRoom};
-ghost use Rattle.btr_tree.specs.Nodes.{no_span};
+ghost use Rattle.btr_tree.specs.Crowd.{HasNoCrowdedSpan};
+ghost use Rattle.btr_tree.specs.Nodes.{above_root};
 ghost use Rattle.btr_tree.specs.Pages.{pages};
-ghost use Rattle.btr_tree.specs.Shape.{IsPlace};
-ghost use Rattle.btr_tree.specs.Change.{Stands};
+ghost use Rattle.btr_tree.specs.Shape.{IsChild};
+ghost use Rattle.btr_tree.specs.Change.{IsSomeChild};
 ghost use Rattle.btr_tree.specs.Root.{IsTree, IsTreeFault, AreInDomain};
 
 use crate::apply::apply_slot;
 use crate::fault::TreeFault;
 use crate::limits::{ROOT_HEIGHT, VERSION_POINTS};
-use crate::node::{NewNode, Place, Slot};
+use crate::node::{NewNode, Child, Slot};
 use crate::root::root_span;
 use crate::shared::shared;
 use crate::steps::Steps;
@@ -24,7 +24,7 @@ use std::marker::Model;
 /// common, in any threads.
 #[derive(Drop)]
 pub struct Tree {
-    root: Place,
+    root: Child,
     agg: Agg,
 }
 
@@ -89,9 +89,9 @@ impl Tree {
     }
 
     /// The place of the root, whose span is the whole domain, in constant time. It takes no memory.
-    pub fn root(&self) -> &Place
-        ensures place { (h : List Commit) → IsTree h self.now → IsPlace 10 FIRST_TIME no_span h result.now }
-        ensures stands { Stands 10 FIRST_TIME result.now 0 }
+    pub fn root(&self) -> &Child
+        ensures place { (h : List Commit) → IsTree h self.now → IsChild 10 FIRST_TIME above_root h result.now }
+        ensures stands { IsSomeChild 10 FIRST_TIME result.now 0 }
     {
         &self.root
     }
@@ -117,10 +117,10 @@ impl Tree {
     ) -> Result<Applied, TreeFault>
         requires { AreInDomain added.now }
         ensures tree { IfOk result (λ a. (h : List Commit) → IsTree h self.now → IsTree (record { version = version; cut = cut.now; added = added.now } ∷ h) a.tree) }
-        ensures nodes { IfOk result (λ a. (h : List Commit) → IsTree h self.now → 0 < version → IsBefore version h → a.nodes.items ≡ pages 10 FIRST_TIME no_span (record { version = version; cut = cut.now; added = added.now } ∷ h) version) }
+        ensures nodes { IfOk result (λ a. (h : List Commit) → IsTree h self.now → 0 < version → IsBefore version h → a.nodes.items ≡ pages 10 FIRST_TIME above_root (record { version = version; cut = cut.now; added = added.now } ∷ h) version) }
         ensures few { IfOk result (λ a. (h : List Commit) → IsTree h self.now → 0 < version → IsBefore version h → length a.nodes.items ≤ 11 * (253 * length added.now + 2 * length cut.now)) }
         ensures steps { OnOk result ((h : List Commit) → IsTree h self.now → 0 < version → IsBefore version h → steps.new ≤ steps.old + 11 * (253 * length added.now + 2 * length cut.now)) }
-        ensures room { OnOk result ((h : List Commit) → IsTree h self.now → HasRoom FIRST_TIME END_TIME (bag (record { version = version; cut = cut.now; added = added.now } ∷ h))) }
+        ensures room { OnOk result ((h : List Commit) → IsTree h self.now → HasNoCrowdedSpan FIRST_TIME END_TIME (bag (record { version = version; cut = cut.now; added = added.now } ∷ h))) }
         ensures fault { IfErr result (λ e. (h : List Commit) → IsTree h self.now → IsTreeFault (bag (record { version = version; cut = cut.now; added = added.now } ∷ h)) e) }
     {
         let mut nodes = Vec::new(alloc);

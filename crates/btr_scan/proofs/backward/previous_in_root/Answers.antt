@@ -8,8 +8,8 @@ use Rattle.btr_base.specs.Bag.{within}
 use Rattle.btr_base.specs.Span.{SpanValue}
 use Rattle.btr_tree.specs.Change.{end_of}
 use Rattle.btr_tree.specs.History.{bag}
-use Rattle.btr_tree.specs.Nodes.{points_of, no_span}
-use Rattle.btr_tree.specs.Shape.{IsPlace}
+use Rattle.btr_tree.specs.Nodes.{points_of, above_root}
+use Rattle.btr_tree.specs.Shape.{IsChild}
 use Rattle.btr_tree.proofs.RootLemmas.{root_part, end-root, root-points}
 use Rattle.btr_scan.proofs.Domain.{none-before_first, all-before_end, rest-before}
 use Rattle.btr_scan.proofs.backward.previous_in_root.Goals as goal
@@ -24,8 +24,8 @@ pub returns-then-time-ge-END-clause-point : goal.returns-then-time-ge-END-clause
 returns-then-time-ge-END-clause-point c h holds inside =
     let same = to_z-of_z w64 c.args.time c.ranges.time in
     let late = c.if-time-ge-END.true in
-    let place = subst (λ (u : SpanValue). IsPlace u.height u.start no_span h c.args.place.now) (sym c.root_span.ensures) holds in
-    c.last_in_place.ensures.point no_span h place
+    let place = subst (λ (u : SpanValue). IsChild u.height u.start above_root h c.args.place.now) (sym c.root_span.ensures) holds in
+    c.last_in_place.ensures.point above_root h place
     ∙ ap (λ (u : SpanValue). last_or None (points_of u.height u.start (bag h))) c.root_span.ensures
     ∙ ap (λ (x : List Point). last_or None x) (root-points (bag h) inside ∙ sym (all-before_end c.args.time (bag h) inside (omega (arith, ints))))
 
@@ -40,7 +40,7 @@ pub returns-clause-point : goal.returns-clause-point
 returns-clause-point c h holds inside =
     let same = to_z-of_z w64 c.args.time c.ranges.time in
     let early = c.if-time-ge-END.false in
-    let place = subst (λ (u : SpanValue). IsPlace u.height u.start no_span h c.args.place.now) (sym c.root_span-2.ensures) holds in
-    c.previous_in_place.ensures.point no_span h place
+    let place = subst (λ (u : SpanValue). IsChild u.height u.start above_root h c.args.place.now) (sym c.root_span-2.ensures) holds in
+    c.previous_in_place.ensures.point above_root h place
     ∙ (λ i. last_or None (within (c.root_span-2.ensures i).start (same i) (bag h)))
     ∙ ap (λ (x : List Point). last_or None x) (rest-before c.args.time (bag h) inside (omega (arith, ints)))

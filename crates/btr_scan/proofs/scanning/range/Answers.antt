@@ -5,8 +5,8 @@ use Rattle.btr_base.specs.Bag.{within}
 use Rattle.btr_base.specs.Span.{SpanValue}
 use Rattle.btr_tree.specs.Change.{end_of}
 use Rattle.btr_tree.specs.History.{bag}
-use Rattle.btr_tree.specs.Nodes.{points_of, no_span}
-use Rattle.btr_tree.specs.Shape.{IsPlace}
+use Rattle.btr_tree.specs.Nodes.{points_of, above_root}
+use Rattle.btr_tree.specs.Shape.{IsChild}
 use Rattle.btr_tree.proofs.RootLemmas.{end-root, root-points}
 use Rattle.btr_scan.proofs.scanning.range.Goals as goal
 
@@ -19,8 +19,8 @@ walk_place-requires-clause-begins c =
 
 pub returns : goal.returns
 returns c h tree =
-    let place = subst (λ (u : SpanValue). IsPlace u.height u.start no_span h c.root.result.now) (sym c.root_span.ensures) (c.root.ensures.place h tree) in
-    c.in_ok-walk_place.ensures no_span h place
+    let place = subst (λ (u : SpanValue). IsChild u.height u.start above_root h c.root.result.now) (sym c.root_span.ensures) (c.root.ensures.place h tree) in
+    c.in_ok-walk_place.ensures above_root h place
     ∙ ap (λ (u : SpanValue). c.new-rows.result.items ++ within c.args.range.from c.args.range.to (points_of u.height u.start (bag h))) c.root_span.ensures
     ∙ ap (λ x. x ++ within c.args.range.from c.args.range.to (points_of 10 FIRST (bag h))) c.new-rows.ensures.items
     ∙ ap (within c.args.range.from c.args.range.to) (root-points (bag h) tree.times)

@@ -14,15 +14,15 @@ use Rattle.btr_tree.specs.declared.node.Slot.{Slot}
 use Rattle.btr_tree.specs.History.{Commit, bag}
 use Rattle.btr_tree.specs.Nodes.{points_of, touches, is_inner, is_node}
 use Rattle.btr_tree.proofs.VersionLemmas.{points-in_order, points-untouched}
-use Rattle.btr_tree.specs.Shape.{slot_start, Child, HasChildren, IsPlace}
+use Rattle.btr_tree.specs.Shape.{slot_start, Child, HasChildren, IsChild}
 use Rattle.btr_tree.proofs.NodeLemmas.{IsBody, place-is, none-is, leaf-is, inner-is, slot-at, slot-few}
 use Rattle.btr_tree.specs.Change.{end_of, IsChange, IsApplied, slot_at}
-use Rattle.btr_tree.specs.Crowd.{IsCrowding}
+use Rattle.btr_tree.specs.Crowd.{IsCrowdedFault}
 use Rattle.btr_tree.proofs.CutLemmas.{here-alike, outside-length}
 use Rattle.btr_tree.proofs.BuiltNodeLemmas.{slots-push, slots-as, children-push}
 use Rattle.btr_tree.proofs.SlotSplitLemmas.{parted-at, parted-inside, crowding-part, room-more}
-use Rattle.btr_tree.proofs.UntouchedNodeLemmas.{place-kept, place-room, place-counted, after-fewer, stamp-kept, slot-same, many-inner}
-use Rattle.btr_tree.proofs.AppliedNodeLemmas.{change-after, own, own-change, change-here, change-count, touched-fresh, stamp-touched, inner-place_on, is-touched, is-untouched, parted-of, step-at}
+use Rattle.btr_tree.proofs.UntouchedNodeLemmas.{place-kept, place-room, place-counted, after-fewer, last_change-kept, slot-same, many-inner}
+use Rattle.btr_tree.proofs.AppliedNodeLemmas.{change-after, own, own-change, change-here, change-count, touched-fresh, last_change-touched, inner-place_on, is-touched, is-untouched, parted-of, step-at}
 use Rattle.btr_tree.specs.Pages.{first_of, pages}
 use Rattle.btr_tree.proofs.NewNodeLemmas.{first-next, pages-kept, pages-inner_at, told-more}
 use Rattle.btr_tree.proofs.apply.+apply.Goals as goal
@@ -79,7 +79,7 @@ apply_inner-returns-then-left-added-clause-fault t c =
     err-weaker c.build.result _ _ (λ e fault below h commit applied.
     let change = applied-change below span commit h c.args.cut.now c.args.added.now c.args.version c.args.slots.now c.args.children.now applied in
     let same : c.deref.result.now ≡ points_of span.height span.start (bag (commit ∷ h)) = c.deref.ensures.value ∙ c.in_ok-all.ensures below h applied.height applied.all applied.each ∙ sym (change-after span.height span.start h commit c.args.cut.now c.args.added.now c.args.version change) in
-    subst (λ x. IsCrowding span.start (end_of span) x e) same fault) c.build.ensures.fault
+    subst (λ x. IsCrowdedFault span.start (end_of span) x e) same fault) c.build.ensures.fault
 
 pub apply_inner-returns-clause-place : goal.apply_inner-returns-clause-place
 apply_inner-returns-clause-place t c below above h commit applied touched =
@@ -152,7 +152,7 @@ apply_place-returns-in-None-clause-fault t c =
     err-weaker c.build.result _ _ (λ e fault above h commit holds change.
     let none = none-is span.height span.start above h c.args.place.now c.in-None.is holds in
     let same : c.args.added.now ≡ points_of span.height span.start (bag (commit ∷ h)) = sym (change-after span.height span.start h commit c.args.cut.now c.args.added.now c.args.version change ∙ ap (λ x. sort (outside x c.args.cut.now ++ c.args.added.now)) none ∙ sort-of_order c.args.added.now c.requires.order) in
-    subst (λ x. IsCrowding span.start (end_of span) x e) same fault) c.build.ensures.fault
+    subst (λ x. IsCrowdedFault span.start (end_of span) x e) same fault) c.build.ensures.fault
 
 pub apply_place-returns-in_ok-all-in-Leaf-clause-place : goal.apply_place-returns-in_ok-all-in-Leaf-clause-place
 apply_place-returns-in_ok-all-in-Leaf-clause-place t c =
@@ -170,7 +170,7 @@ apply_place-returns-in_ok-all-in-Leaf-clause-fault t c =
     let node = place-is span.height span.start above h c.args.place.now c.in-Some.node c.in-Some.is holds in
     let leaf = leaf-is span.height span.start above h c.in-Some.node.value c.in-Leaf.version c.in-Leaf.points (sym c.deref.ensures ∙ c.in-Leaf.is) node in
     let same : c.deref-in-Leaf-2.result.now ≡ points_of span.height span.start (bag (commit ∷ h)) = c.deref-in-Leaf-2.ensures.value ∙ c.in_ok-all-in-Leaf.ensures ∙ ap (λ x. sort (outside x c.args.cut.now ++ c.args.added.now)) (c.deref-in-Leaf.ensures.value ∙ leaf.same) ∙ sym (change-after span.height span.start h commit c.args.cut.now c.args.added.now c.args.version change) in
-    subst (λ x. IsCrowding span.start (end_of span) x e) same fault) c.build-in-Leaf.ensures.fault
+    subst (λ x. IsCrowdedFault span.start (end_of span) x e) same fault) c.build-in-Leaf.ensures.fault
 
 body-applied : (span : SpanValue) (above : List Point → Bool) (h : List Commit) (commit : Commit) (cut : List RangeValue) (added : List Point) (v w : ℕ) (ss ts : List Slot) (cs ds : List Child) (body : IsBody span.height span.start above h w ss cs) → ts ≡ ss → ds ≡ cs → IsChange span.height span.start commit cut added v → IsApplied body.below span h commit cut added v ts ds
 body-applied span above h commit cut added v w ss ts cs ds body p q change =
@@ -229,7 +229,7 @@ apply_slot-returns-then-branch-clause-slot t c was h commit w holds is change =
     let alike = here-alike span.start (end_of span) c.args.cut.now c.ranges_from.result.now c.ranges_before-here.result.now (λ u low. c.ranges_from.ensures.times u (omega (arith, ints))) (λ u high. c.ranges_before-here.ensures.times u (omega (arith, ints))) in
     let here = change-here span.height span.start commit c.args.cut.now c.ranges_before-here.result.now c.args.added.now c.args.version change alike in
     let same = is-untouched c.in_ok-is_untouched.field-0 (touches commit span.height span.start (bag h)) c.if-branch.true (c.in_ok-is_untouched.ensures was h commit c.args.version holds counted here) in
-    is ∙ slot-same _ _ _ _ (ap agg (sym (points-untouched span.height span.start commit h same))) (sym (stamp-kept was span.height span.start h commit same w))
+    is ∙ slot-same _ _ _ _ (ap agg (sym (points-untouched span.height span.start commit h same))) (sym (last_change-kept was span.height span.start h commit same w))
 
 pub apply_slot-returns-in_err-child-clause-fault : goal.apply_slot-returns-in_err-child-clause-fault
 apply_slot-returns-in_err-child-clause-fault t c =
@@ -275,7 +275,7 @@ apply_slot-returns-clause-slot t c was h commit w holds is change =
     let alike = here-alike span.start (end_of span) c.args.cut.now c.ranges_from.result.now c.ranges_before-here.result.now (λ u low. c.ranges_from.ensures.times u (omega (arith, ints))) (λ u high. c.ranges_before-here.ensures.times u (omega (arith, ints))) in
     let here = change-here span.height span.start commit c.args.cut.now c.ranges_before-here.result.now c.args.added.now c.args.version change alike in
     let touched = is-touched c.in_ok-is_untouched.field-0 (touches commit span.height span.start (bag h)) c.if-branch.false (c.in_ok-is_untouched.ensures was h commit c.args.version holds counted here) in
-    slot-same _ _ _ _ (apply_slot-returns-clause-agg t c was h commit w holds counted change) (stamp-touched was span.height span.start h commit c.args.version change.number touched)
+    slot-same _ _ _ _ (apply_slot-returns-clause-agg t c was h commit w holds counted change) (last_change-touched was span.height span.start h commit c.args.version change.number touched)
 
 -- ---- the slots
 
@@ -310,7 +310,7 @@ apply_slots-returns-in_err-slot-clause-fault t c =
     let step = step-at span part below i c.from-place.result h commit c.index-slots-place.result c.index-children-place.result c.args.cut.now c.args.added.now here c.parted.result.1.now c.args.version c.args.slots.now c.args.children.now applied at c.loop-i-test.true c.from-place.ensures c.slot-part.ensures c.index-slots-place.is c.index-children-place.is in
     let fault = c.in_err-slot.ensures.fault (is_inner (suc below) span.start) h commit step.was step.holds (ap (λ (x : Slot). x.agg) step.slot_is) step.change in
     let after = parted-of span part below i (bag (commit ∷ h)) applied.height c.loop-i-test.true c.slot-part.ensures c.end.ensures.span in
-    subst (λ k. IsCrowding span.start (end_of span) (points_of k span.start (bag (commit ∷ h))) c.in_err-slot.field-0.0) (sym applied.height) (crowding-part span part below i (points_of (suc below) span.start (bag (commit ∷ h))) (points_of part.height part.start (bag (commit ∷ h))) _ c.in_err-slot.field-0.0 after (c.loop-i.invariant.room below h commit applied) fault))
+    subst (λ k. IsCrowdedFault span.start (end_of span) (points_of k span.start (bag (commit ∷ h))) c.in_err-slot.field-0.0) (sym applied.height) (crowding-part span part below i (points_of (suc below) span.start (bag (commit ∷ h))) (points_of part.height part.start (bag (commit ∷ h))) _ c.in_err-slot.field-0.0 after (c.loop-i.invariant.room below h commit applied) fault))
 
 pub apply_slots-loop-i-preserved : goal.apply_slots-loop-i-preserved
 apply_slots-loop-i-preserved t c =
@@ -329,7 +329,7 @@ apply_slots-loop-i-preserved t c =
           let step = step-at span part below i c.from-place.result h commit c.index-slots-place.result c.index-children-place.result c.args.cut.now c.args.added.now here behind c.args.version c.args.slots.now c.args.children.now applied parted c.loop-i-test.true c.from-place.ensures c.slot-part.ensures c.index-slots-place.is c.index-children-place.is in
           let before = c.loop-i.invariant.slots below h commit applied in
           let slot = subst (λ (u : SpanValue). c.in_ok-slot.slot ≡ slot_at (is_inner (suc below) span.start) u.height u.start (commit ∷ h)) parted.is (c.in_ok-slot.ensures.slot (is_inner (suc below) span.start) h commit step.was step.holds step.slot_is step.change) in
-          let child = subst (λ (u : SpanValue). IsPlace u.height u.start (is_inner (suc below) span.start) (commit ∷ h) c.in_ok-slot.child) parted.is (c.in_ok-slot.ensures.place (is_inner (suc below) span.start) h commit step.was step.holds (ap (λ (x : Slot). x.agg) step.slot_is) step.change) in
+          let child = subst (λ (u : SpanValue). IsChild u.height u.start (is_inner (suc below) span.start) (commit ∷ h) c.in_ok-slot.child) parted.is (c.in_ok-slot.ensures.place (is_inner (suc below) span.start) h commit step.was step.holds (ap (λ (x : Slot). x.agg) step.slot_is) step.change) in
           (slots-as below span.start (commit ∷ h) (i + 1) _ _ _ _ c.in_ok-put.ensures.slots c.in_ok-put.ensures.children (slots-push below span.start (commit ∷ h) i c.loop-i.new_slots.items c.loop-i.new_children.items c.in_ok-slot.slot c.in_ok-slot.child before.0 slot), subst (HasChildren below span.start (commit ∷ h) (i + 1)) (sym c.in_ok-put.ensures.children) (children-push below span.start (commit ∷ h) i c.loop-i.new_children.items c.in_ok-slot.child before.0.children_length before.1 child));
       nodes = λ below h commit applied many some before.
           let parted = at below applied.height in
@@ -390,7 +390,7 @@ apply_inner-returns-clause-nodes t c below above h commit applied touched w some
     let many : LEAF_POINTS < length (points_of span.height span.start (bag (commit ∷ h))) = omega arith in
     let made = c.in_ok-new_slots.ensures.slots below h commit applied in
     let told = c.in_ok-new_slots.ensures.nodes below h commit applied (subst (λ k. LEAF_POINTS < length (points_of k span.start (bag (commit ∷ h)))) applied.height many) some before in
-    told-more c.args.nodes.now.items c.apply_slots.new.nodes.items c.inner.new.nodes.items _ _ (pages span.height span.start above (commit ∷ h) c.args.version) told c.in_ok-inner.ensures.nodes (pages-inner_at span.height below span.start above (commit ∷ h) c.args.version c.in_ok-new_slots.new_slots.items c.in_ok-new_slots.new_children.items applied.height w (stamp-touched (is_node above span.height span.start) span.height span.start h commit c.args.version change.number touched) many made.0)
+    told-more c.args.nodes.now.items c.apply_slots.new.nodes.items c.inner.new.nodes.items _ _ (pages span.height span.start above (commit ∷ h) c.args.version) told c.in_ok-inner.ensures.nodes (pages-inner_at span.height below span.start above (commit ∷ h) c.args.version c.in_ok-new_slots.new_slots.items c.in_ok-new_slots.new_children.items applied.height w (last_change-touched (is_node above span.height span.start) span.height span.start h commit c.args.version change.number touched) many made.0)
 
 pub apply_place-returns-in-None-clause-nodes : goal.apply_place-returns-in-None-clause-nodes
 apply_place-returns-in-None-clause-nodes t c =

@@ -6,7 +6,7 @@ use Rattle.btr_tree.specs.Shape.{HasSlots, HasChildren, slot_start}
 use Rattle.btr_tree.specs.Change.{IsApplied, end_of}
 use Rattle.btr_tree.specs.declared.limits.TheConstants.{LEAF_POINTS}
 use Rattle.btr_tree.specs.Pages.{first_of, pages}
-use Rattle.btr_tree.specs.Crowd.{HasRoom}
+use Rattle.btr_tree.specs.Crowd.{HasNoCrowdedSpan}
 use Rattle.btr_tree.proofs.apply.+apply.Given as goal
 
 -- the slots so far are those after the commit, and no bottom span of theirs is crowded
@@ -17,7 +17,7 @@ invariant-apply_slots-loop-i l = record {
   slots : (below : ℕ) (h : List Commit) (c : Commit) → IsApplied below l.span h c l.cut l.added l.version l.slots l.children → HasSlots below l.span.start (c ∷ h) l.i l.new_slots.items l.new_children.items × HasChildren below l.span.start (c ∷ h) l.i l.new_children.items;
   nodes : (below : ℕ) (h : List Commit) (c : Commit) → IsApplied below l.span h c l.cut l.added l.version l.slots l.children → LEAF_POINTS < length (points_of (suc below) l.span.start (bag (c ∷ h))) → 0 < l.version → IsBefore l.version h → l.nodes.items ≡ l.fn.nodes.items ++ first_of l.i (λ i. pages below (slot_start below l.span.start i) (is_inner (suc below) l.span.start) (c ∷ h) l.version);
   counted : l.steps + length l.fn.nodes.items ≤ l.fn.steps + length l.nodes.items;
-  room : (below : ℕ) (h : List Commit) (c : Commit) → IsApplied below l.span h c l.cut l.added l.version l.slots l.children → HasRoom l.span.start (slot_start below l.span.start l.i) (points_of (suc below) l.span.start (bag (c ∷ h)));
+  room : (below : ℕ) (h : List Commit) (c : Commit) → IsApplied below l.span h c l.cut l.added l.version l.slots l.children → HasNoCrowdedSpan l.span.start (slot_start below l.span.start l.i) (points_of (suc below) l.span.start (bag (c ∷ h)));
 }
 
 abbrev pub decreases-apply_slot : goal.decreases-apply_slot

@@ -3,7 +3,7 @@ use Rattle.std.proofs.lemmas.Int.{ints}
 use Rattle.std.proofs.lemmas.Result.{err_from_is_err_and}
 use Rattle.btr_base.proofs.PointLemmas.{filter-in_order}
 use Rattle.btr_tree.specs.declared.limits.TheConstants.{LEAF_POINTS}
-use Rattle.btr_tree.specs.Crowd.{bottom, HasRoom, IsFirstCrowd}
+use Rattle.btr_tree.specs.Crowd.{bottom, HasNoCrowdedSpan, IsFirstCrowd}
 use Rattle.btr_tree.proofs.SlotSplitLemmas.{parted-at, parted-inside, parted-same, crowding-part, room-more}
 use Rattle.btr_tree.proofs.NodeLemmas.{slot-end}
 use Rattle.btr_base.specs.Bag.{within, IsInOrder}
@@ -11,7 +11,7 @@ use Rattle.btr_base.specs.Span.{time_at, width, SpanValue, IsSpan}
 use Rattle.btr_base.proofs.SpanLemmas.{width-positive}
 use Rattle.btr_tree.specs.History.{bag}
 use Rattle.btr_tree.specs.Nodes.{points_of, is_inner}
-use Rattle.btr_tree.specs.Shape.{slot_start, IsPlace, HasChildren}
+use Rattle.btr_tree.specs.Shape.{slot_start, IsChild, HasChildren}
 use Rattle.btr_tree.specs.Change.{end_of, IsFresh, IsSplit}
 use Rattle.btr_tree.proofs.CrowdLemmas.{room-few, room-none}
 use Rattle.btr_tree.proofs.BuiltNodeLemmas.{slots-push, children-push, slot-fresh, slot-new, slots-as, slot-made, leaf-place, inner-place_at, version-fresh}
@@ -97,7 +97,7 @@ build_slots-loop-i-preserved t c =
           let fresh = slot-fresh below span.start i h commit c.args.version here c.loop-i-test.true split.number same split.few in
           let before = c.loop-i.invariant.slots below h commit split in
           let slot = slot-made below span.start i h commit c.args.version here c.in_ok-slot.slot split.number same (slot-new below span.start i h commit split.few) c.in_ok-slot.ensures.slot in
-          let child = subst (λ (u : SpanValue). IsPlace u.height u.start (is_inner (suc below) span.start) (commit ∷ h) c.in_ok-slot.child) parted.is (c.in_ok-slot.ensures.place (is_inner (suc below) span.start) h commit (subst (λ (u : SpanValue). IsFresh u.height u.start (is_inner (suc below) span.start) h commit c.args.version here) (sym parted.is) fresh)) in
+          let child = subst (λ (u : SpanValue). IsChild u.height u.start (is_inner (suc below) span.start) (commit ∷ h) c.in_ok-slot.child) parted.is (c.in_ok-slot.ensures.place (is_inner (suc below) span.start) h commit (subst (λ (u : SpanValue). IsFresh u.height u.start (is_inner (suc below) span.start) h commit c.args.version here) (sym parted.is) fresh)) in
           (slots-as below span.start (commit ∷ h) (i + 1) _ _ _ _ c.in_ok-put.ensures.slots c.in_ok-put.ensures.children (slots-push below span.start (commit ∷ h) i c.loop-i.slots.items c.loop-i.children.items c.in_ok-slot.slot c.in_ok-slot.child before.0 slot), subst (HasChildren below span.start (commit ∷ h) (i + 1)) (sym c.in_ok-put.ensures.children) (children-push below span.start (commit ∷ h) i c.loop-i.children.items c.in_ok-slot.child before.0.children_length before.1 child));
       nodes = λ below h commit split many.
           let parted = at below split.height in
@@ -116,7 +116,7 @@ build_slots-returns-clause-room t c =
     let below = c.args.span.height - 1 in
     let high : c.args.span.height ≡ suc below = let low = c.requires.height in omega arith in
     let done : c.loop-i.i ≡ 64 = omega arith in
-    subst (λ e. HasRoom c.args.span.start e c.args.points.now) (ap (slot_start below c.args.span.start) done ∙ slot-end below c.args.span.start ∙ ap (λ k. c.args.span.start +ℤ pos (width k)) (sym high)) (c.loop-i.invariant.room below high)
+    subst (λ e. HasNoCrowdedSpan c.args.span.start e c.args.points.now) (ap (slot_start below c.args.span.start) done ∙ slot-end below c.args.span.start ∙ ap (λ k. c.args.span.start +ℤ pos (width k)) (sym high)) (c.loop-i.invariant.room below high)
 
 empty-is : {X : Type 0} (xs : List X) → (length xs == 0) ≡ true → xs ≡ []
 empty-is [] e = refl

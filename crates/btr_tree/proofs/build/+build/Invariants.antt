@@ -6,7 +6,7 @@ use Rattle.btr_tree.specs.Change.{IsSplit, end_of}
 use Rattle.btr_tree.specs.declared.limits.TheConstants.{LEAF_POINTS}
 use Rattle.btr_tree.specs.Nodes.{is_inner}
 use Rattle.btr_tree.specs.Pages.{first_of, pages}
-use Rattle.btr_tree.specs.Crowd.{HasRoom}
+use Rattle.btr_tree.specs.Crowd.{HasNoCrowdedSpan}
 use Rattle.btr_tree.proofs.build.+build.Given as goal
 
 -- the slots that were made are those of the points before the next one
@@ -17,7 +17,7 @@ invariant-build_slots-loop-i l = record {
   slots : (below : ℕ) (h : List Commit) (c : Commit) → IsSplit below l.span h c l.version l.points → HasSlots below l.span.start (c ∷ h) l.i l.slots.items l.children.items × HasChildren below l.span.start (c ∷ h) l.i l.children.items;
   nodes : (below : ℕ) (h : List Commit) (c : Commit) → IsSplit below l.span h c l.version l.points → LEAF_POINTS < length l.points → l.nodes.items ≡ l.fn.nodes.items ++ first_of l.i (λ i. pages below (slot_start below l.span.start i) (is_inner (suc below) l.span.start) (c ∷ h) l.version);
   counted : l.steps + length l.fn.nodes.items ≤ l.fn.steps + length l.nodes.items;
-  room : (below : ℕ) → l.span.height ≡ suc below → HasRoom l.span.start (slot_start below l.span.start l.i) l.points;
+  room : (below : ℕ) → l.span.height ≡ suc below → HasNoCrowdedSpan l.span.start (slot_start below l.span.start l.i) l.points;
 }
 
 abbrev pub decreases-build : goal.decreases-build

@@ -5,10 +5,10 @@ use Rattle.btr_base.specs.Span.{SpanValue}
 use Rattle.btr_base.specs.Agg.{agg}
 use Rattle.btr_base.proofs.AggLemmas.{agg-count}
 use Rattle.btr_tree.specs.History.{Commit, bag}
-use Rattle.btr_tree.specs.Nodes.{points_of, no_span}
-use Rattle.btr_tree.specs.Shape.{IsPlace}
+use Rattle.btr_tree.specs.Nodes.{points_of, above_root}
+use Rattle.btr_tree.specs.Shape.{IsChild}
 use Rattle.btr_tree.specs.Change.{end_of}
-use Rattle.btr_tree.specs.Crowd.{IsCrowding}
+use Rattle.btr_tree.specs.Crowd.{IsCrowdedFault}
 use Rattle.btr_tree.specs.Root.{IsTree}
 use Rattle.btr_tree.proofs.RootLemmas.{root-step, root-points, root-fault, tree-of, tree-room}
 use Rattle.btr_tree.specs.Page.{Page}
@@ -23,7 +23,7 @@ apply_slot-requires-clause-stands c =
     let step = root-step c.root_span.result h mine c.self.inside.root c.self.inside.agg c.as_slice.result.now c.as_slice-2.result.now c.root_span.ensures c.as_slice.ensures.ranges c.as_slice-2.ensures.points c.self.invariant.1 c.requires in
     let long = c.as_slice-2.type_inv in
     let few = step.few in
-    record { above = no_span; commits = h; holds = step.holds; counted = step.counted; few = omega arith }
+    record { above = above_root; commits = h; holds = step.holds; counted = step.counted; few = omega arith }
 
 pub apply_slot-requires-clause-inside : goal.apply_slot-requires-clause-inside
 apply_slot-requires-clause-inside c =
@@ -37,14 +37,14 @@ returns-in_err-slot-clause-fault c =
     let p = err_from_is_err_and c.from_residual.result c.from_residual.ensures.1 in
     rw (p.1, p.2) (λ h tree.
     let step = root-step c.root_span.result h mine c.self.inside.root c.self.inside.agg c.as_slice.result.now c.as_slice-2.result.now c.root_span.ensures c.as_slice.ensures.ranges c.as_slice-2.ensures.points (subst (IsTree h) (sym c.self.view_is) tree) c.requires in
-    root-fault (mine ∷ h) c.in_err-slot.field-0.0 step.times (subst (λ (u : SpanValue). IsCrowding u.start (end_of u) (points_of u.height u.start (bag (mine ∷ h))) c.in_err-slot.field-0.0) c.root_span.ensures (c.in_err-slot.ensures.fault no_span h mine refl step.holds step.counted step.change)))
+    root-fault (mine ∷ h) c.in_err-slot.field-0.0 step.times (subst (λ (u : SpanValue). IsCrowdedFault u.start (end_of u) (points_of u.height u.start (bag (mine ∷ h))) c.in_err-slot.field-0.0) c.root_span.ensures (c.in_err-slot.ensures.fault above_root h mine refl step.holds step.counted step.change)))
 
 pub returns-then-agg-gt-VERSION_POINTS-clause-fault : goal.returns-then-agg-gt-VERSION_POINTS-clause-fault
 returns-then-agg-gt-VERSION_POINTS-clause-fault c h tree =
     let mine : Commit = record { version = c.args.version; cut = c.args.cut.now; added = c.args.added.now } in
     let step = root-step c.root_span.result h mine c.self.inside.root c.self.inside.agg c.as_slice.result.now c.as_slice-2.result.now c.root_span.ensures c.as_slice.ensures.ranges c.as_slice-2.ensures.points (subst (IsTree h) (sym c.self.view_is) tree) c.requires in
-    let holds = subst (λ (u : SpanValue). IsPlace u.height u.start no_span (mine ∷ h) c.in_ok-slot.root) c.root_span.ensures (c.in_ok-slot.ensures.place no_span h mine refl step.holds step.counted step.change) in
-    let counted = subst (λ (u : SpanValue). c.in_ok-slot.slot.agg ≡ agg (points_of u.height u.start (bag (mine ∷ h)))) c.root_span.ensures (c.in_ok-slot.ensures.agg no_span h mine refl step.holds step.counted step.change) in
+    let holds = subst (λ (u : SpanValue). IsChild u.height u.start above_root (mine ∷ h) c.in_ok-slot.root) c.root_span.ensures (c.in_ok-slot.ensures.place above_root h mine refl step.holds step.counted step.change) in
+    let counted = subst (λ (u : SpanValue). c.in_ok-slot.slot.agg ≡ agg (points_of u.height u.start (bag (mine ∷ h)))) c.root_span.ensures (c.in_ok-slot.ensures.agg above_root h mine refl step.holds step.counted step.change) in
     let count : c.agg.inside.count ≡ length (bag (mine ∷ h)) = ap (λ u. u.count) c.agg.view_is ∙ ap (λ u. u.count) counted ∙ agg-count (points_of 10 FIRST (bag (mine ∷ h))) ∙ ap length (root-points (bag (mine ∷ h)) step.times) in
     (count, c.if-agg-gt-VERSION_POINTS.true, tree-room (mine ∷ h) c.in_ok-slot.root step.times holds)
 
@@ -52,8 +52,8 @@ pub returns-clause-tree : goal.returns-clause-tree
 returns-clause-tree c h tree =
     let mine : Commit = record { version = c.args.version; cut = c.args.cut.now; added = c.args.added.now } in
     let step = root-step c.root_span.result h mine c.self.inside.root c.self.inside.agg c.as_slice.result.now c.as_slice-2.result.now c.root_span.ensures c.as_slice.ensures.ranges c.as_slice-2.ensures.points (subst (IsTree h) (sym c.self.view_is) tree) c.requires in
-    let holds = subst (λ (u : SpanValue). IsPlace u.height u.start no_span (mine ∷ h) c.in_ok-slot.root) c.root_span.ensures (c.in_ok-slot.ensures.place no_span h mine refl step.holds step.counted step.change) in
-    let counted = subst (λ (u : SpanValue). c.in_ok-slot.slot.agg ≡ agg (points_of u.height u.start (bag (mine ∷ h)))) c.root_span.ensures (c.in_ok-slot.ensures.agg no_span h mine refl step.holds step.counted step.change) in
+    let holds = subst (λ (u : SpanValue). IsChild u.height u.start above_root (mine ∷ h) c.in_ok-slot.root) c.root_span.ensures (c.in_ok-slot.ensures.place above_root h mine refl step.holds step.counted step.change) in
+    let counted = subst (λ (u : SpanValue). c.in_ok-slot.slot.agg ≡ agg (points_of u.height u.start (bag (mine ∷ h)))) c.root_span.ensures (c.in_ok-slot.ensures.agg above_root h mine refl step.holds step.counted step.change) in
     let few = c.if-agg-gt-VERSION_POINTS.false in
     tree-of (mine ∷ h) c.in_ok-slot.root c.in_ok-slot.slot.agg step.times holds counted (omega (arith, ap (λ u. u.count) c.agg.view_is))
 
@@ -67,26 +67,26 @@ pub returns-clause-room : goal.returns-clause-room
 returns-clause-room c h tree =
     let mine : Commit = record { version = c.args.version; cut = c.args.cut.now; added = c.args.added.now } in
     let step = root-step c.root_span.result h mine c.self.inside.root c.self.inside.agg c.as_slice.result.now c.as_slice-2.result.now c.root_span.ensures c.as_slice.ensures.ranges c.as_slice-2.ensures.points (subst (IsTree h) (sym c.self.view_is) tree) c.requires in
-    let holds = subst (λ (u : SpanValue). IsPlace u.height u.start no_span (mine ∷ h) c.in_ok-slot.root) c.root_span.ensures (c.in_ok-slot.ensures.place no_span h mine refl step.holds step.counted step.change) in
+    let holds = subst (λ (u : SpanValue). IsChild u.height u.start above_root (mine ∷ h) c.in_ok-slot.root) c.root_span.ensures (c.in_ok-slot.ensures.place above_root h mine refl step.holds step.counted step.change) in
     tree-room (mine ∷ h) c.in_ok-slot.root step.times holds
 
 pub returns-clause-nodes : goal.returns-clause-nodes
 returns-clause-nodes c h tree some before =
     let mine : Commit = record { version = c.args.version; cut = c.args.cut.now; added = c.args.added.now } in
     let step = root-step c.root_span.result h mine c.self.inside.root c.self.inside.agg c.as_slice.result.now c.as_slice-2.result.now c.root_span.ensures c.as_slice.ensures.ranges c.as_slice-2.ensures.points (subst (IsTree h) (sym c.self.view_is) tree) c.requires in
-    c.in_ok-slot.ensures.nodes no_span h mine refl refl step.holds step.counted step.change some before
-    ∙ ap (λ (u : SpanValue). c.new-nodes.result.items ++ pages u.height u.start no_span (mine ∷ h) c.args.version) c.root_span.ensures
-    ∙ ap (λ (x : List Page). x ++ pages 10 FIRST no_span (mine ∷ h) c.args.version) c.new-nodes.ensures.items
+    c.in_ok-slot.ensures.nodes above_root h mine refl refl step.holds step.counted step.change some before
+    ∙ ap (λ (u : SpanValue). c.new-nodes.result.items ++ pages u.height u.start above_root (mine ∷ h) c.args.version) c.root_span.ensures
+    ∙ ap (λ (x : List Page). x ++ pages 10 FIRST above_root (mine ∷ h) c.args.version) c.new-nodes.ensures.items
 
 pub returns-clause-few : goal.returns-clause-few
 returns-clause-few c h tree some before =
     let mine : Commit = record { version = c.args.version; cut = c.args.cut.now; added = c.args.added.now } in
     let told = ap (length {A = Page}) (returns-clause-nodes c h tree some before) in
-    omega (arith, told, pages-bound FIRST no_span h mine c.args.version refl some before)
+    omega (arith, told, pages-bound FIRST above_root h mine c.args.version refl some before)
 
 pub returns-clause-steps : goal.returns-clause-steps
 returns-clause-steps c h tree some before =
     let mine : Commit = record { version = c.args.version; cut = c.args.cut.now; added = c.args.added.now } in
     let told = ap (length {A = Page}) (returns-clause-nodes c h tree some before) in
     let none = ap (length {A = Page}) c.new-nodes.ensures.items in
-    omega (arith, c.in_ok-slot.ensures.counted, pages-bound FIRST no_span h mine c.args.version refl some before)
+    omega (arith, c.in_ok-slot.ensures.counted, pages-bound FIRST above_root h mine c.args.version refl some before)

@@ -1,7 +1,7 @@
 use Rattle.std.proofs.Common.{◌≤◌, length, sym, subst, arith}
 use Rattle.btr_tree.specs.declared.limits.TheConstants.{VERSION_POINTS}
 use Rattle.btr_tree.specs.History.{bag}
-use Rattle.btr_tree.specs.Nodes.{no_span}
+use Rattle.btr_tree.specs.Nodes.{above_root}
 use Rattle.btr_tree.proofs.RootLemmas.{place-root, root-points}
 use Rattle.btr_tree.proofs.tree.Tree.root.Goals as goal
 
@@ -10,4 +10,4 @@ returns-clause-stands c =
     let h = c.self.invariant.0 in
     let tree = c.self.invariant.1 in
     let few = subst (λ b. length b ≤ VERSION_POINTS) (sym (root-points (bag h) tree.times)) tree.few in
-    record { above = no_span; commits = h; holds = place-root h c.self.inside.root tree.node; few = omega arith }
+    record { above = above_root; commits = h; holds = place-root h c.self.inside.root tree.node; few = omega arith }

@@ -4,17 +4,17 @@ ghost use Rattle.btr_base.specs.Agg.{agg};
 ghost use Rattle.btr_base.specs.declared.point.Point.{Point as APoint};
 ghost use Rattle.btr_tree.specs.History.{Commit, bag};
 ghost use Rattle.btr_tree.specs.Nodes.{points_of};
-ghost use Rattle.btr_tree.specs.Shape.{IsPlace};
+ghost use Rattle.btr_tree.specs.Shape.{IsChild};
 ghost use Rattle.btr_tree.specs.Change.{IsCounted};
 ghost use Rattle.btr_tree.specs.Change.{joined_all};
 
-use crate::node::{Node, Place, Slot};
+use crate::node::{Node, Child, Slot};
 use btr_base::{Agg, Point};
 
 /// The aggregate of a span's points, by its node.
-pub(crate) fn agg_of_place(place: &Place) -> Agg
+pub(crate) fn agg_of_place(place: &Child) -> Agg
     requires { IsCounted place.now }
-    ensures { (height : ℕ) (start : ℤ) (above : List APoint → Bool) (h : List Commit) → IsPlace height start above h place.now → result ≡ agg (points_of height start (bag h)) }
+    ensures { (height : ℕ) (start : ℤ) (above : List APoint → Bool) (h : List Commit) → IsChild height start above h place.now → result ≡ agg (points_of height start (bag h)) }
 {
     match place {
         None => Agg::none(),
