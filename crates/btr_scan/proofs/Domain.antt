@@ -9,7 +9,7 @@ use Rattle.btr_base.specs.Point.{InDomain}
 use Rattle.btr_base.specs.Bag.{within}
 use Rattle.btr_base.proofs.ListLemmas.{each-weaker, filter-all, filter-none}
 use Rattle.btr_base.proofs.WithinLemmas.{within-all, within-from, within-before}
-use Rattle.btr_tree.specs.Root.{AreInDomain}
+use Rattle.btr_base.specs.Point.{AreInDomain}
 
 le-yes : (a b : ℤ) → a ≤ℤ b → int_le a b ≡ true
 le-yes a b h = grind (arith, ints)

@@ -15,7 +15,8 @@ use Rattle.btr_tree.specs.declared.node.Node.TheVariants.{Leaf, Inner}
 use Rattle.btr_tree.specs.declared.node.Slot.{Slot}
 use Rattle.btr_tree.specs.History.{Commit, bag}
 use Rattle.btr_tree.specs.Nodes.{points_of, is_inner}
-use Rattle.btr_tree.specs.Shape.{slot_start, IsChild, Child, HasSlots, HasChildren, IsNode}
+use Rattle.btr_tree.specs.declared.node.Child.{Child}
+use Rattle.btr_tree.specs.Shape.{slot_start, IsChild, HasSlots, HasChildren, IsNode}
 use Rattle.btr_tree.proofs.NodeLemmas.{leaf-is, inner-is, slot-part, slot-few}
 use Rattle.btr_tree.specs.Change.{IsSomeChild, AreSomeSlots}
 use Rattle.btr_tree.proofs.BuiltNodeLemmas.{slots-as}
@@ -91,20 +92,6 @@ inner-stands k s h ss cs body few = (
 )
 
 -- ---- a slot's child
-
--- what is known of a slot's child
-pub record IsChildAt (below : ℕ) (s : ℤ) (h : List Commit) (i : ℕ) (part : SpanValue) (child : Child) : Type 0 where
-  pub is : part ≡ record { start = slot_start below s i; height = below }
-  pub holds : IsChild part.height part.start (is_inner (suc below) s) h child
-
-pub child-at : (span : SpanValue) (below : ℕ) (h : List Commit) (i j : ℕ) (part : SpanValue) (child : Child) (cs : List Child) → span.height ≡ suc below → HasChildren below span.start h 64 cs → i < 64 → j ≡ i → part ≡ slot_of span i → child ≡ slice_index_or cs j child → IsChildAt below span.start h i part child
-child-at span below h i j part child cs e each place same p r =
-    let is : part ≡ record { start = slot_start below span.start i; height = below } = p ∙ slot-part span below i e in
-    let holds : IsChild below (slot_start below span.start i) (is_inner (suc below) span.start) h child = subst (IsChild below (slot_start below span.start i) (is_inner (suc below) span.start) h) (ap (λ k. slice_index_or cs k child) (sym same) ∙ sym r) (each i child place) in
-    record {
-      is = is;
-      holds = subst (λ u. IsChild u.height u.start (is_inner (suc below) span.start) h child) (sym is) holds;
-    }
 
 -- it stands where its node does
 pub child-stands : (below : ℕ) (s : ℤ) (h : List Commit) (i : ℕ) (part : SpanValue) (child : Child) → part ≡ record { start = slot_start below s i; height = below } → IsChild part.height part.start (is_inner (suc below) s) h child → i < 64 → length (points_of (suc below) s (bag h)) + 0 < 2 ^ 64 → IsSomeChild part.height part.start child 0

@@ -13,7 +13,8 @@ use Rattle.btr_tree.specs.History.{Commit, bag}
 use Rattle.btr_tree.specs.Nodes.{points_of}
 use Rattle.btr_tree.proofs.VersionLemmas.{bag-in_order}
 use Rattle.btr_tree.specs.Change.{end_of}
-use Rattle.btr_tree.specs.Shape.{Child, HasSlots, slot_start}
+use Rattle.btr_tree.specs.declared.node.Child.{Child}
+use Rattle.btr_tree.specs.Shape.{HasSlots, slot_start}
 use Rattle.btr_tree.proofs.NodeLemmas.{slot-end, slot-from, slot-inside, slot-next, prefix-next, prefix-none, rest-next}
 use Rattle.btr_scan.proofs.Firsts.{first-some, first-found, first-missed, last-some, last-found, last-missed}
 

@@ -8,11 +8,11 @@ ghost use Rattle.btr_tree.specs.History.{Commit, bag};
 ghost use Rattle.btr_tree.specs.Nodes.{points_of, above_root};
 ghost use Rattle.btr_tree.specs.Shape.{IsChild, HasSlots, HasChildren, slot_start};
 ghost use Rattle.btr_tree.specs.Change.{IsSomeChild, AreSomeSlots, end_of};
-ghost use Rattle.btr_tree.specs.Root.{AreInDomain};
+ghost use Rattle.btr_base.specs.Point.{AreInDomain};
 
 use crate::slots::previous_slot;
 use btr_base::{END, FIRST, Point, Span, parted};
-use btr_tree::{Node, Child, SLOTS, Slot, Steps, visit, root_span};
+use btr_tree::{Node, Child, FAN_OUT, Slot, Steps, visit, root_span};
 
 /// The last point of the root's place before a time. It opens at most 21 nodes.
 pub(crate) fn previous_in_root(place: &Child, time: i64, steps: &mut Steps) -> Option<Point>
@@ -93,7 +93,7 @@ fn last_in_place(span: Span, place: &Child, steps: &mut Steps) -> Option<Point>
             slots,
             children,
             ..
-        } => last_in_slots(span, slots, children, SLOTS, steps),
+        } => last_in_slots(span, slots, children, FAN_OUT, steps),
     }
 }
 

@@ -7,7 +7,7 @@ ghost use Rattle.btr_tree.specs.History.{Commit, bag};
 ghost use Rattle.btr_tree.specs.Nodes.{points_of, above_root};
 ghost use Rattle.btr_tree.specs.Shape.{IsChild, HasSlots, HasChildren, slot_start};
 ghost use Rattle.btr_tree.specs.Change.{IsSomeChild, AreSomeSlots, end_of};
-ghost use Rattle.btr_tree.specs.Root.{AreInDomain};
+ghost use Rattle.btr_base.specs.Point.{AreInDomain};
 
 use crate::slots::next_slot;
 use btr_base::{END, FIRST, Point, Span, parted};

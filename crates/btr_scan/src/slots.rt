@@ -2,7 +2,7 @@
 ghost use Rattle.std.specs.Prelude.{◌≡◌, ◌<◌, ◌≤◌, ℕ, length, slice_index_or, IfSome, IsNone};
 ghost use Rattle.btr_tree.specs.declared.node.Slot.{Slot as ASlot};
 
-use btr_tree::{SLOTS, Slot};
+use btr_tree::{FAN_OUT, Slot};
 
 /// The place of the first slot from a place on that has a point.
 pub(crate) fn next_slot(slots: &[Slot], from: u8) -> Option<u8>
@@ -12,7 +12,7 @@ pub(crate) fn next_slot(slots: &[Slot], from: u8) -> Option<u8>
     ensures passed { IfSome result (λ i. (m : ℕ) (d : ASlot) → from ≤ m → m < i → (slice_index_or slots.now m d).agg.count ≡ 0) }
     ensures none { IsNone result → (m : ℕ) (d : ASlot) → from ≤ m → m < 64 → (slice_index_or slots.now m d).agg.count ≡ 0 }
 {
-    for i in from..SLOTS {
+    for i in from..FAN_OUT {
         let agg = &slots[usize::from(i)].agg;
         if agg.count > 0 {
             return Some(i);

@@ -10,16 +10,17 @@ use Rattle.btr_base.specs.Bag.{within, outside, sort}
 use Rattle.btr_base.proofs.PointLemmas.{length-sort}
 use Rattle.btr_base.specs.Span.{width, SpanValue, IsSpan, slot_of}
 use Rattle.btr_base.proofs.ListLemmas.{length-filter}
-use Rattle.btr_tree.specs.declared.limits.TheConstants.{LEAF_POINTS}
+use Rattle.btr_base.specs.declared.limits.TheConstants.{LEAF_POINTS}
 use Rattle.btr_tree.specs.declared.node.Slot.{Slot}
 use Rattle.btr_tree.specs.History.{Commit, bag}
 use Rattle.btr_tree.specs.Nodes.{points_of, has_points, touches, is_inner, is_node, last_change}
 use Rattle.btr_tree.proofs.VersionLemmas.{points-after}
-use Rattle.btr_tree.specs.Shape.{Child, slot_start, HasSlots, HasChildren, IsChild}
+use Rattle.btr_tree.specs.declared.node.Child.{Child}
+use Rattle.btr_tree.specs.Shape.{slot_start, HasSlots, HasChildren, IsChild}
 use Rattle.btr_tree.proofs.NodeLemmas.{slot-at, points-slot}
 use Rattle.btr_tree.proofs.CutLemmas.{outside-alike}
 use Rattle.btr_tree.proofs.UntouchedNodeLemmas.{many-inner, some-has}
-use Rattle.btr_tree.proofs.BuiltNodeLemmas.{inner-place}
+use Rattle.btr_tree.proofs.BuiltNodeLemmas.{inner-child}
 use Rattle.btr_tree.proofs.SlotSplitLemmas.{IsPartedAt, parted-at}
 use Rattle.btr_tree.specs.Change.{IsFresh, IsChange, IsApplied, IsInnerOf, slot_at, end_of}
 
@@ -59,9 +60,9 @@ pub last_change-touched : (was : List Point → Bool) (k : ℕ) (s : ℤ) (h : L
 last_change-touched was k s h c v number touched =
     number ∙ sym (ap (λ t. cond (t || not (was (bag h))) c.version (last_change was k s h)) touched)
 
-pub inner-place_on : (k below : ℕ) (s : ℤ) (above : List Point → Bool) (h : List Commit) (c : Commit) (v : ℕ) (ss : List Slot) (cs : List Child) (p : Child) → k ≡ suc below → v ≡ c.version → touches c k s (bag h) ≡ true → LEAF_POINTS < length (points_of k s (bag (c ∷ h))) → HasSlots below s (c ∷ h) 64 ss cs → HasChildren below s (c ∷ h) 64 cs → IsInnerOf v ss cs p → IsChild k s above (c ∷ h) p
-inner-place_on k below s above h c v ss cs p e number touched many slots each is =
-    subst (λ j. IsChild j s above (c ∷ h) p) (sym e) (inner-place below s above h c v ss cs p number (ap (λ t. t || not (is_node above (suc below) s (bag h))) (subst (λ j. touches c j s (bag h) ≡ true) e touched)) (subst (λ j. LEAF_POINTS < length (points_of j s (bag (c ∷ h)))) e many) slots each is)
+pub inner-child_on : (k below : ℕ) (s : ℤ) (above : List Point → Bool) (h : List Commit) (c : Commit) (v : ℕ) (ss : List Slot) (cs : List Child) (p : Child) → k ≡ suc below → v ≡ c.version → touches c k s (bag h) ≡ true → LEAF_POINTS < length (points_of k s (bag (c ∷ h))) → HasSlots below s (c ∷ h) 64 ss cs → HasChildren below s (c ∷ h) 64 cs → IsInnerOf v ss cs p → IsChild k s above (c ∷ h) p
+inner-child_on k below s above h c v ss cs p e number touched many slots each is =
+    subst (λ j. IsChild j s above (c ∷ h) p) (sym e) (inner-child below s above h c v ss cs p number (ap (λ t. t || not (is_node above (suc below) s (bag h))) (subst (λ j. touches c j s (bag h) ≡ true) e touched)) (subst (λ j. LEAF_POINTS < length (points_of j s (bag (c ∷ h)))) e many) slots each is)
 
 -- ---- whether a commit touches a span
 

@@ -1,5 +1,5 @@
 -- Lemmas on nodes that a commit makes.
-use Rattle.std.specs.Prelude.{◌≡◌, ℕ, ◌+◌, ◌<◌, ◌≤◌, ℤ, Bool, true, false, not, ◌&&◌, ◌||◌, cond, List, [], ◌∷◌, ◌++◌, length, slice_index_or, Some, None}
+use Rattle.std.specs.Prelude.{◌≡◌, ℕ, ◌+◌, ◌<◌, ◌≤◌, ℤ, Bool, true, false, not, ◌&&◌, ◌||◌, cond, List, [], ◌∷◌, ◌++◌, length, slice_index_or, Option, Some, None, MatchOption}
 use Rattle.std.proofs.Common.{zero, suc, refl, sym, ap, ◌∙◌, arith, subst, inl, inr}
 use Rattle.std.proofs.lemmas.Bool.Decides.{nat_tests}
 use Rattle.std.proofs.lemmas.List.{get_or_push, length_push}
@@ -7,25 +7,26 @@ use Rattle.std.proofs.Math.ListN.{get_or-append}
 use Rattle.std.proofs.Math.Nat.{eq-or-lt_of_le}
 use Rattle.btr_base.specs.declared.point.Point.{Point}
 use Rattle.btr_base.specs.Agg.{AggValue, agg}
-use Rattle.btr_tree.specs.declared.limits.TheConstants.{LEAF_POINTS}
-use Rattle.btr_tree.specs.declared.node.Node.{Node, out-Node}
-use Rattle.btr_tree.specs.declared.node.Node.TheOpen.{Node-F}
+use Rattle.btr_base.specs.declared.limits.TheConstants.{LEAF_POINTS}
+use Rattle.btr_tree.specs.declared.node.Child.{Child}
+use Rattle.btr_tree.specs.declared.node.NodeData.{NodeData, out-NodeData}
+use Rattle.btr_tree.specs.declared.node.NodeData.TheOpen.{NodeData-F}
 use Rattle.btr_tree.specs.declared.node.Slot.{Slot}
 use Rattle.btr_tree.specs.History.{Commit, bag}
 use Rattle.btr_tree.specs.Nodes.{points_of, touches, is_inner, is_node, last_change, node_version}
-use Rattle.btr_tree.specs.Shape.{Child, ByKind, slot_start, slot_of_points, IsLeaf, HasSlots, HasChildren, IsChild}
+use Rattle.btr_tree.specs.Shape.{node_of, ByKind, slot_start, slot_of_points, IsLeaf, HasSlots, HasChildren, IsNodeData, IsChild}
 use Rattle.btr_tree.proofs.NodeLemmas.{slot-fewer}
 use Rattle.btr_tree.specs.Change.{IsFresh, IsLeafOf, IsInnerOf}
 
 -- what holds of a kind holds in a weaker form
-pub by_kind-weaker : (P R : ℕ → List Point → Type 0) (Q S : ℕ → List Slot → List Child → Type 0) (n : Node-F Node) → ((v : ℕ) (ps : List Point) → P v ps → R v ps) → ((v : ℕ) (ss : List Slot) (cs : List Child) → Q v ss cs → S v ss cs) → ByKind P Q n → ByKind R S n
-by_kind-weaker P R Q S (Node-F.Leaf version points) f g h = f version points.items h
-by_kind-weaker P R Q S (Node-F.Inner version slots children) f g h = g version slots.items children.items h
+pub by_kind-weaker : (P R : ℕ → List Point → Type 0) (Q S : ℕ → List Slot → List Child → Type 0) (n : NodeData-F NodeData Child) → ((v : ℕ) (ps : List Point) → P v ps → R v ps) → ((v : ℕ) (ss : List Slot) (cs : List Child) → Q v ss cs → S v ss cs) → ByKind P Q n → ByKind R S n
+by_kind-weaker P R Q S (NodeData-F.Leaf version points) f g h = f version points.items h
+by_kind-weaker P R Q S (NodeData-F.Inner version slots children) f g h = g version slots.items children.items h
 
 -- what follows from a fact of either kind
-pub by_kind-gives : (P : ℕ → List Point → Type 0) (Q : ℕ → List Slot → List Child → Type 0) (R : Type 0) (n : Node-F Node) → ((v : ℕ) (ps : List Point) → P v ps → R) → ((v : ℕ) (ss : List Slot) (cs : List Child) → Q v ss cs → R) → ByKind P Q n → R
-by_kind-gives P Q R (Node-F.Leaf version points) f g h = f version points.items h
-by_kind-gives P Q R (Node-F.Inner version slots children) f g h = g version slots.items children.items h
+pub by_kind-gives : (P : ℕ → List Point → Type 0) (Q : ℕ → List Slot → List Child → Type 0) (R : Type 0) (n : NodeData-F NodeData Child) → ((v : ℕ) (ps : List Point) → P v ps → R) → ((v : ℕ) (ss : List Slot) (cs : List Child) → Q v ss cs → R) → ByKind P Q n → R
+by_kind-gives P Q R (NodeData-F.Leaf version points) f g h = f version points.items h
+by_kind-gives P Q R (NodeData-F.Inner version slots children) f g h = g version slots.items children.items h
 
 -- a node that a commit touches or makes carries its version
 pub version-fresh : (k : ℕ) (s : ℤ) (above : List Point → Bool) (h : List Commit) (c : Commit) (v : ℕ) → v ≡ c.version → (touches c k s (bag h) || not (is_node above k s (bag h))) ≡ true → v ≡ node_version above k s (c ∷ h)
@@ -41,22 +42,25 @@ leaf-of k s above h c v points f some few w ps e =
       version = version-fresh k s above h c w (e.0 ∙ f.number) f.fresh;
     }
 
-pub leaf-place : (k : ℕ) (s : ℤ) (above : List Point → Bool) (h : List Commit) (c : Commit) (v : ℕ) (points : List Point) (p : Child) → IsFresh k s above h c v points → 0 < length points → length points ≤ LEAF_POINTS → IsLeafOf v points p → IsChild k s above (c ∷ h) p
-leaf-place k s above h c v points None f some few is = absurd is
-leaf-place zero s above h c v points (Some a) f some few is =
-    by_kind-weaker _ _ _ _ (out-Node a.value) (leaf-of zero s above h c v points f some few) (λ _ _ _ x. x) is
-leaf-place (suc k) s above h c v points (Some a) f some few is =
-    by_kind-weaker _ _ _ _ (out-Node a.value) (leaf-of (suc k) s above h c v points f some few) (λ _ _ _ x. absurd x) is
+leaf-of_node : (k : ℕ) (s : ℤ) (above : List Point → Bool) (h : List Commit) (c : Commit) (v : ℕ) (points : List Point) (o : Option NodeData) → IsFresh k s above h c v points → 0 < length points → length points ≤ LEAF_POINTS → MatchOption o ⊥ (λ n. ByKind (λ w ps. (w ≡ v) × (ps ≡ points)) (λ w ss cs. ⊥) (out-NodeData n)) → MatchOption o (points_of k s (bag (c ∷ h)) ≡ []) (λ n. IsNodeData k s above (c ∷ h) n)
+leaf-of_node k s above h c v points None f some few is = absurd is
+leaf-of_node zero s above h c v points (Some n) f some few is =
+    by_kind-weaker _ _ _ _ (out-NodeData n) (leaf-of zero s above h c v points f some few) (λ _ _ _ x. x) is
+leaf-of_node (suc k) s above h c v points (Some n) f some few is =
+    by_kind-weaker _ _ _ _ (out-NodeData n) (leaf-of (suc k) s above h c v points f some few) (λ _ _ _ x. absurd x) is
+
+pub leaf-child : (k : ℕ) (s : ℤ) (above : List Point → Bool) (h : List Commit) (c : Commit) (v : ℕ) (points : List Point) (p : Child) → IsFresh k s above h c v points → 0 < length points → length points ≤ LEAF_POINTS → IsLeafOf v points p → IsChild k s above (c ∷ h) p
+leaf-child k s above h c v points p f some few is =
+    leaf-of_node k s above h c v points (node_of p) f some few is
 
 pub slots-as : (below : ℕ) (s : ℤ) (h : List Commit) (n : ℕ) (ss ts : List Slot) (cs ds : List Child) → ts ≡ ss → ds ≡ cs → HasSlots below s h n ss cs → HasSlots below s h n ts ds
 slots-as k s h n ss ts cs ds p q x =
     subst (λ y. HasSlots k s h n y ds) (sym p) (subst (HasSlots k s h n ss) (sym q) x)
 
--- an inner node of slots, where the commit touches it or makes it
-pub inner-place : (below : ℕ) (s : ℤ) (above : List Point → Bool) (h : List Commit) (c : Commit) (v : ℕ) (ss : List Slot) (cs : List Child) (p : Child) → v ≡ c.version → (touches c (suc below) s (bag h) || not (is_node above (suc below) s (bag h))) ≡ true → LEAF_POINTS < length (points_of (suc below) s (bag (c ∷ h))) → HasSlots below s (c ∷ h) 64 ss cs → HasChildren below s (c ∷ h) 64 cs → IsInnerOf v ss cs p → IsChild (suc below) s above (c ∷ h) p
-inner-place below s above h c v ss cs None number fresh many slots each is = absurd is
-inner-place below s above h c v ss cs (Some a) number fresh many slots each is =
-    by_kind-weaker _ _ _ _ (out-Node a.value) (λ _ _ x. absurd x) (λ w ts ds e. (
+inner-of_node : (below : ℕ) (s : ℤ) (above : List Point → Bool) (h : List Commit) (c : Commit) (v : ℕ) (ss : List Slot) (cs : List Child) (o : Option NodeData) → v ≡ c.version → (touches c (suc below) s (bag h) || not (is_node above (suc below) s (bag h))) ≡ true → LEAF_POINTS < length (points_of (suc below) s (bag (c ∷ h))) → HasSlots below s (c ∷ h) 64 ss cs → HasChildren below s (c ∷ h) 64 cs → MatchOption o ⊥ (λ n. ByKind (λ w ps. ⊥) (λ w ts ds. (w ≡ v) × (ts ≡ ss) × (ds ≡ cs)) (out-NodeData n)) → MatchOption o (points_of (suc below) s (bag (c ∷ h)) ≡ []) (λ n. IsNodeData (suc below) s above (c ∷ h) n)
+inner-of_node below s above h c v ss cs None number fresh many slots each is = absurd is
+inner-of_node below s above h c v ss cs (Some n) number fresh many slots each is =
+    by_kind-weaker _ _ _ _ (out-NodeData n) (λ _ _ x. absurd x) (λ w ts ds e. (
       record {
         many = many;
         version = version-fresh (suc below) s above h c w (e.0 ∙ number) fresh;
@@ -65,9 +69,14 @@ inner-place below s above h c v ss cs (Some a) number fresh many slots each is =
       subst (HasChildren below s (c ∷ h) 64) (sym e.2) each,
     )) is
 
-pub inner-place_at : (k below : ℕ) (s : ℤ) (above : List Point → Bool) (h : List Commit) (c : Commit) (v : ℕ) (points : List Point) (ss : List Slot) (cs : List Child) (p : Child) → k ≡ suc below → IsFresh k s above h c v points → LEAF_POINTS < length points → HasSlots below s (c ∷ h) 64 ss cs → HasChildren below s (c ∷ h) 64 cs → IsInnerOf v ss cs p → IsChild k s above (c ∷ h) p
-inner-place_at k below s above h c v points ss cs p e f many slots each is =
-    subst (λ j. IsChild j s above (c ∷ h) p) (sym e) (inner-place below s above h c v ss cs p f.number (subst (λ j. (touches c j s (bag h) || not (is_node above j s (bag h))) ≡ true) e f.fresh) (subst (λ j. LEAF_POINTS < length (points_of j s (bag (c ∷ h)))) e (subst (λ x. LEAF_POINTS < length x) f.same many)) slots each is)
+-- an inner node of slots, if the commit touches it or makes it
+pub inner-child : (below : ℕ) (s : ℤ) (above : List Point → Bool) (h : List Commit) (c : Commit) (v : ℕ) (ss : List Slot) (cs : List Child) (p : Child) → v ≡ c.version → (touches c (suc below) s (bag h) || not (is_node above (suc below) s (bag h))) ≡ true → LEAF_POINTS < length (points_of (suc below) s (bag (c ∷ h))) → HasSlots below s (c ∷ h) 64 ss cs → HasChildren below s (c ∷ h) 64 cs → IsInnerOf v ss cs p → IsChild (suc below) s above (c ∷ h) p
+inner-child below s above h c v ss cs p number fresh many slots each is =
+    inner-of_node below s above h c v ss cs (node_of p) number fresh many slots each is
+
+pub inner-child_at : (k below : ℕ) (s : ℤ) (above : List Point → Bool) (h : List Commit) (c : Commit) (v : ℕ) (points : List Point) (ss : List Slot) (cs : List Child) (p : Child) → k ≡ suc below → IsFresh k s above h c v points → LEAF_POINTS < length points → HasSlots below s (c ∷ h) 64 ss cs → HasChildren below s (c ∷ h) 64 cs → IsInnerOf v ss cs p → IsChild k s above (c ∷ h) p
+inner-child_at k below s above h c v points ss cs p e f many slots each is =
+    subst (λ j. IsChild j s above (c ∷ h) p) (sym e) (inner-child below s above h c v ss cs p f.number (subst (λ j. (touches c j s (bag h) || not (is_node above j s (bag h))) ≡ true) e f.fresh) (subst (λ j. LEAF_POINTS < length (points_of j s (bag (c ∷ h)))) e (subst (λ x. LEAF_POINTS < length x) f.same many)) slots each is)
 
 -- ---- one slot more
 

@@ -9,7 +9,7 @@ use Rattle.btr_base.specs.Span.{width, SpanValue, IsSpan}
 use Rattle.btr_base.proofs.SpanLemmas.{width-times}
 use Rattle.btr_base.proofs.WithinLemmas.{within-nested}
 use Rattle.btr_base.proofs.ListLemmas.{length-filter}
-use Rattle.btr_tree.specs.declared.limits.TheConstants.{LEAF_POINTS}
+use Rattle.btr_base.specs.declared.limits.TheConstants.{LEAF_POINTS}
 use Rattle.btr_tree.specs.Nodes.{points_of}
 use Rattle.btr_tree.specs.Change.{end_of}
 use Rattle.btr_tree.specs.Crowd.{bottom, HasNoCrowdedSpan, IsFirstCrowd}

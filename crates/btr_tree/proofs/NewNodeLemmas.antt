@@ -1,5 +1,5 @@
 -- Lemmas on the nodes that carry a commit's version.
-use Rattle.std.specs.Prelude.{◌≡◌, ℕ, ◌+◌, ◌<◌, ◌≤◌, ℤ, Bool, true, false, not, ◌&&◌, ◌||◌, cond, nat_lt, nat_eq, List, [], ◌∷◌, ◌++◌, length, slice_index_or}
+use Rattle.std.specs.Prelude.{◌≡◌, ℕ, ◌+◌, ◌-◌, ◌<◌, ◌≤◌, min, ℤ, Bool, true, false, not, ◌&&◌, ◌||◌, cond, nat_lt, nat_eq, List, [], ◌∷◌, ◌++◌, length, slice_index_or}
 use Rattle.std.proofs.Common.{zero, suc, refl, sym, ap, ◌∙◌, arith, subst, append-nil, append_assoc, inl, inr}
 use Rattle.std.proofs.lemmas.Bool.Decides.{nat_tests}
 use Rattle.std.proofs.lemmas.List.{get_or_push, length_push, same_lists}
@@ -7,15 +7,16 @@ use Rattle.std.proofs.Math.ListN.{get_or-append}
 use Rattle.std.proofs.Math.Nat.{eq-or-lt_of_le}
 use Rattle.btr_base.specs.declared.point.Point.{Point}
 use Rattle.btr_base.specs.Span.{SpanValue}
-use Rattle.btr_tree.specs.declared.limits.TheConstants.{LEAF_POINTS}
+use Rattle.btr_base.specs.declared.limits.TheConstants.{LEAF_POINTS}
 use Rattle.btr_tree.specs.declared.node.Slot.{Slot}
 use Rattle.btr_tree.specs.History.{Commit, bag, IsBefore}
-use Rattle.btr_tree.specs.Page.{Page}
+use Rattle.btr_tree.specs.Change.{CountsNodes}
 use Rattle.btr_tree.specs.Nodes.{points_of, has_points, touches, is_inner, is_node, last_change, node_version}
 use Rattle.btr_tree.proofs.VersionLemmas.{points-untouched}
-use Rattle.btr_tree.specs.Shape.{Child, slot_start, slot_of_points, HasSlots}
+use Rattle.btr_tree.specs.declared.node.Child.{Child}
+use Rattle.btr_tree.specs.Shape.{slot_start, slot_of_points, HasSlots}
 use Rattle.btr_tree.proofs.UntouchedNodeLemmas.{touches-slot, last_change-kept, some-has, many-inner}
-use Rattle.btr_tree.specs.Pages.{first_of, slots_of, page, own_page, pages}
+use Rattle.btr_tree.specs.NewNodes.{NewNodeValue, concat_first, slots_of, new_node, own_node, new_nodes}
 
 pub last_change-before : (was : List Point → Bool) (k : ℕ) (s : ℤ) (h : List Commit) (v : ℕ) → 0 < v → IsBefore v h → last_change was k s h < v
 last_change-before was k s [] v some before = some
@@ -25,28 +26,28 @@ last_change-before was k s (c ∷ h) v some before =
       | false ↦ last_change-before was k s h v some before.1
     ]
 
-pub first-next : {X : Type 0} (n : ℕ) (f : ℕ → List X) → first_of (n + 1) f ≡ first_of n f ++ f n
-first-next n f = let e : n + 1 ≡ suc n = omega arith in ap (λ m. first_of m f) e
+pub first-next : {X : Type 0} (n : ℕ) (f : ℕ → List X) → concat_first (n + 1) f ≡ concat_first n f ++ f n
+first-next n f = let e : n + 1 ≡ suc n = omega arith in ap (λ m. concat_first m f) e
 
-pub first-none : {X : Type 0} (n : ℕ) (f : ℕ → List X) → ((i : ℕ) → i < n → f i ≡ []) → first_of n f ≡ []
+pub first-none : {X : Type 0} (n : ℕ) (f : ℕ → List X) → ((i : ℕ) → i < n → f i ≡ []) → concat_first n f ≡ []
 first-none zero f h = refl
 first-none (suc n) f h =
     ap (λ x. x ++ f n) (first-none n f (λ i lt. h i (omega arith))) ∙ h n (omega arith)
 
 -- ---- the slots of an inner node
 
-length-slots : (f : ℕ → Slot) (n : ℕ) → length (first_of n (λ i. f i ∷ [])) ≡ n
+length-slots : (f : ℕ → Slot) (n : ℕ) → length (concat_first n (λ i. f i ∷ [])) ≡ n
 length-slots f zero = refl
-length-slots f (suc n) = omega (arith, length_push (first_of n (λ i. f i ∷ [])) (f n), length-slots f n)
+length-slots f (suc n) = omega (arith, length_push (concat_first n (λ i. f i ∷ [])) (f n), length-slots f n)
 
-get-slots : (f : ℕ → Slot) (n i : ℕ) (d : Slot) → i < n → slice_index_or (first_of n (λ i. f i ∷ [])) i d ≡ f i
+get-slots : (f : ℕ → Slot) (n i : ℕ) (d : Slot) → i < n → slice_index_or (concat_first n (λ i. f i ∷ [])) i d ≡ f i
 get-slots f zero i d lt = absurd (omega arith)
 get-slots f (suc n) i d lt =
     let le : i ≤ n = omega arith in
     let long = length-slots f n in
     elim (eq-or-lt_of_le le) [
-      | inl e ↦ get_or_push (first_of n (λ i. f i ∷ [])) (f n) d i (long ∙ sym e) ∙ ap f (sym e)
-      | inr less ↦ get_or-append (first_of n (λ i. f i ∷ [])) (f n ∷ []) d i (omega arith) ∙ get-slots f n i d less
+      | inl e ↦ get_or_push (concat_first n (λ i. f i ∷ [])) (f n) d i (long ∙ sym e) ∙ ap f (sym e)
+      | inr less ↦ get_or-append (concat_first n (λ i. f i ∷ [])) (f n ∷ []) d i (omega arith) ∙ get-slots f n i d less
     ]
 
 pub slots-are : (below : ℕ) (s : ℤ) (h : List Commit) (ss : List Slot) (cs : List Child) → HasSlots below s h 64 ss cs → ss ≡ slots_of below s h
@@ -66,52 +67,52 @@ none-node above k s b e = ap (λ x. above b && has_points x) e ∙ both (above b
 pub few-inner : (k : ℕ) (s : ℤ) (b : List Point) → length (points_of k s b) ≤ LEAF_POINTS → is_inner k s b ≡ false
 few-inner k s b few = grind (arith, nat_tests)
 
-own-none : (k : ℕ) (s : ℤ) (above : List Point → Bool) (h : List Commit) (v : ℕ) → is_node above k s (bag h) ≡ false → own_page k s above h v ≡ []
+own-none : (k : ℕ) (s : ℤ) (above : List Point → Bool) (h : List Commit) (v : ℕ) → is_node above k s (bag h) ≡ false → own_node k s above h v ≡ []
 own-none k s above h v e =
-    ap (λ t. cond (t && nat_eq (node_version above k s h) v) (page k s above h ∷ []) []) e
+    ap (λ t. cond (t && nat_eq (node_version above k s h) v) (new_node k s above h ∷ []) []) e
 
-own-other : (k : ℕ) (s : ℤ) (above : List Point → Bool) (h : List Commit) (v : ℕ) → node_version above k s h < v → own_page k s above h v ≡ []
+own-other : (k : ℕ) (s : ℤ) (above : List Point → Bool) (h : List Commit) (v : ℕ) → node_version above k s h < v → own_node k s above h v ≡ []
 own-other k s above h v lt =
     let e : (is_node above k s (bag h) && nat_eq (node_version above k s h) v) ≡ false = grind (arith, nat_tests) in
-    ap (λ t. cond t (page k s above h ∷ []) []) e
+    ap (λ t. cond t (new_node k s above h ∷ []) []) e
 
-own-here : (k : ℕ) (s : ℤ) (above : List Point → Bool) (h : List Commit) (v : ℕ) → above (bag h) ≡ true → 0 < length (points_of k s (bag h)) → v ≡ node_version above k s h → own_page k s above h v ≡ page k s above h ∷ []
+own-here : (k : ℕ) (s : ℤ) (above : List Point → Bool) (h : List Commit) (v : ℕ) → above (bag h) ≡ true → 0 < length (points_of k s (bag h)) → v ≡ node_version above k s h → own_node k s above h v ≡ new_node k s above h ∷ []
 own-here k s above h v w some e =
     let node : is_node above k s (bag h) ≡ true = ap (λ t. t && has_points (points_of k s (bag h))) w ∙ some-has (points_of k s (bag h)) some in
     let same : nat_eq (node_version above k s h) v ≡ true = grind (arith, nat_tests) in
-    ap (λ t. cond (t && nat_eq (node_version above k s h) v) (page k s above h ∷ []) []) node ∙ ap (λ t. cond t (page k s above h ∷ []) []) same
+    ap (λ t. cond (t && nat_eq (node_version above k s h) v) (new_node k s above h ∷ []) []) node ∙ ap (λ t. cond t (new_node k s above h ∷ []) []) same
 
-pub pages-none : (k : ℕ) (s : ℤ) (above : List Point → Bool) (h : List Commit) (v : ℕ) → points_of k s (bag h) ≡ [] → pages k s above h v ≡ []
-pages-none zero s above h v e = own-none zero s above h v (none-node above zero s (bag h) e)
-pages-none (suc k) s above h v e =
+pub new_nodes-none : (k : ℕ) (s : ℤ) (above : List Point → Bool) (h : List Commit) (v : ℕ) → points_of k s (bag h) ≡ [] → new_nodes k s above h v ≡ []
+new_nodes-none zero s above h v e = own-none zero s above h v (none-node above zero s (bag h) e)
+new_nodes-none (suc k) s above h v e =
     let empty = ap (length {A = Point}) e in
-    ap (λ t. cond t (first_of 64 (λ i. pages k (slot_start k s i) (is_inner (suc k) s) h v)) [] ++ own_page (suc k) s above h v) (few-inner (suc k) s (bag h) (omega arith))
+    ap (λ t. cond t (concat_first 64 (λ i. new_nodes k (slot_start k s i) (is_inner (suc k) s) h v)) [] ++ own_node (suc k) s above h v) (few-inner (suc k) s (bag h) (omega arith))
     ∙ own-none (suc k) s above h v (none-node above (suc k) s (bag h) e)
 
-page-by : (span : SpanValue) (v w : ℕ) (ps qs : List Point) (ss ts : List Slot) → v ≡ w → ps ≡ qs → ss ≡ ts → (let p : Page = record { span = span; version = v; points = ps; slots = ss } in p) ≡ record { span = span; version = w; points = qs; slots = ts }
-page-by span v w ps qs ss ts p q r = cc
+new_node-by : (span : SpanValue) (v w : ℕ) (ps qs : List Point) (ss ts : List Slot) → v ≡ w → ps ≡ qs → ss ≡ ts → (let p : NewNodeValue = record { span = span; version = v; points = ps; slots = ss } in p) ≡ record { span = span; version = w; points = qs; slots = ts }
+new_node-by span v w ps qs ss ts p q r = cc
 
 -- a leaf that carries the version
-pub pages-leaf : (k : ℕ) (s : ℤ) (above : List Point → Bool) (h : List Commit) (v : ℕ) (points : List Point) → above (bag h) ≡ true → v ≡ node_version above k s h → points ≡ points_of k s (bag h) → 0 < length points → length points ≤ LEAF_POINTS → pages k s above h v ≡ record { span = record { start = s; height = k }; version = v; points = points; slots = [] } ∷ []
-pages-leaf zero s above h v points w e same some few =
+pub new_nodes-leaf : (k : ℕ) (s : ℤ) (above : List Point → Bool) (h : List Commit) (v : ℕ) (points : List Point) → above (bag h) ≡ true → v ≡ node_version above k s h → points ≡ points_of k s (bag h) → 0 < length points → length points ≤ LEAF_POINTS → new_nodes k s above h v ≡ record { span = record { start = s; height = k }; version = v; points = points; slots = [] } ∷ []
+new_nodes-leaf zero s above h v points w e same some few =
     own-here zero s above h v w (subst (λ x. 0 < length x) same some) e
-    ∙ ap (λ p. p ∷ []) (page-by _ _ _ _ _ _ _ (sym e) (sym same) refl)
-pages-leaf (suc k) s above h v points w e same some few =
+    ∙ ap (λ p. p ∷ []) (new_node-by _ _ _ _ _ _ _ (sym e) (sym same) refl)
+new_nodes-leaf (suc k) s above h v points w e same some few =
     let no = few-inner (suc k) s (bag h) (subst (λ x. length x ≤ LEAF_POINTS) same few) in
-    ap (λ t. cond t (first_of 64 (λ i. pages k (slot_start k s i) (is_inner (suc k) s) h v)) [] ++ own_page (suc k) s above h v) no
+    ap (λ t. cond t (concat_first 64 (λ i. new_nodes k (slot_start k s i) (is_inner (suc k) s) h v)) [] ++ own_node (suc k) s above h v) no
     ∙ own-here (suc k) s above h v w (subst (λ x. 0 < length x) same some) e
-    ∙ ap (λ p. p ∷ []) (page-by _ _ _ _ _ _ _ (sym e) (ap (λ t. cond t [] (points_of (suc k) s (bag h))) no ∙ sym same) (ap (λ t. cond t (slots_of k s h) []) no))
+    ∙ ap (λ p. p ∷ []) (new_node-by _ _ _ _ _ _ _ (sym e) (ap (λ t. cond t [] (points_of (suc k) s (bag h))) no ∙ sym same) (ap (λ t. cond t (slots_of k s h) []) no))
 
 -- an inner node that carries the version
-pub pages-inner : (below : ℕ) (s : ℤ) (above : List Point → Bool) (h : List Commit) (v : ℕ) (ss : List Slot) (cs : List Child) → above (bag h) ≡ true → v ≡ node_version above (suc below) s h → LEAF_POINTS < length (points_of (suc below) s (bag h)) → HasSlots below s h 64 ss cs → pages (suc below) s above h v ≡ first_of 64 (λ i. pages below (slot_start below s i) (is_inner (suc below) s) h v) ++ record { span = record { start = s; height = suc below }; version = v; points = []; slots = ss } ∷ []
-pages-inner below s above h v ss cs w e many holds =
+pub new_nodes-inner : (below : ℕ) (s : ℤ) (above : List Point → Bool) (h : List Commit) (v : ℕ) (ss : List Slot) (cs : List Child) → above (bag h) ≡ true → v ≡ node_version above (suc below) s h → LEAF_POINTS < length (points_of (suc below) s (bag h)) → HasSlots below s h 64 ss cs → new_nodes (suc below) s above h v ≡ concat_first 64 (λ i. new_nodes below (slot_start below s i) (is_inner (suc below) s) h v) ++ record { span = record { start = s; height = suc below }; version = v; points = []; slots = ss } ∷ []
+new_nodes-inner below s above h v ss cs w e many holds =
     let yes = many-inner (suc below) s (bag h) many in
-    ap (λ t. cond t (first_of 64 (λ i. pages below (slot_start below s i) (is_inner (suc below) s) h v)) [] ++ own_page (suc below) s above h v) yes
-    ∙ ap (λ x. first_of 64 (λ i. pages below (slot_start below s i) (is_inner (suc below) s) h v) ++ x) (own-here (suc below) s above h v w (omega arith) e ∙ ap (λ p. p ∷ []) (page-by _ _ _ _ _ _ _ (sym e) (ap (λ t. cond t [] (points_of (suc below) s (bag h))) yes) (ap (λ t. cond t (slots_of below s h) []) yes ∙ sym (slots-are below s h ss cs holds))))
+    ap (λ t. cond t (concat_first 64 (λ i. new_nodes below (slot_start below s i) (is_inner (suc below) s) h v)) [] ++ own_node (suc below) s above h v) yes
+    ∙ ap (λ x. concat_first 64 (λ i. new_nodes below (slot_start below s i) (is_inner (suc below) s) h v) ++ x) (own-here (suc below) s above h v w (omega arith) e ∙ ap (λ p. p ∷ []) (new_node-by _ _ _ _ _ _ _ (sym e) (ap (λ t. cond t [] (points_of (suc below) s (bag h))) yes) (ap (λ t. cond t (slots_of below s h) []) yes ∙ sym (slots-are below s h ss cs holds))))
 
-pub pages-inner_at : (k below : ℕ) (s : ℤ) (above : List Point → Bool) (h : List Commit) (v : ℕ) (ss : List Slot) (cs : List Child) → k ≡ suc below → above (bag h) ≡ true → v ≡ node_version above k s h → LEAF_POINTS < length (points_of k s (bag h)) → HasSlots below s h 64 ss cs → pages k s above h v ≡ first_of 64 (λ i. pages below (slot_start below s i) (is_inner (suc below) s) h v) ++ record { span = record { start = s; height = k }; version = v; points = []; slots = ss } ∷ []
-pages-inner_at k below s above h v ss cs high w e many holds =
-    subst (λ j. pages j s above h v ≡ first_of 64 (λ i. pages below (slot_start below s i) (is_inner (suc below) s) h v) ++ record { span = record { start = s; height = j }; version = v; points = []; slots = ss } ∷ []) (sym high) (pages-inner below s above h v ss cs w (subst (λ j. v ≡ node_version above j s h) high e) (subst (λ j. LEAF_POINTS < length (points_of j s (bag h))) high many) holds)
+pub new_nodes-inner_at : (k below : ℕ) (s : ℤ) (above : List Point → Bool) (h : List Commit) (v : ℕ) (ss : List Slot) (cs : List Child) → k ≡ suc below → above (bag h) ≡ true → v ≡ node_version above k s h → LEAF_POINTS < length (points_of k s (bag h)) → HasSlots below s h 64 ss cs → new_nodes k s above h v ≡ concat_first 64 (λ i. new_nodes below (slot_start below s i) (is_inner (suc below) s) h v) ++ record { span = record { start = s; height = k }; version = v; points = []; slots = ss } ∷ []
+new_nodes-inner_at k below s above h v ss cs high w e many holds =
+    subst (λ j. new_nodes j s above h v ≡ concat_first 64 (λ i. new_nodes below (slot_start below s i) (is_inner (suc below) s) h v) ++ record { span = record { start = s; height = j }; version = v; points = []; slots = ss } ∷ []) (sym high) (new_nodes-inner below s above h v ss cs w (subst (λ j. v ≡ node_version above j s h) high e) (subst (λ j. LEAF_POINTS < length (points_of j s (bag h))) high many) holds)
 
 -- ---- what a commit does not touch carries no version of its own
 
@@ -119,7 +120,7 @@ has-cases : (b : List Point) (P : Type 0) → (b ≡ [] → P) → (0 < length b
 has-cases [] P f g = f refl
 has-cases (p ∷ b) P f g = g (omega arith)
 
-own-kept : (k : ℕ) (s : ℤ) (above : List Point → Bool) (h : List Commit) (c : Commit) (v : ℕ) → above (bag h) ≡ true → touches c k s (bag h) ≡ false → 0 < v → IsBefore v h → own_page k s above (c ∷ h) v ≡ []
+own-kept : (k : ℕ) (s : ℤ) (above : List Point → Bool) (h : List Commit) (c : Commit) (v : ℕ) → above (bag h) ≡ true → touches c k s (bag h) ≡ false → 0 < v → IsBefore v h → own_node k s above (c ∷ h) v ≡ []
 own-kept k s above h c v w e some before =
     let same = points-untouched k s c h e in
     has-cases (points_of k s (bag h)) _ (λ none. own-none k s above (c ∷ h) v (none-node above k s (bag (c ∷ h)) (same ∙ none))) (λ more.
@@ -128,16 +129,16 @@ own-kept k s above h c v w e some before =
     let kept = last_change-kept (is_node above k s) k s h c e node in
     own-other k s above (c ∷ h) v (subst (λ x. x < v) (sym kept) old))
 
-pub pages-kept : (k : ℕ) (s : ℤ) (above : List Point → Bool) (h : List Commit) (c : Commit) (v : ℕ) → above (bag h) ≡ true → touches c k s (bag h) ≡ false → 0 < v → IsBefore v h → pages k s above (c ∷ h) v ≡ []
-pages-kept zero s above h c v w e some before = own-kept zero s above h c v w e some before
-pages-kept (suc k) s above h c v w e some before =
+pub new_nodes-kept : (k : ℕ) (s : ℤ) (above : List Point → Bool) (h : List Commit) (c : Commit) (v : ℕ) → above (bag h) ≡ true → touches c k s (bag h) ≡ false → 0 < v → IsBefore v h → new_nodes k s above (c ∷ h) v ≡ []
+new_nodes-kept zero s above h c v w e some before = own-kept zero s above h c v w e some before
+new_nodes-kept (suc k) s above h c v w e some before =
     let same = points-untouched (suc k) s c h e in
     let inner = ap (λ x. nat_lt LEAF_POINTS (length x)) same in
-    ap (λ x. cond (is_inner (suc k) s (bag (c ∷ h))) (first_of 64 (λ i. pages k (slot_start k s i) (is_inner (suc k) s) (c ∷ h) v)) [] ++ x) (own-kept (suc k) s above h c v w e some before)
+    ap (λ x. cond (is_inner (suc k) s (bag (c ∷ h))) (concat_first 64 (λ i. new_nodes k (slot_start k s i) (is_inner (suc k) s) (c ∷ h) v)) [] ++ x) (own-kept (suc k) s above h c v w e some before)
     ∙ append-nil _
-    ∙ elim (is_inner (suc k) s (bag h)) as (λ t. is_inner (suc k) s (bag h) ≡ t → cond (is_inner (suc k) s (bag (c ∷ h))) (first_of 64 (λ i. pages k (slot_start k s i) (is_inner (suc k) s) (c ∷ h) v)) [] ≡ []) [
-      | true ↦ λ yes. ap (λ t. cond t (first_of 64 (λ i. pages k (slot_start k s i) (is_inner (suc k) s) (c ∷ h) v)) []) (inner ∙ yes) ∙ first-none 64 _ (λ i lt. pages-kept k (slot_start k s i) (is_inner (suc k) s) h c v yes (touches-slot k s i c (bag h) lt e) some before)
-      | false ↦ λ no. ap (λ t. cond t (first_of 64 (λ i. pages k (slot_start k s i) (is_inner (suc k) s) (c ∷ h) v)) []) (inner ∙ no)
+    ∙ elim (is_inner (suc k) s (bag h)) as (λ t. is_inner (suc k) s (bag h) ≡ t → cond (is_inner (suc k) s (bag (c ∷ h))) (concat_first 64 (λ i. new_nodes k (slot_start k s i) (is_inner (suc k) s) (c ∷ h) v)) [] ≡ []) [
+      | true ↦ λ yes. ap (λ t. cond t (concat_first 64 (λ i. new_nodes k (slot_start k s i) (is_inner (suc k) s) (c ∷ h) v)) []) (inner ∙ yes) ∙ first-none 64 _ (λ i lt. new_nodes-kept k (slot_start k s i) (is_inner (suc k) s) h c v yes (touches-slot k s i c (bag h) lt e) some before)
+      | false ↦ λ no. ap (λ t. cond t (concat_first 64 (λ i. new_nodes k (slot_start k s i) (is_inner (suc k) s) (c ∷ h) v)) []) (inner ∙ no)
     ] refl
 
 -- ---- a list that grows
@@ -145,3 +146,41 @@ pages-kept (suc k) s above h c v w e some before =
 pub told-more : {X : Type 0} (old mid new before here next : List X) → mid ≡ old ++ before → new ≡ mid ++ here → next ≡ before ++ here → new ≡ old ++ next
 told-more old mid new before here next p q r =
     q ∙ ap (λ x. x ++ here) p ∙ append_assoc old before here ∙ ap (λ x. old ++ x) (sym r)
+
+-- ---- how many there are
+
+-- a counter that stops at the greatest number counts one list and another as both together
+stop-more : (a x y m : ℕ) → min (min (a + x) m + y) m ≡ min (a + x + y) m
+stop-more a x y m = omega arith
+
+pub counts-none : (a : ℕ) (xs : List NewNodeValue) → CountsNodes a a xs xs
+counts-none a xs = record { grows = omega arith; none = λ _. refl; some = λ less. absurd (omega arith) }
+
+pub counts-one : (a b : ℕ) (xs ys : List NewNodeValue) (x : NewNodeValue) → ys ≡ xs ++ x ∷ [] → b ≡ min (a + 1) 18446744073709551615 → CountsNodes a b xs ys
+counts-one a b xs ys x e n =
+    let long : length ys ≡ length xs + 1 = ap (length {A = NewNodeValue}) e ∙ length_push xs x in
+    let one : length ys - length xs ≡ 1 = omega arith in
+    record {
+      grows = omega arith;
+      none = λ same. absurd (omega arith);
+      some = λ _. n ∙ sym (ap (λ k. min (a + k) 18446744073709551615) one);
+    }
+
+pub counts-more : (a b c : ℕ) (xs ys zs : List NewNodeValue) → CountsNodes a b xs ys → CountsNodes b c ys zs → CountsNodes a c xs zs
+counts-more a b c xs ys zs f s =
+    let low = f.grows in
+    let high = s.grows in
+    record {
+      grows = omega arith;
+      none = λ e. s.none (omega arith) ∙ f.none (omega arith);
+      some = λ less. elim (eq-or-lt_of_le low) [
+        | inl same ↦ s.some (omega arith) ∙ ap (λ k. min k 18446744073709551615) (omega (arith, f.none (sym same)))
+        | inr first ↦ elim (eq-or-lt_of_le high) [
+          | inl same ↦ s.none (sym same) ∙ f.some first ∙ ap (λ k. min k 18446744073709551615) (omega arith)
+          | inr second ↦ s.some second
+              ∙ ap (λ k. min (k + (length zs - length ys)) 18446744073709551615) (f.some first)
+              ∙ stop-more a (length ys - length xs) (length zs - length ys) 18446744073709551615
+              ∙ ap (λ k. min k 18446744073709551615) (omega arith)
+        ]
+      ];
+    }

@@ -1,7 +1,8 @@
 -- Lemmas on nodes of a history: what a leaf and an inner node are, and how the slots part a span.
-use Rattle.std.specs.Prelude.{◌≡◌, ℕ, ◌+◌, ◌-◌, ◌*◌, ◌<◌, ◌≤◌, ℤ, pos, ◌+ℤ◌, ◌≤ℤ◌, Bool, List, [], ◌++◌, length, slice_index_or, drop, Some, None, Vec}
-use Rattle.std.proofs.Common.{zero, suc, refl, sym, ap, ◌∙◌, arith, subst, mul-le-mul_right}
+use Rattle.std.specs.Prelude.{◌≡◌, ℕ, ◌+◌, ◌-◌, ◌*◌, ◌<◌, ◌≤◌, ℤ, pos, ◌+ℤ◌, ◌≤ℤ◌, Bool, List, [], ◌++◌, length, slice_index_or, drop, Some, None, Vec, MatchOption}
+use Rattle.std.proofs.Common.{zero, suc, refl, sym, ap, ◌∙◌, arith, subst, Bor, mul-le-mul_right}
 use Rattle.std.proofs.lemmas.Int.{ints}
+use Rattle.std.specs.Option.{option_map}
 use Rattle.std.proofs.lemmas.List.{drop_more, drop_all}
 use Rattle.std.specs.declared.sync.Arc.{Arc}
 use Rattle.std.specs.declared.alloc.Global.{Global}
@@ -13,35 +14,39 @@ use Rattle.btr_base.proofs.WithinLemmas.{within-split, within-empty, within-nest
 use Rattle.btr_base.proofs.ListLemmas.{length-filter}
 use Rattle.btr_base.specs.Agg.{agg, joined}
 use Rattle.btr_base.proofs.AggLemmas.{agg-append}
-use Rattle.btr_tree.specs.declared.node.Node.{Node, out-Node}
-use Rattle.btr_tree.specs.declared.node.Node.TheVariants.{Leaf, Inner, rolls-Leaf, rolls-Inner}
-use Rattle.btr_tree.specs.declared.node.Node.TheOpen.{Node-F}
-use Rattle.btr_tree.specs.declared.node.Node.TheViews.{out-roll-Node}
+use Rattle.btr_tree.specs.declared.node.Child.{Child, out-Child}
+use Rattle.btr_tree.specs.declared.node.NodeData.{NodeData, out-NodeData}
+use Rattle.btr_tree.specs.declared.node.NodeData.TheVariants.{Leaf, Inner, rolls-Leaf, rolls-Inner}
+use Rattle.btr_tree.specs.declared.node.NodeData.TheOpen.{NodeData-F}
+use Rattle.btr_tree.specs.declared.node.NodeData.TheViews.{out-roll-NodeData}
+use Rattle.btr_tree.specs.declared.node.Node.{Node}
+use Rattle.btr_tree.specs.declared.node.Node.TheVariants as seen
 use Rattle.btr_tree.specs.declared.node.Slot.{Slot}
 use Rattle.btr_tree.specs.History.{Commit, bag}
 use Rattle.btr_tree.specs.Nodes.{points_of, is_inner}
 use Rattle.btr_tree.proofs.VersionLemmas.{bag-in_order}
 use Rattle.btr_tree.specs.Change.{joined_all}
-use Rattle.btr_tree.specs.Shape.{Child, ByKind, slot_start, slot_of_points, IsLeaf, IsInner, HasSlots, HasChildren, IsNode, IsChild}
+use Rattle.btr_tree.specs.Shape.{node_of, ByKind, slot_start, slot_of_points, IsLeaf, IsInner, HasSlots, HasChildren, IsNodeData, IsNode, IsChild}
 
--- ---- a node
+-- ---- a node in memory
 
-pub out-leaf : (v : ℕ) (ps : Vec Point Global) → out-Node (Leaf v ps) ≡ Node-F.Leaf v ps
-out-leaf v ps = ap out-Node (sym (rolls-Leaf v ps)) ∙ out-roll-Node (Node-F.Leaf v ps)
+out-leaf : (v : ℕ) (ps : Vec Point Global) → out-NodeData (Leaf v ps) ≡ NodeData-F.Leaf v ps
+out-leaf v ps = ap out-NodeData (sym (rolls-Leaf v ps)) ∙ out-roll-NodeData (NodeData-F.Leaf v ps)
 
-pub out-inner : (v : ℕ) (ss : Vec Slot Global) (cs : Vec Child Global) → out-Node (Inner v ss cs) ≡ Node-F.Inner v ss cs
-out-inner v ss cs = ap out-Node (sym (rolls-Inner v ss cs)) ∙ out-roll-Node (Node-F.Inner v ss cs)
+out-inner : (v : ℕ) (ss : Vec Slot Global) (cs : Vec Child Global) → out-NodeData (Inner v ss cs) ≡ NodeData-F.Inner v ss cs
+out-inner v ss cs =
+    ap out-NodeData (sym (rolls-Inner v ss cs)) ∙ out-roll-NodeData (NodeData-F.Inner v ss cs)
 
 -- what holds of the kind of a node, at its parts
-pub by_leaf : (P : ℕ → List Point → Type 0) (Q : ℕ → List Slot → List Child → Type 0) (n : Node) (v : ℕ) (ps : Vec Point Global) → n ≡ Leaf v ps → ByKind P Q (out-Node n) → P v ps.items
-by_leaf P Q n v ps e h = subst (ByKind P Q) (ap out-Node e ∙ out-leaf v ps) h
+pub by_leaf : (P : ℕ → List Point → Type 0) (Q : ℕ → List Slot → List Child → Type 0) (n : NodeData) (v : ℕ) (ps : Vec Point Global) → n ≡ Leaf v ps → ByKind P Q (out-NodeData n) → P v ps.items
+by_leaf P Q n v ps e h = subst (ByKind P Q) (ap out-NodeData e ∙ out-leaf v ps) h
 
-pub by_inner : (P : ℕ → List Point → Type 0) (Q : ℕ → List Slot → List Child → Type 0) (n : Node) (v : ℕ) (ss : Vec Slot Global) (cs : Vec Child Global) → n ≡ Inner v ss cs → ByKind P Q (out-Node n) → Q v ss.items cs.items
-by_inner P Q n v ss cs e h = subst (ByKind P Q) (ap out-Node e ∙ out-inner v ss cs) h
+pub by_inner : (P : ℕ → List Point → Type 0) (Q : ℕ → List Slot → List Child → Type 0) (n : NodeData) (v : ℕ) (ss : Vec Slot Global) (cs : Vec Child Global) → n ≡ Inner v ss cs → ByKind P Q (out-NodeData n) → Q v ss.items cs.items
+by_inner P Q n v ss cs e h = subst (ByKind P Q) (ap out-NodeData e ∙ out-inner v ss cs) h
 
-pub leaf-is : (k : ℕ) (s : ℤ) (above : List Point → Bool) (h : List Commit) (n : Node) (v : ℕ) (ps : Vec Point Global) → n ≡ Leaf v ps → IsNode k s above h n → IsLeaf k s above h v ps.items
-leaf-is zero s above h n v ps e holds = by_leaf _ _ n v ps e holds
-leaf-is (suc k) s above h n v ps e holds = by_leaf _ _ n v ps e holds
+pub leaf_data-is : (k : ℕ) (s : ℤ) (above : List Point → Bool) (h : List Commit) (n : NodeData) (v : ℕ) (ps : Vec Point Global) → n ≡ Leaf v ps → IsNodeData k s above h n → IsLeaf k s above h v ps.items
+leaf_data-is zero s above h n v ps e holds = by_leaf _ _ n v ps e holds
+leaf_data-is (suc k) s above h n v ps e holds = by_leaf _ _ n v ps e holds
 
 -- the height below an inner node, and what its slots are
 pub record IsBody (k : ℕ) (s : ℤ) (above : List Point → Bool) (h : List Commit) (v : ℕ) (ss : List Slot) (cs : List Child) : Type 0 where
@@ -50,17 +55,47 @@ pub record IsBody (k : ℕ) (s : ℤ) (above : List Point → Bool) (h : List Co
   pub inner : IsInner below s above h v ss cs
   pub each : HasChildren below s h 64 cs
 
-pub inner-is : (k : ℕ) (s : ℤ) (above : List Point → Bool) (h : List Commit) (n : Node) (v : ℕ) (ss : Vec Slot Global) (cs : Vec Child Global) → n ≡ Inner v ss cs → IsNode k s above h n → IsBody k s above h v ss.items cs.items
-inner-is zero s above h n v ss cs e holds = absurd (by_inner _ _ n v ss cs e holds)
-inner-is (suc k) s above h n v ss cs e holds =
+pub inner_data-is : (k : ℕ) (s : ℤ) (above : List Point → Bool) (h : List Commit) (n : NodeData) (v : ℕ) (ss : Vec Slot Global) (cs : Vec Child Global) → n ≡ Inner v ss cs → IsNodeData k s above h n → IsBody k s above h v ss.items cs.items
+inner_data-is zero s above h n v ss cs e holds = absurd (by_inner _ _ n v ss cs e holds)
+inner_data-is (suc k) s above h n v ss cs e holds =
     let body : IsInner k s above h v ss.items cs.items × HasChildren k s h 64 cs.items = by_inner _ _ n v ss cs e holds in
     record { below = k; height = refl; inner = body.0; each = body.1 }
 
-pub place-is : (k : ℕ) (s : ℤ) (above : List Point → Bool) (h : List Commit) (place : Child) (a : Arc Node Global) → place ≡ Some a → IsChild k s above h place → IsNode k s above h a.value
-place-is k s above h place a e holds = subst (IsChild k s above h) e holds
+-- ---- a node that was visited
 
-pub none-is : (k : ℕ) (s : ℤ) (above : List Point → Bool) (h : List Commit) (place : Child) → place ≡ None → IsChild k s above h place → points_of k s (bag h) ≡ []
-none-is k s above h place e holds = subst (IsChild k s above h) e holds
+pub leaf-is : (k : ℕ) (s : ℤ) (above : List Point → Bool) (h : List Commit) (n : Node) (v : ℕ) (ps : Bor (List Point)) → n ≡ seen.Leaf v ps → IsNode k s above h n → IsLeaf k s above h v ps.now
+leaf-is k s above h n v ps e holds = subst (IsNode k s above h) e holds
+
+inner-at : (k : ℕ) (s : ℤ) (above : List Point → Bool) (h : List Commit) (v : ℕ) (ss : Bor (List Slot)) (cs : Bor (List Child)) → IsNode k s above h (seen.Inner v ss cs) → IsBody k s above h v ss.now cs.now
+inner-at zero s above h v ss cs holds = absurd holds
+inner-at (suc k) s above h v ss cs holds =
+    record { below = k; height = refl; inner = holds.0; each = holds.1 }
+
+pub inner-is : (k : ℕ) (s : ℤ) (above : List Point → Bool) (h : List Commit) (n : Node) (v : ℕ) (ss : Bor (List Slot)) (cs : Bor (List Child)) → n ≡ seen.Inner v ss cs → IsNode k s above h n → IsBody k s above h v ss.now cs.now
+inner-is k s above h n v ss cs e holds =
+    inner-at k s above h v ss cs (subst (IsNode k s above h) e holds)
+
+pub inner-seen : (k : ℕ) (s : ℤ) (above : List Point → Bool) (h : List Commit) (v : ℕ) (ss : Bor (List Slot)) (cs : Bor (List Child)) → IsBody k s above h v ss.now cs.now → IsNode k s above h (seen.Inner v ss cs)
+inner-seen zero s above h v ss cs body = absurd (grind (arith, body.height))
+inner-seen (suc k) s above h v ss cs body =
+    let same : body.below ≡ k = omega (arith, body.height) in (
+      subst (λ j. IsInner j s above h v ss.now cs.now) same body.inner,
+      subst (λ j. HasChildren j s h 64 cs.now) same body.each,
+    )
+
+-- ---- a link
+
+pub child-is : (k : ℕ) (s : ℤ) (above : List Point → Bool) (h : List Commit) (child : Child) (a : Arc NodeData Global) → (out-Child child).node ≡ Some a → IsChild k s above h child → IsNodeData k s above h a.value
+child-is k s above h child a e holds =
+    subst (λ o. MatchOption (option_map (λ b. b.value) o) (points_of k s (bag h) ≡ []) (λ n. IsNodeData k s above h n)) e holds
+
+pub none-is : (k : ℕ) (s : ℤ) (above : List Point → Bool) (h : List Commit) (child : Child) → (out-Child child).node ≡ None → IsChild k s above h child → points_of k s (bag h) ≡ []
+none-is k s above h child e holds =
+    subst (λ o. MatchOption (option_map (λ b. b.value) o) (points_of k s (bag h) ≡ []) (λ n. IsNodeData k s above h n)) e holds
+
+pub child-same : (k : ℕ) (s : ℤ) (above : List Point → Bool) (h : List Commit) (p q : Child) → node_of q ≡ node_of p → IsChild k s above h p → IsChild k s above h q
+child-same k s above h p q e holds =
+    subst (λ o. MatchOption o (points_of k s (bag h) ≡ []) (λ n. IsNodeData k s above h n)) (sym e) holds
 
 -- ---- the slots of a span
 
@@ -163,6 +198,20 @@ slot-at span below h i j part slot child ss cs e slots each place same p q r =
       is = is;
       holds = subst (λ u. IsChild u.height u.start (is_inner (suc below) span.start) h child) (sym is) holds;
       counted = subst (λ (u : SpanValue). slot.agg ≡ agg (points_of u.height u.start (bag h))) (sym is) counted;
+    }
+
+-- what is known of a slot's child
+pub record IsChildAt (below : ℕ) (s : ℤ) (h : List Commit) (i : ℕ) (part : SpanValue) (child : Child) : Type 0 where
+  pub is : part ≡ record { start = slot_start below s i; height = below }
+  pub holds : IsChild part.height part.start (is_inner (suc below) s) h child
+
+pub child-at : (span : SpanValue) (below : ℕ) (h : List Commit) (i j : ℕ) (part : SpanValue) (child : Child) (cs : List Child) → span.height ≡ suc below → HasChildren below span.start h 64 cs → i < 64 → j ≡ i → part ≡ slot_of span i → child ≡ slice_index_or cs j child → IsChildAt below span.start h i part child
+child-at span below h i j part child cs e each place same p r =
+    let is : part ≡ record { start = slot_start below span.start i; height = below } = p ∙ slot-part span below i e in
+    let holds : IsChild below (slot_start below span.start i) (is_inner (suc below) span.start) h child = subst (IsChild below (slot_start below span.start i) (is_inner (suc below) span.start) h) (ap (λ k. slice_index_or cs k child) (sym same) ∙ sym r) (each i child place) in
+    record {
+      is = is;
+      holds = subst (λ u. IsChild u.height u.start (is_inner (suc below) span.start) h child) (sym is) holds;
     }
 
 -- the length of what the commits leave in a slot

@@ -1,11 +1,10 @@
 -- Lemmas on the root of a tree.
-use Rattle.std.specs.Prelude.{◌≡◌, ◌*◌, ◌≤◌, pos, ◌+ℤ◌, not, List, [], ◌∷◌, ◌++◌, length, Some, None, MatchOption}
-use Rattle.std.specs.Option.{option_map}
+use Rattle.std.specs.Prelude.{◌≡◌, ◌*◌, ◌≤◌, pos, ◌+ℤ◌, not, List, [], ◌∷◌, ◌++◌, length}
 use Rattle.std.proofs.Common.{refl, sym, ap, ◌∙◌, arith, subst}
 use Rattle.std.proofs.lemmas.Int.{ints}
 use Rattle.btr_base.specs.declared.limits.TheConstants.{FIRST, END}
 use Rattle.btr_base.specs.declared.point.Point.{Point}
-use Rattle.btr_base.specs.Point.{InDomain}
+use Rattle.btr_base.specs.Point.{InDomain, AreInDomain}
 use Rattle.btr_base.specs.Range.{RangeValue, covered}
 use Rattle.btr_base.specs.Bag.{within, outside}
 use Rattle.btr_base.proofs.PointLemmas.{each-sort}
@@ -15,16 +14,17 @@ use Rattle.btr_base.proofs.SpanLemmas.{width-root}
 use Rattle.btr_base.proofs.WithinLemmas.{within-all}
 use Rattle.btr_base.specs.Agg.{AggValue, agg}
 use Rattle.btr_base.proofs.AggLemmas.{agg-count}
-use Rattle.btr_tree.specs.declared.limits.TheConstants.{VERSION_POINTS}
+use Rattle.btr_base.specs.declared.limits.TheConstants.{MAX_POINTS}
 use Rattle.btr_tree.specs.declared.fault.TreeFault.{TreeFault}
 use Rattle.btr_tree.specs.declared.fault.TreeFault.TheVariants.{Crowded, TooManyPoints, Want}
 use Rattle.btr_tree.specs.History.{Commit, bag}
 use Rattle.btr_tree.specs.Nodes.{points_of, above_root}
-use Rattle.btr_tree.specs.Shape.{Child, IsNode, IsChild}
+use Rattle.btr_tree.specs.declared.node.Child.{Child}
+use Rattle.btr_tree.specs.Shape.{node_of, IsChild}
 use Rattle.btr_tree.specs.Change.{end_of, IsChange}
 use Rattle.btr_tree.specs.Crowd.{HasNoCrowdedSpan, IsCrowdedFault}
-use Rattle.btr_tree.proofs.UntouchedNodeLemmas.{place-room}
-use Rattle.btr_tree.specs.Root.{TreeValue, AreInDomain, IsTree, IsTreeFault}
+use Rattle.btr_tree.proofs.UntouchedNodeLemmas.{child-room}
+use Rattle.btr_tree.specs.Root.{TreeValue, IsTree, IsTreeFault}
 
 pub end-root : FIRST +ℤ pos (width 10) ≡ END
 end-root = ap (λ w. FIRST +ℤ pos w) width-root
@@ -51,24 +51,16 @@ pub domain-after : (h : List Commit) (c : Commit) → AreInDomain (bag h) → Ar
 domain-after h c old new =
     each-sort (λ p. InDomain p.time) (outside (bag h) c.cut ++ c.added) (each-append (λ p. InDomain p.time) (outside (bag h) c.cut) c.added (each-filter (λ p. InDomain p.time) (λ p. not (covered c.cut p.time)) (bag h) old) new)
 
-pub place-root : (h : List Commit) (p : Child) → MatchOption (option_map (λ a. a.value) p) (points_of 10 FIRST (bag h) ≡ []) (λ n. IsNode 10 FIRST above_root h n) → IsChild 10 FIRST above_root h p
-place-root h None x = x
-place-root h (Some a) x = x
-
-pub root-place : (h : List Commit) (p : Child) → IsChild 10 FIRST above_root h p → MatchOption (option_map (λ a. a.value) p) (points_of 10 FIRST (bag h) ≡ []) (λ n. IsNode 10 FIRST above_root h n)
-root-place h None x = x
-root-place h (Some a) x = x
-
 pub tree-count : (h : List Commit) (t : TreeValue) → IsTree h t → t.total.count ≡ length (bag h)
 tree-count h t x = ap (λ u. u.count) x.total ∙ agg-count (bag h)
 
 -- the tree after a commit
-pub tree-of : (h : List Commit) (p : Child) (total : AggValue) → AreInDomain (bag h) → IsChild 10 FIRST above_root h p → total ≡ agg (points_of 10 FIRST (bag h)) → total.count ≤ VERSION_POINTS → IsTree h (record { node = option_map (λ a. a.value) p; total = total })
+pub tree-of : (h : List Commit) (p : Child) (total : AggValue) → AreInDomain (bag h) → IsChild 10 FIRST above_root h p → total ≡ agg (points_of 10 FIRST (bag h)) → total.count ≤ MAX_POINTS → IsTree h (record { node = node_of p; total = total })
 tree-of h p total times holds counted few =
     let all = root-points (bag h) times in
     let is : total ≡ agg (bag h) = counted ∙ ap agg all in
     record {
-      node = root-place h p holds;
+      node = holds;
       total = is;
       times = times;
       few = let count : total.count ≡ length (bag h) = ap (λ u. u.count) is ∙ agg-count (bag h) in omega arith;
@@ -77,7 +69,7 @@ tree-of h p total times holds counted few =
 -- no bottom span is crowded
 pub tree-room : (h : List Commit) (p : Child) → AreInDomain (bag h) → IsChild 10 FIRST above_root h p → HasNoCrowdedSpan FIRST END (bag h)
 tree-room h p times holds =
-    subst (λ e. HasNoCrowdedSpan FIRST e (bag h)) end-root (subst (HasNoCrowdedSpan FIRST (FIRST +ℤ pos (width 10))) (root-points (bag h) times) (place-room 10 FIRST above_root h p root-aligned holds))
+    subst (λ e. HasNoCrowdedSpan FIRST e (bag h)) end-root (subst (HasNoCrowdedSpan FIRST (FIRST +ℤ pos (width 10))) (root-points (bag h) times) (child-room 10 FIRST above_root h p root-aligned holds))
 
 -- what is crowded in the root's span is crowded
 pub root-fault : (h : List Commit) (e : TreeFault) → AreInDomain (bag h) → IsCrowdedFault FIRST (end_of root_part) (points_of 10 FIRST (bag h)) e → IsTreeFault (bag h) e
@@ -97,18 +89,18 @@ pub record IsRootStep (span : SpanValue) (h : List Commit) (c : Commit) (p : Chi
   pub change : IsChange span.height span.start c cut given c.version
   pub inside : within span.start (end_of span) given ≡ given
   pub times : AreInDomain (bag (c ∷ h))
-  pub few : length (points_of span.height span.start (bag h)) ≤ VERSION_POINTS
+  pub few : length (points_of span.height span.start (bag h)) ≤ MAX_POINTS
 
-pub root-step : (span : SpanValue) (h : List Commit) (c : Commit) (p : Child) (total : AggValue) (cut : List RangeValue) (given : List Point) → span ≡ root_part → cut ≡ c.cut → given ≡ c.added → IsTree h (record { node = option_map (λ a. a.value) p; total = total }) → AreInDomain c.added → IsRootStep span h c p total cut given
+pub root-step : (span : SpanValue) (h : List Commit) (c : Commit) (p : Child) (total : AggValue) (cut : List RangeValue) (given : List Point) → span ≡ root_part → cut ≡ c.cut → given ≡ c.added → IsTree h (record { node = node_of p; total = total }) → AreInDomain c.added → IsRootStep span h c p total cut given
 root-step span h c p total cut given e f g tree times =
     let all = root-points (bag h) tree.times in
     let whole : IsRootStep root_part h c p total c.cut c.added = record {
-      holds = place-root h p tree.node;
+      holds = tree.node;
       counted = tree.total ∙ ap agg (sym all);
       change = root-change c times;
       inside = root-points c.added times;
       times = domain-after h c tree.times times;
-      few = subst (λ x. length x ≤ VERSION_POINTS) (sym all) tree.few;
+      few = subst (λ x. length x ≤ MAX_POINTS) (sym all) tree.few;
     }
     in
     subst (λ u. IsRootStep u h c p total cut given) (sym e) (subst (λ x. IsRootStep root_part h c p total x given) (sym f) (subst (λ x. IsRootStep root_part h c p total c.cut x) (sym g) whole))

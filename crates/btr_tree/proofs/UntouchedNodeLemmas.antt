@@ -11,13 +11,14 @@ use Rattle.btr_base.specs.Span.{width, IsSpan}
 use Rattle.btr_base.proofs.SpanLemmas.{slot-aligned}
 use Rattle.btr_base.specs.Agg.{AggValue, agg}
 use Rattle.btr_base.proofs.AggLemmas.{agg-count}
-use Rattle.btr_tree.specs.declared.limits.TheConstants.{LEAF_POINTS}
-use Rattle.btr_tree.specs.declared.node.Node.{Node, out-Node}
+use Rattle.btr_base.specs.declared.limits.TheConstants.{LEAF_POINTS}
+use Rattle.btr_tree.specs.declared.node.Child.{Child}
+use Rattle.btr_tree.specs.declared.node.NodeData.{NodeData, out-NodeData}
 use Rattle.btr_tree.specs.declared.node.Slot.{Slot}
 use Rattle.btr_tree.specs.History.{Commit, bag}
 use Rattle.btr_tree.specs.Nodes.{points_of, has_points, touches, is_inner, is_node, last_change}
 use Rattle.btr_tree.proofs.VersionLemmas.{points-untouched, points-after}
-use Rattle.btr_tree.specs.Shape.{Child, slot_start, IsLeaf, IsInner, IsNode, IsChild}
+use Rattle.btr_tree.specs.Shape.{node_of, slot_start, IsLeaf, IsInner, IsNodeData, IsChild}
 use Rattle.btr_tree.proofs.NodeLemmas.{points-slot, total-of, slot-part, slot-next, slot-first, slot-end}
 use Rattle.btr_tree.proofs.BuiltNodeLemmas.{by_kind-weaker, by_kind-gives}
 use Rattle.btr_tree.proofs.CutLemmas.{outside-length}
@@ -105,29 +106,29 @@ inner-kept below s above h c w e v ss cs x =
       };
     }
 
-pub node-kept : (k : ℕ) (s : ℤ) (above : List Point → Bool) (h : List Commit) (c : Commit) (n : Node) → above (bag h) ≡ true → touches c k s (bag h) ≡ false → IsNode k s above h n → IsNode k s above (c ∷ h) n
+pub node-kept : (k : ℕ) (s : ℤ) (above : List Point → Bool) (h : List Commit) (c : Commit) (n : NodeData) → above (bag h) ≡ true → touches c k s (bag h) ≡ false → IsNodeData k s above h n → IsNodeData k s above (c ∷ h) n
 node-kept zero s above h c n w e x =
-    by_kind-weaker _ _ _ _ (out-Node n) (leaf-kept zero s above h c w e) (λ _ _ _ y. y) x
+    by_kind-weaker _ _ _ _ (out-NodeData n) (leaf-kept zero s above h c w e) (λ _ _ _ y. y) x
 node-kept (suc k) s above h c n w e x =
-    by_kind-weaker _ _ _ _ (out-Node n) (leaf-kept (suc k) s above h c w e) (λ v ss cs y. (
+    by_kind-weaker _ _ _ _ (out-NodeData n) (leaf-kept (suc k) s above h c w e) (λ v ss cs y. (
       inner-kept k s above h c w e v ss cs y.0,
       λ i d place.
           let slot = touches-slot k s i c (bag h) place e in
-          match-weaker (slice_index_or cs i d) _ _ _ _ (λ none. points-untouched k (slot_start k s i) c h slot ∙ none) (λ a z. node-kept k (slot_start k s i) (is_inner (suc k) s) h c a.value (many-inner (suc k) s (bag h) y.0.many) slot z) (y.1 i d place),
+          match-weaker (node_of (slice_index_or cs i d)) _ _ _ _ (λ none. points-untouched k (slot_start k s i) c h slot ∙ none) (λ m z. node-kept k (slot_start k s i) (is_inner (suc k) s) h c m (many-inner (suc k) s (bag h) y.0.many) slot z) (y.1 i d place),
     )) x
 
-pub place-kept : (k : ℕ) (s : ℤ) (above : List Point → Bool) (h : List Commit) (c : Commit) (p : Child) → above (bag h) ≡ true → touches c k s (bag h) ≡ false → IsChild k s above h p → IsChild k s above (c ∷ h) p
-place-kept k s above h c p w e x =
-    match-weaker p _ _ _ _ (λ none. points-untouched k s c h e ∙ none) (λ a y. node-kept k s above h c a.value w e y) x
+pub child-kept : (k : ℕ) (s : ℤ) (above : List Point → Bool) (h : List Commit) (c : Commit) (p : Child) → above (bag h) ≡ true → touches c k s (bag h) ≡ false → IsChild k s above h p → IsChild k s above (c ∷ h) p
+child-kept k s above h c p w e x =
+    match-weaker (node_of p) _ _ _ _ (λ none. points-untouched k s c h e ∙ none) (λ n y. node-kept k s above h c n w e y) x
 
 -- ---- what a node shows
 
 -- the aggregates of its slots can be joined
-pub place-counted : (k : ℕ) (s : ℤ) (above : List Point → Bool) (h : List Commit) (p : Child) → length (points_of k s (bag h)) < 2 ^ 64 → IsChild k s above h p → IsCounted p
-place-counted zero s above h p few x =
-    match-weaker p _ _ _ _ (λ _. tt) (λ a y. by_kind-weaker _ _ _ _ (out-Node a.value) (λ _ _ _. tt) (λ _ _ _ z. absurd z) y) x
-place-counted (suc k) s above h p few x =
-    match-weaker p _ _ _ _ (λ _. tt) (λ a y. by_kind-weaker _ _ _ _ (out-Node a.value) (λ _ _ _. tt) (λ v ss cs z. omega (arith, ap (λ u. u.count) (total-of k s h ss cs z.0.all), agg-count (points_of (suc k) s (bag h)))) y) x
+pub child-counted : (k : ℕ) (s : ℤ) (above : List Point → Bool) (h : List Commit) (p : Child) → length (points_of k s (bag h)) < 2 ^ 64 → IsChild k s above h p → IsCounted p
+child-counted zero s above h p few x =
+    match-weaker (node_of p) _ _ _ _ (λ _. tt) (λ n y. by_kind-weaker _ _ _ _ (out-NodeData n) (λ _ _ _. tt) (λ _ _ _ z. absurd z) y) x
+child-counted (suc k) s above h p few x =
+    match-weaker (node_of p) _ _ _ _ (λ _. tt) (λ n y. by_kind-weaker _ _ _ _ (out-NodeData n) (λ _ _ _. tt) (λ v ss cs z. omega (arith, ap (λ u. u.count) (total-of k s h ss cs z.0.all), agg-count (points_of (suc k) s (bag h)))) y) x
 
 -- the points of a span after a commit are at most those before and those added
 pub after-fewer : (k : ℕ) (s : ℤ) (h : List Commit) (c : Commit) → length (points_of k s (bag (c ∷ h))) ≤ length (points_of k s (bag h)) + length (points_of k s c.added)
@@ -147,14 +148,17 @@ room-slots below s h each (suc n) le =
     let next : n + 1 ≡ suc n = omega arith in
     subst (λ j. HasNoCrowdedSpan s (slot_start below s j) (points_of (suc below) s (bag h))) next (room-join s (slot_start below s n) (slot_start below s (n + 1)) (points_of (suc below) s (bag h)) (room-slots below s h each n (omega arith)) (each n (omega arith)))
 
-pub place-room : (k : ℕ) (s : ℤ) (above : List Point → Bool) (h : List Commit) (p : Child) → IsSpan (record { start = s; height = k }) → IsChild k s above h p → HasNoCrowdedSpan s (s +ℤ pos (width k)) (points_of k s (bag h))
-place-room k s above h None aligned x = room-nothing s (s +ℤ pos (width k)) (points_of k s (bag h)) x
-place-room zero s above h (Some a) aligned x =
-    by_kind-gives _ _ (HasNoCrowdedSpan s (s +ℤ pos (width 0)) (points_of 0 s (bag h))) (out-Node a.value) (λ v ps leaf. room-few s (s +ℤ pos (width 0)) (points_of 0 s (bag h)) (subst (λ y. length y ≤ LEAF_POINTS) leaf.same leaf.few)) (λ v ss cs none. absurd none) x
-place-room (suc k) s above h (Some a) aligned x =
-    by_kind-gives _ _ (HasNoCrowdedSpan s (s +ℤ pos (width (suc k))) (points_of (suc k) s (bag h))) (out-Node a.value) (λ v ps leaf. room-few s (s +ℤ pos (width (suc k))) (points_of (suc k) s (bag h)) (subst (λ y. length y ≤ LEAF_POINTS) leaf.same leaf.few)) (λ v ss cs body.
+node-room : (k : ℕ) (s : ℤ) (above : List Point → Bool) (h : List Commit) (o : Option NodeData) (d : Child) → IsSpan (record { start = s; height = k }) → MatchOption o (points_of k s (bag h) ≡ []) (λ n. IsNodeData k s above h n) → HasNoCrowdedSpan s (s +ℤ pos (width k)) (points_of k s (bag h))
+node-room k s above h None d aligned x = room-nothing s (s +ℤ pos (width k)) (points_of k s (bag h)) x
+node-room zero s above h (Some n) d aligned x =
+    by_kind-gives _ _ (HasNoCrowdedSpan s (s +ℤ pos (width 0)) (points_of 0 s (bag h))) (out-NodeData n) (λ v ps leaf. room-few s (s +ℤ pos (width 0)) (points_of 0 s (bag h)) (subst (λ y. length y ≤ LEAF_POINTS) leaf.same leaf.few)) (λ v ss cs none. absurd none) x
+node-room (suc k) s above h (Some n) d aligned x =
+    by_kind-gives _ _ (HasNoCrowdedSpan s (s +ℤ pos (width (suc k))) (points_of (suc k) s (bag h))) (out-NodeData n) (λ v ps leaf. room-few s (s +ℤ pos (width (suc k))) (points_of (suc k) s (bag h)) (subst (λ y. length y ≤ LEAF_POINTS) leaf.same leaf.few)) (λ v ss cs body.
     subst (λ e. HasNoCrowdedSpan s e (points_of (suc k) s (bag h))) (slot-end k s) (room-slots k s h (λ i place.
     let part : IsSpan (record { start = slot_start k s i; height = k }) = subst IsSpan (slot-part (record { start = s; height = suc k }) k i refl) (64 * aligned.0 + i, slot-aligned (record { start = s; height = suc k }) aligned.0 i aligned.1 (omega arith) place) in
-    let room = place-room k (slot_start k s i) (is_inner (suc k) s) h (slice_index_or cs i None) part (body.1 i None place) in
+    let room = node-room k (slot_start k s i) (is_inner (suc k) s) h (node_of (slice_index_or cs i d)) d part (body.1 i d place) in
     let inside : HasNoCrowdedSpan (slot_start k s i) (slot_start k s i +ℤ pos (width k)) (points_of k (slot_start k s i) (points_of (suc k) s (bag h))) = subst (HasNoCrowdedSpan (slot_start k s i) (slot_start k s i +ℤ pos (width k))) (sym (points-slot k s i (bag h) place)) room in
     subst (λ e. HasNoCrowdedSpan (slot_start k s i) e (points_of (suc k) s (bag h))) (sym (slot-next k s i)) (room-part (slot_start k s i) (slot_start k s i +ℤ pos (width k)) (points_of (suc k) s (bag h)) (span-whole (record { start = slot_start k s i; height = k }) part) inside)) 64 (omega arith))) x
+
+pub child-room : (k : ℕ) (s : ℤ) (above : List Point → Bool) (h : List Commit) (p : Child) → IsSpan (record { start = s; height = k }) → IsChild k s above h p → HasNoCrowdedSpan s (s +ℤ pos (width k)) (points_of k s (bag h))
+child-room k s above h p aligned x = node-room k s above h (node_of p) p aligned x

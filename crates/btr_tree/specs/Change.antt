@@ -1,30 +1,38 @@
 -- What the parts of the walk that applies a commit have to do with the commit.
-use Rattle.std.specs.Prelude.{◌≡◌, ℕ, suc, ◌+◌, ◌<◌, ◌≤◌, ◌^◌, ℤ, pos, ◌+ℤ◌, ◌≤ℤ◌, ◌<ℤ◌, Bool, true, not, ◌||◌, List, ◌∷◌, length, MatchOption, []}
+use Rattle.std.specs.Prelude.{◌≡◌, ℕ, suc, ◌+◌, ◌<◌, ◌≤◌, ◌^◌, ℤ, pos, ◌+ℤ◌, ◌≤ℤ◌, ◌<ℤ◌, Bool, true, not, ◌||◌, List, ◌∷◌, ◌++◌, length, MatchOption, [], min, ◌-◌}
 use Rattle.btr_base.specs.declared.point.Point.{Point}
 use Rattle.btr_base.specs.Range.{RangeValue, covered}
 use Rattle.btr_base.specs.Span.{width, SpanValue}
-use Rattle.btr_tree.specs.declared.limits.TheConstants.{LEAF_POINTS}
-use Rattle.btr_tree.specs.declared.node.Node.{out-Node}
+use Rattle.btr_base.specs.declared.limits.TheConstants.{LEAF_POINTS}
+use Rattle.btr_tree.specs.declared.node.Child.{Child}
+use Rattle.btr_tree.specs.declared.node.NodeData.{out-NodeData}
 use Rattle.btr_tree.specs.declared.node.Slot.{Slot}
 use Rattle.btr_tree.specs.History.{Commit, bag}
-use Rattle.btr_tree.specs.Nodes.{points_of, touches, is_node, last_change}
+use Rattle.btr_tree.specs.Nodes.{points_of, touches, is_node, is_inner, last_change}
 use Rattle.btr_base.specs.Agg.{agg, AggValue, no_points, joined}
-use Rattle.btr_tree.specs.Shape.{Child, ByKind, IsChild, HasSlots, HasChildren}
+use Rattle.btr_tree.specs.NewNodes.{NewNodeValue, concat_first, new_nodes}
+use Rattle.btr_tree.specs.EachHistory.{points_in}
+use Rattle.btr_tree.specs.Shape.{slot_start, node_of, ByKind, IsChild, HasSlots, HasChildren}
 
 -- the end of a span
 abbrev pub end_of : SpanValue → ℤ
 end_of s = s.start +ℤ pos (width s.height)
 
+-- the aggregates of slots, joined
+abbrev pub joined_all : List Slot → AggValue
+joined_all [] = no_points
+joined_all (s ∷ ss) = joined s.agg (joined_all ss)
+
 -- the aggregates of a node's slots can be joined
 abbrev pub IsCounted : Child → Type 0
-IsCounted place =
-    MatchOption place (Unit {0}) (λ a. ByKind (λ v ps. Unit {0}) (λ v ss cs. (joined_all ss).count < 2 ^ 64) (out-Node a.value))
+IsCounted child =
+    MatchOption (node_of child) (Unit {0}) (λ n. ByKind (λ v ps. Unit {0}) (λ v ss cs. (joined_all ss).count < 2 ^ 64) (out-NodeData n))
 
 -- some history is of this place, and its points can be counted with so many more
-pub record IsSomeChild (height : ℕ) (start : ℤ) (place : Child) (more : ℕ) : Type 0 where
+pub record IsSomeChild (height : ℕ) (start : ℤ) (child : Child) (more : ℕ) : Type 0 where
   pub above : List Point → Bool
   pub commits : List Commit
-  pub holds : IsChild height start above commits place
+  pub holds : IsChild height start above commits child
   pub few : length (points_of height start (bag commits)) + more < 2 ^ 64
 
 -- the same of the slots of an inner node
@@ -49,12 +57,18 @@ pub record IsChange (height : ℕ) (start : ℤ) (c : Commit) (cut : List RangeV
 
 -- a leaf with these points, an inner node with these slots
 abbrev pub IsLeafOf : ℕ → List Point → Child → Type 0
-IsLeafOf version points place =
-    MatchOption place ⊥ (λ a. ByKind (λ v ps. (v ≡ version) × (ps ≡ points)) (λ v ss cs. ⊥) (out-Node a.value))
+IsLeafOf version points child =
+    MatchOption (node_of child) ⊥ (λ n. ByKind (λ v ps. (v ≡ version) × (ps ≡ points)) (λ v ss cs. ⊥) (out-NodeData n))
 
 abbrev pub IsInnerOf : ℕ → List Slot → List Child → Child → Type 0
-IsInnerOf version slots children place =
-    MatchOption place ⊥ (λ a. ByKind (λ v ps. ⊥) (λ v ss cs. (v ≡ version) × (ss ≡ slots) × (cs ≡ children)) (out-Node a.value))
+IsInnerOf version slots children child =
+    MatchOption (node_of child) ⊥ (λ n. ByKind (λ v ps. ⊥) (λ v ss cs. (v ≡ version) × (ss ≡ slots) × (cs ≡ children)) (out-NodeData n))
+
+-- the counter rose by the number of nodes that were appended, up to the end of its type
+pub record CountsNodes (before after : ℕ) (old new : List NewNodeValue) : Type 0 where
+  pub grows : length old ≤ length new
+  pub none : length new ≡ length old → after ≡ before
+  pub some : length old < length new → after ≡ min (before + (length new - length old)) 18446744073709551615
 
 -- the points of a span, of which a commit makes an inner node
 pub record IsSplit (below : ℕ) (span : SpanValue) (h : List Commit) (c : Commit) (version : ℕ) (points : List Point) : Type 0 where
@@ -64,10 +78,10 @@ pub record IsSplit (below : ℕ) (span : SpanValue) (h : List Commit) (c : Commi
   pub few : length (points_of (suc below) span.start (bag h)) ≤ LEAF_POINTS
 
 -- some history is of this place and this slot, and the points can be counted with so many more
-pub record IsSomeSlot (height : ℕ) (start : ℤ) (slot : Slot) (place : Child) (more : ℕ) : Type 0 where
+pub record IsSomeSlot (height : ℕ) (start : ℤ) (slot : Slot) (child : Child) (more : ℕ) : Type 0 where
   pub above : List Point → Bool
   pub commits : List Commit
-  pub holds : IsChild height start above commits place
+  pub holds : IsChild height start above commits child
   pub counted : slot.agg ≡ agg (points_of height start (bag commits))
   pub few : length (points_of height start (bag commits)) + more < 2 ^ 64
 
@@ -84,7 +98,46 @@ pub record IsApplied (below : ℕ) (span : SpanValue) (h : List Commit) (c : Com
   pub each : HasChildren below span.start h 64 children
   pub change : IsChange (suc below) span.start c cut added version
 
--- the aggregates of slots, joined
-abbrev pub joined_all : List Slot → AggValue
-joined_all [] = no_points
-joined_all (s ∷ ss) = joined s.agg (joined_all ss)
+-- ---- premises that the clauses of the walk share
+
+-- P holds for each history and commit after which the span has these points
+abbrev pub AtEachFresh : SpanValue → ℕ → List Point → ((List Point → Bool) → List Commit → Commit → Type 0) → Type 0
+AtEachFresh span version points P =
+    (above : List Point → Bool) (h : List Commit) (c : Commit)
+    → IsFresh span.height span.start above h c version points
+    → P above h c
+
+-- P holds for each history and commit that makes the span an inner node of these points
+abbrev pub AtEachSplit : SpanValue → ℕ → List Point → (ℕ → List Commit → Commit → Type 0) → Type 0
+AtEachSplit span version points P =
+    (below : ℕ) (h : List Commit) (c : Commit) → IsSplit below span h c version points → P below h c
+
+-- P holds for each history that the child belongs to, and each commit with this part in the span
+abbrev pub AtEachCommit : SpanValue → Child → List RangeValue → List Point → ℕ → ((List Point → Bool) → List Commit → Commit → Type 0) → Type 0
+AtEachCommit span child cut added version P =
+    (above : List Point → Bool) (h : List Commit) (c : Commit)
+    → IsChild span.height span.start above h child
+    → IsChange span.height span.start c cut added version
+    → P above h c
+
+-- P holds for each history that the slot belongs to, below an inner node, and each commit with this part in the span
+abbrev pub AtEachSlotCommit : SpanValue → Slot → Child → List RangeValue → List Point → ℕ → ((List Point → Bool) → List Commit → Commit → Type 0) → Type 0
+AtEachSlotCommit span slot child cut added version P =
+    (above : List Point → Bool) (h : List Commit) (c : Commit)
+    → above (bag h) ≡ true
+    → IsChild span.height span.start above h child
+    → slot.agg ≡ agg (points_in span (bag h))
+    → IsChange span.height span.start c cut added version
+    → P above h c
+
+-- P holds for each history that the inner node belongs to, and each commit with this part in the span
+abbrev pub AtEachInnerCommit : SpanValue → List Slot → List Child → List RangeValue → List Point → ℕ → (ℕ → List Commit → Commit → Type 0) → Type 0
+AtEachInnerCommit span slots children cut added version P =
+    (below : ℕ) (h : List Commit) (c : Commit)
+    → IsApplied below span h c cut added version slots children
+    → P below h c
+
+-- the nodes that a commit writes below an inner node
+abbrev pub new_below : ℕ → ℤ → List Commit → ℕ → List NewNodeValue
+new_below below start h version =
+    concat_first 64 (λ i. new_nodes below (slot_start below start i) (is_inner (suc below) start) h version)

@@ -2,7 +2,7 @@
 use Rattle.std.specs.Prelude.{◌≡◌, ℕ, ◌*◌, ◌<◌, ◌≤◌, ℤ, ◌≤ℤ◌, ◌<ℤ◌, List, length}
 use Rattle.btr_base.specs.declared.point.Point.{Point}
 use Rattle.btr_base.specs.Span.{time_at, width}
-use Rattle.btr_tree.specs.declared.limits.TheConstants.{LEAF_POINTS}
+use Rattle.btr_base.specs.declared.limits.TheConstants.{LEAF_POINTS}
 use Rattle.btr_tree.specs.declared.fault.TreeFault.{TreeFault}
 use Rattle.btr_tree.specs.declared.fault.TreeFault.TheVariants.{Crowded, TooManyPoints, Want}
 use Rattle.btr_tree.specs.Nodes.{points_of}

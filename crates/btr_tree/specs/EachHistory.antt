@@ -25,4 +25,3 @@ AtEachInner span slots children P =
     → HasSlots below span.start h 64 slots children
     → HasChildren below span.start h 64 children
     → P h
-

@@ -7,7 +7,7 @@ use Rattle.btr_base.specs.declared.point.Point.{Point}
 use Rattle.btr_base.specs.Range.{covered}
 use Rattle.btr_base.specs.Bag.{within}
 use Rattle.btr_base.specs.Span.{width}
-use Rattle.btr_tree.specs.declared.limits.TheConstants.{LEAF_POINTS}
+use Rattle.btr_base.specs.declared.limits.TheConstants.{LEAF_POINTS}
 use Rattle.btr_tree.specs.History.{Commit, bag}
 
 -- the points of a span

@@ -4,7 +4,7 @@ use Rattle.std.specs.Option.{option_map}
 use Rattle.btr_base.specs.declared.point.Point.{Point}
 use Rattle.btr_base.specs.Span.{width, SpanValue}
 use Rattle.btr_base.specs.Agg.{agg}
-use Rattle.btr_tree.specs.declared.limits.TheConstants.{LEAF_POINTS}
+use Rattle.btr_base.specs.declared.limits.TheConstants.{LEAF_POINTS}
 use Rattle.btr_tree.specs.declared.node.Child.{Child, out-Child}
 use Rattle.btr_tree.specs.declared.node.NodeData.{NodeData, out-NodeData}
 use Rattle.btr_tree.specs.declared.node.NodeData.TheOpen.{NodeData-F}
@@ -51,7 +51,7 @@ pub record IsInner (below : ℕ) (start : ℤ) (above : List Point → Bool) (h 
   pub all : HasSlots below start h 64 slots children
 
 -- a fact for a leaf's version and points, and one for an inner node's version, slots and children
-abbrev pub ByKind : (ℕ → List Point → Type 0) → (ℕ → List Slot → List Child → Type 0) → NodeData-F Child NodeData → Type 0
+abbrev pub ByKind : (ℕ → List Point → Type 0) → (ℕ → List Slot → List Child → Type 0) → NodeData-F NodeData Child → Type 0
 ByKind leaf inner (NodeData-F.Leaf version points) = leaf version points.items
 ByKind leaf inner (NodeData-F.Inner version slots children) = inner version slots.items children.items
 

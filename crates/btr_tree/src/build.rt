@@ -2,25 +2,22 @@
 ghost use Rattle.std.specs.Prelude.{◌≡◌, ◌<◌, ◌≤◌, ◌+◌, ◌++◌, ◌∷◌, [], ◌+ℤ◌, ℕ, ℤ, pos, suc, true, Bool, List, length, IfOk, IfErr, OnOk};
 ghost use Rattle.btr_base.specs.Agg.{agg};
 ghost use Rattle.btr_base.specs.Bag.{IsInOrder, within};
-ghost use Rattle.btr_base.specs.declared.point.Point.{Point as APoint};
-ghost use Rattle.btr_tree.specs.History.{Commit, bag};
-ghost use Rattle.btr_tree.specs.Nodes.{points_of, is_inner};
-ghost use Rattle.btr_tree.specs.Shape.{IsChild, HasSlots, HasChildren, slot_start};
-ghost use Rattle.btr_tree.specs.Change.{IsFresh, IsLeafOf, IsInnerOf, IsSplit, end_of};
+ghost use Rattle.btr_tree.specs.History.{bag};
+ghost use Rattle.btr_tree.specs.Shape.{IsChild, HasSlots, HasChildren};
+ghost use Rattle.btr_tree.specs.Change.{IsLeafOf, IsInnerOf, CountsNodes, AtEachFresh, AtEachSplit, new_below, end_of};
 ghost use Rattle.btr_tree.specs.Crowd.{HasNoCrowdedSpan, IsCrowdedFault};
-ghost use Rattle.btr_tree.specs.Pages.{first_of, pages};
-ghost use Rattle.btr_tree.specs.declared.limits.TheConstants.{LEAF_POINTS as FEW};
+ghost use Rattle.btr_tree.specs.NewNodes.{new_nodes};
+ghost use Rattle.btr_base.specs.declared.limits.TheConstants.{LEAF_POINTS as FEW};
 
 use crate::fault::TreeFault;
-use crate::limits::{LEAF_POINTS, SLOTS};
-use crate::node::{NewNode, Node, Child, Slot};
+use crate::new_node::NewNode;
+use crate::node::{Child, NodeData, Slot};
 use crate::steps::Steps;
-use crate::total::agg_of_points;
-use btr_base::{Point, Span, parted};
+use btr_base::{Agg, FAN_OUT, LEAF_POINTS, Point, Span, parted};
 use std::alloc::{AllocError, Global};
 use std::sync::Arc;
 
-/// The node of all points of a span, and the nodes below it, each of which is told behind those that were.
+/// Builds the subtree for `points`, which all lie in `span`. Appends each new node to `nodes`, children before parents.
 #[cycle(build)]
 pub(crate) fn build(
     alloc: Global,
@@ -32,26 +29,27 @@ pub(crate) fn build(
 ) -> Result<Child, TreeFault>
     requires order { IsInOrder points.now }
     requires inside { within span.start (end_of span) points.now ≡ points.now }
-    ensures place { IfOk result (λ p. (above : List APoint → Bool) (h : List Commit) (c : Commit) → IsFresh span.height span.start above h c version points.now → IsChild span.height span.start above (c ∷ h) p) }
-    ensures nodes { OnOk result ((above : List APoint → Bool) (h : List Commit) (c : Commit) → IsFresh span.height span.start above h c version points.now → above (bag (c ∷ h)) ≡ true → nodes.new.items ≡ nodes.old.items ++ pages span.height span.start above (c ∷ h) version) }
-    ensures counted { OnOk result (steps.new + length nodes.old.items ≤ steps.old + length nodes.new.items) }
+    ensures child { IfOk result (λ r. AtEachFresh span version points.now (λ above h c. IsChild span.height span.start above (c ∷ h) r)) }
+    ensures nodes { OnOk result (AtEachFresh span version points.now (λ above h c. above (bag (c ∷ h)) ≡ true
+        → nodes.new.items ≡ nodes.old.items ++ new_nodes span.height span.start above (c ∷ h) version)) }
+    ensures counted { OnOk result (CountsNodes steps.old steps.new nodes.old.items nodes.new.items) }
     ensures room { OnOk result (HasNoCrowdedSpan span.start (end_of span) points.now) }
     ensures fault { IfErr result (λ e. IsCrowdedFault span.start (end_of span) points.now e) }
 {
     if points.is_empty() {
-        return Ok(None);
+        return Ok(Child { node: None });
     }
     if points.len() <= LEAF_POINTS {
-        return Ok(leaf(alloc, span, version, points, nodes, steps)?);
+        return Ok(push_leaf(alloc, span, version, points, nodes, steps)?);
     }
     if span.height == 0 {
         return Err(TreeFault::Crowded { start: span.start });
     }
     let (slots, children) = build_slots(alloc, span, points, version, nodes, steps)?;
-    Ok(inner(alloc, span, version, slots, children, nodes, steps)?)
+    Ok(push_inner(alloc, span, version, slots, children, nodes, steps)?)
 }
 
-/// The slots of an inner node of all points of a span, and its children.
+/// Builds the slots of an inner node for `points`, and the children of the slots.
 #[cycle(build)]
 pub(crate) fn build_slots(
     alloc: Global,
@@ -64,26 +62,28 @@ pub(crate) fn build_slots(
     requires height { 1 ≤ span.height }
     requires order { IsInOrder points.now }
     requires inside { within span.start (end_of span) points.now ≡ points.now }
-    ensures slots { IfOk result (λ r. (below : ℕ) (h : List Commit) (c : Commit) → IsSplit below span h c version points.now → HasSlots below span.start (c ∷ h) 64 r.0.items r.1.items × HasChildren below span.start (c ∷ h) 64 r.1.items) }
-    ensures nodes { OnOk result ((below : ℕ) (h : List Commit) (c : Commit) → IsSplit below span h c version points.now → FEW < length points.now → nodes.new.items ≡ nodes.old.items ++ first_of 64 (λ i. pages below (slot_start below span.start i) (is_inner (suc below) span.start) (c ∷ h) version)) }
-    ensures counted { OnOk result (steps.new + length nodes.old.items ≤ steps.old + length nodes.new.items) }
+    ensures slots { IfOk result (λ r. AtEachSplit span version points.now (λ below h c.
+        HasSlots below span.start (c ∷ h) 64 r.0.items r.1.items × HasChildren below span.start (c ∷ h) 64 r.1.items)) }
+    ensures nodes { OnOk result (AtEachSplit span version points.now (λ below h c. FEW < length points.now
+        → nodes.new.items ≡ nodes.old.items ++ new_below below span.start (c ∷ h) version)) }
+    ensures counted { OnOk result (CountsNodes steps.old steps.new nodes.old.items nodes.new.items) }
     ensures room { OnOk result (HasNoCrowdedSpan span.start (end_of span) points.now) }
     ensures fault { IfErr result (λ e. IsCrowdedFault span.start (end_of span) points.now e) }
 {
     let mut slots = Vec::new(alloc);
     let mut children = Vec::new(alloc);
     let mut rest = points;
-    for i in 0..SLOTS {
+    for i in 0..FAN_OUT {
         let part = span.slot(i);
-        let (here, behind) = parted(rest, part.end());
+        let (here, after) = parted(rest, part.end());
         let (slot, child) = build_slot(alloc, part, here, version, nodes, steps)?;
-        put(&mut slots, &mut children, slot, child)?;
-        rest = behind;
+        push_slot(&mut slots, &mut children, slot, child)?;
+        rest = after;
     }
     Ok((slots, children))
 }
 
-/// The slot of all points of a span, and its child.
+/// Builds the slot for `points`, which all lie in `span`, and its child.
 #[cycle(build)]
 pub(crate) fn build_slot(
     alloc: Global,
@@ -96,14 +96,15 @@ pub(crate) fn build_slot(
     requires order { IsInOrder points.now }
     requires inside { within span.start (end_of span) points.now ≡ points.now }
     ensures slot { IfOk result (λ r. r.0 ≡ record { agg = agg points.now; version = version; child = 0 }) }
-    ensures place { IfOk result (λ r. (above : List APoint → Bool) (h : List Commit) (c : Commit) → IsFresh span.height span.start above h c version points.now → IsChild span.height span.start above (c ∷ h) r.1) }
-    ensures nodes { OnOk result ((above : List APoint → Bool) (h : List Commit) (c : Commit) → IsFresh span.height span.start above h c version points.now → above (bag (c ∷ h)) ≡ true → nodes.new.items ≡ nodes.old.items ++ pages span.height span.start above (c ∷ h) version) }
-    ensures counted { OnOk result (steps.new + length nodes.old.items ≤ steps.old + length nodes.new.items) }
+    ensures child { IfOk result (λ r. AtEachFresh span version points.now (λ above h c. IsChild span.height span.start above (c ∷ h) r.1)) }
+    ensures nodes { OnOk result (AtEachFresh span version points.now (λ above h c. above (bag (c ∷ h)) ≡ true
+        → nodes.new.items ≡ nodes.old.items ++ new_nodes span.height span.start above (c ∷ h) version)) }
+    ensures counted { OnOk result (CountsNodes steps.old steps.new nodes.old.items nodes.new.items) }
     ensures room { OnOk result (HasNoCrowdedSpan span.start (end_of span) points.now) }
     ensures fault { IfErr result (λ e. IsCrowdedFault span.start (end_of span) points.now e) }
 {
     let child = build(alloc, span, points, version, nodes, steps)?;
-    let agg = agg_of_points(points);
+    let agg = Agg::of_points(points);
     let slot = Slot {
         agg,
         version,
@@ -112,8 +113,8 @@ pub(crate) fn build_slot(
     Ok((slot, child))
 }
 
-/// Appends a slot and its child.
-pub(crate) fn put(
+/// Appends a slot to `slots`, and its child to `children`.
+pub(crate) fn push_slot(
     slots: &mut Vec<Slot>,
     children: &mut Vec<Child>,
     slot: Slot,
@@ -127,8 +128,8 @@ pub(crate) fn put(
     Ok(())
 }
 
-/// A leaf, which it tells.
-fn leaf(
+/// Makes a leaf, and appends it to `nodes`.
+fn push_leaf(
     alloc: Global,
     span: Span,
     version: u64,
@@ -136,31 +137,32 @@ fn leaf(
     nodes: &mut Vec<NewNode>,
     steps: &mut Steps,
 ) -> Result<Child, AllocError>
-    ensures place { IfOk result (λ p. IsLeafOf version points.now p) }
-    ensures nodes { OnOk result (nodes.new.items ≡ nodes.old.items ++ record { span = span; version = version; points = points.now; slots = [] } ∷ []) }
-    ensures counted { OnOk result (steps.new + length nodes.old.items ≤ steps.old + length nodes.new.items) }
+    ensures child { IfOk result (λ r. IsLeafOf version points.now r) }
+    ensures nodes { OnOk result (nodes.new.items ≡ nodes.old.items
+        ++ record { span = span; version = version; points = points.now; slots = [] } ∷ []) }
+    ensures counted { OnOk result (CountsNodes steps.old steps.new nodes.old.items nodes.new.items) }
 {
-    let told = NewNode {
+    let node = NewNode {
         span,
         version,
         points: Vec::from_slice(alloc, points)?,
         slots: Vec::new(alloc),
     };
     let kept = Vec::from_slice(alloc, points)?;
-    let node = Arc::new(
+    let data = Arc::new(
         alloc,
-        Node::Leaf {
+        NodeData::Leaf {
             version,
             points: kept,
         },
     )?;
-    nodes.push(told)?;
+    nodes.push(node)?;
     steps.tick();
-    Ok(Some(node))
+    Ok(Child { node: Some(data) })
 }
 
-/// An inner node, which it tells.
-pub(crate) fn inner(
+/// Makes an inner node, and appends it to `nodes`.
+pub(crate) fn push_inner(
     alloc: Global,
     span: Span,
     version: u64,
@@ -169,25 +171,26 @@ pub(crate) fn inner(
     nodes: &mut Vec<NewNode>,
     steps: &mut Steps,
 ) -> Result<Child, AllocError>
-    ensures place { IfOk result (λ p. IsInnerOf version slots.items children.items p) }
-    ensures nodes { OnOk result (nodes.new.items ≡ nodes.old.items ++ record { span = span; version = version; points = []; slots = slots.items } ∷ []) }
-    ensures counted { OnOk result (steps.new + length nodes.old.items ≤ steps.old + length nodes.new.items) }
+    ensures child { IfOk result (λ r. IsInnerOf version slots.items children.items r) }
+    ensures nodes { OnOk result (nodes.new.items ≡ nodes.old.items
+        ++ record { span = span; version = version; points = []; slots = slots.items } ∷ []) }
+    ensures counted { OnOk result (CountsNodes steps.old steps.new nodes.old.items nodes.new.items) }
 {
-    let told = NewNode {
+    let node = NewNode {
         span,
         version,
         points: Vec::new(alloc),
         slots: Vec::from_slice(alloc, &slots)?,
     };
-    let node = Arc::new(
+    let data = Arc::new(
         alloc,
-        Node::Inner {
+        NodeData::Inner {
             version,
             slots,
             children,
         },
     )?;
-    nodes.push(told)?;
+    nodes.push(node)?;
     steps.tick();
-    Ok(Some(node))
+    Ok(Child { node: Some(data) })
 }

@@ -3,13 +3,13 @@ use std::alloc::AllocError;
 /// Why a commit was not applied. The tree is as it was.
 #[derive(Clone, Copy, Debug, PartialEq, Eq)]
 pub enum TreeFault {
-    /// The bottom span of 4 ns that starts here, in nanoseconds, would have more than 252 points. It is the first such.
+    /// The bottom span of 4 ns that starts at `start`, in nanoseconds, would have more than 252 points. It is the first such.
     Crowded { start: i64 },
 
-    /// The version would have so many points, which is more than 2^32.
+    /// The version would have `count` points, which are more than 2^32.
     TooManyPoints { count: u64 },
 
-    /// Want of memory.
+    /// Out of memory.
     Want,
 }
 

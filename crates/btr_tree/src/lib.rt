@@ -10,17 +10,16 @@
 #![tactic(auto)]
 
 // the shape
-mod limits;
+mod new_node;
 mod node;
 mod root;
 mod steps;
 // why a commit is not applied
 mod fault;
 // what is read of nodes
-mod kept;
-mod opening;
-mod shared;
-mod total;
+mod aggregate;
+mod link;
+mod outside;
 // what a commit writes
 mod apply;
 mod build;
@@ -30,10 +29,10 @@ mod laws;
 
 pub use fault::TreeFault;
 pub use laws::equal_since_its_version;
-pub use limits::{LEAF_POINTS, ROOT_HEIGHT, SLOTS, VERSION_POINTS};
-pub use node::{NewNode, Node, Child, Slot};
-pub use opening::visit;
-pub use root::{are_in_domain, root_span};
+pub use link::visit;
+pub use new_node::NewNode;
+pub use node::{Child, Node, Slot};
+pub use root::root_span;
 pub use steps::Steps;
 pub use tree::{Applied, Tree};
 

@@ -1,10 +1,6 @@
 //! Nodes in memory, and what a walk sees of them.
-ghost use Rattle.std.specs.Prelude.{◌≡◌, List, IfOk};
-ghost use Rattle.btr_tree.specs.Shape.{IsVisit};
-
-use crate::steps::Steps;
-use btr_base::{Agg, Point, Span};
-use std::alloc::{AllocError, Global};
+use btr_base::{Agg, Point};
+use std::alloc::Global;
 use std::sync::Arc;
 
 /// What an inner node keeps of a slot beside its child.
@@ -20,7 +16,7 @@ pub struct Slot {
     pub child: u64,
 }
 
-/// The link to the node of a span, or to none if the span has no point. [`visit`] is the only way from a link to its node.
+/// The link to the node of a span, or to none if the span has no point. [`crate::visit`] is the only way from a link to its node.
 #[cycle(node)]
 #[derive(Drop)]
 pub struct Child {
@@ -32,7 +28,10 @@ pub struct Child {
 #[derive(Drop)]
 pub(crate) enum NodeData {
     /// The points, at most 252, by time and value.
-    Leaf { version: u64, points: Vec<Point> },
+    Leaf {
+        version: u64,
+        points: Vec<Point>,
+    },
 
     /// More than 252 points, in 64 slots in order of time. A slot has a child if it has a point.
     Inner {
@@ -46,7 +45,10 @@ pub(crate) enum NodeData {
 #[derive(Clone, Copy)]
 pub enum Node<'a> {
     /// The points, at most 252, by time and value.
-    Leaf { version: u64, points: &'a [Point] },
+    Leaf {
+        version: u64,
+        points: &'a [Point],
+    },
 
     /// More than 252 points, in 64 slots in order of time, and the link of each slot.
     Inner {
@@ -54,41 +56,4 @@ pub enum Node<'a> {
         slots: &'a [Slot],
         children: &'a [Child],
     },
-}
-
-/// Visits the node of a span, which is one step. Returns `None`, and counts none, if the span has no point. It takes no memory.
-pub fn visit<'a>(child: &'a Child, steps: &mut Steps) -> Option<Node<'a>>
-    ensures { IsVisit child.now result steps.old steps.new }
-{
-    match &child.node {
-        None => None,
-        Some(node) => {
-            steps.tick();
-            Some(match &**node {
-                NodeData::Leaf { version, points } => Node::Leaf {
-                    version: *version,
-                    points,
-                },
-                NodeData::Inner {
-                    version,
-                    slots,
-                    children,
-                } => Node::Inner {
-                    version: *version,
-                    slots,
-                    children,
-                },
-            })
-        }
-    }
-}
-
-/// The same link once more, in constant time.
-pub(crate) fn share(child: &Child) -> Result<Child, AllocError>
-    ensures { IfOk result (λ c. c ≡ child.now) }
-{
-    match &child.node {
-        None => Ok(Child { node: None }),
-        Some(node) => Ok(Child { node: Some(Arc::try_clone(node)?) }),
-    }
 }

@@ -6,9 +6,8 @@ ghost use Rattle.btr_tree.specs.History.{bag};
 ghost use Rattle.btr_tree.specs.EachHistory.{AtEachHistory, AtEachInner, points_in};
 ghost use Rattle.btr_tree.specs.Change.{IsSomeChild, AreSomeSlots, end_of};
 
-use crate::limits::SLOTS;
 use crate::node::{Child, NodeData, Slot};
-use btr_base::{Point, Range, Span, points_outside, ranges_before, ranges_from};
+use btr_base::{FAN_OUT, Point, Range, Span, points_outside, ranges_before, ranges_from};
 use std::alloc::{AllocError, Global};
 
 /// Counts the points of a child that a cut leaves.
@@ -60,7 +59,7 @@ pub(crate) fn count_outside_slots(
     ensures { IfOk result (λ n. AtEachInner span slots.now children.now (λ h. n ≡ length (outside (points_in span (bag h)) cut.now))) }
 {
     let mut left = 0;
-    for i in 0..SLOTS {
+    for i in 0..FAN_OUT {
         let index = usize::from(i);
         let agg = &slots[index].agg;
         let count = agg.count;
@@ -147,7 +146,7 @@ pub(crate) fn gather_outside_slots(
     requires cut { IsCut cut.now }
     ensures { OnOk result (AtEachInner span slots.now children.now (λ h. out.new.items ≡ out.old.items ++ outside (points_in span (bag h)) cut.now)) }
 {
-    for i in 0..SLOTS {
+    for i in 0..FAN_OUT {
         gather_outside_slot(alloc, span.slot(i), &children[usize::from(i)], cut, out)?;
     }
     Ok(())

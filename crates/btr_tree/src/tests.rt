@@ -4,7 +4,7 @@
 ghost use Rattle.std.specs.Prelude.{◌≡◌, ◌-◌};
 
 use crate::fault::TreeFault;
-use crate::node::{NewNode, Node, Child, Slot};
+use crate::node::{Child, NewNode, Node, Slot};
 use crate::opening::visit;
 use crate::root::are_in_domain;
 use crate::steps::Steps;

@@ -1,22 +1,23 @@
-ghost use Rattle.std.specs.Prelude.{◌≡◌, ◌<◌, ◌≤◌, ◌+◌, ◌*◌, ◌∷◌, [], List, length, IfOk, IfErr, OnOk};
+ghost use Rattle.std.specs.Prelude.{◌≡◌, ◌<◌, ◌≤◌, ◌+◌, ◌*◌, ◌∷◌, [], List, length, min, IfOk, IfErr, OnOk};
 ghost use Rattle.btr_base.specs.Agg.{agg};
+ghost use Rattle.btr_base.specs.Point.{AreInDomain};
 ghost use Rattle.btr_base.specs.declared.limits.TheConstants.{FIRST as FIRST_TIME, END as END_TIME};
 ghost use Rattle.btr_tree.specs.History.{Commit, bag, IsBefore};
 ghost use Rattle.btr_tree.specs.Crowd.{HasNoCrowdedSpan};
 ghost use Rattle.btr_tree.specs.Nodes.{above_root};
-ghost use Rattle.btr_tree.specs.Pages.{pages};
+ghost use Rattle.btr_tree.specs.NewNodes.{new_nodes};
 ghost use Rattle.btr_tree.specs.Shape.{IsChild};
 ghost use Rattle.btr_tree.specs.Change.{IsSomeChild};
-ghost use Rattle.btr_tree.specs.Root.{IsTree, IsTreeFault, AreInDomain};
+ghost use Rattle.btr_tree.specs.Root.{IsTree, IsTreeFault, AfterCommit, AtEachTree};
 
 use crate::apply::apply_slot;
 use crate::fault::TreeFault;
-use crate::limits::{ROOT_HEIGHT, VERSION_POINTS};
-use crate::node::{NewNode, Child, Slot};
+use crate::link::share;
+use crate::new_node::NewNode;
+use crate::node::{Child, Slot};
 use crate::root::root_span;
-use crate::shared::shared;
 use crate::steps::Steps;
-use btr_base::{Agg, Bag, Ranges};
+use btr_base::{Agg, Bag, MAX_POINTS, Ranges};
 use std::alloc::{AllocError, Global};
 use std::marker::Model;
 
@@ -29,20 +30,20 @@ pub struct Tree {
 }
 
 impl Model for Tree {
-    ghost use Rattle.std.specs.Option.{option_map};
     ghost use Rattle.std.specs.Coded.{codes};
-    ghost use Rattle.btr_tree.specs.contracts.node.Node as node_contract;
+    ghost use Rattle.btr_tree.specs.contracts.node.NodeData as node_contract;
     ghost use Rattle.btr_tree.specs.History.{Commit};
     ghost use Rattle.btr_tree.specs.Root.{TreeValue, IsTree};
+    ghost use Rattle.btr_tree.specs.Shape.{node_of};
     ghost use Rattle.std.specs.Prelude.{List};
 
     ghost Value = { TreeValue };
 
     ghost coded = { Prim.hlevel (codes, node_contract.the_row.coded) };
 
-    ghost view = { λ t. record { node = option_map (λ a. a.value) t.root; total = t.agg } };
+    ghost view = { λ t. record { node = node_of t.root; total = t.agg } };
 
-    ghost invariant = { λ t. (h : List Commit) × IsTree h (record { node = option_map (λ a. a.value) t.root; total = t.agg }) };
+    ghost invariant = { λ t. (h : List Commit) × IsTree h (record { node = node_of t.root; total = t.agg }) };
 }
 
 /// A commit that was applied: the new tree, and the nodes that it wrote, children before parents.
@@ -58,24 +59,24 @@ impl Tree {
         ensures { IsTree [] result }
     {
         Tree {
-            root: None,
+            root: Child { node: None },
             agg: Agg::none(),
         }
     }
 
-    /// The same tree once more, in constant time. An `Err` is want of memory.
+    /// The same tree once more, in constant time. An `Err` is out of memory.
     pub fn share(&self) -> Result<Tree, AllocError>
         ensures { IfOk result (λ t. t ≡ self.now) }
     {
         Ok(Tree {
-            root: shared(&self.root)?,
+            root: share(&self.root)?,
             agg: self.agg,
         })
     }
 
     /// How many points there are, in constant time. It takes no memory.
     pub fn count(&self) -> u64
-        ensures { (h : List Commit) → IsTree h self.now → result ≡ length (bag h) }
+        ensures { AtEachTree self.now (λ h. result ≡ length (bag h)) }
     {
         let agg = &self.agg;
         agg.count
@@ -83,30 +84,30 @@ impl Tree {
 
     /// The aggregate of all points, in constant time. It takes no memory.
     pub fn root_agg(&self) -> Agg
-        ensures { (h : List Commit) → IsTree h self.now → result ≡ agg (bag h) }
+        ensures { AtEachTree self.now (λ h. result ≡ agg (bag h)) }
     {
         self.agg
     }
 
-    /// The place of the root, whose span is the whole domain, in constant time. It takes no memory.
+    /// The link to the root, whose span is the whole domain, in constant time. It takes no memory.
     pub fn root(&self) -> &Child
-        ensures place { (h : List Commit) → IsTree h self.now → IsChild 10 FIRST_TIME above_root h result.now }
-        ensures stands { IsSomeChild 10 FIRST_TIME result.now 0 }
+        ensures child { AtEachTree self.now (λ h. IsChild 10 FIRST_TIME above_root h result.now) }
+        ensures some { IsSomeChild 10 FIRST_TIME result.now 0 }
     {
         &self.root
     }
 
-    /// The tree after a commit, which first removes the points whose time the cut covers, and then adds points. This tree
-    /// stays as it was. The new one shares each node whose span the commit does not touch: what is written costs the nodes
-    /// on the way to each point that is added and to each end of a range of the cut, and a leaf is one merge.
+    /// Applies a commit: removes the points whose time `cut` covers, and then adds the points of `added`. This tree stays as
+    /// it is. The new tree shares each node whose span the commit does not touch. The cost is the nodes on the way to each
+    /// added point and to each end of a range of the cut, and one merge a leaf.
     ///
-    /// It tells the nodes that it writes, children before parents, which are exactly those of the new tree that carry its
-    /// version, where that is at least 1 and above the versions of all commits before. It counts a step for each, at most 11
-    /// for each end of a range of the cut, and 11 times 253 for each added point.
+    /// Returns the nodes that it wrote, children before parents. They are exactly those nodes of the new tree that have
+    /// `version`, if that is at least 1 and above the versions of all commits before. It counts exactly one step for each.
+    /// They are at most 11 for each end of a range of the cut, and 11 times 253 for each added point.
     ///
-    /// `Crowded` exactly where a bottom span would have more than 252 points, with the first such; else `TooManyPoints`
-    /// exactly where there would be more than 2^32 points, with their number; and `Want`, want of memory, in place of any
-    /// answer.
+    /// Returns `Crowded`, with the first such start, exactly if a bottom span would have more than 252 points. Else returns
+    /// `TooManyPoints`, with their number, exactly if there would be more than 2^32 points. `Want` is out of memory, which
+    /// may come in place of any answer.
     pub fn apply(
         &self,
         alloc: Global,
@@ -116,13 +117,17 @@ impl Tree {
         steps: &mut Steps,
     ) -> Result<Applied, TreeFault>
         requires { AreInDomain added.now }
-        ensures tree { IfOk result (λ a. (h : List Commit) → IsTree h self.now → IsTree (record { version = version; cut = cut.now; added = added.now } ∷ h) a.tree) }
-        ensures nodes { IfOk result (λ a. (h : List Commit) → IsTree h self.now → 0 < version → IsBefore version h → a.nodes.items ≡ pages 10 FIRST_TIME above_root (record { version = version; cut = cut.now; added = added.now } ∷ h) version) }
-        ensures few { IfOk result (λ a. (h : List Commit) → IsTree h self.now → 0 < version → IsBefore version h → length a.nodes.items ≤ 11 * (253 * length added.now + 2 * length cut.now)) }
-        ensures steps { OnOk result ((h : List Commit) → IsTree h self.now → 0 < version → IsBefore version h → steps.new ≤ steps.old + 11 * (253 * length added.now + 2 * length cut.now)) }
-        ensures room { OnOk result ((h : List Commit) → IsTree h self.now → HasNoCrowdedSpan FIRST_TIME END_TIME (bag (record { version = version; cut = cut.now; added = added.now } ∷ h))) }
-        ensures fault { IfErr result (λ e. (h : List Commit) → IsTree h self.now → IsTreeFault (bag (record { version = version; cut = cut.now; added = added.now } ∷ h)) e) }
+        ensures tree { IfOk result (λ a. AfterCommit self.now version cut.now added.now (λ h c. IsTree (c ∷ h) a.tree)) }
+        ensures nodes { IfOk result (λ a. AfterCommit self.now version cut.now added.now (λ h c.
+            0 < version → IsBefore version h → a.nodes.items ≡ new_nodes 10 FIRST_TIME above_root (c ∷ h) version)) }
+        ensures few { IfOk result (λ a. AfterCommit self.now version cut.now added.now (λ h c.
+            0 < version → IsBefore version h → length a.nodes.items ≤ 11 * (253 * length added.now + 2 * length cut.now))) }
+        ensures steps { IfOk result (λ a. steps.new ≡ min (steps.old + length a.nodes.items) 18446744073709551615) }
+        ensures room { OnOk result (AfterCommit self.now version cut.now added.now (λ h c.
+            HasNoCrowdedSpan FIRST_TIME END_TIME (bag (c ∷ h)))) }
+        ensures fault { IfErr result (λ e. AfterCommit self.now version cut.now added.now (λ h c. IsTreeFault (bag (c ∷ h)) e)) }
     {
+        prove!(steps.count() <= u64::MAX);
         let mut nodes = Vec::new(alloc);
         let whole = Slot {
             agg: self.agg,
@@ -141,7 +146,7 @@ impl Tree {
             steps,
         )?;
         let agg = slot.agg;
-        if agg.count > VERSION_POINTS {
+        if agg.count > MAX_POINTS {
             return Err(TreeFault::TooManyPoints { count: agg.count });
         }
         Ok(Applied {

@@ -3,7 +3,7 @@ use Rattle.std.proofs.lemmas.List.{drop_more}
 use Rattle.btr_base.specs.Agg.{joined}
 use Rattle.btr_base.proofs.AggLemmas.{joined-assoc}
 use Rattle.btr_tree.specs.Change.{joined_all}
-use Rattle.btr_tree.proofs.total.agg_of_slots.Goals as goal
+use Rattle.btr_tree.proofs.aggregate.agg_of_slots.Goals as goal
 
 pub loop-slot-preserved : goal.loop-slot-preserved
 loop-slot-preserved c =

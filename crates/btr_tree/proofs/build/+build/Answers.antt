@@ -2,7 +2,7 @@ use Rattle.std.proofs.Common.{◌++◌, true, refl, ◌≡◌, ℕ, suc, ◌+◌
 use Rattle.std.proofs.lemmas.Int.{ints}
 use Rattle.std.proofs.lemmas.Result.{err_from_is_err_and}
 use Rattle.btr_base.proofs.PointLemmas.{filter-in_order}
-use Rattle.btr_tree.specs.declared.limits.TheConstants.{LEAF_POINTS}
+use Rattle.btr_base.specs.declared.limits.TheConstants.{LEAF_POINTS}
 use Rattle.btr_tree.specs.Crowd.{bottom, HasNoCrowdedSpan, IsFirstCrowd}
 use Rattle.btr_tree.proofs.SlotSplitLemmas.{parted-at, parted-inside, parted-same, crowding-part, room-more}
 use Rattle.btr_tree.proofs.NodeLemmas.{slot-end}
@@ -14,20 +14,20 @@ use Rattle.btr_tree.specs.Nodes.{points_of, is_inner}
 use Rattle.btr_tree.specs.Shape.{slot_start, IsChild, HasChildren}
 use Rattle.btr_tree.specs.Change.{end_of, IsFresh, IsSplit}
 use Rattle.btr_tree.proofs.CrowdLemmas.{room-few, room-none}
-use Rattle.btr_tree.proofs.BuiltNodeLemmas.{slots-push, children-push, slot-fresh, slot-new, slots-as, slot-made, leaf-place, inner-place_at, version-fresh}
+use Rattle.btr_tree.proofs.BuiltNodeLemmas.{slots-push, children-push, slot-fresh, slot-new, slots-as, slot-made, leaf-child, inner-child_at, version-fresh}
 use Rattle.std.proofs.lemmas.Bool.Decides.{nat_tests}
 use Rattle.btr_tree.proofs.UntouchedNodeLemmas.{many-inner}
-use Rattle.btr_tree.specs.Pages.{first_of, pages}
-use Rattle.btr_tree.proofs.NewNodeLemmas.{first-next, pages-none, pages-leaf, pages-inner_at, told-more}
+use Rattle.btr_tree.specs.NewNodes.{concat_first, new_nodes}
+use Rattle.btr_tree.proofs.NewNodeLemmas.{first-next, new_nodes-none, new_nodes-leaf, new_nodes-inner_at, told-more, counts-none, counts-one, counts-more}
 use Rattle.btr_tree.proofs.build.+build.Goals as goal
 
 some-points : {X : Type 0} (xs : List X) → (length xs == 0) ≡ false → 0 < length xs
 some-points [] e = cc
 some-points (x ∷ xs) e = omega arith
 
-pub build-returns-then-points-le-LEAF_POINTS-clause-place : goal.build-returns-then-points-le-LEAF_POINTS-clause-place
-build-returns-then-points-le-LEAF_POINTS-clause-place t c above h commit fresh =
-    leaf-place c.args.span.height c.args.span.start above h commit c.args.version c.args.points.now c.in_ok-leaf.field-0 fresh (some-points c.args.points.now (sym c.is_empty.ensures ∙ c.if-is_empty.false)) c.if-points-le-LEAF_POINTS.true c.in_ok-leaf.ensures.place
+pub build-returns-then-points-le-LEAF_POINTS-clause-child : goal.build-returns-then-points-le-LEAF_POINTS-clause-child
+build-returns-then-points-le-LEAF_POINTS-clause-child t c above h commit fresh =
+    leaf-child c.args.span.height c.args.span.start above h commit c.args.version c.args.points.now c.in_ok-push_leaf.field-0 fresh (some-points c.args.points.now (sym c.is_empty.ensures ∙ c.if-is_empty.false)) c.if-points-le-LEAF_POINTS.true c.in_ok-push_leaf.ensures.child
 
 pub build-returns-then-points-le-LEAF_POINTS-clause-room : goal.build-returns-then-points-le-LEAF_POINTS-clause-room
 build-returns-then-points-le-LEAF_POINTS-clause-room t c =
@@ -53,12 +53,12 @@ build-returns-then-span-eq0-clause-fault t c =
       }),
     )
 
-pub build-returns-clause-place : goal.build-returns-clause-place
-build-returns-clause-place t c above h commit fresh =
+pub build-returns-clause-child : goal.build-returns-clause-child
+build-returns-clause-child t c above h commit fresh =
     let below = c.args.span.height - 1 in
     let high : c.args.span.height ≡ suc below = omega (arith, ap (λ p. p.height) c.span.view_is, c.if-span-eq0.false) in
     let made = c.in_ok-slots.ensures.slots below h commit (record { height = high; number = fresh.number; same = fresh.same ∙ ap (λ k. points_of k c.args.span.start (bag (commit ∷ h))) high; few = subst (λ k. length (points_of k c.args.span.start (bag h)) ≤ LEAF_POINTS) high (fresh.small c.if-points-le-LEAF_POINTS.false) }) in
-    inner-place_at c.args.span.height below c.args.span.start above h commit c.args.version c.args.points.now c.in_ok-slots.slots.items c.in_ok-slots.children.items c.in_ok-inner.field-0 high fresh c.if-points-le-LEAF_POINTS.false made.0 made.1 c.in_ok-inner.ensures.place
+    inner-child_at c.args.span.height below c.args.span.start above h commit c.args.version c.args.points.now c.in_ok-slots.slots.items c.in_ok-slots.children.items c.in_ok-push_inner.field-0 high fresh c.if-points-le-LEAF_POINTS.false made.0 made.1 c.in_ok-push_inner.ensures.child
 
 pub build_slots-build_slot-requires : goal.build_slots-build_slot-requires
 build_slots-build_slot-requires t c =
@@ -97,17 +97,17 @@ build_slots-loop-i-preserved t c =
           let fresh = slot-fresh below span.start i h commit c.args.version here c.loop-i-test.true split.number same split.few in
           let before = c.loop-i.invariant.slots below h commit split in
           let slot = slot-made below span.start i h commit c.args.version here c.in_ok-slot.slot split.number same (slot-new below span.start i h commit split.few) c.in_ok-slot.ensures.slot in
-          let child = subst (λ (u : SpanValue). IsChild u.height u.start (is_inner (suc below) span.start) (commit ∷ h) c.in_ok-slot.child) parted.is (c.in_ok-slot.ensures.place (is_inner (suc below) span.start) h commit (subst (λ (u : SpanValue). IsFresh u.height u.start (is_inner (suc below) span.start) h commit c.args.version here) (sym parted.is) fresh)) in
-          (slots-as below span.start (commit ∷ h) (i + 1) _ _ _ _ c.in_ok-put.ensures.slots c.in_ok-put.ensures.children (slots-push below span.start (commit ∷ h) i c.loop-i.slots.items c.loop-i.children.items c.in_ok-slot.slot c.in_ok-slot.child before.0 slot), subst (HasChildren below span.start (commit ∷ h) (i + 1)) (sym c.in_ok-put.ensures.children) (children-push below span.start (commit ∷ h) i c.loop-i.children.items c.in_ok-slot.child before.0.children_length before.1 child));
+          let child = subst (λ (u : SpanValue). IsChild u.height u.start (is_inner (suc below) span.start) (commit ∷ h) c.in_ok-slot.child) parted.is (c.in_ok-slot.ensures.child (is_inner (suc below) span.start) h commit (subst (λ (u : SpanValue). IsFresh u.height u.start (is_inner (suc below) span.start) h commit c.args.version here) (sym parted.is) fresh)) in
+          (slots-as below span.start (commit ∷ h) (i + 1) _ _ _ _ c.in_ok-push_slot.ensures.slots c.in_ok-push_slot.ensures.children (slots-push below span.start (commit ∷ h) i c.loop-i.slots.items c.loop-i.children.items c.in_ok-slot.slot c.in_ok-slot.child before.0 slot), subst (HasChildren below span.start (commit ∷ h) (i + 1)) (sym c.in_ok-push_slot.ensures.children) (children-push below span.start (commit ∷ h) i c.loop-i.children.items c.in_ok-slot.child before.0.children_length before.1 child));
       nodes = λ below h commit split many.
           let parted = at below split.height in
           let same = parted-same span part below i c.args.points.now here behind (commit ∷ h) parted c.loop-i-test.true split.same in
           let fresh = slot-fresh below span.start i h commit c.args.version here c.loop-i-test.true split.number same split.few in
           let inner = many-inner (suc below) span.start (bag (commit ∷ h)) (subst (λ x. LEAF_POINTS < length x) split.same many) in
           let told = c.in_ok-slot.ensures.nodes (is_inner (suc below) span.start) h commit (subst (λ (u : SpanValue). IsFresh u.height u.start (is_inner (suc below) span.start) h commit c.args.version here) (sym parted.is) fresh) inner in
-          let f = λ (j : ℕ). pages below (slot_start below span.start j) (is_inner (suc below) span.start) (commit ∷ h) c.args.version in
-          told-more c.args.nodes.now.items c.loop-i.nodes.items c.build_slot.new.nodes.items (first_of i f) (f i) (first_of (i + 1) f) (c.loop-i.invariant.nodes below h commit split many) (told ∙ ap (λ (u : SpanValue). c.loop-i.nodes.items ++ pages u.height u.start (is_inner (suc below) span.start) (commit ∷ h) c.args.version) parted.is) (first-next i f);
-      counted = omega (arith, c.loop-i.invariant.counted, c.in_ok-slot.ensures.counted);
+          let f = λ (j : ℕ). new_nodes below (slot_start below span.start j) (is_inner (suc below) span.start) (commit ∷ h) c.args.version in
+          told-more c.args.nodes.now.items c.loop-i.nodes.items c.build_slot.new.nodes.items (concat_first i f) (f i) (concat_first (i + 1) f) (c.loop-i.invariant.nodes below h commit split many) (told ∙ ap (λ (u : SpanValue). c.loop-i.nodes.items ++ new_nodes u.height u.start (is_inner (suc below) span.start) (commit ∷ h) c.args.version) parted.is) (first-next i f);
+      counted = counts-more c.args.steps.now c.loop-i.steps c.build_slot.new.steps c.args.nodes.now.items c.loop-i.nodes.items c.build_slot.new.nodes.items c.loop-i.invariant.counted c.in_ok-slot.ensures.counted;
       room = λ below high. room-more span part below i c.args.points.now here behind (at below high) (c.loop-i.invariant.room below high) c.in_ok-slot.ensures.room;
     }
 
@@ -125,14 +125,14 @@ empty-is (x ∷ xs) e = absurd (grind (arith, nat_tests))
 pub build-returns-then-is_empty-clause-nodes : goal.build-returns-then-is_empty-clause-nodes
 build-returns-then-is_empty-clause-nodes t c above h commit fresh w =
     let none = empty-is c.args.points.now (sym c.is_empty.ensures ∙ c.if-is_empty.true) in
-    sym (ap (λ x. c.args.nodes.now.items ++ x) (pages-none c.args.span.height c.args.span.start above (commit ∷ h) c.args.version (sym fresh.same ∙ none)) ∙ append-nil c.args.nodes.now.items)
+    sym (ap (λ x. c.args.nodes.now.items ++ x) (new_nodes-none c.args.span.height c.args.span.start above (commit ∷ h) c.args.version (sym fresh.same ∙ none)) ∙ append-nil c.args.nodes.now.items)
 
 pub build-returns-then-points-le-LEAF_POINTS-clause-nodes : goal.build-returns-then-points-le-LEAF_POINTS-clause-nodes
 build-returns-then-points-le-LEAF_POINTS-clause-nodes t c above h commit fresh w =
     let k = c.args.span.height in
     let s = c.args.span.start in
-    c.in_ok-leaf.ensures.nodes
-    ∙ ap (λ x. c.args.nodes.now.items ++ x) (sym (pages-leaf k s above (commit ∷ h) c.args.version c.args.points.now w (version-fresh k s above h commit c.args.version fresh.number fresh.fresh) fresh.same (some-points c.args.points.now (sym c.is_empty.ensures ∙ c.if-is_empty.false)) c.if-points-le-LEAF_POINTS.true))
+    c.in_ok-push_leaf.ensures.nodes
+    ∙ ap (λ x. c.args.nodes.now.items ++ x) (sym (new_nodes-leaf k s above (commit ∷ h) c.args.version c.args.points.now w (version-fresh k s above h commit c.args.version fresh.number fresh.fresh) fresh.same (some-points c.args.points.now (sym c.is_empty.ensures ∙ c.if-is_empty.false)) c.if-points-le-LEAF_POINTS.true))
 
 pub build-returns-clause-nodes : goal.build-returns-clause-nodes
 build-returns-clause-nodes t c above h commit fresh w =
@@ -143,10 +143,15 @@ build-returns-clause-nodes t c above h commit fresh w =
     let split : IsSplit below c.args.span h commit c.args.version c.args.points.now = record { height = high; number = fresh.number; same = fresh.same ∙ ap (λ j. points_of j s (bag (commit ∷ h))) high; few = subst (λ j. length (points_of j s (bag h)) ≤ LEAF_POINTS) high (fresh.small c.if-points-le-LEAF_POINTS.false) } in
     let made = c.in_ok-slots.ensures.slots below h commit split in
     let told = c.in_ok-slots.ensures.nodes below h commit split c.if-points-le-LEAF_POINTS.false in
-    told-more c.args.nodes.now.items c.build_slots.new.nodes.items c.inner.new.nodes.items _ _ (pages k s above (commit ∷ h) c.args.version) told c.in_ok-inner.ensures.nodes (pages-inner_at k below s above (commit ∷ h) c.args.version c.in_ok-slots.slots.items c.in_ok-slots.children.items high w (version-fresh k s above h commit c.args.version fresh.number fresh.fresh) (subst (λ x. LEAF_POINTS < length x) fresh.same c.if-points-le-LEAF_POINTS.false) made.0)
+    told-more c.args.nodes.now.items c.build_slots.new.nodes.items c.push_inner.new.nodes.items _ _ (new_nodes k s above (commit ∷ h) c.args.version) told c.in_ok-push_inner.ensures.nodes (new_nodes-inner_at k below s above (commit ∷ h) c.args.version c.in_ok-slots.slots.items c.in_ok-slots.children.items high w (version-fresh k s above h commit c.args.version fresh.number fresh.fresh) (subst (λ x. LEAF_POINTS < length x) fresh.same c.if-points-le-LEAF_POINTS.false) made.0)
 
 pub build_slots-returns-clause-nodes : goal.build_slots-returns-clause-nodes
 build_slots-returns-clause-nodes t c below h commit split many =
     let done : c.loop-i.i ≡ 64 = omega arith in
     c.loop-i.invariant.nodes below h commit split many
-    ∙ ap (λ n. c.args.nodes.now.items ++ first_of n (λ j. pages below (slot_start below c.args.span.start j) (is_inner (suc below) c.args.span.start) (commit ∷ h) c.args.version)) done
+    ∙ ap (λ n. c.args.nodes.now.items ++ concat_first n (λ j. new_nodes below (slot_start below c.args.span.start j) (is_inner (suc below) c.args.span.start) (commit ∷ h) c.args.version)) done
+
+-- ---- how many nodes there are
+
+pub build_slots-returns-clause-counted : goal.build_slots-returns-clause-counted
+build_slots-returns-clause-counted t c = c.loop-i.invariant.counted

@@ -2,10 +2,10 @@ use Rattle.std.proofs.Common.{◌≤◌, ◌++◌, length, ◌≡◌, ℕ, suc, 
 use Rattle.btr_base.specs.Bag.{IsInOrder, within}
 use Rattle.btr_tree.specs.History.{Commit}
 use Rattle.btr_tree.specs.Shape.{HasSlots, HasChildren, slot_start}
-use Rattle.btr_tree.specs.Change.{IsSplit, end_of}
-use Rattle.btr_tree.specs.declared.limits.TheConstants.{LEAF_POINTS}
+use Rattle.btr_tree.specs.Change.{IsSplit, CountsNodes, end_of}
+use Rattle.btr_base.specs.declared.limits.TheConstants.{LEAF_POINTS}
 use Rattle.btr_tree.specs.Nodes.{is_inner}
-use Rattle.btr_tree.specs.Pages.{first_of, pages}
+use Rattle.btr_tree.specs.NewNodes.{concat_first, new_nodes}
 use Rattle.btr_tree.specs.Crowd.{HasNoCrowdedSpan}
 use Rattle.btr_tree.proofs.build.+build.Given as goal
 
@@ -15,8 +15,8 @@ invariant-build_slots-loop-i l = record {
   rest : (below : ℕ) → l.span.height ≡ suc below → l.rest ≡ within (slot_start below l.span.start l.i) (end_of l.span) l.points;
   order : IsInOrder l.rest;
   slots : (below : ℕ) (h : List Commit) (c : Commit) → IsSplit below l.span h c l.version l.points → HasSlots below l.span.start (c ∷ h) l.i l.slots.items l.children.items × HasChildren below l.span.start (c ∷ h) l.i l.children.items;
-  nodes : (below : ℕ) (h : List Commit) (c : Commit) → IsSplit below l.span h c l.version l.points → LEAF_POINTS < length l.points → l.nodes.items ≡ l.fn.nodes.items ++ first_of l.i (λ i. pages below (slot_start below l.span.start i) (is_inner (suc below) l.span.start) (c ∷ h) l.version);
-  counted : l.steps + length l.fn.nodes.items ≤ l.fn.steps + length l.nodes.items;
+  nodes : (below : ℕ) (h : List Commit) (c : Commit) → IsSplit below l.span h c l.version l.points → LEAF_POINTS < length l.points → l.nodes.items ≡ l.fn.nodes.items ++ concat_first l.i (λ i. new_nodes below (slot_start below l.span.start i) (is_inner (suc below) l.span.start) (c ∷ h) l.version);
+  counted : CountsNodes l.fn.steps l.steps l.fn.nodes.items l.nodes.items;
   room : (below : ℕ) → l.span.height ≡ suc below → HasNoCrowdedSpan l.span.start (slot_start below l.span.start l.i) l.points;
 }
 

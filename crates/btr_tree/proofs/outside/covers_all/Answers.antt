@@ -1,7 +1,7 @@
 use Rattle.std.proofs.Common.{◌≡◌, ℤ, true, ◌||◌, List, [], ◌∷◌, ◌<◌, ◌∙◌, ap, sym, arith, get_or, length}
 use Rattle.std.proofs.lemmas.Int.{ints}
 use Rattle.btr_base.specs.Range.{RangeValue, covered, contains}
-use Rattle.btr_tree.proofs.kept.covers_all.Goals as goal
+use Rattle.btr_tree.proofs.outside.covers_all.Goals as goal
 
 first-covers : (rs : List RangeValue) (r : RangeValue) (t : ℤ) → 0 < length rs → r ≡ get_or rs 0 r → contains r t ≡ true → covered rs t ≡ true
 first-covers [] r t some e h = absurd (omega arith)

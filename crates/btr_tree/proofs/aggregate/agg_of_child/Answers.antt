@@ -3,13 +3,13 @@ use Rattle.btr_base.specs.Agg.{agg}
 use Rattle.btr_tree.specs.History.{bag}
 use Rattle.btr_tree.specs.Nodes.{points_of}
 use Rattle.btr_tree.specs.Change.{joined_all}
-use Rattle.btr_tree.proofs.NodeLemmas.{place-is, inner-is, total-of}
-use Rattle.btr_tree.proofs.total.agg_of_place.Goals as goal
+use Rattle.btr_tree.proofs.NodeLemmas.{child-is, inner_data-is, total-of}
+use Rattle.btr_tree.proofs.aggregate.agg_of_child.Goals as goal
 
 pub returns-in-Inner : goal.returns-in-Inner
 returns-in-Inner c height start above h holds =
-    let node = place-is height start above h c.args.place.now c.in-Some.node c.in-Some.is holds in
-    let body = inner-is height start above h c.in-Some.node.value c.in-Inner.version c.in-Inner.slots c.in-Inner.children (sym c.deref.ensures ∙ c.in-Inner.is) node in
+    let node = child-is height start above h c.args.child.now c.in-Some.node c.in-Some.is holds in
+    let body = inner_data-is height start above h c.in-Some.node.value c.in-Inner.version c.in-Inner.slots c.in-Inner.children (sym c.deref.ensures ∙ c.in-Inner.is) node in
     c.agg_of_slots.ensures
     ∙ ap joined_all c.deref-in-Inner.ensures.value
     ∙ total-of body.below start h c.in-Inner.slots.items c.in-Inner.children.items body.inner.all

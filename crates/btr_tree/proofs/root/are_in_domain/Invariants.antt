@@ -1,6 +1,0 @@
-use Rattle.std.proofs.Common.{take}
-use Rattle.btr_tree.specs.Root.{AreInDomain}
-use Rattle.btr_tree.proofs.root.are_in_domain.Given as goal
-
-abbrev pub invariant-loop-point : goal.invariant-loop-point
-invariant-loop-point l = AreInDomain (take l.point-index l.points)
