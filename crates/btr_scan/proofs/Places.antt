@@ -1,8 +1,7 @@
 -- Lemmas on what a walk finds in a place: the points of a leaf, the slots of an inner node, and a slot's child.
-use Rattle.std.specs.Prelude.{◌≡◌, ℕ, suc, ◌+◌, ◌<◌, ◌^◌, ℤ, pos, ◌+ℤ◌, ◌≤ℤ◌, Bool, not, int_le, int_lt, List, [], length, slice_index_or, Vec, Result, Ok, Err, OnOk, if◌then◌else◌}
+use Rattle.std.specs.Prelude.{◌≡◌, ℕ, suc, ◌+◌, ◌<◌, ◌^◌, ℤ, pos, ◌+ℤ◌, ◌≤ℤ◌, Bool, not, int_le, int_lt, List, [], length, slice_index_or, Result, Ok, Err, OnOk, if◌then◌else◌}
 use Rattle.std.specs.Result.{is_ok}
-use Rattle.std.proofs.Common.{sym, ap, ◌∙◌, arith, subst}
-use Rattle.std.specs.declared.alloc.Global.{Global}
+use Rattle.std.proofs.Common.{Bor, sym, ap, ◌∙◌, arith, subst}
 use Rattle.btr_base.specs.declared.point.Point.{Point}
 use Rattle.btr_base.specs.Bag.{IsInOrder, within}
 use Rattle.btr_base.proofs.ListLemmas.{filter-same}
@@ -19,7 +18,6 @@ use Rattle.btr_tree.specs.declared.node.Child.{Child}
 use Rattle.btr_tree.specs.Shape.{slot_start, IsChild, HasSlots, HasChildren, IsNode}
 use Rattle.btr_tree.proofs.NodeLemmas.{leaf-is, inner-is, slot-part, slot-few}
 use Rattle.btr_tree.specs.Change.{IsSomeChild, AreSomeSlots}
-use Rattle.btr_tree.proofs.BuiltNodeLemmas.{slots-as}
 use Rattle.btr_tree.proofs.VersionLemmas.{points-in_order}
 
 -- what a list is after a call that leaves it as it was where it fails
@@ -31,12 +29,12 @@ not_before : (time t : ℤ) → not (int_lt t time) ≡ int_le time t
 not_before time t = grind (arith, ints)
 
 -- the points of a leaf are those of its span
-pub leaf-points : (k : ℕ) (s : ℤ) (above : List Point → Bool) (h : List Commit) (n : Node) (v : ℕ) (ps : Vec Point Global) (slice : List Point) → n ≡ Leaf v ps → slice ≡ ps.items → IsNode k s above h n → slice ≡ points_of k s (bag h)
-leaf-points k s above h n v ps slice e same holds = same ∙ (leaf-is k s above h n v ps e holds).same
+pub leaf-points : (k : ℕ) (s : ℤ) (above : List Point → Bool) (h : List Commit) (n : Node) (v : ℕ) (ps : Bor (List Point)) → n ≡ Leaf v ps → IsNode k s above h n → ps.now ≡ points_of k s (bag h)
+leaf-points k s above h n v ps e holds = (leaf-is k s above h n v ps e holds).same
 
-pub leaf-in_order : (k : ℕ) (s : ℤ) (above : List Point → Bool) (h : List Commit) (n : Node) (v : ℕ) (ps : Vec Point Global) (slice : List Point) → n ≡ Leaf v ps → slice ≡ ps.items → IsNode k s above h n → IsInOrder slice
-leaf-in_order k s above h n v ps slice e same holds =
-    subst IsInOrder (sym (leaf-points k s above h n v ps slice e same holds)) (points-in_order k s h)
+pub leaf-in_order : (k : ℕ) (s : ℤ) (above : List Point → Bool) (h : List Commit) (n : Node) (v : ℕ) (ps : Bor (List Point)) → n ≡ Leaf v ps → IsNode k s above h n → IsInOrder ps.now
+leaf-in_order k s above h n v ps e holds =
+    subst IsInOrder (sym (leaf-points k s above h n v ps e holds)) (points-in_order k s h)
 
 -- those of them from a time on, and before it
 pub leaf-from : (k : ℕ) (s : ℤ) (b : List Point) (points behind : List Point) (time at : ℤ) → at ≡ time → s ≤ℤ time → points ≡ points_of k s b → behind ≡ filter (λ p. not (int_lt p.time at)) points → behind ≡ within time (s +ℤ pos (width k)) b
@@ -68,15 +66,10 @@ pub record HasInner (k : ℕ) (s : ℤ) (h : List Commit) (ss : List Slot) (cs :
   pub all : HasSlots below s h 64 ss cs
   pub each : HasChildren below s h 64 cs
 
-pub inner-parts : (k : ℕ) (s : ℤ) (above : List Point → Bool) (h : List Commit) (n : Node) (v : ℕ) (ss : Vec Slot Global) (cs : Vec Child Global) (ts : List Slot) (ds : List Child) → n ≡ Inner v ss cs → ts ≡ ss.items → ds ≡ cs.items → IsNode k s above h n → HasInner k s h ts ds
-inner-parts k s above h n v ss cs ts ds e p q holds =
+pub inner-parts : (k : ℕ) (s : ℤ) (above : List Point → Bool) (h : List Commit) (n : Node) (v : ℕ) (ss : Bor (List Slot)) (cs : Bor (List Child)) → n ≡ Inner v ss cs → IsNode k s above h n → HasInner k s h ss.now cs.now
+inner-parts k s above h n v ss cs e holds =
     let body = inner-is k s above h n v ss cs e holds in
-    record {
-      below = body.below;
-      height = body.height;
-      all = slots-as body.below s h 64 ss.items ts cs.items ds p q body.inner.all;
-      each = subst (HasChildren body.below s h 64) (sym q) body.each;
-    }
+    record { below = body.below; height = body.height; all = body.inner.all; each = body.each }
 
 -- an inner node stands where its place did
 pub inner-stands : (k : ℕ) (s : ℤ) (h : List Commit) (ss : List Slot) (cs : List Child) → HasInner k s h ss cs → length (points_of k s (bag h)) + 0 < 2 ^ 64 → (below : ℕ) × (k ≡ suc below) × AreSomeSlots below s ss cs 0

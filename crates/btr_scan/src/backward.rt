@@ -11,38 +11,38 @@ ghost use Rattle.btr_tree.specs.Change.{IsSomeChild, AreSomeSlots, end_of};
 ghost use Rattle.btr_base.specs.Point.{AreInDomain};
 
 use crate::slots::previous_slot;
-use btr_base::{END, FIRST, Point, Span, parted};
-use btr_tree::{Node, Child, FAN_OUT, Slot, Steps, visit, root_span};
+use btr_base::{END, FAN_OUT, FIRST, Point, Span, parted};
+use btr_tree::{Child, Node, Slot, Steps, root_span, visit};
 
 /// The last point of the root's place before a time. It opens at most 21 nodes.
-pub(crate) fn previous_in_root(place: &Child, time: i64, steps: &mut Steps) -> Option<Point>
-    requires { IsSomeChild 10 FIRST_TIME place.now 0 }
-    ensures point { (h : List Commit) → IsChild 10 FIRST_TIME above_root h place.now → AreInDomain (bag h) → result ≡ last_or None (filter (λ p. int_lt p.time time) (bag h)) }
-    ensures few { steps.new ≤ steps.old + 21 }
-    ensures kept { steps.old ≤ steps.new }
+pub(crate) fn previous_in_root(child: &Child, time: i64, steps: &mut Steps) -> Option<Point>
+    requires { IsSomeChild 10 FIRST_TIME child.now 0 }
+    ensures point { (h : List Commit) → IsChild 10 FIRST_TIME above_root h child.now → AreInDomain (bag h) → result ≡ last_or None (filter (λ p. int_lt p.time time) (bag h)) }
+    ensures bounded { steps.new ≤ steps.old + 21 }
+    ensures never_falls { steps.old ≤ steps.new }
 {
     if time <= FIRST {
         return None;
     }
     if time >= END {
-        return last_in_place(root_span(), place, steps);
+        return last_in_child(root_span(), child, steps);
     }
-    previous_in_place(root_span(), place, time, steps)
+    previous_in_child(root_span(), child, time, steps)
 }
 
 /// The last point of a place before a time, which lies behind its span's start and not behind its end. It opens at most two
 /// nodes a height, and at most one where it finds none.
 #[cycle(previous)]
-fn previous_in_place(span: Span, place: &Child, time: i64, steps: &mut Steps) -> Option<Point>
-    requires stands { IsSomeChild span.height span.start place.now 0 }
+fn previous_in_child(span: Span, child: &Child, time: i64, steps: &mut Steps) -> Option<Point>
+    requires some { IsSomeChild span.height span.start child.now 0 }
     requires begins { span.start <ℤ time }
     requires ends { time ≤ℤ end_of span }
-    ensures point { (above : List APoint → Bool) (h : List Commit) → IsChild span.height span.start above h place.now → result ≡ last_or None (within span.start time (bag h)) }
-    ensures few { steps.new ≤ steps.old + 2 * span.height + 1 }
+    ensures point { (above : List APoint → Bool) (h : List Commit) → IsChild span.height span.start above h child.now → result ≡ last_or None (within span.start time (bag h)) }
+    ensures bounded { steps.new ≤ steps.old + 2 * span.height + 1 }
     ensures none { IsNone result → steps.new ≤ steps.old + span.height + 1 }
-    ensures kept { steps.old ≤ steps.new }
+    ensures never_falls { steps.old ≤ steps.new }
 {
-    match visit(place, steps)? {
+    match visit(child, steps)? {
         Node::Leaf { points, .. } => {
             let (before, _) = parted(points, time);
             last_of(before)
@@ -64,16 +64,16 @@ fn previous_in_slots(
     time: i64,
     steps: &mut Steps,
 ) -> Option<Point>
-    requires stands { (below : ℕ) × (span.height ≡ suc below) × AreSomeSlots below span.start slots.now children.now 0 }
+    requires some { (below : ℕ) × (span.height ≡ suc below) × AreSomeSlots below span.start slots.now children.now 0 }
     requires begins { span.start <ℤ time }
     requires ends { time ≤ℤ end_of span }
     ensures point { (below : ℕ) (h : List Commit) → span.height ≡ suc below → HasSlots below span.start h 64 slots.now children.now → HasChildren below span.start h 64 children.now → result ≡ last_or None (within span.start time (bag h)) }
-    ensures few { steps.new ≤ steps.old + 2 * span.height }
+    ensures bounded { steps.new ≤ steps.old + 2 * span.height }
     ensures none { IsNone result → steps.new ≤ steps.old + span.height }
-    ensures kept { steps.old ≤ steps.new }
+    ensures never_falls { steps.old ≤ steps.new }
 {
     let (_, i) = span.slots_between(span.start, time);
-    match previous_in_place(span.slot(i), &children[usize::from(i)], time, steps) {
+    match previous_in_child(span.slot(i), &children[usize::from(i)], time, steps) {
         Some(point) => Some(point),
         None => last_in_slots(span, slots, children, i, steps),
     }
@@ -81,13 +81,13 @@ fn previous_in_slots(
 
 /// The last point of a place. It opens at most one node a height.
 #[cycle(last)]
-fn last_in_place(span: Span, place: &Child, steps: &mut Steps) -> Option<Point>
-    requires { IsSomeChild span.height span.start place.now 0 }
-    ensures point { (above : List APoint → Bool) (h : List Commit) → IsChild span.height span.start above h place.now → result ≡ last_or None (points_of span.height span.start (bag h)) }
-    ensures few { steps.new ≤ steps.old + span.height + 1 }
-    ensures kept { steps.old ≤ steps.new }
+fn last_in_child(span: Span, child: &Child, steps: &mut Steps) -> Option<Point>
+    requires { IsSomeChild span.height span.start child.now 0 }
+    ensures point { (above : List APoint → Bool) (h : List Commit) → IsChild span.height span.start above h child.now → result ≡ last_or None (points_of span.height span.start (bag h)) }
+    ensures bounded { steps.new ≤ steps.old + span.height + 1 }
+    ensures never_falls { steps.old ≤ steps.new }
 {
-    match visit(place, steps)? {
+    match visit(child, steps)? {
         Node::Leaf { points, .. } => last_of(points),
         Node::Inner {
             slots,
@@ -106,15 +106,15 @@ fn last_in_slots(
     to: u8,
     steps: &mut Steps,
 ) -> Option<Point>
-    requires stands { (below : ℕ) × (span.height ≡ suc below) × AreSomeSlots below span.start slots.now children.now 0 }
+    requires some { (below : ℕ) × (span.height ≡ suc below) × AreSomeSlots below span.start slots.now children.now 0 }
     requires place { to ≤ 64 }
     ensures point { (below : ℕ) (h : List Commit) → span.height ≡ suc below → HasSlots below span.start h 64 slots.now children.now → HasChildren below span.start h 64 children.now → result ≡ last_or None (within span.start (slot_start below span.start to) (bag h)) }
-    ensures few { steps.new ≤ steps.old + span.height }
+    ensures bounded { steps.new ≤ steps.old + span.height }
     ensures none { IsNone result → steps.new ≡ steps.old }
-    ensures kept { steps.old ≤ steps.new }
+    ensures never_falls { steps.old ≤ steps.new }
 {
     let i = previous_slot(slots, to)?;
-    last_in_place(span.slot(i), &children[usize::from(i)], steps)
+    last_in_child(span.slot(i), &children[usize::from(i)], steps)
 }
 
 /// The last of points.

@@ -11,37 +11,37 @@ ghost use Rattle.btr_base.specs.Point.{AreInDomain};
 
 use crate::slots::next_slot;
 use btr_base::{END, FIRST, Point, Span, parted};
-use btr_tree::{Node, Child, Slot, Steps, visit, root_span};
+use btr_tree::{Child, Node, Slot, Steps, root_span, visit};
 
 /// The first point of the root's place at or behind a time. It opens at most 21 nodes.
-pub(crate) fn next_in_root(place: &Child, time: i64, steps: &mut Steps) -> Option<Point>
-    requires { IsSomeChild 10 FIRST_TIME place.now 0 }
-    ensures point { (h : List Commit) → IsChild 10 FIRST_TIME above_root h place.now → AreInDomain (bag h) → result ≡ slice_get (filter (λ p. int_le time p.time) (bag h)) 0 }
-    ensures few { steps.new ≤ steps.old + 21 }
-    ensures kept { steps.old ≤ steps.new }
+pub(crate) fn next_in_root(child: &Child, time: i64, steps: &mut Steps) -> Option<Point>
+    requires { IsSomeChild 10 FIRST_TIME child.now 0 }
+    ensures point { (h : List Commit) → IsChild 10 FIRST_TIME above_root h child.now → AreInDomain (bag h) → result ≡ slice_get (filter (λ p. int_le time p.time) (bag h)) 0 }
+    ensures bounded { steps.new ≤ steps.old + 21 }
+    ensures never_falls { steps.old ≤ steps.new }
 {
     if time >= END {
         return None;
     }
     if time < FIRST {
-        return first_in_place(root_span(), place, steps);
+        return first_in_child(root_span(), child, steps);
     }
-    next_in_place(root_span(), place, time, steps)
+    next_in_child(root_span(), child, time, steps)
 }
 
 /// The first point of a place at or behind a time of its span. It opens at most two nodes a height, and at most one where it
 /// finds none.
 #[cycle(next)]
-fn next_in_place(span: Span, place: &Child, time: i64, steps: &mut Steps) -> Option<Point>
-    requires stands { IsSomeChild span.height span.start place.now 0 }
+fn next_in_child(span: Span, child: &Child, time: i64, steps: &mut Steps) -> Option<Point>
+    requires some { IsSomeChild span.height span.start child.now 0 }
     requires begins { span.start ≤ℤ time }
     requires ends { time <ℤ end_of span }
-    ensures point { (above : List APoint → Bool) (h : List Commit) → IsChild span.height span.start above h place.now → result ≡ slice_get (within time (end_of span) (bag h)) 0 }
-    ensures few { steps.new ≤ steps.old + 2 * span.height + 1 }
+    ensures point { (above : List APoint → Bool) (h : List Commit) → IsChild span.height span.start above h child.now → result ≡ slice_get (within time (end_of span) (bag h)) 0 }
+    ensures bounded { steps.new ≤ steps.old + 2 * span.height + 1 }
     ensures none { IsNone result → steps.new ≤ steps.old + span.height + 1 }
-    ensures kept { steps.old ≤ steps.new }
+    ensures never_falls { steps.old ≤ steps.new }
 {
-    match visit(place, steps)? {
+    match visit(child, steps)? {
         Node::Leaf { points, .. } => {
             let (_, behind) = parted(points, time);
             first_of(behind)
@@ -63,16 +63,16 @@ fn next_in_slots(
     time: i64,
     steps: &mut Steps,
 ) -> Option<Point>
-    requires stands { (below : ℕ) × (span.height ≡ suc below) × AreSomeSlots below span.start slots.now children.now 0 }
+    requires some { (below : ℕ) × (span.height ≡ suc below) × AreSomeSlots below span.start slots.now children.now 0 }
     requires begins { span.start ≤ℤ time }
     requires ends { time <ℤ end_of span }
     ensures point { (below : ℕ) (h : List Commit) → span.height ≡ suc below → HasSlots below span.start h 64 slots.now children.now → HasChildren below span.start h 64 children.now → result ≡ slice_get (within time (end_of span) (bag h)) 0 }
-    ensures few { steps.new ≤ steps.old + 2 * span.height }
+    ensures bounded { steps.new ≤ steps.old + 2 * span.height }
     ensures none { IsNone result → steps.new ≤ steps.old + span.height }
-    ensures kept { steps.old ≤ steps.new }
+    ensures never_falls { steps.old ≤ steps.new }
 {
     let i = span.slot_at(time);
-    match next_in_place(span.slot(i), &children[usize::from(i)], time, steps) {
+    match next_in_child(span.slot(i), &children[usize::from(i)], time, steps) {
         Some(point) => Some(point),
         None => first_in_slots(span, slots, children, i + 1, steps),
     }
@@ -80,13 +80,13 @@ fn next_in_slots(
 
 /// The first point of a place. It opens at most one node a height.
 #[cycle(first)]
-fn first_in_place(span: Span, place: &Child, steps: &mut Steps) -> Option<Point>
-    requires { IsSomeChild span.height span.start place.now 0 }
-    ensures point { (above : List APoint → Bool) (h : List Commit) → IsChild span.height span.start above h place.now → result ≡ slice_get (points_of span.height span.start (bag h)) 0 }
-    ensures few { steps.new ≤ steps.old + span.height + 1 }
-    ensures kept { steps.old ≤ steps.new }
+fn first_in_child(span: Span, child: &Child, steps: &mut Steps) -> Option<Point>
+    requires { IsSomeChild span.height span.start child.now 0 }
+    ensures point { (above : List APoint → Bool) (h : List Commit) → IsChild span.height span.start above h child.now → result ≡ slice_get (points_of span.height span.start (bag h)) 0 }
+    ensures bounded { steps.new ≤ steps.old + span.height + 1 }
+    ensures never_falls { steps.old ≤ steps.new }
 {
-    match visit(place, steps)? {
+    match visit(child, steps)? {
         Node::Leaf { points, .. } => first_of(points),
         Node::Inner {
             slots,
@@ -105,15 +105,15 @@ fn first_in_slots(
     from: u8,
     steps: &mut Steps,
 ) -> Option<Point>
-    requires stands { (below : ℕ) × (span.height ≡ suc below) × AreSomeSlots below span.start slots.now children.now 0 }
+    requires some { (below : ℕ) × (span.height ≡ suc below) × AreSomeSlots below span.start slots.now children.now 0 }
     requires place { from ≤ 64 }
     ensures point { (below : ℕ) (h : List Commit) → span.height ≡ suc below → HasSlots below span.start h 64 slots.now children.now → HasChildren below span.start h 64 children.now → result ≡ slice_get (within (slot_start below span.start from) (end_of span) (bag h)) 0 }
-    ensures few { steps.new ≤ steps.old + span.height }
+    ensures bounded { steps.new ≤ steps.old + span.height }
     ensures none { IsNone result → steps.new ≡ steps.old }
-    ensures kept { steps.old ≤ steps.new }
+    ensures never_falls { steps.old ≤ steps.new }
 {
     let i = next_slot(slots, from)?;
-    first_in_place(span.slot(i), &children[usize::from(i)], steps)
+    first_in_child(span.slot(i), &children[usize::from(i)], steps)
 }
 
 /// The first of points.

@@ -8,14 +8,14 @@
 // how a walk goes on over slots
 mod slots;
 // the points of a range
-mod scanning;
+mod range_walk;
 // the point nearest to a time
 mod backward;
 mod forward;
-mod seeking;
+mod nearest_walk;
 
-pub use scanning::range;
-pub use seeking::nearest;
+pub use nearest_walk::nearest;
+pub use range_walk::range;
 
 #[cfg(test)]
 mod tests;

@@ -2,7 +2,8 @@
 ghost use Rattle.std.specs.Prelude.{◌≡◌, ◌<◌, ◌≤◌, ℕ, length, slice_index_or, IfSome, IsNone};
 ghost use Rattle.btr_tree.specs.declared.node.Slot.{Slot as ASlot};
 
-use btr_tree::{FAN_OUT, Slot};
+use btr_base::FAN_OUT;
+use btr_tree::Slot;
 
 /// The place of the first slot from a place on that has a point.
 pub(crate) fn next_slot(slots: &[Slot], from: u8) -> Option<u8>

@@ -1,7 +1,7 @@
-use crate::scanning::range;
-use crate::seeking::nearest;
-use btr_base::{Bag, END, FIRST, Point, Range, Ranges, Toward};
-use btr_tree::{Steps, Tree, are_in_domain};
+use crate::nearest_walk::nearest;
+use crate::range_walk::range;
+use btr_base::{Bag, END, FIRST, Point, Range, Ranges, Toward, are_in_domain};
+use btr_tree::{Steps, Tree};
 use std::alloc::{AllocError, Global};
 use std::test::Fail;
 
@@ -44,7 +44,7 @@ fn after(
     if !are_in_domain(added.as_slice()) {
         return Err("a time outside the domain".into());
     }
-    let mut steps = Steps::new();
+    let mut steps = Steps::new(alloc);
     let applied = old
         .tree
         .apply(alloc, cut, added, version, &mut steps)
@@ -190,7 +190,7 @@ fn nearest_of_every_shape(rt: HostRuntime) -> Result<(), Fail> {
         }
         for time in &times {
             for toward in [Toward::Forward, Toward::Backward] {
-                let mut steps = Steps::new();
+                let mut steps = Steps::new(alloc);
                 let got = nearest(&version.tree, *time, toward, &mut steps);
                 assert_eq!(rt; got, plain_nearest(points, *time, toward), "at {time}");
                 assert!(rt; steps.count() <= 21, "at {time}");

@@ -5,36 +5,36 @@ use Rattle.btr_base.specs.declared.point.Point.{Point}
 use Rattle.btr_base.specs.Bag.{within}
 use Rattle.btr_tree.specs.History.{bag}
 use Rattle.btr_tree.specs.Nodes.{points_of, is_inner}
-use Rattle.btr_tree.proofs.NodeLemmas.{slot-end}
-use Rattle.btr_scan.proofs.Places.{leaf-points, inner-parts, inner-stands, child-at, child-stands}
+use Rattle.btr_tree.proofs.NodeLemmas.{child-at, slot-end}
+use Rattle.btr_scan.proofs.Places.{leaf-points, inner-parts, inner-stands, child-stands}
 use Rattle.btr_scan.proofs.Runs.{full-slot, last-before, none-before}
 use Rattle.btr_scan.proofs.Firsts.{last-any}
 use Rattle.btr_scan.proofs.backward.+last.Goals as goal
 
-pub last_in_place-last_in_slots-requires : goal.last_in_place-last_in_slots-requires
-last_in_place-last_in_slots-requires t c =
+pub last_in_child-last_in_slots-requires : goal.last_in_child-last_in_slots-requires
+last_in_child-last_in_slots-requires t c =
     let st = c.requires in
     let k = c.args.span.height in
     let s = c.args.span.start in
     let d = c.decreases in
     let node = c.in_ok-points.ensures.node k s st.above st.commits st.holds in
-    let body = inner-parts k s st.above st.commits c.in_ok-points.field-0.now c.in-Inner.version c.in-Inner.slots c.in-Inner.children c.deref-in-Inner.result.now c.deref-in-Inner-2.result.now c.in-Inner.is c.deref-in-Inner.ensures.value c.deref-in-Inner-2.ensures.value node in
+    let body = inner-parts k s st.above st.commits c.in_ok-points.field-0 c.in-Inner.version c.in-Inner.slots c.in-Inner.children c.in-Inner.is node in
     (omega arith, (inner-stands k s st.commits _ _ body st.few, omega arith))
 
-pub last_in_place-returns-in-Leaf-clause-point : goal.last_in_place-returns-in-Leaf-clause-point
-last_in_place-returns-in-Leaf-clause-point t c above h holds =
+pub last_in_child-returns-in-Leaf-clause-point : goal.last_in_child-returns-in-Leaf-clause-point
+last_in_child-returns-in-Leaf-clause-point t c above h holds =
     let k = c.args.span.height in
     let s = c.args.span.start in
     let node = c.in_ok-points.ensures.node k s above h holds in
-    let points = leaf-points k s above h c.in_ok-points.field-0.now c.in-Leaf.version c.in-Leaf.points c.deref.result.now c.in-Leaf.is c.deref.ensures.value node in
+    let points = leaf-points k s above h c.in_ok-points.field-0 c.in-Leaf.version c.in-Leaf.points c.in-Leaf.is node in
     c.last_of.ensures ∙ ap (λ (x : List Point). last_or None x) points
 
-pub last_in_place-returns-in-Inner-clause-point : goal.last_in_place-returns-in-Inner-clause-point
-last_in_place-returns-in-Inner-clause-point t c above h holds =
+pub last_in_child-returns-in-Inner-clause-point : goal.last_in_child-returns-in-Inner-clause-point
+last_in_child-returns-in-Inner-clause-point t c above h holds =
     let k = c.args.span.height in
     let s = c.args.span.start in
     let node = c.in_ok-points.ensures.node k s above h holds in
-    let body = inner-parts k s above h c.in_ok-points.field-0.now c.in-Inner.version c.in-Inner.slots c.in-Inner.children c.deref-in-Inner.result.now c.deref-in-Inner-2.result.now c.in-Inner.is c.deref-in-Inner.ensures.value c.deref-in-Inner-2.ensures.value node in
+    let body = inner-parts k s above h c.in_ok-points.field-0 c.in-Inner.version c.in-Inner.slots c.in-Inner.children c.in-Inner.is node in
     c.last_in_slots.ensures.point body.below h body.height body.all body.each
     ∙ ap (λ e. last_or None (within s e (bag h))) (slot-end body.below s)
     ∙ ap (λ j. last_or None (points_of j s (bag h))) (sym body.height)
@@ -43,9 +43,9 @@ pub last_in_slots-returns-in_err-i-clause-point : goal.last_in_slots-returns-in_
 last_in_slots-returns-in_err-i-clause-point t c below h e slots each =
     none-before below c.args.span.start h c.args.slots.now c.args.children.now c.args.to c.from_residual.result slots c.requires.place (c.in_err-i.ensures.none refl) (search rules)
 
-pub last_in_slots-last_in_place-requires : goal.last_in_slots-last_in_place-requires
-last_in_slots-last_in_place-requires t c =
-    let st = c.requires.stands in
+pub last_in_slots-last_in_child-requires : goal.last_in_slots-last_in_child-requires
+last_in_slots-last_in_child-requires t c =
+    let st = c.requires.some in
     let below = st.0 in
     let d = c.decreases in
     let i = c.in_ok-i.i in
@@ -62,11 +62,11 @@ last_in_slots-returns-clause-point t c below h e slots each =
     let found = c.in_ok-i.ensures in
     let place : i < 64 = omega (arith, c.in_ok-i.ensures.place) in
     let at = child-at c.args.span below h i c.from.result c.slot.result c.index-children-from.result c.args.children.now e each place c.from.ensures c.slot.ensures c.index-children-from.is in
-    last-before below c.args.span.start h c.args.slots.now c.args.children.now c.args.to i c.slot.result c.last_in_place.result slots found.place c.requires.place found.some found.passed at.is (c.last_in_place.ensures.point (is_inner (suc below) c.args.span.start) h at.holds)
+    last-before below c.args.span.start h c.args.slots.now c.args.children.now c.args.to i c.slot.result c.last_in_child.result slots found.place c.requires.place found.some found.passed at.is (c.last_in_child.ensures.point (is_inner (suc below) c.args.span.start) h at.holds)
 
 pub last_in_slots-returns-clause-none : goal.last_in_slots-returns-clause-none
 last_in_slots-returns-clause-none t c none =
-    let st = c.requires.stands in
+    let st = c.requires.some in
     let below = st.0 in
     let h = st.2.commits in
     let i = c.in_ok-i.i in
@@ -74,4 +74,4 @@ last_in_slots-returns-clause-none t c none =
     let place : i < 64 = omega (arith, c.in_ok-i.ensures.place) in
     let at = child-at c.args.span below h i c.from.result c.slot.result c.index-children-from.result c.args.children.now st.1 st.2.each place c.from.ensures c.slot.ensures c.index-children-from.is in
     let full = full-slot below c.args.span.start h c.args.slots.now c.args.children.now i c.slot.result st.2.holds place found.some at.is in
-    absurd (last-any _ c.last_in_place.result full (c.last_in_place.ensures.point (is_inner (suc below) c.args.span.start) h at.holds) none)
+    absurd (last-any _ c.last_in_child.result full (c.last_in_child.ensures.point (is_inner (suc below) c.args.span.start) h at.holds) none)

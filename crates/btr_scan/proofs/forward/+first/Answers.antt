@@ -5,36 +5,36 @@ use Rattle.btr_base.specs.Bag.{within}
 use Rattle.btr_tree.specs.Change.{end_of}
 use Rattle.btr_tree.specs.History.{bag}
 use Rattle.btr_tree.specs.Nodes.{is_inner}
-use Rattle.btr_tree.proofs.NodeLemmas.{slot-first}
-use Rattle.btr_scan.proofs.Places.{leaf-points, inner-parts, inner-stands, child-at, child-stands}
+use Rattle.btr_tree.proofs.NodeLemmas.{child-at, slot-first}
+use Rattle.btr_scan.proofs.Places.{leaf-points, inner-parts, inner-stands, child-stands}
 use Rattle.btr_scan.proofs.Runs.{full-slot, first-behind, none-behind}
 use Rattle.btr_scan.proofs.Firsts.{first-any}
 use Rattle.btr_scan.proofs.forward.+first.Goals as goal
 
-pub first_in_place-first_in_slots-requires : goal.first_in_place-first_in_slots-requires
-first_in_place-first_in_slots-requires t c =
+pub first_in_child-first_in_slots-requires : goal.first_in_child-first_in_slots-requires
+first_in_child-first_in_slots-requires t c =
     let st = c.requires in
     let k = c.args.span.height in
     let s = c.args.span.start in
     let d = c.decreases in
     let node = c.in_ok-points.ensures.node k s st.above st.commits st.holds in
-    let body = inner-parts k s st.above st.commits c.in_ok-points.field-0.now c.in-Inner.version c.in-Inner.slots c.in-Inner.children c.deref-in-Inner.result.now c.deref-in-Inner-2.result.now c.in-Inner.is c.deref-in-Inner.ensures.value c.deref-in-Inner-2.ensures.value node in
+    let body = inner-parts k s st.above st.commits c.in_ok-points.field-0 c.in-Inner.version c.in-Inner.slots c.in-Inner.children c.in-Inner.is node in
     (omega arith, (inner-stands k s st.commits _ _ body st.few, omega arith))
 
-pub first_in_place-returns-in-Leaf-clause-point : goal.first_in_place-returns-in-Leaf-clause-point
-first_in_place-returns-in-Leaf-clause-point t c above h holds =
+pub first_in_child-returns-in-Leaf-clause-point : goal.first_in_child-returns-in-Leaf-clause-point
+first_in_child-returns-in-Leaf-clause-point t c above h holds =
     let k = c.args.span.height in
     let s = c.args.span.start in
     let node = c.in_ok-points.ensures.node k s above h holds in
-    let points = leaf-points k s above h c.in_ok-points.field-0.now c.in-Leaf.version c.in-Leaf.points c.deref.result.now c.in-Leaf.is c.deref.ensures.value node in
+    let points = leaf-points k s above h c.in_ok-points.field-0 c.in-Leaf.version c.in-Leaf.points c.in-Leaf.is node in
     c.first_of.ensures ∙ ap (λ (x : List Point). slice_get x 0) points
 
-pub first_in_place-returns-in-Inner-clause-point : goal.first_in_place-returns-in-Inner-clause-point
-first_in_place-returns-in-Inner-clause-point t c above h holds =
+pub first_in_child-returns-in-Inner-clause-point : goal.first_in_child-returns-in-Inner-clause-point
+first_in_child-returns-in-Inner-clause-point t c above h holds =
     let k = c.args.span.height in
     let s = c.args.span.start in
     let node = c.in_ok-points.ensures.node k s above h holds in
-    let body = inner-parts k s above h c.in_ok-points.field-0.now c.in-Inner.version c.in-Inner.slots c.in-Inner.children c.deref-in-Inner.result.now c.deref-in-Inner-2.result.now c.in-Inner.is c.deref-in-Inner.ensures.value c.deref-in-Inner-2.ensures.value node in
+    let body = inner-parts k s above h c.in_ok-points.field-0 c.in-Inner.version c.in-Inner.slots c.in-Inner.children c.in-Inner.is node in
     c.first_in_slots.ensures.point body.below h body.height body.all body.each
     ∙ ap (λ a. slice_get (within a (end_of c.args.span) (bag h)) 0) (slot-first body.below s)
 
@@ -42,9 +42,9 @@ pub first_in_slots-returns-in_err-i-clause-point : goal.first_in_slots-returns-i
 first_in_slots-returns-in_err-i-clause-point t c below h e slots each =
     none-behind c.args.span below h c.args.slots.now c.args.children.now c.args.from c.from_residual.result e slots c.requires.place (c.in_err-i.ensures.none refl) (search rules)
 
-pub first_in_slots-first_in_place-requires : goal.first_in_slots-first_in_place-requires
-first_in_slots-first_in_place-requires t c =
-    let st = c.requires.stands in
+pub first_in_slots-first_in_child-requires : goal.first_in_slots-first_in_child-requires
+first_in_slots-first_in_child-requires t c =
+    let st = c.requires.some in
     let below = st.0 in
     let d = c.decreases in
     let i = c.in_ok-i.i in
@@ -60,15 +60,15 @@ first_in_slots-returns-clause-point t c below h e slots each =
     let i = c.in_ok-i.i in
     let found = c.in_ok-i.ensures in
     let at = child-at c.args.span below h i c.from.result c.slot.result c.index-children-from.result c.args.children.now e each found.place.1 c.from.ensures c.slot.ensures c.index-children-from.is in
-    first-behind c.args.span below h c.args.slots.now c.args.children.now c.args.from i c.slot.result c.first_in_place.result e slots found.place.0 found.place.1 found.some found.passed at.is (c.first_in_place.ensures.point (is_inner (suc below) c.args.span.start) h at.holds)
+    first-behind c.args.span below h c.args.slots.now c.args.children.now c.args.from i c.slot.result c.first_in_child.result e slots found.place.0 found.place.1 found.some found.passed at.is (c.first_in_child.ensures.point (is_inner (suc below) c.args.span.start) h at.holds)
 
 pub first_in_slots-returns-clause-none : goal.first_in_slots-returns-clause-none
 first_in_slots-returns-clause-none t c none =
-    let st = c.requires.stands in
+    let st = c.requires.some in
     let below = st.0 in
     let h = st.2.commits in
     let i = c.in_ok-i.i in
     let found = c.in_ok-i.ensures in
     let at = child-at c.args.span below h i c.from.result c.slot.result c.index-children-from.result c.args.children.now st.1 st.2.each found.place.1 c.from.ensures c.slot.ensures c.index-children-from.is in
     let full = full-slot below c.args.span.start h c.args.slots.now c.args.children.now i c.slot.result st.2.holds found.place.1 found.some at.is in
-    absurd (first-any _ c.first_in_place.result full (c.first_in_place.ensures.point (is_inner (suc below) c.args.span.start) h at.holds) none)
+    absurd (first-any _ c.first_in_child.result full (c.first_in_child.ensures.point (is_inner (suc below) c.args.span.start) h at.holds) none)

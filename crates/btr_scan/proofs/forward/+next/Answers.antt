@@ -7,35 +7,36 @@ use Rattle.btr_base.specs.Span.{SpanValue}
 use Rattle.btr_tree.specs.Change.{end_of}
 use Rattle.btr_tree.specs.History.{bag}
 use Rattle.btr_tree.specs.Nodes.{is_inner}
-use Rattle.btr_scan.proofs.Places.{leaf-points, leaf-in_order, leaf-from, none-from, inner-parts, inner-stands, child-at, child-stands}
+use Rattle.btr_tree.proofs.NodeLemmas.{child-at}
+use Rattle.btr_scan.proofs.Places.{leaf-points, leaf-in_order, leaf-from, none-from, inner-parts, inner-stands, child-stands}
 use Rattle.btr_scan.proofs.Runs.{next-here, next-behind}
 use Rattle.btr_scan.proofs.forward.+next.Goals as goal
 
-pub next_in_place-returns-in_err-points-clause-point : goal.next_in_place-returns-in_err-points-clause-point
-next_in_place-returns-in_err-points-clause-point t c above h holds =
+pub next_in_child-returns-in_err-points-clause-point : goal.next_in_child-returns-in_err-points-clause-point
+next_in_child-returns-in_err-points-clause-point t c above h holds =
     let k = c.args.span.height in
     let s = c.args.span.start in
     let none = none-from k s (bag h) c.args.time c.requires.begins (c.in_err-points.ensures.none refl k s above h holds) in
     let is : c.from_residual.result ≡ None = search rules in
     is ∙ sym (ap (λ (x : List Point). slice_get x 0) none)
 
-pub next_in_place-parted-requires : goal.next_in_place-parted-requires
-next_in_place-parted-requires t c =
-    let st = c.requires.stands in
+pub next_in_child-parted-requires : goal.next_in_child-parted-requires
+next_in_child-parted-requires t c =
+    let st = c.requires.some in
     let k = c.args.span.height in
     let s = c.args.span.start in
     let node = c.in_ok-points.ensures.node k s st.above st.commits st.holds in
-    leaf-in_order k s st.above st.commits c.in_ok-points.field-0.now c.in-Leaf.version c.in-Leaf.points c.deref.result.now c.in-Leaf.is c.deref.ensures.value node
+    leaf-in_order k s st.above st.commits c.in_ok-points.field-0 c.in-Leaf.version c.in-Leaf.points c.in-Leaf.is node
 
-pub next_in_place-next_in_slots-requires : goal.next_in_place-next_in_slots-requires
-next_in_place-next_in_slots-requires t c =
-    let st = c.requires.stands in
+pub next_in_child-next_in_slots-requires : goal.next_in_child-next_in_slots-requires
+next_in_child-next_in_slots-requires t c =
+    let st = c.requires.some in
     let k = c.args.span.height in
     let s = c.args.span.start in
     let d = c.decreases in
     let same = to_z-of_z w64 c.args.time c.ranges.time in
     let node = c.in_ok-points.ensures.node k s st.above st.commits st.holds in
-    let body = inner-parts k s st.above st.commits c.in_ok-points.field-0.now c.in-Inner.version c.in-Inner.slots c.in-Inner.children c.deref-in-Inner.result.now c.deref-in-Inner-2.result.now c.in-Inner.is c.deref-in-Inner.ensures.value c.deref-in-Inner-2.ensures.value node in (
+    let body = inner-parts k s st.above st.commits c.in_ok-points.field-0 c.in-Inner.version c.in-Inner.slots c.in-Inner.children c.in-Inner.is node in (
       omega arith,
       (
         inner-stands k s st.commits _ _ body st.few,
@@ -43,29 +44,29 @@ next_in_place-next_in_slots-requires t c =
       ),
     )
 
-pub next_in_place-returns-in-Leaf-clause-point : goal.next_in_place-returns-in-Leaf-clause-point
-next_in_place-returns-in-Leaf-clause-point t c above h holds =
+pub next_in_child-returns-in-Leaf-clause-point : goal.next_in_child-returns-in-Leaf-clause-point
+next_in_child-returns-in-Leaf-clause-point t c above h holds =
     let k = c.args.span.height in
     let s = c.args.span.start in
     let same = to_z-of_z w64 c.args.time c.ranges.time in
     let node = c.in_ok-points.ensures.node k s above h holds in
-    let points = leaf-points k s above h c.in_ok-points.field-0.now c.in-Leaf.version c.in-Leaf.points c.deref.result.now c.in-Leaf.is c.deref.ensures.value node in
-    let behind = leaf-from k s (bag h) c.deref.result.now c.parted.result.1.now c.args.time (to_z w64 (of_z w64 c.args.time)) same c.requires.begins points c.parted.ensures.from in
+    let points = leaf-points k s above h c.in_ok-points.field-0 c.in-Leaf.version c.in-Leaf.points c.in-Leaf.is node in
+    let behind = leaf-from k s (bag h) c.in-Leaf.points.now c.parted.result.1.now c.args.time (to_z w64 (of_z w64 c.args.time)) same c.requires.begins points c.parted.ensures.from in
     c.first_of.ensures ∙ ap (λ (x : List Point). slice_get x 0) behind
 
-pub next_in_place-returns-in-Inner-clause-point : goal.next_in_place-returns-in-Inner-clause-point
-next_in_place-returns-in-Inner-clause-point t c above h holds =
+pub next_in_child-returns-in-Inner-clause-point : goal.next_in_child-returns-in-Inner-clause-point
+next_in_child-returns-in-Inner-clause-point t c above h holds =
     let k = c.args.span.height in
     let s = c.args.span.start in
     let same = to_z-of_z w64 c.args.time c.ranges.time in
     let node = c.in_ok-points.ensures.node k s above h holds in
-    let body = inner-parts k s above h c.in_ok-points.field-0.now c.in-Inner.version c.in-Inner.slots c.in-Inner.children c.deref-in-Inner.result.now c.deref-in-Inner-2.result.now c.in-Inner.is c.deref-in-Inner.ensures.value c.deref-in-Inner-2.ensures.value node in
+    let body = inner-parts k s above h c.in_ok-points.field-0 c.in-Inner.version c.in-Inner.slots c.in-Inner.children c.in-Inner.is node in
     c.next_in_slots.ensures.point body.below h body.height body.all body.each
     ∙ ap (λ x. slice_get (within x (end_of c.args.span) (bag h)) 0) same
 
-pub next_in_slots-next_in_place-requires : goal.next_in_slots-next_in_place-requires
-next_in_slots-next_in_place-requires t c =
-    let st = c.requires.stands in
+pub next_in_slots-next_in_child-requires : goal.next_in_slots-next_in_child-requires
+next_in_slots-next_in_child-requires t c =
+    let st = c.requires.some in
     let below = st.0 in
     let d = c.decreases in
     let i = c.slot_at-i.result in
@@ -110,5 +111,5 @@ next_in_slots-returns-in-None-clause-none t c none =
     let first = c.in-None.ensures.none refl in
     let behind = c.first_in_slots.ensures.none none in
     let down = ap (λ (u : SpanValue). u.height) c.slot.ensures in
-    let up = c.requires.stands.1 in
+    let up = c.requires.some.1 in
     omega arith

@@ -23,13 +23,13 @@ pub returns-then-time-lt-FIRST-clause-point : goal.returns-then-time-lt-FIRST-cl
 returns-then-time-lt-FIRST-clause-point c h holds inside =
     let same = to_z-of_z w64 c.args.time c.ranges.time in
     let early = c.if-time-lt-FIRST.true in
-    let place = subst (λ (u : SpanValue). IsChild u.height u.start above_root h c.args.place.now) (sym c.root_span.ensures) holds in
-    c.first_in_place.ensures.point above_root h place
+    let place = subst (λ (u : SpanValue). IsChild u.height u.start above_root h c.args.child.now) (sym c.root_span.ensures) holds in
+    c.first_in_child.ensures.point above_root h place
     ∙ ap (λ (u : SpanValue). slice_get (points_of u.height u.start (bag h)) 0) c.root_span.ensures
     ∙ ap (λ (x : List Point). slice_get x 0) (root-points (bag h) inside ∙ sym (all-from_first c.args.time (bag h) inside (omega (arith, ints))))
 
-pub next_in_place-requires-clause-ends : goal.next_in_place-requires-clause-ends
-next_in_place-requires-clause-ends c =
+pub next_in_child-requires-clause-ends : goal.next_in_child-requires-clause-ends
+next_in_child-requires-clause-ends c =
     let same = to_z-of_z w64 c.args.time c.ranges.time in
     let early = c.if-time-ge-END.false in
     let end : end_of root_part ≡ END = end-root in
@@ -39,8 +39,8 @@ pub returns-clause-point : goal.returns-clause-point
 returns-clause-point c h holds inside =
     let same = to_z-of_z w64 c.args.time c.ranges.time in
     let late = c.if-time-lt-FIRST.false in
-    let place = subst (λ (u : SpanValue). IsChild u.height u.start above_root h c.args.place.now) (sym c.root_span-2.ensures) holds in
-    c.next_in_place.ensures.point above_root h place
+    let place = subst (λ (u : SpanValue). IsChild u.height u.start above_root h c.args.child.now) (sym c.root_span-2.ensures) holds in
+    c.next_in_child.ensures.point above_root h place
     ∙ (λ i. slice_get (within (same i) (end_of (c.root_span-2.ensures i)) (bag h)) 0)
     ∙ ap (λ e. slice_get (within c.args.time e (bag h)) 0) end-root
     ∙ ap (λ (x : List Point). slice_get x 0) (rest-from c.args.time (bag h) inside (omega (arith, ints)))

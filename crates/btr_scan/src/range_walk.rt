@@ -8,38 +8,37 @@ ghost use Rattle.btr_tree.specs.Shape.{IsChild, HasSlots, HasChildren};
 ghost use Rattle.btr_tree.specs.Change.{IsSomeChild, AreSomeSlots, end_of};
 ghost use Rattle.btr_tree.specs.Root.{IsTree};
 
-use btr_base::{Point, Range, Span, points_between};
-use btr_tree::{Node, Child, Slot, Steps, Tree, visit, root_span};
+use btr_base::{END, FIRST, Point, Range, Span, points_between};
+use btr_tree::{Child, Node, Slot, Steps, Tree, root_span, visit};
 use std::alloc::{AllocError, Global};
 
 /// The points of a version with `from <= time < to`, by time and value, each equal one (BTrDB's GetRange). It costs its
-/// points, and the nodes on the way to the two ends of the range. An `Err` is want of memory.
+/// points, and the nodes on the way to the two ends of the range. An `Err` is out of memory.
 pub fn range(alloc: Global, tree: &Tree, range: Range) -> Result<Vec<Point>, AllocError>
     ensures { IfOk result (λ v. (h : List Commit) → IsTree h tree.now → v.items ≡ within range.from range.to (bag h)) }
 {
     let mut rows = Vec::new(alloc);
-    let mut steps = Steps::new();
-    // it shows that the bounds are those of a range
-    let _ = &range.from;
-    walk_place(root_span(), tree.root(), range, &mut rows, &mut steps)?;
+    let mut steps = Steps::new(alloc);
+    prove!(FIRST < range.to && range.from < END);
+    walk_child(root_span(), tree.root(), range, &mut rows, &mut steps)?;
     Ok(rows)
 }
 
 /// Appends the points of a place whose times are in a range, which has times of the span.
 #[cycle(walk)]
-fn walk_place(
+fn walk_child(
     span: Span,
-    place: &Child,
+    child: &Child,
     range: Range,
     rows: &mut Vec<Point>,
     steps: &mut Steps,
 ) -> Result<(), AllocError>
-    requires stands { IsSomeChild span.height span.start place.now 0 }
+    requires some { IsSomeChild span.height span.start child.now 0 }
     requires begins { range.from <ℤ end_of span }
     requires ends { span.start <ℤ range.to }
-    ensures { OnOk result ((above : List APoint → Bool) (h : List Commit) → IsChild span.height span.start above h place.now → rows.new.items ≡ rows.old.items ++ within range.from range.to (points_of span.height span.start (bag h))) }
+    ensures { OnOk result ((above : List APoint → Bool) (h : List Commit) → IsChild span.height span.start above h child.now → rows.new.items ≡ rows.old.items ++ within range.from range.to (points_of span.height span.start (bag h))) }
 {
-    match visit(place, steps) {
+    match visit(child, steps) {
         None => Ok(()),
         Some(node) => match node {
             Node::Leaf { points, .. } => {
@@ -64,17 +63,17 @@ fn walk_slots(
     rows: &mut Vec<Point>,
     steps: &mut Steps,
 ) -> Result<(), AllocError>
-    requires stands { (below : ℕ) × (span.height ≡ suc below) × AreSomeSlots below span.start slots.now children.now 0 }
+    requires some { (below : ℕ) × (span.height ≡ suc below) × AreSomeSlots below span.start slots.now children.now 0 }
     requires begins { range.from <ℤ end_of span }
     requires ends { span.start <ℤ range.to }
     ensures { OnOk result ((below : ℕ) (h : List Commit) → span.height ≡ suc below → HasSlots below span.start h 64 slots.now children.now → HasChildren below span.start h 64 children.now → rows.new.items ≡ rows.old.items ++ within range.from range.to (points_of span.height span.start (bag h))) }
 {
     let (first, last) = span.slots_between(range.from, range.to);
     for i in first..last + 1 {
-        let place = usize::from(i);
-        let agg = &slots[place].agg;
+        let index = usize::from(i);
+        let agg = &slots[index].agg;
         let count = agg.count;
-        walk_slot(span.slot(i), count, &children[place], range, rows, steps)?;
+        walk_slot(span.slot(i), count, &children[index], range, rows, steps)?;
     }
     Ok(())
 }
@@ -84,18 +83,18 @@ fn walk_slots(
 fn walk_slot(
     span: Span,
     count: u64,
-    place: &Child,
+    child: &Child,
     range: Range,
     rows: &mut Vec<Point>,
     steps: &mut Steps,
 ) -> Result<(), AllocError>
-    requires stands { IsSomeChild span.height span.start place.now 0 }
+    requires some { IsSomeChild span.height span.start child.now 0 }
     requires begins { range.from <ℤ end_of span }
     requires ends { span.start <ℤ range.to }
-    ensures { OnOk result ((above : List APoint → Bool) (h : List Commit) → IsChild span.height span.start above h place.now → count ≡ length (points_of span.height span.start (bag h)) → rows.new.items ≡ rows.old.items ++ within range.from range.to (points_of span.height span.start (bag h))) }
+    ensures { OnOk result ((above : List APoint → Bool) (h : List Commit) → IsChild span.height span.start above h child.now → count ≡ length (points_of span.height span.start (bag h)) → rows.new.items ≡ rows.old.items ++ within range.from range.to (points_of span.height span.start (bag h))) }
 {
     if count == 0 {
         return Ok(());
     }
-    walk_place(span, place, range, rows, steps)
+    walk_child(span, child, range, rows, steps)
 }

@@ -14,8 +14,8 @@ use btr_tree::{Steps, Tree};
 /// opens at most 21 nodes, each one step, and takes no memory.
 pub fn nearest(tree: &Tree, time: i64, toward: Toward, steps: &mut Steps) -> Option<Point>
     ensures point { (h : List Commit) → IsTree h tree.now → result ≡ nearest_in toward time (bag h) }
-    ensures few { steps.new ≤ steps.old + 21 }
-    ensures kept { steps.old ≤ steps.new }
+    ensures bounded { steps.new ≤ steps.old + 21 }
+    ensures never_falls { steps.old ≤ steps.new }
 {
     match toward {
         Toward::Forward => next_in_root(tree.root(), time, steps),

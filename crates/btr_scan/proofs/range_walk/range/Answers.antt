@@ -8,10 +8,10 @@ use Rattle.btr_tree.specs.History.{bag}
 use Rattle.btr_tree.specs.Nodes.{points_of, above_root}
 use Rattle.btr_tree.specs.Shape.{IsChild}
 use Rattle.btr_tree.proofs.RootLemmas.{end-root, root-points}
-use Rattle.btr_scan.proofs.scanning.range.Goals as goal
+use Rattle.btr_scan.proofs.range_walk.range.Goals as goal
 
-pub walk_place-requires-clause-begins : goal.walk_place-requires-clause-begins
-walk_place-requires-clause-begins c =
+pub walk_child-requires-clause-begins : goal.walk_child-requires-clause-begins
+walk_child-requires-clause-begins c =
     let from = ap (λ r. r.from) c.range.view_is in
     let inside = c.range.invariant in
     let end = end-root in
@@ -19,8 +19,8 @@ walk_place-requires-clause-begins c =
 
 pub returns : goal.returns
 returns c h tree =
-    let place = subst (λ (u : SpanValue). IsChild u.height u.start above_root h c.root.result.now) (sym c.root_span.ensures) (c.root.ensures.place h tree) in
-    c.in_ok-walk_place.ensures above_root h place
+    let place = subst (λ (u : SpanValue). IsChild u.height u.start above_root h c.root.result.now) (sym c.root_span.ensures) (c.root.ensures.child h tree) in
+    c.in_ok-walk_child.ensures above_root h place
     ∙ ap (λ (u : SpanValue). c.new-rows.result.items ++ within c.args.range.from c.args.range.to (points_of u.height u.start (bag h))) c.root_span.ensures
     ∙ ap (λ x. x ++ within c.args.range.from c.args.range.to (points_of 10 FIRST (bag h))) c.new-rows.ensures.items
     ∙ ap (within c.args.range.from c.args.range.to) (root-points (bag h) tree.times)
