@@ -1,4 +1,4 @@
-pub mod Hits
+pub mod ChangedSlots
 pub mod Nodes
 pub mod Slots
 pub mod Newer

@@ -1,101 +1,85 @@
--- Lemmas on what the comparison finds in a place: the points of a leaf, the slots of an inner node, and a slot's child.
-use Rattle.std.specs.Prelude.{◌≡◌, ℕ, zero, suc, ◌<◌, ℤ, pos, ◌+ℤ◌, Bool, true, List, [], ◌∷◌, length, slice_index_or, Vec, Result, Ok, Err, OnOk, if◌then◌else◌}
+-- Lemmas on what the comparison finds at a child: the points of a leaf, the slots of an inner node, and the child of a slot.
+use Rattle.std.specs.Prelude.{◌≡◌, ℕ, zero, suc, ◌<◌, ℤ, pos, ◌+ℤ◌, Bool, true, List, [], ◌∷◌, length, slice_index_or, Option, Some, None, Result, Ok, Err, OnOk, if◌then◌else◌}
 use Rattle.std.specs.Result.{is_ok}
 use Rattle.std.proofs.Common.{refl, sym, ap, ◌∙◌, arith, subst}
 use Rattle.std.proofs.lemmas.Int.{ints}
-use Rattle.std.specs.declared.alloc.Global.{Global}
+use Rattle.std.proofs.lemmas.Bool.Decides.{nat_tests}
+use Rattle.std.specs.Borrow.{Bor}
 use Rattle.btr_base.specs.declared.point.Point.{Point}
-use Rattle.btr_base.specs.Point.{InDomain}
+use Rattle.btr_base.specs.Point.{InDomain, AreInDomain}
 use Rattle.btr_base.specs.Bag.{IsInOrder, is_within}
 use Rattle.btr_base.proofs.ListLemmas.{each-weaker, filter-passes}
 use Rattle.btr_base.specs.Span.{width, SpanValue, slot_of}
-use Rattle.btr_tree.specs.declared.limits.TheConstants.{LEAF_POINTS}
-use Rattle.btr_tree.specs.declared.node.Node.{Node, out-Node}
-use Rattle.btr_tree.specs.declared.node.Node.TheOpen.{Node-F}
+use Rattle.btr_base.specs.declared.limits.TheConstants.{LEAF_POINTS}
+use Rattle.btr_tree.specs.declared.node.Child.{Child}
+use Rattle.btr_tree.specs.declared.node.Node.{Node}
 use Rattle.btr_tree.specs.declared.node.Node.TheVariants.{Leaf, Inner}
 use Rattle.btr_tree.specs.declared.node.Slot.{Slot}
 use Rattle.btr_tree.specs.History.{Commit, bag}
-use Rattle.btr_tree.specs.Nodes.{points_of, has_points, is_inner}
-use Rattle.btr_tree.specs.Root.{AreInDomain}
-use Rattle.btr_tree.specs.Shape.{slot_start, IsPlace, Child, HasSlots, HasChildren, IsNode, IsLeaf, IsInner, ByKind}
-use Rattle.btr_tree.proofs.NodeLemmas.{leaf-is, inner-is, slot-part, slot-from, slot-inside}
-use Rattle.btr_tree.proofs.BuiltNodeLemmas.{slots-as}
+use Rattle.btr_tree.specs.Nodes.{points_of, has_points, is_inner, node_version}
+use Rattle.btr_tree.specs.Shape.{slot_start, IsChild, HasChildren, IsNode, IsLeaf, IsVisit}
+use Rattle.btr_tree.proofs.NodeLemmas.{leaf-is, inner-is, slot-from, slot-inside, child-at}
 use Rattle.btr_tree.proofs.VersionLemmas.{points-in_order}
-use Rattle.btr_diff.specs.Comparing.{IsInside, IsHeld, AreHeld}
+use Rattle.btr_diff.specs.Comparison.{IsInside, BelongsTo, ArePointsOf, IsChildOf, IsNodeOf, AreChildrenOf, AreSlotsOf}
 
--- what a list is after a call that leaves it as it was where it fails
+-- A list after a call that leaves it unchanged on failure.
 pub where_ok : {E : Type 0} (r : Result (Unit {0}) E) (new all old : List Point) → new ≡ (if is_ok r then all else old) → OnOk r (new ≡ all)
 where_ok (Ok x) new all old e = e
 where_ok (Err x) new all old e = tt
 
--- ---- points
+-- ---- A visit.
 
--- the points of a leaf are those of its span
-pub leaf-points : (k : ℕ) (s : ℤ) (above : List Point → Bool) (h : List Commit) (n : Node) (v : ℕ) (ps : Vec Point Global) (slice : List Point) → n ≡ Leaf v ps → slice ≡ ps.items → IsNode k s above h n → slice ≡ points_of k s (bag h)
-leaf-points k s above h n v ps slice e same holds = same ∙ (leaf-is k s above h n v ps e holds).same
+pub found-none : (span : SpanValue) (child : Child) (before after : ℕ) → IsVisit child None before after → (h : List Commit) → IsChildOf span child h → points_of span.height span.start (bag h) ≡ []
+found-none span child before after visit h is = visit.none refl span.height span.start is.0 h is.1
 
-pub held-order : (k : ℕ) (s : ℤ) (h : List Commit) (b : List Point) → b ≡ points_of k s (bag h) → IsInOrder b
-held-order k s h b e = subst IsInOrder (sym e) (points-in_order k s h)
+pub found-node : (span : SpanValue) (child : Child) (n : Node) (before after : ℕ) → IsVisit child (Some n) before after → (h : List Commit) → IsChildOf span child h → IsNodeOf span n h
+found-node span child n before after visit h is = (is.0, visit.node span.height span.start is.0 h is.1)
 
-pub held-domain : (k : ℕ) (s : ℤ) (h : List Commit) (b : List Point) → IsInside k s → b ≡ points_of k s (bag h) → AreInDomain b
-held-domain k s h b inside e =
+-- ---- Points.
+
+-- The points of a leaf are those of its span.
+pub leaf-points : (span : SpanValue) (h : List Commit) (n : Node) (v : ℕ) (ps : Bor (List Point)) → n ≡ Leaf v ps → IsNodeOf span n h → ArePointsOf span ps.now h
+leaf-points span h n v ps e is = (leaf-is span.height span.start is.0 h n v ps e is.1).same
+
+pub points-order : (span : SpanValue) (h : List Commit) (b : List Point) → ArePointsOf span b h → IsInOrder b
+points-order span h b e = subst IsInOrder (sym e) (points-in_order span.height span.start h)
+
+pub points-domain : (span : SpanValue) (h : List Commit) (b : List Point) → IsInside span.height span.start → ArePointsOf span b h → AreInDomain b
+points-domain span h b inside e =
     let begins = inside.begins in
     let ends = inside.ends in
-    subst AreInDomain (sym e) (each-weaker (λ q. is_within s (s +ℤ pos (width k)) q ≡ true) (λ q. InDomain q.time) (λ q h. (grind (arith, ints), grind (arith, ints))) (points_of k s (bag h)) (filter-passes (is_within s (s +ℤ pos (width k))) (bag h)))
+    let here = is_within span.start (span.start +ℤ pos (width span.height)) in
+    subst AreInDomain (sym e) (each-weaker (λ q. here q ≡ true) (λ q. InDomain q.time) (λ q h. (grind (arith, ints), grind (arith, ints))) (points_of span.height span.start (bag h)) (filter-passes here (bag h)))
 
--- ---- an inner node
+-- ---- An inner node.
 
--- the slots and children of an inner node
-pub record HasInner (k : ℕ) (s : ℤ) (h : List Commit) (ss : List Slot) (cs : List Child) : Type 0 where
-  pub below : ℕ
-  pub height : k ≡ suc below
-  pub many : LEAF_POINTS < length (points_of k s (bag h))
-  pub all : HasSlots below s h 64 ss cs
-  pub each : HasChildren below s h 64 cs
+many-inner : (height : ℕ) (start : ℤ) (b : List Point) → LEAF_POINTS < length (points_of height start b) → is_inner height start b ≡ true
+many-inner height start b many = grind (arith, nat_tests)
 
-pub inner-parts : (k : ℕ) (s : ℤ) (above : List Point → Bool) (h : List Commit) (n : Node) (v : ℕ) (ss : Vec Slot Global) (cs : Vec Child Global) (ts : List Slot) (ds : List Child) → n ≡ Inner v ss cs → ts ≡ ss.items → ds ≡ cs.items → IsNode k s above h n → HasInner k s h ts ds
-inner-parts k s above h n v ss cs ts ds e p q holds =
-    let body = inner-is k s above h n v ss cs e holds in
+-- The slots and children of an inner node.
+pub inner-slots : (span : SpanValue) (h : List Commit) (n : Node) (v : ℕ) (ss : Bor (List Slot)) (cs : Bor (List Child)) → n ≡ Inner v ss cs → IsNodeOf span n h → AreSlotsOf span ss.now cs.now h
+inner-slots span h n v ss cs e is =
+    let body = inner-is span.height span.start is.0 h n v ss cs e is.1 in
     record {
       below = body.below;
       height = body.height;
-      many = subst (λ j. LEAF_POINTS < length (points_of j s (bag h))) (sym body.height) body.inner.many;
-      all = slots-as body.below s h 64 ss.items ts cs.items ds p q body.inner.all;
-      each = subst (HasChildren body.below s h 64) (sym q) body.each;
-    }
-
--- the children of an inner node, whatever its slots
-pub inner-children : (k : ℕ) (s : ℤ) (above : List Point → Bool) (h : List Commit) (n : Node) (v : ℕ) (ss : Vec Slot Global) (cs : Vec Child Global) (ds : List Child) → n ≡ Inner v ss cs → ds ≡ cs.items → IsNode k s above h n → HasInner k s h ss.items ds
-inner-children k s above h n v ss cs ds e q holds = inner-parts k s above h n v ss cs ss.items ds e refl q holds
-
-pub inner-held : (k : ℕ) (s : ℤ) (h : List Commit) (ss : List Slot) (cs : List Child) → IsInside k s → HasInner k s h ss cs → AreHeld k s cs
-inner-held k s h ss cs inside body =
-    record {
-      inside = inside;
-      below = body.below;
-      height_is = body.height;
-      commits = h;
+      inner = many-inner span.height span.start (bag h) (subst (λ j. LEAF_POINTS < length (points_of j span.start (bag h))) (sym body.height) body.inner.many);
+      all = body.inner.all;
       each = body.each;
-      all = body.all.children_length;
     }
 
--- ---- a slot's child
+pub slots-children : (span : SpanValue) (ss : List Slot) (cs : List Child) (h : List Commit) → AreSlotsOf span ss cs h → AreChildrenOf span cs h
+slots-children span ss cs h are =
+    record { below = are.below; height = are.height; each = are.each; all = are.all.children_length }
 
--- what is known of a slot's child
-pub record IsChildAt (below : ℕ) (s : ℤ) (h : List Commit) (i : ℕ) (part : SpanValue) (child : Child) : Type 0 where
-  pub is : part ≡ record { start = slot_start below s i; height = below }
-  pub holds : IsPlace part.height part.start (is_inner (suc below) s) h child
+-- The children of an inner node.
+pub inner-children : (span : SpanValue) (h : List Commit) (n : Node) (v : ℕ) (ss : Bor (List Slot)) (cs : Bor (List Child)) → n ≡ Inner v ss cs → IsNodeOf span n h → AreChildrenOf span cs.now h
+inner-children span h n v ss cs e is =
+    slots-children span ss.now cs.now h (inner-slots span h n v ss cs e is)
 
-pub child-at : (span : SpanValue) (below : ℕ) (h : List Commit) (i j : ℕ) (part : SpanValue) (child : Child) (cs : List Child) → span.height ≡ suc below → HasChildren below span.start h 64 cs → i < 64 → j ≡ i → part ≡ slot_of span i → child ≡ slice_index_or cs j child → IsChildAt below span.start h i part child
-child-at span below h i j part child cs e each place same p r =
-    let is : part ≡ record { start = slot_start below span.start i; height = below } = p ∙ slot-part span below i e in
-    let holds : IsPlace below (slot_start below span.start i) (is_inner (suc below) span.start) h child = subst (IsPlace below (slot_start below span.start i) (is_inner (suc below) span.start) h) (ap (λ k. slice_index_or cs k child) (sym same) ∙ sym r) (each i child place) in
-    record {
-      is = is;
-      holds = subst (λ u. IsPlace u.height u.start (is_inner (suc below) span.start) h child) (sym is) holds;
-    }
+-- ---- The child of a slot.
 
--- a slot of a span in the domain is in the domain
+-- A slot of a span in the domain is in the domain.
 slot-in_domain : (k below : ℕ) (s : ℤ) (i : ℕ) (part : SpanValue) → IsInside k s → k ≡ suc below → i < 64 → part ≡ record { start = slot_start below s i; height = below } → IsInside part.height part.start
 slot-in_domain k below s i part inside e place is =
     let begins = inside.begins in
@@ -105,36 +89,46 @@ slot-in_domain k below s i part inside e place is =
     let at : IsInside below (slot_start below s i) = record { begins = omega (arith, ints); ends = omega (arith, ints) } in
     subst (λ (u : SpanValue). IsInside u.height u.start) (sym is) at
 
--- it is held where the children are
-pub child-held : (span : SpanValue) (i j : ℕ) (part : SpanValue) (child : Child) (cs : List Child) → (held : AreHeld span.height span.start cs) → i < 64 → j ≡ i → part ≡ slot_of span i → child ≡ slice_index_or cs j child → IsHeld part.height part.start child × (suc part.height ≡ span.height)
-child-held span i j part child cs held place same p r =
-    let at = child-at span held.below held.commits i j part child cs held.height_is held.each place same p r in (
+-- The child of a slot belongs to the slot if the children belong to the span.
+pub child-belongs : (span : SpanValue) (i j : ℕ) (part : SpanValue) (child : Child) (cs : List Child) → BelongsTo span (AreChildrenOf span cs) → i < 64 → j ≡ i → part ≡ slot_of span i → child ≡ slice_index_or cs j child → BelongsTo part (IsChildOf part child) × (suc part.height ≡ span.height)
+child-belongs span i j part child cs all place same p r =
+    let are = all.holds in
+    let at = child-at span are.below all.commits i j part child cs are.height are.each place same p r in (
       record {
-        inside = slot-in_domain span.height held.below span.start i part held.inside held.height_is place at.is;
-        above = is_inner (suc held.below) span.start;
-        commits = held.commits;
-        holds = at.holds;
+        inside = slot-in_domain span.height are.below span.start i part all.inside are.height place at.is;
+        commits = all.commits;
+        holds = (is_inner (suc are.below) span.start, at.holds);
       },
-      ap (λ u. suc u.height) at.is ∙ sym held.height_is,
+      ap (λ u. suc u.height) at.is ∙ sym are.height,
     )
 
--- ---- a node has points
+-- ---- A node has points.
 
 has-some : (b : List Point) → 0 < length b → has_points b ≡ true
 has-some [] h = absurd (omega arith)
 has-some (q ∷ b) h = refl
-
-by_kind : (P : ℕ → List Point → Type 0) (Q : ℕ → List Slot → List Child → Type 0) (R : Type 0) (n : Node-F Node) → ((v : ℕ) (ps : List Point) → P v ps → R) → ((v : ℕ) (ss : List Slot) (cs : List Child) → Q v ss cs → R) → ByKind P Q n → R
-by_kind P Q R (Node-F.Leaf v ps) f g h = f v ps.items h
-by_kind P Q R (Node-F.Inner v ss cs) f g h = g v ss.items cs.items h
 
 leaf-some : (k : ℕ) (s : ℤ) (above : List Point → Bool) (h : List Commit) (v : ℕ) (ps : List Point) → IsLeaf k s above h v ps → has_points (points_of k s (bag h)) ≡ true
 leaf-some k s above h v ps leaf =
     let some = leaf.some in
     has-some (points_of k s (bag h)) (omega (arith, ap length leaf.same))
 
-pub node-some : (k : ℕ) (s : ℤ) (above : List Point → Bool) (h : List Commit) (n : Node) → IsNode k s above h n → has_points (points_of k s (bag h)) ≡ true
-node-some zero s above h n holds =
-    by_kind (λ v ps. IsLeaf zero s above h v ps) (λ v ss cs. ⊥) (has_points (points_of zero s (bag h)) ≡ true) (out-Node n) (leaf-some zero s above h) (λ v ss cs x. absurd x) holds
-node-some (suc k) s above h n holds =
-    by_kind (λ v ps. IsLeaf (suc k) s above h v ps) (λ v ss cs. IsInner k s above h v ss cs × HasChildren k s h 64 cs) (has_points (points_of (suc k) s (bag h)) ≡ true) (out-Node n) (leaf-some (suc k) s above h) (λ v ss cs x. let many = x.0.many in has-some (points_of (suc k) s (bag h)) (omega arith)) holds
+node-some-at : (k : ℕ) (s : ℤ) (above : List Point → Bool) (h : List Commit) (n : Node) → IsNode k s above h n → has_points (points_of k s (bag h)) ≡ true
+node-some-at k s above h (Leaf v ps) holds = leaf-some k s above h v ps.now holds
+node-some-at zero s above h (Inner v ss cs) holds = absurd holds
+node-some-at (suc k) s above h (Inner v ss cs) holds =
+    let many = holds.0.many in
+    has-some (points_of (suc k) s (bag h)) (omega arith)
+
+pub node-some : (span : SpanValue) (h : List Commit) (n : Node) → IsNodeOf span n h → has_points (points_of span.height span.start (bag h)) ≡ true
+node-some span h n is = node-some-at span.height span.start is.0 h n is.1
+
+-- ---- The version of a node.
+
+pub leaf-version : (span : SpanValue) (h : List Commit) (n : Node) (v : ℕ) (ps : Bor (List Point)) → n ≡ Leaf v ps → (is : IsNodeOf span n h) → v ≡ node_version is.0 span.height span.start h
+leaf-version span h n v ps e is = (leaf-is span.height span.start is.0 h n v ps e is.1).version
+
+pub inner-version : (span : SpanValue) (h : List Commit) (n : Node) (v : ℕ) (ss : Bor (List Slot)) (cs : Bor (List Child)) → n ≡ Inner v ss cs → (is : IsNodeOf span n h) → v ≡ node_version is.0 span.height span.start h
+inner-version span h n v ss cs e is =
+    let body = inner-is span.height span.start is.0 h n v ss cs e is.1 in
+    body.inner.version ∙ ap (λ k. node_version is.0 k span.start h) (sym body.height)

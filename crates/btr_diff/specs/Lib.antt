@@ -1,1 +1,2 @@
-pub mod Comparing
+-- What the private functions promise.
+pub mod Comparison

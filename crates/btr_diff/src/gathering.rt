@@ -1,43 +1,48 @@
-//! The points of a span, by its node.
-ghost use Rattle.std.specs.Prelude.{◌≡◌, ◌++◌, ℕ, ℤ, suc, Bool, List, OnOk};
-ghost use Rattle.btr_base.specs.declared.point.Point.{Point as APoint};
+//! The points of a span of the older tree.
+ghost use Rattle.std.specs.Prelude.{◌≡◌, ◌++◌, List, OnOk};
 ghost use Rattle.btr_tree.specs.History.{Commit, bag};
 ghost use Rattle.btr_tree.specs.Nodes.{points_of};
-ghost use Rattle.btr_tree.specs.Shape.{IsPlace, HasChildren};
-ghost use Rattle.btr_diff.specs.Comparing.{IsHeld, AreHeld};
+ghost use Rattle.btr_diff.specs.Comparison.{BelongsTo, IsChildOf, AreChildrenOf};
 
-use crate::opening::older_node;
-use btr_base::{Point, Span};
-use btr_tree::{Node, Place, SLOTS};
-use std::alloc::AllocError;
+use btr_base::{FAN_OUT, Point, Span};
+use btr_tree::{Child, Node, Steps, visit};
+use std::alloc::{AllocError, Global};
 
-/// Appends the points of a span to `out`, by time and value. It costs its nodes and points.
+/// Appends the points of a span to `out`, in order. It costs the nodes and points of the span.
 #[cycle(gathering)]
-fn gather_place(span: Span, place: &Place, out: &mut Vec<Point>) -> Result<(), AllocError>
-    requires { IsHeld span.height span.start place.now }
-    ensures { OnOk result ((above : List APoint → Bool) (h : List Commit) → IsPlace span.height span.start above h place.now → out.new.items ≡ out.old.items ++ points_of span.height span.start (bag h)) }
+fn gather_child(
+    alloc: Global,
+    span: Span,
+    child: &Child,
+    out: &mut Vec<Point>,
+) -> Result<(), AllocError>
+    requires { BelongsTo span (IsChildOf span child.now) }
+    ensures { OnOk result ((h : List Commit) → IsChildOf span child.now h
+        → out.new.items ≡ out.old.items ++ points_of span.height span.start (bag h)) }
 {
-    match older_node(place) {
+    match visit(child, &mut Steps::new(alloc)) {
         None => Ok(()),
         Some(node) => match node {
             Node::Leaf { points, .. } => out.extend_from_slice(points),
-            Node::Inner { children, .. } => gather_slots(span, children, out),
+            Node::Inner { children, .. } => gather_slots(alloc, span, children, out),
         },
     }
 }
 
-/// The same by the children of an inner node.
+/// Appends the points of the slots of an inner node to `out`, in order.
 #[cycle(gathering)]
 pub(crate) fn gather_slots(
+    alloc: Global,
     span: Span,
-    children: &[Place],
+    children: &[Child],
     out: &mut Vec<Point>,
 ) -> Result<(), AllocError>
-    requires { AreHeld span.height span.start children.now }
-    ensures { OnOk result ((below : ℕ) (h : List Commit) → span.height ≡ suc below → HasChildren below span.start h 64 children.now → out.new.items ≡ out.old.items ++ points_of span.height span.start (bag h)) }
+    requires { BelongsTo span (AreChildrenOf span children.now) }
+    ensures { OnOk result ((h : List Commit) → AreChildrenOf span children.now h
+        → out.new.items ≡ out.old.items ++ points_of span.height span.start (bag h)) }
 {
-    for i in 0..SLOTS {
-        gather_place(span.slot(i), &children[usize::from(i)], out)?;
+    for i in 0..FAN_OUT {
+        gather_child(alloc, span.slot(i), &children[usize::from(i)], out)?;
     }
     Ok(())
 }

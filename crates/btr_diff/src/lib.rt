@@ -1,17 +1,17 @@
-//! What changed between two versions of a stream, found by their trees (BTrDB, FAST 2016).
+//! The changes between two versions of a stream, found by their trees (BTrDB, FAST 2016).
 //!
-//! [`changes`] compares two trees and gives the slots of time in which they differ (BTrDB's ComputeDiff). What the newer tree
-//! has of the older version stands in both, and is not looked at.
+//! [`changes`] compares two trees and returns the slots of time in which they differ (BTrDB's ComputeDiff). It visits no
+//! part of the newer tree that is as old as the older version: that part is equal in both trees.
 #![tactic(auto)]
 
 // two lists of points
 mod points;
 // two trees
 mod comparing;
+mod comparison;
 mod gathering;
-mod opening;
-mod points_walking;
-mod walking;
+mod leaf_walk;
+mod tree_walk;
 
 pub use comparing::changes;
 

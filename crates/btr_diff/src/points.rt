@@ -1,16 +1,14 @@
 //! The slots in which two lists of points differ.
-ghost use Rattle.std.specs.Prelude.{◌≡◌, ◌≤◌, ◌<ℤ◌, ◌^◌, ◌≤ℤ◌, MatchOption, [], List, OnOk};
+ghost use Rattle.std.specs.Prelude.{◌≡◌, ◌≤◌, MatchOption, [], OnOk};
 ghost use Rattle.btr_base.specs.Bag.{IsInOrder};
-ghost use Rattle.btr_base.specs.Changes.{slot_around as slot_of_time};
-ghost use Rattle.btr_base.specs.Point.{InDomain};
-ghost use Rattle.btr_tree.specs.Root.{AreInDomain};
-ghost use Rattle.btr_diff.specs.Comparing.{Adds, IsFirst};
+ghost use Rattle.btr_base.specs.Point.{AreInDomain};
+ghost use Rattle.btr_diff.specs.Comparison.{AddsChangedSlots, IsFirstTime};
 
-use btr_base::{FIRST, Point, Range, Ranges, parted};
+use btr_base::{Point, Ranges, parted, slot_around};
 use std::alloc::AllocError;
 
-/// Adds to `out` the aligned slots of `2^p` ns in which two lists of points in order differ. It goes through both once, time by
-/// time.
+/// Adds to `out` the aligned slots of `2^p` ns in which two lists of points in order differ. It goes through both lists once,
+/// time by time.
 pub(crate) fn compare_points(
     old: &[Point],
     new: &[Point],
@@ -22,7 +20,7 @@ pub(crate) fn compare_points(
     requires new_order { IsInOrder new.now }
     requires old_domain { AreInDomain old.now }
     requires new_domain { AreInDomain new.now }
-    ensures { OnOk result (Adds p out.old out.new old.now new.now) }
+    ensures { OnOk result (AddsChangedSlots p out.old out.new old.now new.now) }
 {
     let mut old_left = old;
     let mut new_left = new;
@@ -38,11 +36,11 @@ pub(crate) fn compare_points(
     Ok(())
 }
 
-/// The first time of two lists of points in order, or `None` where both are empty.
+/// Returns the first time of two lists of points in order, or `None` if both are empty.
 fn first_time(a: &[Point], b: &[Point]) -> Option<i64>
     requires a { IsInOrder a.now }
     requires b { IsInOrder b.now }
-    ensures { MatchOption result ((a.now ≡ []) × (b.now ≡ [])) (λ t. IsFirst t a.now b.now) }
+    ensures { MatchOption result ((a.now ≡ []) × (b.now ≡ [])) (λ t. IsFirstTime t a.now b.now) }
 {
     match (a.first(), b.first()) {
         (None, None) => None,
@@ -50,27 +48,4 @@ fn first_time(a: &[Point], b: &[Point]) -> Option<i64>
         (None, Some(b)) => Some(b.time),
         (Some(a), Some(b)) => Some(a.time.min(b.time)),
     }
-}
-
-/// The aligned slot of `2^p` ns that a time of the domain lies in.
-fn slot_around(time: i64, p: u8) -> Range
-    requires p { p ≤ 62 }
-    requires domain { InDomain time }
-    ensures { result ≡ slot_of_time p time }
-{
-    let width = slot_width(p);
-    let offset = time.abs_diff(FIRST);
-    let from = FIRST + (offset / width * width) as i64;
-    Range {
-        from,
-        to: from + width as i64,
-    }
-}
-
-/// How many nanoseconds a slot of `2^p` ns covers.
-fn slot_width(p: u8) -> u64
-    requires { p ≤ 62 }
-    ensures { result ≡ 2 ^ p }
-{
-    1 << p
 }

@@ -1,6 +1,6 @@
 use crate::changes;
-use btr_base::{Bag, END, FIRST, Point, Range, Ranges};
-use btr_tree::{Steps, Tree, are_in_domain};
+use btr_base::{Bag, END, FIRST, Point, Range, Ranges, are_in_domain};
+use btr_tree::{Steps, Tree};
 use std::alloc::{AllocError, Global};
 use std::test::Fail;
 
@@ -12,63 +12,97 @@ struct Version {
     nodes: u64,
 }
 
-/// Points `step` apart, from a time on, with values from `value` on.
-fn points_from(
-    alloc: Global,
+/// What one commit adds and deletes.
+#[derive(Clone, Copy)]
+struct Change {
+    count: i64,
     first: i64,
     step: i64,
-    count: i64,
     value: i64,
-) -> Result<Vec<Point>, AllocError> {
-    let mut points = Vec::new(alloc);
-    for i in 0..count {
-        points.push(Point {
-            time: first.wrapping_add(i.wrapping_mul(step)),
-            value: value.wrapping_add(i),
-        })?;
-    }
-    Ok(points)
+    deleted: (i64, i64),
 }
 
-fn cut_of(alloc: Global, from: i64, to: i64) -> Result<Ranges, AllocError> {
-    let mut cut = Ranges::none(alloc);
-    if let Some(range) = Range::new(from, to) {
-        cut.add(range)?;
+/// Adds points at 0, 1, 2 and so on, with the values 0, 1, 2 and so on.
+fn adds(count: i64) -> Change {
+    Change {
+        count,
+        first: 0,
+        step: 1,
+        value: 0,
+        deleted: (0, 0),
     }
-    Ok(cut)
+}
+
+impl Change {
+    fn from(self, first: i64) -> Change {
+        Change { first, ..self }
+    }
+
+    fn every(self, step: i64) -> Change {
+        Change { step, ..self }
+    }
+
+    fn valued(self, value: i64) -> Change {
+        Change { value, ..self }
+    }
+
+    fn deletes(self, from: i64, to: i64) -> Change {
+        Change {
+            deleted: (from, to),
+            ..self
+        }
+    }
+
+    fn points(self, alloc: Global) -> Result<Vec<Point>, AllocError> {
+        let mut points = Vec::new(alloc);
+        for i in 0..self.count {
+            points.push(Point {
+                time: self.first.wrapping_add(i.wrapping_mul(self.step)),
+                value: self.value.wrapping_add(i),
+            })?;
+        }
+        Ok(points)
+    }
+}
+
+/// The version of no commit.
+fn empty(alloc: Global) -> Version {
+    Version {
+        tree: Tree::empty(),
+        bag: Bag::from_points(Vec::new(alloc)),
+        nodes: 0,
+    }
 }
 
 /// The version after a commit.
-fn after(
-    alloc: Global,
-    last: &Version,
-    cut: &Ranges,
-    points: Vec<Point>,
-    version: u64,
-) -> Result<Version, Fail> {
-    let added = Bag::from_points(points);
+fn after(alloc: Global, last: &Version, change: Change, version: u64) -> Result<Version, Fail> {
+    let added = Bag::from_points(change.points(alloc)?);
     if !are_in_domain(added.as_slice()) {
         return Err("a time outside the domain".into());
     }
-    let mut steps = Steps::new();
+    let mut cut = Ranges::none(alloc);
+    if let Some(range) = Range::new(change.deleted.0, change.deleted.1) {
+        cut.add(range)?;
+    }
+    let mut steps = Steps::new(alloc);
     let applied = last
         .tree
-        .apply(alloc, cut, &added, version, &mut steps)
+        .apply(alloc, &cut, &added, version, &mut steps)
         .ok()
         .ok_or("applied")?;
     Ok(Version {
         tree: applied.tree,
-        bag: last.bag.outside(alloc, cut)?.merge(alloc, &added)?,
+        bag: last.bag.outside(alloc, &cut)?.merge(alloc, &added)?,
         nodes: applied.nodes.len() as u64,
     })
 }
 
-/// How often a point stands in a list.
+/// How often a point is in a list.
 fn copies(point: &Point, points: &[Point]) -> usize {
     points.iter().filter(|other| *other == point).count()
 }
 
-/// Adds the begins of the slots of the points of one list that stand in another more or less often.
+/// Adds the starts of the slots of the points of one list that are in another more or less often.
 fn add_changed(
     points: &[Point],
     other: &[Point],
@@ -88,8 +122,8 @@ fn add_changed(
     Ok(())
 }
 
-/// The begins of the slots in which two bags differ, point by point.
-fn changed_starts(
+/// The starts of the slots in which two bags differ, point by point.
+fn plain_starts(
     alloc: Global,
     old: &[Point],
     new: &[Point],
@@ -103,7 +137,7 @@ fn changed_starts(
     Ok(starts)
 }
 
-/// The begins of the slots that ranges are made of.
+/// The starts of the slots that ranges are made of.
 fn starts_of(alloc: Global, ranges: &[Range], width: i64) -> Result<Vec<i64>, AllocError> {
     let mut starts = Vec::new(alloc);
     for range in ranges {
@@ -128,7 +162,7 @@ fn nodes_of(versions: &[Version]) -> u64 {
     nodes
 }
 
-/// The begins of the changed slots between two versions by their trees, and point by point, and how many nodes were opened.
+/// The starts of the changed slots between two versions by their trees, and point by point, and how many nodes were visited.
 fn both_ways(
     alloc: Global,
     old: &Version,
@@ -140,39 +174,19 @@ fn both_ways(
         return Err("slots wider than the domain".into());
     }
     let width = 1 << p;
-    let mut steps = Steps::new();
+    let mut steps = Steps::new(alloc);
     let found = changes(alloc, &old.tree, &new.tree, since, p, &mut steps)?;
     let starts = starts_of(alloc, found.as_slice(), width)?;
-    let plain = changed_starts(alloc, old.bag.as_slice(), new.bag.as_slice(), width)?;
+    let plain = plain_starts(alloc, old.bag.as_slice(), new.bag.as_slice(), width)?;
     Ok((starts, plain, steps.count()))
 }
 
-/// The versions of a stream of which each tells what the comparison has to see.
-fn versions_of_one_stream(alloc: Global) -> Result<Vec<Version>, Fail> {
+/// The versions of a stream, from the empty one on.
+fn versions_after(alloc: Global, changes: &[Change]) -> Result<Vec<Version>, Fail> {
     let mut versions = Vec::new(alloc);
-    let mut last = Version {
-        tree: Tree::empty(),
-        bag: Bag::from_points(Vec::new(alloc)),
-        nodes: 0,
-    };
-    // first time, step, number and first value of the added points, and bounds of the cut (none if equal)
-    for (first, step, count, value, from, to) in [
-        // one leaf, an inner node at each height down to 1, and more of them far away
-        (0, 1, 252, 0, 0, 0),
-        (252, 1, 1, 0, 0, 0),
-        (1 << 40, 1 << 30, 260, 0, 0, 0),
-        // the same points again, one of them twice, and one moved far away
-        (0, 1, 50, 0, 0, 50),
-        (7, 1, 1, 7, 0, 0),
-        (1 << 50, 1, 1, 60, 60, 61),
-        // few points left, in one leaf, then none, and some
-        (0, 1, 0, 0, 100, END),
-        (0, 1, 0, 0, FIRST, END),
-        (3, 5, 9, 1, 0, 0),
-    ] {
-        let cut = cut_of(alloc, from, to)?;
-        let points = points_from(alloc, first, step, count, value)?;
-        let next = after(alloc, &last, &cut, points, versions.len() as u64 + 1)?;
+    let mut last = empty(alloc);
+    for change in changes {
+        let next = after(alloc, &last, *change, versions.len() as u64 + 1)?;
         versions.push(last)?;
         last = next;
     }
@@ -183,14 +197,30 @@ fn versions_of_one_stream(alloc: Global) -> Result<Vec<Version>, Fail> {
 #[test]
 fn changes_are_those_point_by_point(rt: HostRuntime) -> Result<(), Fail> {
     let alloc = rt.alloc();
-    let versions = versions_of_one_stream(alloc)?;
+    let versions = versions_after(
+        alloc,
+        &[
+            // one leaf, an inner node at each height down to 1, and more of them far away
+            adds(252),
+            adds(1).from(252),
+            adds(260).from(1 << 40).every(1 << 30),
+            // the same points again, one of them twice, and one moved far away
+            adds(50).deletes(0, 50),
+            adds(1).from(7).valued(7),
+            adds(1).from(1 << 50).valued(60).deletes(60, 61),
+            // few points left, in one leaf, then none, and some
+            adds(0).deletes(100, END),
+            adds(0).deletes(FIRST, END),
+            adds(9).from(3).every(5).valued(1),
+        ],
+    )?;
     for (newer, new) in versions.iter().enumerate() {
         for (older, old) in versions[..newer].iter().enumerate() {
             let nodes = nodes_of(&versions[older + 1..newer + 1]);
             for p in [0, 2, 10, 62] {
-                let (starts, plain, opened) = both_ways(alloc, old, new, older as u64, p)?;
+                let (starts, plain, visited) = both_ways(alloc, old, new, older as u64, p)?;
                 assert_eq!(rt; starts, plain, "{older} {newer} {p}");
-                assert!(rt; opened <= nodes.saturating_add(1), "{older} {newer} {p}");
+                assert!(rt; visited <= nodes.saturating_add(1), "{older} {newer} {p}");
             }
         }
     }
@@ -208,22 +238,14 @@ fn bounds(ranges: &Ranges) -> Option<(i64, i64)> {
 #[test]
 fn changes_of_three_commits(rt: HostRuntime) -> Result<(), Fail> {
     let alloc = rt.alloc();
-    let none = Ranges::none(alloc);
-    let empty = Version {
-        tree: Tree::empty(),
-        bag: Bag::from_points(Vec::new(alloc)),
-        nodes: 0,
+    let versions = versions_after(
+        alloc,
+        &[adds(5), adds(0).deletes(3, 4), adds(1).from(4).valued(4)],
+    )?;
+    let [_, first, second, third] = versions.as_slice() else {
+        return Err("four versions".into());
     };
-    let mut points = Vec::new(alloc);
-    points.push(Point { time: 0, value: 5 })?;
-    points.push(Point { time: 3, value: 7 })?;
-    points.push(Point { time: 4, value: -2 })?;
-    let first = after(alloc, &empty, &none, points, 1)?;
-    let second = after(alloc, &first, &cut_of(alloc, 3, 4)?, Vec::new(alloc), 2)?;
-    let mut again = Vec::new(alloc);
-    again.push(Point { time: 4, value: -2 })?;
-    let third = after(alloc, &second, &none, again, 3)?;
-    let mut steps = Steps::new();
+    let mut steps = Steps::new(alloc);
     let found = changes(alloc, &first.tree, &third.tree, 1, 2, &mut steps)?;
     assert_eq!(rt; bounds(&found), Some((0, 8)));
     let found = changes(alloc, &first.tree, &second.tree, 1, 0, &mut steps)?;

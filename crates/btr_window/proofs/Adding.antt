@@ -1,4 +1,4 @@
--- Lemmas on points and parts of windows that are added to the windows before them.
+-- Lemmas on points and aggregates of windows that are added to the windows so far.
 use Rattle.std.specs.Prelude.{◌≡◌, ℕ, ◌+◌, ◌<◌, ◌≤◌, ℤ, Bool, true, false, List, [], ◌∷◌, ◌++◌, length, cond}
 use Rattle.std.specs.Ordering.{int_eq}
 use Rattle.std.specs.List.{AllByRecursion}
@@ -12,29 +12,29 @@ use Rattle.btr_base.proofs.WithinLemmas.{within-append}
 use Rattle.btr_base.proofs.ListLemmas.{length-filter}
 use Rattle.btr_base.specs.Agg.{AggValue, joined, one_point, agg}
 use Rattle.btr_base.proofs.AggLemmas.{joined-assoc, none-joined}
-use Rattle.btr_window.specs.Grids.{begin_of}
-use Rattle.btr_window.specs.Adding.{add_part, add_points, counted}
+use Rattle.btr_base.specs.Windows.{begin_of}
+use Rattle.btr_window.specs.Accumulate.{add_part, add_points, counted}
 
 pub same-eq : (a b : ℤ) → a ≡ b → int_eq a b ≡ true
 same-eq a b e = grind (arith, ints)
 
--- the window that begins at `start`, and points of it
+-- A window that starts at `start`, and the aggregate of its points.
 abbrev pub cell : ℤ → AggValue → Cell
 cell start agg = record { start = start; agg = agg }
 
--- what a last window becomes, and what stands behind it
+-- The last window after an aggregate is added, and the window that follows it, if any.
 abbrev pub with_last : Cell → ℤ → AggValue → List Cell
 with_last c start agg =
     cond (int_eq c.start start) (cell c.start (joined c.agg agg) ∷ []) (c ∷ cell start agg ∷ [])
 
--- ---- the last window
+-- ---- The last window.
 
 pub add_part-behind : (c : Cell) (prefix : List Cell) (start : ℤ) (a : AggValue) → add_part (prefix ++ c ∷ []) start a ≡ prefix ++ with_last c start a
 add_part-behind c [] start a = refl
 add_part-behind c (f ∷ []) start a = refl
 add_part-behind c (f ∷ g ∷ prefix) start a = ap (λ x. f ∷ x) (add_part-behind c (g ∷ prefix) start a)
 
--- ---- how many points
+-- ---- How many points.
 
 counted-last : (c : Cell) (start : ℤ) (a : AggValue) → counted (with_last c start a) ≡ c.agg.count + a.count
 counted-last c start a =
@@ -57,7 +57,7 @@ counted-behind : (prefix : List Cell) (c : Cell) → c.agg.count ≤ counted (pr
 counted-behind [] c = omega arith
 counted-behind (f ∷ prefix) c = let rest = counted-behind prefix c in omega arith
 
--- ---- the last window, by its place
+-- ---- The last window, by its place.
 
 module _ (cs : List Cell) (n : ℕ) (is_last : n + 1 ≡ length cs) (last : Cell) (is : last ≡ get_or cs n last) where
   split-last : cs ≡ take n cs ++ last ∷ []
@@ -73,7 +73,7 @@ module _ (cs : List Cell) (n : ℕ) (is_last : n + 1 ≡ length cs) (last : Cell
       ∙ add_part-behind last (take n cs) start a
       ∙ ap (λ u. take n cs ++ cond u (cell last.start (joined last.agg a) ∷ []) (last ∷ cell start a ∷ [])) e
 
-  -- points of the last window
+  -- Points of the last window join it.
   pub joins-last : (start : ℤ) (a b : AggValue) → last.start ≡ start → b ≡ joined last.agg a → set cs n (cell last.start b) ≡ add_part cs start a
   joins-last start a b same e =
       set_split cs n (cell last.start b) (omega arith)
@@ -81,14 +81,14 @@ module _ (cs : List Cell) (n : ℕ) (is_last : n + 1 ≡ length cs) (last : Cell
       ∙ ap (λ s. take n cs ++ cell last.start s ∷ []) e
       ∙ sym (part-last start a true (same-eq last.start start same))
 
-  -- points of another window
+  -- Points of another window follow it.
   pub behind-last : (start : ℤ) (a : AggValue) → int_eq last.start start ≡ false → add_part cs start a ≡ cs ++ cell start a ∷ []
   behind-last start a other =
       part-last start a false other
       ∙ sym (append_assoc (take n cs) (last ∷ []) (cell start a ∷ []))
       ∙ ap (λ c. c ++ cell start a ∷ []) (sym split-last)
 
--- ---- parts of one window
+-- ---- Parts of one window.
 
 pub add_points-append : (first : ℤ) (width : ℕ) (cs : List Cell) (a b : List Point) → add_points first width cs (a ++ b) ≡ add_points first width (add_points first width cs a) b
 add_points-append first width cs [] b = refl
@@ -120,7 +120,7 @@ add_part-twice (c ∷ []) start a b = last-twice c start a b
 add_part-twice (c ∷ d ∷ cs) start a b =
     add_part-prefix c d cs start a start b ∙ ap (λ x. c ∷ x) (add_part-twice (d ∷ cs) start a b)
 
--- points of one window are one part of it
+-- Adding points of one window, one by one, adds their aggregate.
 pub add_points-part : (first : ℤ) (width : ℕ) (cs : List Cell) (ps : List Point) (start : ℤ) → 0 < length ps → AllByRecursion (λ p. begin_of first width p.time ≡ start) ps → add_points first width cs ps ≡ add_part cs start (agg ps)
 add_points-part first width cs [] start some h = absurd (omega arith)
 add_points-part first width cs (p ∷ []) start some h =
@@ -130,7 +130,7 @@ add_points-part first width cs (p ∷ q ∷ ps) start some h =
     ∙ add_points-part first width (add_part cs start (one_point p.value)) (q ∷ ps) start (omega arith) h.1
     ∙ add_part-twice cs start (one_point p.value) (agg (q ∷ ps))
 
--- windows in front of the last stay as they are
+-- The windows before the last one stay unchanged.
 part-longer : (d : Cell) (cs : List Cell) (start : ℤ) (a : AggValue) → 0 < length (add_part (d ∷ cs) start a)
 part-longer d [] start a =
     elim (int_eq d.start start) as (λ t. 0 < length (cond t (cell d.start (joined d.agg a) ∷ []) (d ∷ cell start a ∷ []))) [
@@ -145,7 +145,7 @@ add_points-prefix first width c (p ∷ ps) [] some = absurd (omega arith)
 add_points-prefix first width c (p ∷ ps) (d ∷ cs) some =
     add_points-prefix first width c ps (add_part (d ∷ cs) (begin_of first width p.time) (one_point p.value)) (part-longer d cs (begin_of first width p.time) (one_point p.value))
 
--- ---- the points of a range, slot by slot
+-- ---- The points of a range, slot by slot.
 
 pub points-more : (first : ℤ) (width : ℕ) (from to : ℤ) (old mid new : List Cell) (before here next : List Point) → next ≡ before ++ here → mid ≡ add_points first width old (within from to before) → new ≡ add_points first width mid (within from to here) → new ≡ add_points first width old (within from to next)
 points-more first width from to old mid new before here next e p q =

@@ -1,27 +1,17 @@
--- Lemmas on numbers of 64 bits: the last time of a span, equal times, and the bounds of whole windows.
-use Rattle.std.specs.Prelude.{◌≡◌, ℕ, ◌+◌, ◌*◌, nat_eq, ℤ, pos, ◌+ℤ◌, ◌-ℤ◌, ◌≤ℤ◌, ◌<ℤ◌, true, false}
+-- Lemmas on numbers of 64 bits: the start of a span, different times, and the bounds of whole windows.
+use Rattle.std.specs.Prelude.{◌≡◌, ℕ, ◌+◌, ◌*◌, ℤ, pos, ◌+ℤ◌, ◌-ℤ◌, ◌≤ℤ◌, ◌<ℤ◌, true, false}
 use Rattle.std.specs.Ordering.{int_eq}
 use Rattle.std.proofs.Common.{refl, sym, ap, ◌∙◌, arith, subst, to_z, of_z, w64, SFits}
 use Rattle.std.proofs.lemmas.Int.{ints, to_z-of_z, to_z_pos}
-use Rattle.std.proofs.lemmas.Bool.Decides.{nat_tests}
 use Rattle.btr_base.specs.declared.limits.TheConstants.{END}
 use Rattle.btr_base.specs.Range.{IsRange}
 use Rattle.btr_base.specs.Windows.{window_of}
-use Rattle.btr_window.specs.Grids.{IsGrid, begin_of}
+use Rattle.btr_base.specs.Windows.{IsGrid, begin_of}
 use Rattle.btr_window.proofs.Cells.{begin-bounds, numbered}
 use Rattle.btr_base.specs.Span.{SpanValue, IsSpan}
 use Rattle.btr_base.proofs.SpanLemmas.{width-positive}
-use Rattle.btr_tree.specs.Change.{end_of}
 
--- the last time of a span
-pub last-time : (s : SpanValue) (end : ℤ) → IsSpan s → end ≡ end_of s → to_z w64 (of_z w64 (to_z w64 (of_z w64 end) -ℤ pos 1)) ≡ end -ℤ pos 1
-last-time s end span e =
-    let some = width-positive s.height in
-    let begins = span.1.start in
-    let ends = span.1.ends in
-    let fits : to_z w64 (of_z w64 end) ≡ end = to_z-of_z w64 end (omega (arith, ints)) in
-    ap (λ x. to_z w64 (of_z w64 (x -ℤ pos 1))) fits ∙ to_z-of_z w64 (end -ℤ pos 1) (omega (arith, ints))
-
+-- The start of a span.
 pub span-start : (inside s : SpanValue) → IsSpan inside → inside ≡ s → to_z w64 (of_z w64 inside.start) ≡ s.start
 span-start inside s span e =
     let some = width-positive inside.height in
@@ -29,15 +19,8 @@ span-start inside s span e =
     let ends = span.1.ends in
     to_z-of_z w64 inside.start (omega (arith, ints)) ∙ ap (λ (u : SpanValue). u.start) e
 
-nat-equal : (a b : ℕ) → nat_eq a b ≡ true → a ≡ b
-nat-equal a b e = grind (arith, nat_tests)
-
 equal : (a b : ℤ) → int_eq a b ≡ true → a ≡ b
 equal a b e = grind (arith, ints)
-
-pub equal-times : (a b : ℤ) → SFits w64 a → SFits w64 b → nat_eq (of_z w64 a) (of_z w64 b) ≡ true → a ≡ b
-equal-times a b p q e =
-    sym (to_z-of_z w64 a p) ∙ ap (to_z w64) (nat-equal (of_z w64 a) (of_z w64 b) e) ∙ to_z-of_z w64 b q
 
 pub apart-times : (a b : ℤ) → (of_z w64 a ≡ of_z w64 b → ⊥) → int_eq a b ≡ false
 apart-times a b h =
@@ -46,9 +29,9 @@ apart-times a b h =
       | false ↦ λ e. refl
     ] refl
 
--- ---- whole windows
+-- ---- Whole windows.
 
--- what is computed of where the first window that a range meets begins, and of where the last one begins
+-- What is computed of the starts of the first and the last window that a range meets.
 pub record IsWhole (width : ℕ) (begin last : ℤ) : Type 0 where
   pub sum_fits : SFits w64 (to_z w64 (of_z w64 last) +ℤ to_z w64 width)
   pub sum : to_z w64 (of_z w64 (to_z w64 (of_z w64 last) +ℤ to_z w64 width)) ≡ last +ℤ pos width

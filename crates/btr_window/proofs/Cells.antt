@@ -16,13 +16,13 @@ use Rattle.btr_base.proofs.WithinLemmas.{within-nested, within-in_order}
 use Rattle.btr_base.specs.Windows.{window_of, window_at, dedup, windows_with, cell_of, cells}
 use Rattle.btr_base.specs.Agg.{AggValue, joined, one_point, agg, agg_within}
 use Rattle.btr_base.proofs.AggLemmas.{joined-assoc, none-joined}
-use Rattle.btr_window.specs.Grids.{begin_of}
-use Rattle.btr_window.specs.Adding.{add_points}
+use Rattle.btr_base.specs.Windows.{begin_of}
+use Rattle.btr_window.specs.Accumulate.{add_points}
 use Rattle.btr_window.proofs.Adding.{cell, same-eq, add_points-prefix}
 
--- ---- windows by number
+-- ---- Windows by number.
 
--- the number of the window of a time, and the time, by the offset from the first time
+-- The number of the window of a time, and the time, by the offset from the first time.
 pub record IsNumbered (first : ℤ) (width : ℕ) (t : ℤ) (k offset : ℕ) : Type 0 where
   pub at : t ≡ first +ℤ pos offset
   pub low : k * width ≤ offset
@@ -38,7 +38,7 @@ numbered first width t some h =
 pub times-less : (a b w : ℕ) → a < b → (a + 1) * w ≤ b * w
 times-less a b w h = mul-le-mul_right w (omega arith)
 
--- the windows of a time and of a later one
+-- The window of a later time has no lesser number.
 pub window-rise : (first : ℤ) (width : ℕ) (t u : ℤ) → 1 ≤ width → first ≤ℤ t → t ≤ℤ u → window_of first width t ≤ window_of first width u
 window-rise first width t u some h le =
     let a = numbered first width t some h in
@@ -54,11 +54,11 @@ window-rise first width t u some h le =
       | inr ge ↦ ge
     ]
 
--- where windows begin, by their numbers
+-- The starts of windows rise with their numbers.
 pub at-rise : (first : ℤ) (width : ℕ) (j k : ℕ) → j ≤ k → window_at first width j ≤ℤ window_at first width k
 at-rise first width j k h = let more : j * width ≤ k * width = mul-le-mul_right width h in omega (arith, ints)
 
--- a time is in its window, and in no other
+-- A time is in its window, and in no other.
 pub in_window : (first : ℤ) (width : ℕ) (t : ℤ) (k : ℕ) → 1 ≤ width → first ≤ℤ t → (int_le (window_at first width k) t && int_lt t (window_at first width (k + 1))) ≡ nat_eq (window_of first width t) k
 in_window first width t k some h =
     let o = unsigned_abs (t -ℤ first) in
@@ -118,7 +118,7 @@ at-same first width j k some =
           ]
     ]
 
--- the begin of the window of a time is not before the first window, and not behind the time
+-- The window of a time starts at the first window or later, and not after the time.
 pub begin-bounds : (first : ℤ) (width : ℕ) (t : ℤ) → 1 ≤ width → first ≤ℤ t → (first ≤ℤ begin_of first width t) × (begin_of first width t ≤ℤ t)
 begin-bounds first width t some h =
     let n = numbered first width t some h in
@@ -126,7 +126,7 @@ begin-bounds first width t some h =
     let low = n.low in
     (omega (arith, ints), omega (arith, ints))
 
--- times between two of one window are in that window
+-- A time between two times of one window is in that window.
 pub begin-between : (first : ℤ) (width : ℕ) (t u v : ℤ) → 1 ≤ width → first ≤ℤ t → t ≤ℤ u → u ≤ℤ v → begin_of first width t ≡ begin_of first width v → begin_of first width u ≡ begin_of first width t
 begin-between first width t u v some h le up e =
     let low = window-rise first width t u some h le in
@@ -134,9 +134,9 @@ begin-between first width t u v some h le up e =
     let same = nat-same (window_of first width t) (window_of first width v) (sym (at-same first width (window_of first width t) (window_of first width v) some) ∙ same-eq _ _ e) in
     ap (window_at first width) (omega arith)
 
--- ---- numbers, each once
+-- ---- Numbers, each once.
 
--- the numbers behind those that equal the one in front
+-- The numbers that follow those that equal the first one.
 after : ℕ → List ℕ → List ℕ
 after k [] = []
 after k (w ∷ ws) = cond (nat_eq k w) (after k ws) (w ∷ after w ws)
@@ -153,7 +153,7 @@ dedup-after k (w ∷ ws) =
       | false ↦ λ e. ap (λ x. k ∷ x) (dedup-after w ws)
     ] refl
 
--- numbers that do not fall, from one on
+-- Numbers that never fall, from a number on.
 abbrev pub AreRising : ℕ → List ℕ → Type 0
 AreRising k [] = Unit {0}
 AreRising k (w ∷ ws) = (k ≤ w) × AreRising w ws
@@ -188,15 +188,15 @@ map-same : {X : Type 0} (f g : ℕ → X) (ks : List ℕ) → AllByRecursion (λ
 map-same f g [] h = refl
 map-same f g (k ∷ ks) h = ap (λ x. x ∷ map f ks) h.0 ∙ ap (λ xs. g k ∷ xs) (map-same f g ks h.1)
 
--- ---- points by their windows
+-- ---- Points by their windows.
 
--- what is known of the times of points between two
+-- The times of the points of a range.
 pub within-between : (from to : ℤ) (b : List Point) → AllByRecursion (λ p. (from ≤ℤ p.time) × (p.time <ℤ to)) (within from to b)
 within-between from to b =
     each-weaker (λ p. is_within from to p ≡ true) (λ p. (from ≤ℤ p.time) × (p.time <ℤ to)) (λ p h. (grind (arith, ints), grind (arith, ints))) (within from to b) (filter-passes (is_within from to) b)
 
 module _ (first : ℤ) (width : ℕ) (some : 1 ≤ width) where
-  -- the points from the window of a number on
+  -- The points from the window of a number on.
   abbrev AreBehind : ℕ → List Point → Type 0
   AreBehind k ps = AllByRecursion (λ p. first ≤ℤ p.time) ps × AreRising k (map (λ p. window_of first width p.time) ps)
 
@@ -205,7 +205,7 @@ module _ (first : ℤ) (width : ℕ) (some : 1 ≤ width) where
       let rest = within (window_at first width k) (window_at first width (k + 1)) ps in
       ap (λ t. cond t (p ∷ rest) rest) (in_window first width p.time k some h)
 
-  -- none of the points is in an earlier window
+  -- None of the points is in an earlier window.
   none-before : (j k : ℕ) (ps : List Point) → j < k → AreBehind k ps → within (window_at first width j) (window_at first width (j + 1)) ps ≡ []
   none-before j k [] less h = refl
   none-before j k (p ∷ ps) less h =
@@ -216,7 +216,7 @@ module _ (first : ℤ) (width : ℕ) (some : 1 ≤ width) where
       ∙ ap (λ t. cond t (p ∷ rest) rest) other
       ∙ none-before j (window_of first width p.time) ps (omega arith) (h.0.1, h.1.1)
 
-  -- a window behind that of a point has the points that it has without it
+  -- A window after that of a point has the same points without it.
   cell-behind : (p : Point) (ps : List Point) (j : ℕ) → first ≤ℤ p.time → window_of first width p.time < j → cell_of first width (p ∷ ps) j ≡ cell_of first width ps j
   cell-behind p ps j h less =
       let other : nat_eq (window_of first width p.time) j ≡ false = grind (arith, nat_tests) in
@@ -227,14 +227,14 @@ module _ (first : ℤ) (width : ℕ) (some : 1 ≤ width) where
   cells-behind p ps js h less =
       map-same (cell_of first width (p ∷ ps)) (cell_of first width ps) js (each-weaker (λ j. window_of first width p.time < j) (λ j. cell_of first width (p ∷ ps) j ≡ cell_of first width ps j) (λ j k. cell-behind p ps j h k) js less)
 
-  -- the window of the first point
+  -- The window of the first point.
   cell-first : (p : Point) (ps : List Point) (k : ℕ) → first ≤ℤ p.time → window_of first width p.time ≡ k → agg_within (window_at first width k) (window_at first width (k + 1)) (p ∷ ps) ≡ joined (one_point p.value) (agg_within (window_at first width k) (window_at first width (k + 1)) ps)
   cell-first p ps k h e =
       let here : nat_eq (window_of first width p.time) k ≡ true = grind (arith, nat_tests) in
       let rest = within (window_at first width k) (window_at first width (k + 1)) ps in
       ap agg (within-window k p ps h ∙ ap (λ t. cond t (p ∷ rest) rest) here)
 
-  -- the windows from that of a point on, where the others are those of the points behind it
+  -- The windows from that of a point on, if the others are those of the points after it.
   windows-first : (p : Point) (ps : List Point) → (let w = window_of first width p.time in add_points first width (cell (window_at first width w) (one_point p.value) ∷ []) ps ≡ cell (window_at first width w) (joined (one_point p.value) (agg_within (window_at first width w) (window_at first width (w + 1)) ps)) ∷ map (cell_of first width ps) (after w (map (λ q. window_of first width q.time) ps))) → first ≤ℤ p.time → AreRising (window_of first width p.time) (map (λ q. window_of first width q.time) ps) → (let w = window_of first width p.time in add_points first width (cell (window_at first width w) (one_point p.value) ∷ []) ps ≡ map (cell_of first width (p ∷ ps)) (w ∷ after w (map (λ q. window_of first width q.time) ps)))
   windows-first p ps said h rise =
       let w = window_of first width p.time in
@@ -243,7 +243,7 @@ module _ (first : ℤ) (width : ℕ) (some : 1 ≤ width) where
       ∙ ap (λ s. cell (window_at first width w) s ∷ map (cell_of first width ps) (after w ws)) (sym (cell-first p ps w h refl))
       ∙ ap (λ cs. cell_of first width (p ∷ ps) w ∷ cs) (sym (cells-behind p ps (after w ws) h (after-more w ws rise)))
 
-  -- the windows of points that stand behind a window with points, or in it
+  -- The windows of points that are in a window with points, or after it.
   windows-from : (k : ℕ) (x : AggValue) (ps : List Point) → AreBehind k ps → add_points first width (cell (window_at first width k) x ∷ []) ps ≡ cell (window_at first width k) (joined x (agg_within (window_at first width k) (window_at first width (k + 1)) ps)) ∷ map (cell_of first width ps) (after k (map (λ p. window_of first width p.time) ps))
   unfolding after
   windows-from k x [] h = ap (λ s. cell (window_at first width k) s ∷ []) (sym (none-joined x))
@@ -272,7 +272,7 @@ module _ (first : ℤ) (width : ℕ) (some : 1 ≤ width) where
             ∙ ap (λ s. cell (at k) s ∷ map (cell_of first width (p ∷ ps)) (w ∷ after w ws)) (sym (ap (λ b. joined x (agg b)) none ∙ none-joined x))
       ] refl
 
-  -- the windows of points in order, by adding one point after the other
+  -- The windows of points in order, by adding one point after the other.
   pub windows-are : (ps : List Point) → AreBehind 0 ps → add_points first width [] ps ≡ map (cell_of first width ps) (windows_with first width ps)
   windows-are [] h = refl
   windows-are (p ∷ ps) h =
@@ -291,9 +291,9 @@ module _ (first : ℤ) (width : ℕ) (some : 1 ≤ width) where
   behind-in_order ps order h =
       (h, rising-in_order 0 ps order (each-weaker (λ p. first ≤ℤ p.time) (λ p. (first ≤ℤ p.time) × (0 ≤ window_of first width p.time)) (λ p low. (low, omega arith)) ps h))
 
-  -- ---- windows between two bounds
+  -- ---- Windows between two bounds.
 
-  -- the window lies between two others
+  -- The window is between two others.
   abbrev LiesBetween : ℕ → ℕ → ℕ → Type 0
   LiesBetween a c k = (a ≤ k) × (k < c)
 
@@ -328,7 +328,7 @@ module _ (first : ℤ) (width : ℕ) (some : 1 ≤ width) where
   numbers-between a c [] h = tt
   numbers-between a c (p ∷ ps) h = (number-between a c p.time h.0.0 h.0.1, numbers-between a c ps h.1)
 
-  -- the windows between the bounds of two, by adding one point after the other
+  -- The windows between the bounds of two, by adding one point after the other.
   pub cells-are : (a c : ℕ) (b : List Point) → IsInOrder b → add_points first width [] (within (window_at first width a) (window_at first width c) b) ≡ cells first width (window_at first width a) (window_at first width c) b
   cells-are a c b order =
       let at = window_at first width in

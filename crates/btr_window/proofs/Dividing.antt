@@ -9,10 +9,10 @@ use Rattle.btr_base.specs.declared.point.Point.{Point}
 use Rattle.btr_base.specs.Bag.{within}
 use Rattle.btr_base.proofs.WithinLemmas.{within-empty}
 use Rattle.btr_base.specs.Windows.{window_of, window_at, windows_with, cell_of, cells, aligned}
-use Rattle.btr_window.specs.Grids.{IsGrid, IsAlignedBy, begin_of}
+use Rattle.btr_base.specs.Windows.{IsGrid, IsAlignedBy, begin_of}
 use Rattle.btr_window.proofs.Cells.{numbered, times-less}
 
--- the domain is a whole number of windows wide
+-- The domain is a whole number of windows wide.
 parts : (p : ℕ) → p ≤ 62 → 2 ^ 62 ≡ 2 ^ (62 - p) * 2 ^ p
 parts p low = let e : (62 - p) + p ≡ 62 = omega arith in sym (ap (λ n. 2 ^ n) e) ∙ pow-add 2 (62 - p) p
 
@@ -48,19 +48,19 @@ fits p t low behind before =
           absurd (omega (arith, ints))
     ]
 
--- the window of a time of the domain ends in the domain
+-- The window of a time of the domain ends in the domain.
 pub aligned-fits : (p : ℕ) (first : ℤ) (width : ℕ) (t : ℤ) → IsAlignedBy p first width → FIRST ≤ℤ t → t <ℤ END → (begin_of first width t +ℤ pos width) ≤ℤ END
 aligned-fits p first width t a behind before =
     subst (λ f. (begin_of f width t +ℤ pos width) ≤ℤ END) (sym a.first_is) (subst (λ w. (begin_of FIRST w t +ℤ pos w) ≤ℤ END) (sym a.width_is) (fits p t a.small behind before))
 
--- the first time behind a window is where the next one begins
+-- A window ends where the next one starts.
 pub begin-next : (first : ℤ) (width : ℕ) (t : ℤ) → begin_of first width t +ℤ pos width ≡ window_at first width (window_of first width t + 1)
 begin-next first width t =
     let k = window_of first width t in
     let e : (k + 1) * width ≡ k * width + width = omega arith in
     omega (arith, ints)
 
--- the aligned windows that a range meets, between the bounds of the first and the last
+-- The aligned windows that a range meets are those between the start of the first and the end of the last.
 pub aligned-cells : (p : ℕ) (first : ℤ) (width : ℕ) (from to begin end : ℤ) (b : List Point) → IsAlignedBy p first width → begin ≡ begin_of first width from → end ≡ begin_of first width (to -ℤ pos 1) +ℤ pos width → cells first width begin end b ≡ aligned p from to b
 aligned-cells p first width from to begin end b a q r =
     ap (λ x. cells first width x end b) q
@@ -68,7 +68,7 @@ aligned-cells p first width from to begin end b a q r =
     ∙ ap (λ f. cells f width (begin_of f width from) (window_at f width (window_of f width (to -ℤ pos 1) + 1)) b) a.first_is
     ∙ ap (λ w. cells FIRST w (begin_of FIRST w from) (window_at FIRST w (window_of FIRST w (to -ℤ pos 1) + 1)) b) a.width_is
 
--- there are no windows between a time and itself
+-- There are no windows between a time and itself.
 pub cells-none : (first : ℤ) (width : ℕ) (from to : ℤ) (b : List Point) → to ≡ from → cells first width from to b ≡ []
 cells-none first width from to b e =
     ap (λ x. map (cell_of first width b) (windows_with first width x)) (ap (λ t. within from t b) e ∙ within-empty from b)

@@ -21,7 +21,7 @@ count-fits from to before here next all part e p q =
     let both = agg-more from to before here next all part (joined all part) e p q refl in
     omega (arith, ap (λ (s : AggValue). s.count) both, agg-count (within from to next), length-filter (is_within from to) next)
 
--- a list whose aggregate has no points is empty
+-- A list whose aggregate has no points is empty.
 pub no-points : (b : List Point) (s : AggValue) → s ≡ agg b → s.count ≡ 0 → b ≡ []
 no-points [] s e none = refl
 no-points (p ∷ b) s e none =

@@ -1,10 +1,8 @@
--- the slots that a range meets
-pub mod Slots
--- aggregates and their steps
-pub mod Ends
-pub mod Joined
--- windows
+pub mod EndsInside
 pub mod Adding
 pub mod Cells
+pub mod Starts
+pub mod Slots
+pub mod Joined
 pub mod Bounds
 pub mod Dividing

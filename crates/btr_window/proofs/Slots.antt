@@ -16,7 +16,7 @@ use Rattle.btr_tree.specs.Nodes.{points_of}
 use Rattle.btr_tree.specs.Shape.{slot_start}
 use Rattle.btr_tree.proofs.NodeLemmas.{slot-next, slot-end, slot-first, slot-part}
 
--- ---- a range as numbers
+-- ---- A range as numbers.
 
 pub range-from : (inside r : RangeValue) → IsRange inside → inside ≡ r → to_z w64 (of_z w64 inside.from) ≡ r.from
 range-from inside r h e =
@@ -38,7 +38,7 @@ range-full inside r h e = subst (λ (i : RangeValue). i.from <ℤ i.to) e h.not_
 pub range-domain : (inside r : RangeValue) → IsRange inside → inside ≡ r → (FIRST ≤ℤ r.from) × (r.to ≤ℤ END)
 range-domain inside r h e = subst (λ (i : RangeValue). (FIRST ≤ℤ i.from) × (i.to ≤ℤ END)) e (h.begins, h.ends)
 
--- the last time of a range
+-- The last time of a range.
 pub range-last : (inside r : RangeValue) → IsRange inside → inside ≡ r → to_z w64 (of_z w64 (to_z w64 (of_z w64 inside.to) -ℤ pos 1)) ≡ r.to -ℤ pos 1
 range-last inside r h e =
     let low = h.begins in
@@ -47,7 +47,7 @@ range-last inside r h e =
     let to = ap (λ (i : RangeValue). i.to) e in
     ap (λ x. to_z w64 (of_z w64 (x -ℤ pos 1))) (range-to inside r h e) ∙ to_z-of_z w64 (r.to -ℤ pos 1) (omega (arith, ints))
 
--- ---- points of both of two ranges
+-- ---- Points of both of two ranges.
 
 none-within : (a b c d t : ℤ) → b ≤ℤ c → ((int_le a t && int_lt t b) && (int_le c t && int_lt t d)) ≡ false
 none-within a b c d t h = grind (arith, ints)
@@ -77,13 +77,13 @@ within-longer a b e c d xs h k =
 pub within-as : (f t from to : ℤ) (a b : List Point) → f ≡ from → t ≡ to → a ≡ b → within f t a ≡ within from to b
 within-as f t from to a b p q e = ap (λ x. within x t a) p ∙ ap (λ x. within from x a) q ∙ ap (within from to) e
 
--- all points from a time up to another are in a range with both
+-- All points of a range inside another are in both.
 pub within-inside : (from to a b : ℤ) (xs : List Point) → from ≤ℤ a → b ≤ℤ to → within from to (within a b xs) ≡ within a b xs
 within-inside from to a b xs h k =
     filter-filter (is_within from to) (is_within a b) xs
     ∙ filter-same (λ p. is_within a b p && is_within from to p) (is_within a b) xs (λ p. inside-within from to a b p.time h k)
 
--- ---- slots
+-- ---- Slots.
 
 pub slot-rise : (below : ℕ) (s : ℤ) (i j : ℕ) → i ≤ j → slot_start below s i ≤ℤ slot_start below s j
 slot-rise below s i j h =
@@ -95,7 +95,7 @@ slot-begins below s i part is = ap (λ (u : SpanValue). u.start) is
 pub slot-ends : (below : ℕ) (s : ℤ) (i : ℕ) (part : SpanValue) → part ≡ record { start = slot_start below s i; height = below } → end_of part ≡ slot_start below s (i + 1)
 slot-ends below s i part is = ap end_of is ∙ sym (slot-next below s i)
 
--- the first and the last slot that have times of the range
+-- The first and the last slot that have times of the range.
 pub record IsBetween (below : ℕ) (start from to : ℤ) (first last : ℕ) : Type 0 where
   pub order : first ≤ last
   pub place : last < 64

@@ -1,5 +1,4 @@
--- the steps of an aggregate
-pub mod Ends
--- the windows of a walk
-pub mod Grids
-pub mod Adding
+-- What the private functions promise: the visits of an aggregate.
+pub mod RangeEnds
+-- What the private functions promise: the windows of a walk.
+pub mod Accumulate

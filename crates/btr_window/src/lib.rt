@@ -1,18 +1,20 @@
 //! Statistics of one version of a stream, read from its tree (BTrDB, FAST 2016).
 //!
-//! [`aggregate`] says how many points a range has, their sum, and the least and the greatest value. [`aligned`] says so of each
-//! aligned window of `2^p` ns that a range meets (BTrDB's GetStatisticalRange), and [`windows`] of each window of one width
-//! from the begin of a range on. A slot that lies in one window is not opened: what it keeps of its points is enough.
+//! [`aggregate`] returns the number of points of a range, their sum, and the least and the greatest value. [`aligned`] returns
+//! the same of each aligned window of `2^p` ns that a range meets (BTrDB's GetStatisticalRange), and [`windows`] of each window
+//! of one width from the start of a range on. A slot that lies in one window is not visited: its own aggregate is enough.
 #![tactic(auto)]
 
-mod grid;
-mod parts;
-mod spans;
-mod totals;
-mod walking;
+// ranges and windows
+mod accumulate;
+mod inside;
+mod whole_windows;
+// walks over a tree
+mod range_aggregate;
+mod window_walk;
 
-pub use totals::aggregate;
-pub use walking::{aligned, windows};
+pub use range_aggregate::aggregate;
+pub use window_walk::{aligned, windows};
 
 #[cfg(test)]
 mod tests;

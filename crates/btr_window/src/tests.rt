@@ -1,25 +1,101 @@
 use crate::{aggregate, aligned, windows};
-use btr_base::{Bag, Cell, END, FIRST, Point, Range, Ranges};
-use btr_tree::{Steps, Tree, are_in_domain};
+use btr_base::{Bag, Cell, END, FIRST, MAX_WIDTH, Point, Range, Ranges, are_in_domain};
+use btr_tree::{Steps, Tree};
 use std::alloc::{AllocError, Global};
 use std::test::Fail;
 
-/// A window, how many points it has, their sum, and the least and the greatest value.
-type Row = (i128, u64, i128, i64, i64);
-
-/// Points `step` apart, from a time on, with values from -8 to 8.
-fn points_from(alloc: Global, first: i64, step: i64, count: i64) -> Result<Vec<Point>, AllocError> {
-    let mut points = Vec::new(alloc);
-    for i in 0..count {
-        points.push(Point {
-            time: first.wrapping_add(i.wrapping_mul(step)),
-            value: (i.wrapping_mul(31) % 17).wrapping_sub(8),
-        })?;
-    }
-    Ok(points)
+/// A window and the aggregate of its points.
+#[derive(Clone, Copy, Debug, PartialEq, Eq)]
+struct Row {
+    start: i128,
+    count: u64,
+    sum: i128,
+    least: i64,
+    greatest: i64,
 }
 
-/// The tree of a commit on another, where that is one.
+impl Row {
+    /// The row of one point.
+    fn of(start: i128, value: i64) -> Row {
+        Row {
+            start,
+            count: 1,
+            sum: i128::from(value),
+            least: value,
+            greatest: value,
+        }
+    }
+
+    /// The row with one more value.
+    fn with(self, value: i64) -> Row {
+        Row {
+            start: self.start,
+            count: self.count.saturating_add(1),
+            sum: self.sum.wrapping_add(i128::from(value)),
+            least: self.least.min(value),
+            greatest: self.greatest.max(value),
+        }
+    }
+}
+
+/// Points of one tree: how many, the first time and the step between two, and a range that is deleted afterwards.
+#[derive(Clone, Copy)]
+struct Shape {
+    count: i64,
+    first: i64,
+    step: i64,
+    deleted: (i64, i64),
+}
+
+/// Points at 0, 1, 2 and so on.
+fn points_of(count: i64) -> Shape {
+    Shape {
+        count,
+        first: 0,
+        step: 1,
+        deleted: (0, 0),
+    }
+}
+
+impl Shape {
+    fn from(self, first: i64) -> Shape {
+        Shape { first, ..self }
+    }
+
+    fn every(self, step: i64) -> Shape {
+        Shape { step, ..self }
+    }
+
+    fn without(self, from: i64, to: i64) -> Shape {
+        Shape {
+            deleted: (from, to),
+            ..self
+        }
+    }
+
+    /// The points, with values from -8 to 8.
+    fn points(self, alloc: Global) -> Result<Bag, AllocError> {
+        let mut points = Vec::new(alloc);
+        for i in 0..self.count {
+            points.push(Point {
+                time: self.first.wrapping_add(i.wrapping_mul(self.step)),
+                value: (i.wrapping_mul(31) % 17).wrapping_sub(8),
+            })?;
+        }
+        Ok(Bag::from_points(points))
+    }
+
+    /// The range that is deleted, if there is one.
+    fn cut(self, alloc: Global) -> Result<Ranges, AllocError> {
+        let mut cut = Ranges::none(alloc);
+        if let Some(range) = Range::new(self.deleted.0, self.deleted.1) {
+            cut.add(range)?;
+        }
+        Ok(cut)
+    }
+}
+
+/// The tree after one more commit.
 fn after(
     alloc: Global,
     tree: &Tree,
@@ -30,8 +106,21 @@ fn after(
     if !are_in_domain(added.as_slice()) {
         return Err("a time outside the domain".into());
     }
-    let applied = tree.apply(alloc, cut, added, version, &mut Steps::new());
+    let applied = tree.apply(alloc, cut, added, version, &mut Steps::new(alloc));
     Ok(applied.ok().ok_or("applied")?.tree)
+}
+
+/// The tree of points, each by its time and value.
+fn tree_of(alloc: Global, points: &[(i64, i64)]) -> Result<Tree, Fail> {
+    let mut list = Vec::new(alloc);
+    for (time, value) in points {
+        list.push(Point {
+            time: *time,
+            value: *value,
+        })?;
+    }
+    let added = Bag::from_points(list);
+    after(alloc, &Tree::empty(), &Ranges::none(alloc), &added, 1)
 }
 
 /// The rows of windows.
@@ -40,13 +129,18 @@ fn rows_of(alloc: Global, cells: &[Cell]) -> Result<Vec<Row>, Fail> {
     for cell in cells {
         let agg = cell.agg;
         let (least, greatest) = agg.ends.ok_or("a point")?;
-        rows.push((i128::from(cell.start), agg.count, agg.sum, least, greatest))?;
+        rows.push(Row {
+            start: i128::from(cell.start),
+            count: agg.count,
+            sum: agg.sum,
+            least,
+            greatest,
+        })?;
     }
     Ok(rows)
 }
 
-/// The rows of the windows from a first time on that begin at or behind a time, end at or before another, and have a point:
-/// from all points, one after the other.
+/// The rows of the windows from a first time on that start at `low` or later and end at `high` or earlier: point by point.
 fn plain_rows(
     alloc: Global,
     points: &[Point],
@@ -60,15 +154,14 @@ fn plain_rows(
     for point in points {
         let offset = i128::from(point.time).wrapping_sub(i128::from(first));
         let number = offset.checked_div(width).unwrap_or(0);
-        let begin = i128::from(first).wrapping_add(number.wrapping_mul(width));
-        if offset < 0 || begin < low || begin.wrapping_add(width) > high {
+        let start = i128::from(first).wrapping_add(number.wrapping_mul(width));
+        if offset < 0 || start < low || start.wrapping_add(width) > high {
             continue;
         }
-        let value = point.value;
-        let mut row = (begin, 1, i128::from(value), value, value);
+        let mut row = Row::of(start, point.value);
         if let Some(last) = rows.pop() {
-            if last.0 == begin {
-                row = joined(last, value);
+            if last.start == start {
+                row = last.with(point.value);
             } else {
                 rows.push(last)?;
             }
@@ -78,38 +171,35 @@ fn plain_rows(
     Ok(rows)
 }
 
-/// A row with one more value.
-fn joined(row: Row, value: i64) -> Row {
-    (
-        row.0,
-        row.1.saturating_add(1),
-        row.2.wrapping_add(i128::from(value)),
-        row.3.min(value),
-        row.4.max(value),
-    )
-}
-
-/// Whether the three calls answer over a range what the points say one after the other.
-fn agree(alloc: Global, tree: &Tree, points: &[Point], range: Range) -> Result<bool, Fail> {
-    let from = i128::from(range.from);
-    let to = i128::from(range.to);
-    let mut steps = Steps::new();
+/// Whether the aggregate of a range is that of its points, one by one, and visits at most 21 nodes.
+fn aggregate_agrees(alloc: Global, tree: &Tree, points: &[Point], range: Range) -> bool {
+    let mut steps = Steps::new(alloc);
     let agg = aggregate(tree, range, &mut steps);
-    let mut total = (0, 0, 0, i64::MAX, i64::MIN);
+    let mut all: Option<Row> = None;
     for point in points {
         if range.from <= point.time && point.time < range.to {
-            total = joined(total, point.value);
+            all = match all {
+                None => Some(Row::of(0, point.value)),
+                Some(row) => Some(row.with(point.value)),
+            };
         }
     }
-    let ends = if total.1 == 0 {
-        None
-    } else {
-        Some((total.3, total.4))
+    let same = match all {
+        None => agg.count == 0 && agg.sum == 0 && agg.ends == None,
+        Some(row) => {
+            agg.count == row.count
+                && agg.sum == row.sum
+                && agg.ends == Some((row.least, row.greatest))
+        }
     };
-    let mut same = steps.count() <= 21
-        && agg.count == total.1
-        && agg.sum == total.2
-        && agg.ends == ends;
+    same && steps.count() <= 21
+}
+
+/// Whether the windows of a range are those of its points, one by one.
+fn windows_agree(alloc: Global, tree: &Tree, points: &[Point], range: Range) -> Result<bool, Fail> {
+    let from = i128::from(range.from);
+    let to = i128::from(range.to);
+    let mut same = true;
     for p in [0u8, 2, 5, 33, 62] {
         let p = p.min(62);
         let width = 1u64 << u32::from(p);
@@ -119,7 +209,7 @@ fn agree(alloc: Global, tree: &Tree, points: &[Point], range: Range) -> Result<b
         let high = to.wrapping_add(around);
         same = same && rows == plain_rows(alloc, points, FIRST, width, low, high)?;
     }
-    for width in [1u64, 3, 4, 1000, 4611686018427387904] {
+    for width in [1u64, 3, 4, 1000, MAX_WIDTH] {
         let width = width.clamp(1, 4611686018427387904);
         let rows = rows_of(alloc, &windows(alloc, tree, range, width)?)?;
         same = same && rows == plain_rows(alloc, points, range.from, width, from, to)?;
@@ -130,65 +220,33 @@ fn agree(alloc: Global, tree: &Tree, points: &[Point], range: Range) -> Result<b
 #[test]
 fn trees_of_every_shape(rt: HostRuntime) -> Result<(), Fail> {
     let alloc = rt.alloc();
-    // first time, step and number of the points; bounds of a cut behind (none if equal)
-    for (first, step, count, cut_from, cut_to) in [
-        (0, 1, 0, 0, 0),
-        (3, 1, 5, 0, 0),
-        (0, 1, 252, 0, 0),
-        (0, 1, 253, 0, 0),
-        (-2, 1, 300, 0, 0),
-        (-40, 13, 400, 0, 0),
-        (0, 1, 300, 100, 200),
-        (0, 1, 300, FIRST, END),
-        (5, 0, 252, 0, 0),
-        (FIRST, 4611686018427387903, 2, 0, 0),
-        (FIRST, 18014398509481984, 256, 0, 0),
+    for shape in [
+        points_of(0),
+        points_of(5).from(3),
+        points_of(252),
+        points_of(253),
+        points_of(400).from(-40).every(13),
+        points_of(300).without(100, 200),
+        points_of(300).without(FIRST, END),
+        points_of(252).from(5).every(0),
+        points_of(2).from(FIRST).every(4611686018427387903),
+        points_of(256).from(FIRST).every(18014398509481984),
     ] {
-        let mut cut = Ranges::none(alloc);
-        if let Some(range) = Range::new(cut_from, cut_to) {
-            cut.add(range)?;
-        }
-        let added = Bag::from_points(points_from(alloc, first, step, count)?);
+        let added = shape.points(alloc)?;
+        let cut = shape.cut(alloc)?;
         let none = Bag::from_points(Vec::new(alloc));
-        let uncut = after(alloc, &Tree::empty(), &Ranges::none(alloc), &added, 1)?;
-        let tree = after(alloc, &uncut, &cut, &none, 2)?;
+        let whole = after(alloc, &Tree::empty(), &Ranges::none(alloc), &added, 1)?;
+        let tree = after(alloc, &whole, &cut, &none, 2)?;
         let kept = added.outside(alloc, &cut)?;
-        for from in [
-            FIRST,
-            FIRST + 1,
-            -41,
-            -1,
-            0,
-            3,
-            4,
-            5,
-            99,
-            100,
-            252,
-            300,
-            END - 1,
-        ] {
-            for to in [
-                FIRST + 1,
-                -40,
-                0,
-                1,
-                4,
-                6,
-                8,
-                101,
-                253,
-                256,
-                299,
-                5000,
-                END - 1,
-                END,
-            ] {
+        let points = kept.as_slice();
+        for from in [FIRST, -41, 0, 3, 5, 99, 252, END - 1] {
+            for to in [FIRST + 1, 1, 6, 101, 253, 299, 5000, END] {
                 if let Some(range) = Range::new(from, to) {
                     assert!(rt;
-                        agree(alloc, &tree, kept.as_slice(), range)?,
-                        "{first} {count}: {from} {to}"
+                        aggregate_agrees(alloc, &tree, points, range),
+                        "{from} {to}"
                     );
+                    assert!(rt; windows_agree(alloc, &tree, points, range)?, "{from} {to}");
                 }
             }
         }
@@ -196,42 +254,48 @@ fn trees_of_every_shape(rt: HostRuntime) -> Result<(), Fail> {
     Ok(())
 }
 
+/// A row by hand.
+fn by_hand(start: i128, count: u64, sum: i128, least: i64, greatest: i64) -> Row {
+    Row {
+        start,
+        count,
+        sum,
+        least,
+        greatest,
+    }
+}
+
 #[test]
 fn rows_by_hand(rt: HostRuntime) -> Result<(), Fail> {
     let alloc = rt.alloc();
-    let none = Ranges::none(alloc);
-    let mut points = Vec::new(alloc);
-    for (time, value) in [(0, 5), (3, 7), (4, -2)] {
-        points.push(Point { time, value })?;
-    }
-    let tree = after(alloc, &Tree::empty(), &none, &Bag::from_points(points), 1)?;
+    let tree = tree_of(alloc, &[(0, 5), (3, 7), (4, -2)])?;
     let range = Range::new(0, 8).ok_or("a range")?;
     let rows = rows_of(alloc, &aligned(alloc, &tree, range, 2)?)?;
-    assert!(rt; rows.as_slice() == [(0, 2, 12, 5, 7), (4, 1, -2, -2, -2)].as_slice());
-    // the window at 7 would end behind the range
+    assert_eq!(rt;
+        rows.as_slice(),
+        [by_hand(0, 2, 12, 5, 7), by_hand(4, 1, -2, -2, -2)].as_slice()
+    );
+    // a window from 7 on would end after the range
     let range = Range::new(1, 8).ok_or("a range")?;
     let rows = rows_of(alloc, &windows(alloc, &tree, range, 3)?)?;
-    assert!(rt; rows.as_slice() == [(1, 1, 7, 7, 7), (4, 1, -2, -2, -2)].as_slice());
-    let mut steps = Steps::new();
+    assert_eq!(rt;
+        rows.as_slice(),
+        [by_hand(1, 1, 7, 7, 7), by_hand(4, 1, -2, -2, -2)].as_slice()
+    );
+    let mut steps = Steps::new(alloc);
     assert_eq!(rt; aggregate(&tree, range, &mut steps).sum, 5);
     assert_eq!(rt; steps.count(), 1);
-    let mut points = Vec::new(alloc);
-    for time in [0, 1] {
-        points.push(Point {
-            time,
-            value: i64::MAX,
-        })?;
-    }
-    let tree = after(alloc, &Tree::empty(), &none, &Bag::from_points(points), 1)?;
+    // a sum above the greatest value
+    let tree = tree_of(alloc, &[(0, i64::MAX), (1, i64::MAX)])?;
     let range = Range::new(0, 1).ok_or("a range")?;
     let rows = rows_of(alloc, &aligned(alloc, &tree, range, 62)?)?;
-    let all = (
+    let all = by_hand(
         i128::from(FIRST),
         2,
         18446744073709551614,
         i64::MAX,
         i64::MAX,
     );
-    assert!(rt; rows.as_slice() == [all].as_slice());
+    assert_eq!(rt; rows.as_slice(), [all].as_slice());
     Ok(())
 }

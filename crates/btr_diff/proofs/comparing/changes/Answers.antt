@@ -1,24 +1,25 @@
 use Rattle.std.proofs.Common.{subst}
 use Rattle.btr_base.specs.Range.{IsCut}
-use Rattle.btr_tree.specs.Nodes.{no_span}
-use Rattle.btr_tree.proofs.RootLemmas.{root-aligned}
-use Rattle.btr_diff.proofs.Roots.{root-held, root-changes, root-few}
+use Rattle.btr_tree.specs.Nodes.{above_root}
+use Rattle.btr_diff.proofs.Roots.{root-belongs, root-child, root-changes, root-bounded, agree-since}
 use Rattle.btr_diff.proofs.comparing.changes.Goals as goal
 
-pub invariant_of-span : goal.invariant_of-span
-invariant_of-span c = root-aligned
-
 pub compare_roots-requires-clause-old : goal.compare_roots-requires-clause-old
-compare_roots-requires-clause-old c = root-held c.root.result.now c.root.ensures.stands
+compare_roots-requires-clause-old c = root-belongs c.root_span.result c.root.result.now c.root_span.ensures c.root.ensures.some
 
 pub compare_roots-requires-clause-new : goal.compare_roots-requires-clause-new
-compare_roots-requires-clause-new c = root-held c.root-2.result.now c.root-2.ensures.stands
+compare_roots-requires-clause-new c = root-belongs c.root_span.result c.root-2.result.now c.root_span.ensures c.root-2.ensures.some
 
 pub returns-clause-runs : goal.returns-clause-runs
-returns-clause-runs c h k old new agree =
+returns-clause-runs c h k old new version =
+    let span = c.root_span.result in
+    let is = c.root_span.ensures in
     let cut = subst IsCut c.out.view_is c.out.invariant in
-    root-changes c.args.p c.none-out.result c.compare_roots.new.out h k c.requires c.none-out.ensures cut old.times new.times (c.in_ok-compare_roots.ensures.adds no_span no_span h k (c.root.ensures.place h old) (c.root-2.ensures.place k new) agree)
+    let added = c.in_ok-compare_roots.ensures.adds h k (root-child span c.root.result.now h is (c.root.ensures.child h old)) (root-child span c.root-2.result.now k is (c.root-2.ensures.child k new)) (agree-since c.args.since h k version) in
+    root-changes span c.args.p c.none-out.result c.compare_roots.new.out h k is c.requires c.none-out.ensures cut old.times new.times added
 
-pub returns-clause-few : goal.returns-clause-few
-returns-clause-few c k new =
-    root-few c.args.steps.now c.compare_roots.new.steps c.args.since k (c.in_ok-compare_roots.ensures.few no_span k (c.root-2.ensures.place k new))
+pub returns-clause-bounded : goal.returns-clause-bounded
+returns-clause-bounded c k new =
+    let span = c.root_span.result in
+    let is = c.root_span.ensures in
+    root-bounded span c.args.steps.now c.compare_roots.new.steps c.args.since k is (c.in_ok-compare_roots.ensures.bounded k (root-child span c.root-2.result.now k is (c.root-2.ensures.child k new)))

@@ -5,18 +5,17 @@ use Rattle.std.proofs.Common.{refl, sym, ap, subst, ◌∙◌, arith, to_z, of_z
 use Rattle.std.proofs.lemmas.Int.{ints}
 use Rattle.std.proofs.lemmas.Bool.{not-true}
 use Rattle.btr_base.specs.declared.point.Point.{Point}
-use Rattle.btr_base.specs.Point.{same_point, InDomain}
+use Rattle.btr_base.specs.Point.{same_point, InDomain, AreInDomain}
 use Rattle.btr_base.specs.Range.{RangeValue, contains, covered}
 use Rattle.btr_base.specs.Bag.{IsInOrder}
 use Rattle.btr_base.specs.Changes.{same_points, slot_around}
 use Rattle.btr_base.proofs.ListLemmas.{each-weaker, each-both, each-filter, filter-passes}
 use Rattle.btr_base.proofs.PointLemmas.{filter-in_order}
-use Rattle.btr_tree.specs.Root.{AreInDomain}
-use Rattle.btr_diff.specs.Comparing.{Adds, rest_from}
-use Rattle.btr_diff.proofs.Hits.{AllAt, AreParts, Before, From, hit-time, adds-none, adds-parts, same_points-true}
+use Rattle.btr_diff.specs.Comparison.{AddsChangedSlots, rest_from}
+use Rattle.btr_diff.proofs.ChangedSlots.{AllAt, AreParts, Before, From, is_changed_at-time, adds-none, adds-parts, same_points-true}
 use Rattle.btr_diff.proofs.points.compare_points.Goals as goal
 
--- ---- equal points
+-- ---- Equal points.
 
 pointwise-is : (a b : List Point) → pointwise same_point a b ≡ same_points a b
 pointwise-is [] [] = refl
@@ -33,12 +32,12 @@ differ-false r a b e h =
     let same : pointwise same_point a b ≡ true = grind arith in
     same_points-true a b (sym (pointwise-is a b) ∙ same)
 
--- ---- the points of the first time, and the others
+-- ---- The points of the first time, and the others.
 
 time-is : (t u v : ℤ) → u ≡ t +ℤ pos 1 → t ≤ℤ v → int_lt v u ≡ true → v ≡ t
 time-is t u v e low early = grind (arith, ints)
 
--- a list is the points of the time, and those behind it
+-- A list is the points of the time, and the later ones.
 record IsParted (t u : ℤ) (b here rest : List Point) : Type 0 where
   all : here ++ rest ≡ b
   at : AllAt t here
@@ -63,32 +62,32 @@ parted-is t u b here rest e low order domain is is_rest all =
       short = ap length is_rest ∙ ap (λ v. length (rest_from v b)) e;
     }
 
--- ---- one time more
+-- ---- One time more.
 
 or-swap : (a b : Bool) → (a || b) ≡ (b || a)
 or-swap a b = grind arith
 
--- what is added of the points of one time
-adds-time : (p : ℕ) (t : ℤ) (was now : List RangeValue) (a b : List Point) (s : RangeValue) → AllAt t a → AllAt t b → same_points a b ≡ false → InDomain t → s ≡ slot_around p t → ((v : ℤ) → covered now v ≡ (contains s v || covered was v)) → Adds p was now a b
+-- What the points of one time add.
+adds-time : (p : ℕ) (t : ℤ) (was now : List RangeValue) (a b : List Point) (s : RangeValue) → AllAt t a → AllAt t b → same_points a b ≡ false → InDomain t → s ≡ slot_around p t → ((v : ℤ) → covered now v ≡ (contains s v || covered was v)) → AddsChangedSlots p was now a b
 adds-time p t was now a b s h k differ inside is more =
     record {
       times = λ v.
           more v
           ∙ ap (λ r. contains r v || covered was v) is
           ∙ or-swap (contains (slot_around p t) v) (covered was v)
-          ∙ ap (λ x. covered was v || x) (sym (hit-time p a b v t h k differ inside));
+          ∙ ap (λ x. covered was v || x) (sym (is_changed_at-time p a b v t h k differ inside));
     }
 
 slot-same : (p : ℕ) (t u : ℤ) (s : RangeValue) → s ≡ slot_around p t → t ≡ u → s ≡ slot_around p u
 slot-same p t u s is e = is ∙ ap (slot_around p) e
 
--- what is added of the points of one time, and of the others
-adds-step : (p : ℕ) (t u : ℤ) (was mid now : List RangeValue) (a here rest b here_b rest_b : List Point) → IsParted t u a here rest → IsParted t u b here_b rest_b → Adds p was mid here here_b → Adds p mid now rest rest_b → Adds p was now a b
+-- What the points of one time and the later ones add.
+adds-step : (p : ℕ) (t u : ℤ) (was mid now : List RangeValue) (a here rest b here_b rest_b : List Point) → IsParted t u a here rest → IsParted t u b here_b rest_b → AddsChangedSlots p was mid here here_b → AddsChangedSlots p mid now rest rest_b → AddsChangedSlots p was now a b
 adds-step p t u was mid now a here rest b here_b rest_b h k first others =
     let parts : AreParts u here here_b rest rest_b = record { a_before = h.before; b_before = k.before; c_from = h.from; d_from = k.from } in
-    subst (λ x. Adds p was now x b) h.all (subst (Adds p was now (here ++ rest)) k.all (adds-parts p was mid now u here here_b rest rest_b parts first others))
+    subst (λ x. AddsChangedSlots p was now x b) h.all (subst (AddsChangedSlots p was now (here ++ rest)) k.all (adds-parts p was mid now u here here_b rest rest_b parts first others))
 
--- ---- the goals
+-- ---- The goals.
 
 pub loop-time-preserved-in_ok-add : goal.loop-time-preserved-in_ok-add
 loop-time-preserved-in_ok-add c =
@@ -126,7 +125,7 @@ loop-time-preserved c =
       old_domain = a.domain;
       new_domain = b.domain;
       times = λ now more.
-          i.times now (adds-step c.args.p t _ c.loop-time.out c.loop-time.out now c.loop-time.old_left.now c.parted.result.0.now c.parted.result.1.now c.loop-time.new_left.now c.parted-in-Some.result.0.now c.parted-in-Some.result.1.now a b (subst (Adds c.args.p c.loop-time.out c.loop-time.out c.parted.result.0.now) same (adds-none c.args.p c.loop-time.out c.parted.result.0.now)) more);
+          i.times now (adds-step c.args.p t _ c.loop-time.out c.loop-time.out now c.loop-time.old_left.now c.parted.result.0.now c.parted.result.1.now c.loop-time.new_left.now c.parted-in-Some.result.0.now c.parted-in-Some.result.1.now a b (subst (AddsChangedSlots c.args.p c.loop-time.out c.loop-time.out c.parted.result.0.now) same (adds-none c.args.p c.loop-time.out c.parted.result.0.now)) more);
     }
 
 pub loop-time-smaller : goal.loop-time-smaller
@@ -147,5 +146,5 @@ loop-time-smaller c =
 pub returns : goal.returns
 returns c =
     let empty = c.in_default.ensures in
-    let none : Adds c.args.p c.loop-time.out c.loop-time.out [] [] = adds-none c.args.p c.loop-time.out [] in
-    c.loop-time.invariant.times c.loop-time.out (subst (λ x. Adds c.args.p c.loop-time.out c.loop-time.out x c.loop-time.new_left.now) (sym empty.0) (subst (Adds c.args.p c.loop-time.out c.loop-time.out []) (sym empty.1) none))
+    let none : AddsChangedSlots c.args.p c.loop-time.out c.loop-time.out [] [] = adds-none c.args.p c.loop-time.out [] in
+    c.loop-time.invariant.times c.loop-time.out (subst (λ x. AddsChangedSlots c.args.p c.loop-time.out c.loop-time.out x c.loop-time.new_left.now) (sym empty.0) (subst (AddsChangedSlots c.args.p c.loop-time.out c.loop-time.out []) (sym empty.1) none))

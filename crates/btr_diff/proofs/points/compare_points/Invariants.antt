@@ -1,18 +1,18 @@
 use Rattle.std.proofs.Common.{◌+◌, List, length}
+use Rattle.btr_base.specs.Point.{AreInDomain}
 use Rattle.btr_base.specs.Bag.{IsInOrder}
 use Rattle.btr_base.specs.Range.{RangeValue}
-use Rattle.btr_tree.specs.Root.{AreInDomain}
-use Rattle.btr_diff.specs.Comparing.{Adds}
+use Rattle.btr_diff.specs.Comparison.{AddsChangedSlots}
 use Rattle.btr_diff.proofs.points.compare_points.Given as goal
 
--- what is added of the rest is added of all
+-- What the rest adds now, all points add.
 abbrev pub invariant-loop-time : goal.invariant-loop-time
 invariant-loop-time l = record {
   old_order : IsInOrder l.old_left;
   new_order : IsInOrder l.new_left;
   old_domain : AreInDomain l.old_left;
   new_domain : AreInDomain l.new_left;
-  times : (now : List RangeValue) → Adds l.p l.out now l.old_left l.new_left → Adds l.p l.fn.out now l.fn.old l.fn.new;
+  times : (now : List RangeValue) → AddsChangedSlots l.p l.out now l.old_left l.new_left → AddsChangedSlots l.p l.fn.out now l.fn.old l.fn.new;
 }
 
 abbrev pub decreases-loop-time : goal.decreases-loop-time

@@ -4,15 +4,14 @@ use Rattle.std.specs.List.{AllByRecursion}
 use Rattle.std.proofs.lemmas.Int.{ints, clamps, by_lt_z}
 use Rattle.std.specs.Int.{int_min}
 use Rattle.btr_base.specs.declared.point.Point.{Point}
-use Rattle.btr_base.specs.Point.{InDomain, is_not_after}
+use Rattle.btr_base.specs.Point.{InDomain, is_not_after, AreInDomain}
 use Rattle.btr_base.specs.Bag.{IsInOrder}
 use Rattle.btr_base.proofs.ListLemmas.{each-weaker, length-filter}
 use Rattle.btr_base.proofs.PointLemmas.{is_not_after-times}
-use Rattle.btr_tree.specs.Root.{AreInDomain}
-use Rattle.btr_diff.specs.Comparing.{IsFirst, rest_from}
+use Rattle.btr_diff.specs.Comparison.{IsFirstTime, rest_from}
 use Rattle.btr_diff.proofs.points.first_time.Goals as goal
 
--- the first point of a list in order
+-- The first point of a list in order.
 record HasFirst (b : List Point) (q : Point) : Type 0 where
   from : AllByRecursion (λ r. q.time ≤ℤ r.time) b
   inside : AreInDomain b → InDomain q.time
@@ -43,8 +42,8 @@ no-later t u b low h = each-weaker (λ r. u ≤ℤ r.time) (λ r. t ≤ℤ r.tim
 no-more : (t : ℤ) (b : List Point) → length (rest_from t b) ≤ length b
 no-more t b = length-filter (λ q. not (int_lt q.time t)) b
 
--- the first of the first list is no later than that of the second
-first-left : (t : ℤ) (a b : List Point) (q : Point) → t ≡ q.time → HasFirst a q → AllByRecursion (λ r. q.time ≤ℤ r.time) b → IsFirst t a b
+-- The first point of the first list is no later than that of the second.
+first-left : (t : ℤ) (a b : List Point) (q : Point) → t ≡ q.time → HasFirst a q → AllByRecursion (λ r. q.time ≤ℤ r.time) b → IsFirstTime t a b
 first-left t a b q e h low =
     let fewer = h.fewer t (sym e) in
     let rest = no-more (t +ℤ pos 1) b in
@@ -55,7 +54,7 @@ first-left t a b q e h low =
       fewer = omega arith;
     }
 
-first-right : (t : ℤ) (a b : List Point) (q : Point) → t ≡ q.time → HasFirst b q → AllByRecursion (λ r. q.time ≤ℤ r.time) a → IsFirst t a b
+first-right : (t : ℤ) (a b : List Point) (q : Point) → t ≡ q.time → HasFirst b q → AllByRecursion (λ r. q.time ≤ℤ r.time) a → IsFirstTime t a b
 first-right t a b q e h low =
     let fewer = h.fewer t (sym e) in
     let rest = no-more (t +ℤ pos 1) a in
@@ -66,7 +65,7 @@ first-right t a b q e h low =
       fewer = omega arith;
     }
 
-first-both : (t : ℤ) (a b : List Point) (q r : Point) → t ≡ int_min q.time r.time → HasFirst a q → HasFirst b r → IsFirst t a b
+first-both : (t : ℤ) (a b : List Point) (q r : Point) → t ≡ int_min q.time r.time → HasFirst a q → HasFirst b r → IsFirstTime t a b
 first-both t a b q r e h k =
     by_lt_z q.time r.time (λ low. first-left t a b q (grind (arith, ints, clamps)) h (no-later q.time r.time b (omega (arith, ints)) k.from)) (λ high. first-right t a b r (grind (arith, ints, clamps)) k (no-later r.time q.time a (omega (arith, ints)) h.from))
 

@@ -1,0 +1,105 @@
+//! The walk over the newer tree beside the points of one leaf of the older tree, or beside no points.
+ghost use Rattle.std.specs.Prelude.{◌≤◌, ◌<◌, ℕ, OnOk};
+ghost use Rattle.btr_base.specs.Point.{AreInDomain};
+ghost use Rattle.btr_base.specs.Bag.{IsInOrder};
+ghost use Rattle.btr_diff.specs.Comparison.{BelongsTo, Compares, VisitsBelow, VisitsSlot};
+ghost use Rattle.btr_diff.specs.Comparison.{ArePointsOf, IncludesPointsOf, IsChildOf, IsSlotOf, AreSlotsOf};
+
+use crate::comparison::Comparison;
+use crate::points::compare_points;
+use btr_base::{FAN_OUT, Point, Ranges, Span, points_between};
+use btr_tree::{Child, Node, Slot, Steps, visit};
+use std::alloc::AllocError;
+
+/// Adds to `out` the slots in which the points of the older tree in a span differ from those of the newer tree.
+#[cycle(leaf_walk)]
+fn compare_points_with_child(
+    span: Span,
+    old: &[Point],
+    new: &Child,
+    comparison: Comparison,
+    out: &mut Ranges,
+    steps: &mut Steps,
+) -> Result<(), AllocError>
+    requires p { comparison.p ≤ 62 }
+    requires order { IsInOrder old.now }
+    requires domain { AreInDomain old.now }
+    requires new { BelongsTo span (IsChildOf span new.now) }
+    ensures adds { OnOk result (Compares comparison span (ArePointsOf span old.now) (IsChildOf span new.now) out.old out.new) }
+    ensures bounded { OnOk result ((v : ℕ) → comparison.since < v → VisitsSlot comparison.since span v new.now steps.old steps.new) }
+    ensures never_falls { steps.old ≤ steps.new }
+{
+    match visit(new, steps) {
+        None => compare_points(old, &[], comparison.p, out),
+        Some(node) => match node {
+            Node::Leaf { points, .. } => compare_points(old, points, comparison.p, out),
+            Node::Inner {
+                slots,
+                children,
+                ..
+            } => compare_points_with_slots(span, old, slots, children, comparison, out, steps),
+        },
+    }
+}
+
+/// Compares the points of the older tree with an inner node of the newer one, slot by slot.
+#[cycle(leaf_walk)]
+pub(crate) fn compare_points_with_slots(
+    span: Span,
+    old: &[Point],
+    slots: &[Slot],
+    new: &[Child],
+    comparison: Comparison,
+    out: &mut Ranges,
+    steps: &mut Steps,
+) -> Result<(), AllocError>
+    requires p { comparison.p ≤ 62 }
+    requires order { IsInOrder old.now }
+    requires domain { AreInDomain old.now }
+    requires new { BelongsTo span (AreSlotsOf span slots.now new.now) }
+    ensures adds { OnOk result (Compares comparison span (ArePointsOf span old.now) (AreSlotsOf span slots.now new.now) out.old out.new) }
+    ensures bounded { OnOk result (VisitsBelow comparison.since span (AreSlotsOf span slots.now new.now) steps.old steps.new) }
+    ensures never_falls { steps.old ≤ steps.new }
+{
+    for i in 0..FAN_OUT {
+        let index = usize::from(i);
+        let version = slots[index].version;
+        compare_points_with_slot(
+            span.slot(i),
+            version,
+            old,
+            &new[index],
+            comparison,
+            out,
+            steps,
+        )?;
+    }
+    Ok(())
+}
+
+/// Compares those of the points that are in one slot with the newer tree. It skips the slot if its version is not above
+/// `since`.
+#[cycle(leaf_walk)]
+fn compare_points_with_slot(
+    span: Span,
+    version: u64,
+    old: &[Point],
+    new: &Child,
+    comparison: Comparison,
+    out: &mut Ranges,
+    steps: &mut Steps,
+) -> Result<(), AllocError>
+    requires p { comparison.p ≤ 62 }
+    requires order { IsInOrder old.now }
+    requires domain { AreInDomain old.now }
+    requires new { BelongsTo span (IsChildOf span new.now) }
+    ensures adds { OnOk result (Compares comparison span (IncludesPointsOf span old.now) (IsSlotOf span version new.now) out.old out.new) }
+    ensures bounded { OnOk result (VisitsSlot comparison.since span version new.now steps.old steps.new) }
+    ensures never_falls { steps.old ≤ steps.new }
+{
+    if version <= comparison.since {
+        return Ok(());
+    }
+    let here = points_between(old, span.start, span.end());
+    compare_points_with_child(span, here, new, comparison, out, steps)
+}

@@ -1,0 +1,22 @@
+use Rattle.std.proofs.Common.{◌+◌, pos, ◌-ℤ◌, ◌∙◌}
+use Rattle.std.proofs.lemmas.Result.{IfOk-weaker}
+use Rattle.btr_base.specs.Windows.{window_of}
+use Rattle.btr_tree.specs.History.{bag}
+use Rattle.btr_window.proofs.Dividing.{aligned-grid, begin-next, aligned-cells}
+use Rattle.btr_window.proofs.window_walk.aligned.Goals as goal
+
+pub cells_of-requires-clause-grid : goal.cells_of-requires-clause-grid
+cells_of-requires-clause-grid c = aligned-grid c.args.p c.aligned-grid.result.first c.aligned-grid.result.width c.aligned-grid.ensures
+
+pub cells_of-requires-clause-ends : goal.cells_of-requires-clause-ends
+cells_of-requires-clause-ends c =
+    let grid = c.aligned-grid.result in
+    let last = c.args.range.to -ℤ pos 1 in
+    (window_of grid.first grid.width last + 1, c.whole_windows-whole.ensures.to ∙ begin-next grid.first grid.width last)
+
+pub returns : goal.returns
+returns c =
+    let grid = c.aligned-grid.result in
+    let range = c.args.range in
+    let whole = c.whole_windows-whole.result in
+    IfOk-weaker c.cells_of.result _ _ (λ v said h tree. said h tree ∙ aligned-cells c.args.p grid.first grid.width range.from range.to whole.from whole.to (bag h) c.aligned-grid.ensures c.whole_windows-whole.ensures.from c.whole_windows-whole.ensures.to) c.cells_of.ensures
