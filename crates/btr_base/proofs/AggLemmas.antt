@@ -1,4 +1,4 @@
--- Lemmas on aggregates: the summary of joined lists joins the summaries.
+-- Lemmas on aggregates: the aggregate of two lists together joins their aggregates.
 use Rattle.std.specs.Prelude.{◌≡◌, ℕ, ◌+◌, ◌<◌, ℤ, pos, negsuc, ◌^◌, ◌+ℤ◌, ◌*ℤ◌, ◌≤ℤ◌, List, [], ◌∷◌, ◌++◌, length, Option, Some, None}
 use Rattle.std.proofs.Common.{zero, suc, refl, sym, ap, ◌∙◌, arith, subst, SFits}
 use Rattle.std.specs.Int.{w128, int_min, int_max}
@@ -90,7 +90,7 @@ ends_fit-joined n m t u (Some d) None h k =
 ends_fit-joined n m t u (Some d) (Some e) h k =
     (omega arith, least-both n m t u d.0 e.0 h.1 k.1, greatest-both n m t u d.1 e.1 h.2 k.2, min-value d.0 e.0 h.3 k.3, max-value d.1 e.1 h.4 k.4)
 
--- a sum of fewer than 2^64 values fits 128 bits
+-- A sum of fewer than 2^64 values fits 128 bits.
 pub sum-fits : (n : ℕ) (t : ℤ) (e : Option (ℤ × ℤ)) → EndsFit n t e → n < 2 ^ 64 → SFits w128 t
 sum-fits n t None h k = omega (arith, ints)
 sum-fits n t (Some e) h k =

@@ -1,4 +1,4 @@
--- Lemmas on the longest runs of ranges that stand in order, as of aligned slots.
+-- Lemmas on the longest runs of ranges in order, such as aligned slots.
 use Rattle.std.specs.Prelude.{◌≡◌, ℕ, ◌+◌, ◌-◌, ◌*◌, ◌/◌, ◌^◌, ◌<◌, ◌≤◌, ℤ, pos, ◌+ℤ◌, ◌-ℤ◌, unsigned_abs, Bool, true, false, ◌&&◌, ◌||◌, int_le, int_lt, ◌≤ℤ◌, ◌<ℤ◌, List, [], ◌∷◌, ◌++◌, map, cond, IsTrue}
 use Rattle.std.specs.List.{list_any, AllByRecursion}
 use Rattle.std.proofs.Common.{refl, sym, ap, ◌∙◌, arith, mul-le-mul_right}
@@ -17,11 +17,11 @@ use Rattle.btr_base.proofs.SpanLemmas.{less-times, times-up_to}
 
 -- ---- ranges in order
 
--- the range neither begins nor ends before the other
+-- The other range neither begins nor ends before this one.
 abbrev pub Follows : RangeValue → RangeValue → Type 0
 Follows r s = (r.from ≤ℤ s.from) × (r.to ≤ℤ s.to)
 
--- no range begins or ends before one that stands in front of it
+-- No range begins or ends before one that precedes it in the list.
 abbrev pub Rise : List RangeValue → Type 0
 Rise [] = Unit {0}
 Rise (r ∷ rs) = AllByRecursion (Follows r) rs × Rise rs
@@ -77,7 +77,7 @@ joined-covered r (s ∷ rs) t h =
 
 -- ---- all of them
 
--- a range that the ranges do not begin or end before does not do so with their runs
+-- If no range begins or ends before this one, neither does any of their runs.
 runs-follow : (r : RangeValue) (rs : List RangeValue) → AllByRecursion (Follows r) rs → AllByRecursion (Follows r) (runs rs)
 runs-follow r [] h = tt
 runs-follow r (s ∷ rs) h =
@@ -103,7 +103,7 @@ runs-covered (r ∷ rs) t h rise =
 
 -- ---- aligned slots
 
--- a slot ends in the domain where it begins there
+-- A slot that begins in the domain ends in it.
 pub slot-fits : (p o : ℕ) → p ≤ 62 → o < 2 ^ 62 → (o / 2 ^ p + 1) * 2 ^ p ≤ 2 ^ 62
 slot-fits p o low inside =
     let w = 2 ^ p in
@@ -116,7 +116,7 @@ slot-fits p o low inside =
     let split : (o / w + 1) * w ≡ (o / w) * w + w = omega arith in
     omega arith
 
--- where a slot begins and ends, by the offset of a time in it
+-- The bounds of a slot, by the offset of a time in it.
 pub record IsSlot (p : ℕ) (t : ℤ) (offset : ℕ) (s : RangeValue) : Type 0 where
   pub time : t ≡ FIRST +ℤ pos offset
   pub from : s.from ≡ FIRST +ℤ pos (offset / 2 ^ p * 2 ^ p)
@@ -137,7 +137,7 @@ slot-is p t low =
       ends = omega arith;
     }
 
--- the slot around a time of the domain is a range
+-- The slot around a time of the domain is a range.
 pub slot-range : (p : ℕ) (t : ℤ) → p ≤ 62 → InDomain t → IsRange (slot_around p t)
 slot-range p t low inside =
     let o = unsigned_abs (t -ℤ FIRST) in
@@ -151,7 +151,7 @@ slot-range p t low inside =
     let split : (o / 2 ^ p + 1) * 2 ^ p ≡ o / 2 ^ p * 2 ^ p + 2 ^ p = omega arith in
     record { begins = omega (arith, ints); not_empty = omega (arith, ints); ends = omega (arith, ints) }
 
--- the slot around a later time does not begin or end before that around an earlier one
+-- The slot around a later time does not begin or end before the slot around an earlier one.
 pub slot-follows : (p : ℕ) (t u : ℤ) → FIRST ≤ℤ t → t ≤ℤ u → Follows (slot_around p t) (slot_around p u)
 slot-follows p t u low later =
     let o = unsigned_abs (t -ℤ FIRST) in

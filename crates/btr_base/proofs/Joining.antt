@@ -1,4 +1,4 @@
--- The state of a pass that joins one range to a list of ranges.
+-- The state of the pass that joins one range to a list of ranges.
 use Rattle.std.proofs.Common.{◌≡◌, ℤ, ◌<ℤ◌, inl, inr, Bool, true, false, ◌||◌, List, [], ◌∷◌, ◌++◌, ◌∙◌, refl, sym, ap, arith}
 use Rattle.std.proofs.lemmas.Bool.{or_cases}
 use Rattle.std.proofs.lemmas.Int.{ints}
@@ -6,7 +6,7 @@ use Rattle.btr_base.specs.Range.{RangeValue, IsRange, IsCut, covered, contains}
 use Rattle.btr_base.proofs.ListLemmas.{each-weaker}
 use Rattle.btr_base.proofs.RangeLemmas.{EndBefore, AllBefore, IsCut-none, all_before-none, IsCut-rest, IsCut-push, first_ends, each-push, all_before-push, covered-push, contains-from}
 
--- done and current cover, with the rest, what range and ranges cover
+-- The ranges that are done, the current one and the rest cover the same times as the new range and all ranges.
 pub record IsJoining (done : List RangeValue) (current : RangeValue) (rest : List RangeValue) (range : RangeValue) (ranges : List RangeValue) : Type 0 where
   pub done_cut : IsCut done
   pub current_range : IsRange current

@@ -1,4 +1,4 @@
--- Lemmas on the last of ranges that stand apart.
+-- Lemmas on the last of ranges that are apart.
 use Rattle.std.proofs.Common.{◌≡◌, ℕ, ◌+◌, suc, ℤ, ◌≤ℤ◌, ◌<ℤ◌, inl, inr, Bool, true, ◌||◌, List, [], ◌∷◌, ◌++◌, ◌∙◌, sym, ap, subst, arith, length, get_or, take, set}
 use Rattle.std.specs.List.{AllByRecursion}
 use Rattle.std.proofs.lemmas.Bool.{or_cases}
@@ -11,13 +11,13 @@ each-last : {X : Type 0} (P : X → Type 0) (xs : List X) (x : X) → AllByRecur
 each-last P [] x h = h.0
 each-last P (y ∷ xs) x h = each-last P xs x h.1
 
--- the others end before the last begins
+-- The others end before the last begins.
 pub ends_before-last : (rs : List RangeValue) (s : RangeValue) → IsCut (rs ++ s ∷ []) → EndBefore s.from rs
 ends_before-last [] s h = tt
 ends_before-last (r ∷ rs) s h =
     (each-last (λ u. r.to <ℤ u.from) rs s (first_ends r (rs ++ s ∷ []) h), ends_before-last rs s (IsCut-rest r (rs ++ s ∷ []) h))
 
--- the union of a range and one that does not begin before it does not either
+-- The union of a range and one that does not begin before it does not begin before it.
 pub union-begins : (both last range : RangeValue) → IsRange both → ((t : ℤ) → contains both t ≡ (contains last t || contains range t)) → last.from ≤ℤ range.from → last.from ≤ℤ both.from
 union-begins both last range h e le =
     let full = h.not_empty in
@@ -42,7 +42,7 @@ module _ (rs : List RangeValue) (last both range : RangeValue) (h : IsCut (rs ++
       ∙ or_last (covered rs t) (contains last t) (contains range t)
       ∙ ap (λ c. contains range t || c) (sym (covered-push rs last t))
 
--- ---- by the place of the last
+-- ---- by the index of the last
 
 module _ (rs : List RangeValue) (n : ℕ) (is_last : n + 1 ≡ length rs) where
   split-last : (last : RangeValue) → last ≡ get_or rs n last → rs ≡ take n rs ++ last ∷ []

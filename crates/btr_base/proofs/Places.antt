@@ -1,4 +1,4 @@
--- Lemmas on the place at which a time parts ranges that stand apart.
+-- Lemmas on the index at which a time divides ranges that are apart.
 use Rattle.std.proofs.Common.{◌≡◌, true, false, ℤ, ◌≤ℤ◌, ◌<ℤ◌, List, get_or, int_le, int_lt, arith}
 use Rattle.std.specs.List.Sorted.{IsPartitionedBy}
 use Rattle.std.proofs.lemmas.Int.{ints}
@@ -23,11 +23,11 @@ true-le x y z h k = grind (arith, ints)
 true-lt : (x y z : ℤ) → x ≤ℤ y → int_lt y z ≡ true → int_lt x z ≡ true
 true-lt x y z h k = grind (arith, ints)
 
--- those that end by the time come first
+-- The ranges that end by the time come first.
 pub ends-parted : (rs : List RangeValue) (t : ℤ) → IsCut rs → IsPartitionedBy (λ r. int_le r.to t) rs
 ends-parted rs t cut i j d le lt h = true-le (get_or rs i d).to (get_or rs j d).to t (ends-rise rs i j d cut le lt) h
 
--- those that begin before the time come first
+-- The ranges that begin before the time come first.
 pub begins-parted : (rs : List RangeValue) (t : ℤ) → IsCut rs → IsPartitionedBy (λ r. int_lt r.from t) rs
 begins-parted rs t cut i j d le lt h =
     true-lt (get_or rs i d).from (get_or rs j d).from t (begins-rise rs i j d cut le lt) h

@@ -1,4 +1,4 @@
--- Lemmas on points in order.
+-- Lemmas on points, their order, and bags.
 use Rattle.std.specs.Prelude.{◌≡◌, ℕ, ◌+◌, ◌<◌, ◌≤◌, slice_index_or, drop, Bool, true, false, not, ◌≤ℤ◌, ◌<ℤ◌, ◌⊎◌, List, [], ◌∷◌, ◌++◌, length, cond, IsTrue}
 use Rattle.std.specs.List.{filter, count_by, AllByRecursion}
 use Rattle.std.proofs.Common.{zero, suc, refl, sym, ap, ◌∙◌, arith, subst}
@@ -128,7 +128,7 @@ sorted-from_in_order (p ∷ q ∷ b) h (suc k) d low high =
 
 -- ---- what passes a test
 
--- ---- how often a point stands in a list
+-- ---- how often a list contains a point
 
 pub count-insert : (f : Point → Bool) (p : Point) (b : List Point) → count_by f (insert p b) ≡ cond (f p) 1 0 + count_by f b
 count-insert f p [] = count-cons f p []
@@ -148,7 +148,7 @@ copies-sort p b = count-sort (same_point p) b
 pub copies-append : (p : Point) (a b : List Point) → copies p (a ++ b) ≡ copies p a + copies p b
 copies-append p a b = count-append (same_point p) a b
 
--- what holds of each element holds of a point that stands in the list
+-- What holds of each element holds of a point that the list contains.
 pub each-copies : (P : Point → Type 0) (p : Point) (b : List Point) → AllByRecursion P b → 0 < copies p b → P p
 each-copies P p [] h k = absurd (omega arith)
 each-copies P p (q ∷ b) h k =
@@ -198,11 +198,11 @@ copies-filter f p b =
       | false ↦ copies-filter_dropped f p b
     ] refl
 
--- the first of a list in order may stand before each point that stands in the list
+-- The first of a list in order may precede each point that the list contains.
 first_before : (p q : Point) (b : List Point) → IsInOrder (q ∷ b) → 0 < copies p (q ∷ b) → is_not_after q p ≡ true
 first_before p q b h k = each-copies (λ r. is_not_after q r ≡ true) p (q ∷ b) (is_not_after-refl q, h.0) k
 
--- lists in order in which each point stands as often are the same list
+-- Lists in order that contain each point equally often are the same list.
 pub same_from-copies : (b c : List Point) → IsInOrder b → IsInOrder c → ((p : Point) → copies p b ≡ copies p c) → b ≡ c
 same_from-copies [] [] h k e = refl
 same_from-copies [] (q ∷ c) h k e = absurd (omega (arith, e q, copies-head q c))
@@ -244,7 +244,7 @@ pub filter-sort : (f : Point → Bool) (b : List Point) → filter f (sort b) �
 filter-sort f b =
     same_from-copies (filter f (sort b)) (sort (filter f b)) (filter-in_order f (sort b) (sort-in_order b)) (sort-in_order (filter f b)) (λ p. copies-filter f p (sort b) ∙ ap (λ n. cond (f p) n 0) (copies-sort p b) ∙ sym (copies-filter f p b) ∙ sym (copies-sort p (filter f b)))
 
--- a point that may stand before all others is the first
+-- A point that may precede all others is the first.
 pub sort-first : (p : Point) (b : List Point) → AllByRecursion (λ q. IsTrue (is_not_after p q)) b → sort (p ∷ b) ≡ p ∷ sort b
 sort-first p b h =
     let in_order : IsInOrder (p ∷ sort b) = (each-sort (λ q. IsTrue (is_not_after p q)) b h, sort-in_order b) in
@@ -262,7 +262,7 @@ pub length-sort : (b : List Point) → length (sort b) ≡ length b
 length-sort [] = refl
 length-sort (p ∷ b) = omega (arith, length-insert p (sort b), length-sort b)
 
--- a point of a list in order that may stand before all of another is the first of both
+-- A point that may precede the first of a list in order may precede all of it.
 pub each-before : (p q : Point) (b : List Point) → IsInOrder (q ∷ b) → is_not_after p q ≡ true → AllByRecursion (λ r. IsTrue (is_not_after p r)) (q ∷ b)
 each-before p q b h e =
     (e, each-weaker (λ r. IsTrue (is_not_after q r)) (λ r. IsTrue (is_not_after p r)) (λ r k. is_not_after-trans p q r e k) b h.0)
@@ -275,7 +275,7 @@ sort-take_second p a b h k =
     sort-same (a ++ p ∷ b) (p ∷ a ++ b) (λ q. omega (arith, copies-append q a (p ∷ b), count-cons (same_point q) p b, count-cons (same_point q) p (a ++ b), copies-append q a b))
     ∙ sort-take_first p a b h k
 
--- ---- points by their places
+-- ---- points by their indices
 
 pub times-rise : (b : List Point) (i j : ℕ) (d : Point) → IsInOrder b → i ≤ j → j < length b → (slice_index_or b i d).time ≤ℤ (slice_index_or b j d).time
 times-rise [] i j d h le lt = absurd (omega arith)

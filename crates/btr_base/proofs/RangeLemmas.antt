@@ -7,7 +7,7 @@ use Rattle.std.proofs.Math.Bool.{or-false}
 use Rattle.std.proofs.lemmas.Int.{ints, by_lt_z}
 use Rattle.std.proofs.lemmas.List.Elements.{All-from_recursion}
 use Rattle.btr_base.specs.declared.point.Point.{Point}
-use Rattle.btr_base.specs.Range.{RangeValue, IsRange, contains, covered, AreApart, IsCut, IsBehind}
+use Rattle.btr_base.specs.Range.{RangeValue, IsRange, contains, covered, AreApart, IsCut, IsAfter}
 use Rattle.btr_base.specs.Bag.{outside}
 use Rattle.btr_base.proofs.ListLemmas.{each-weaker, each-both, each-append, each-take}
 
@@ -19,8 +19,8 @@ contains-from r t h = (grind (arith, ints), grind (arith, ints))
 pub contains-before : (r : RangeValue) (t : ℤ) → t <ℤ r.from → contains r t ≡ false
 contains-before r t h = grind (arith, ints)
 
-pub contains-behind : (r : RangeValue) (t : ℤ) → r.to ≤ℤ t → contains r t ≡ false
-contains-behind r t h = grind (arith, ints)
+pub contains-after : (r : RangeValue) (t : ℤ) → r.to ≤ℤ t → contains r t ≡ false
+contains-after r t h = grind (arith, ints)
 
 pub contains-ahead : (r : RangeValue) (t : ℤ) → t <ℤ r.to → contains r t ≡ int_le r.from t
 contains-ahead r t h = grind (arith, ints)
@@ -43,9 +43,9 @@ pub covered-before : (rs : List RangeValue) (t : ℤ) → AllByRecursion (λ r. 
 covered-before rs t h =
     covered-none rs t (each-weaker (λ r. t <ℤ r.from) (λ r. contains r t ≡ false) (λ r k. contains-before r t k) rs h)
 
-pub covered-behind : (rs : List RangeValue) (t : ℤ) → AllByRecursion (λ r. r.to ≤ℤ t) rs → covered rs t ≡ false
-covered-behind rs t h =
-    covered-none rs t (each-weaker (λ r. r.to ≤ℤ t) (λ r. contains r t ≡ false) (λ r k. contains-behind r t k) rs h)
+pub covered-after : (rs : List RangeValue) (t : ℤ) → AllByRecursion (λ r. r.to ≤ℤ t) rs → covered rs t ≡ false
+covered-after rs t h =
+    covered-none rs t (each-weaker (λ r. r.to ≤ℤ t) (λ r. contains r t ≡ false) (λ r k. contains-after r t k) rs h)
 
 pub apart-rest : (r : RangeValue) (rs : List RangeValue) → AreApart (r ∷ rs) → AreApart rs
 apart-rest r [] h = tt
@@ -62,7 +62,7 @@ IsCut-drop zero rs h = h
 IsCut-drop (suc n) [] h = IsCut-none
 IsCut-drop (suc n) (r ∷ rs) h = IsCut-drop n rs (IsCut-rest r rs h)
 
--- the first of a list of ranges ends before each of the others begins
+-- The first of a list of ranges ends before each of the others begins.
 pub first_ends : (r : RangeValue) (rs : List RangeValue) → IsCut (r ∷ rs) → AllByRecursion (λ s. r.to <ℤ s.from) rs
 first_ends r [] h = tt
 first_ends r (s ∷ rs) h =
@@ -83,16 +83,16 @@ outside-same (p ∷ b) rs us h =
     let rest = outside-same b rs us h.1 in
     ap (λ t. cond (not t) (p ∷ outside b rs) (outside b rs)) h.0 ∙ ap (λ c. cond (not (covered us p.time)) (p ∷ c) c) rest
 
--- ---- ranges by their places
+-- ---- ranges by their indices
 
--- the ranges in front end by the time
+-- The ranges before this index end by the time.
 pub covered-drop : (n : ℕ) (rs : List RangeValue) (t : ℤ) → ((k : ℕ) (d : RangeValue) → k < n → (get_or rs k d).to ≤ℤ t) → covered (drop n rs) t ≡ covered rs t
 covered-drop zero rs t h = refl
 covered-drop (suc n) [] t h = refl
 covered-drop (suc n) (r ∷ rs) t h =
-    covered-drop n rs t (λ k d j. h (suc k) d (omega arith)) ∙ sym (ap (λ s. s || covered rs t) (contains-behind r t (h 0 r (omega arith))))
+    covered-drop n rs t (λ k d j. h (suc k) d (omega arith)) ∙ sym (ap (λ s. s || covered rs t) (contains-after r t (h 0 r (omega arith))))
 
--- each of the others ends behind the first
+-- Each of the others ends after the first.
 pub first_ends_first : (r : RangeValue) (rs : List RangeValue) → IsCut (r ∷ rs) → AllByRecursion (λ s. r.to ≤ℤ s.to) rs
 first_ends_first r rs h =
     each-weaker (λ s. (r.to <ℤ s.from) × IsRange s) (λ s. r.to ≤ℤ s.to) (λ s k. let near = k.0 in let full = k.1.not_empty in omega (arith, ints)) rs (each-both (λ s. r.to <ℤ s.from) IsRange rs (first_ends r rs h) h.each.1)
@@ -125,7 +125,7 @@ apart-take (suc (suc n)) (r ∷ s ∷ rs) h = (h.0, apart-take (suc n) (s ∷ rs
 pub IsCut-take : (n : ℕ) (rs : List RangeValue) → IsCut rs → IsCut (take n rs)
 IsCut-take n rs h = record { each = each-take IsRange n rs h.each; apart = apart-take n rs h.apart }
 
--- the ranges from a place on begin behind the time
+-- The ranges from this index on begin after the time.
 pub covered-take : (n : ℕ) (rs : List RangeValue) (t : ℤ) → ((k : ℕ) (d : RangeValue) → n ≤ k → k < length rs → t <ℤ (get_or rs k d).from) → covered (take n rs) t ≡ covered rs t
 covered-take zero [] t h = refl
 covered-take zero (r ∷ rs) t h =
@@ -135,13 +135,13 @@ covered-take (suc n) [] t h = refl
 covered-take (suc n) (r ∷ rs) t h =
     ap (λ c. contains r t || c) (covered-take n rs t (λ k d le lt. h (suc k) d (omega arith) (omega arith)))
 
--- ---- one more range behind all others
+-- ---- one more range after all others
 
--- each of the ranges ends before the time
+-- Each of the ranges ends before the time.
 abbrev pub EndBefore : ℤ → List RangeValue → Type 0
 EndBefore t rs = AllByRecursion (λ r. r.to <ℤ t) rs
 
--- each of the ranges ends before each of the others begins
+-- Each of the ranges ends before each of the others begins.
 abbrev pub AllBefore : List RangeValue → List RangeValue → Type 0
 AllBefore rs us = AllByRecursion (λ u. EndBefore u.from rs) us
 
@@ -183,13 +183,13 @@ not_before-first r rs t h k =
     let full = h.each.0.not_empty in
     by_lt_z t r.from (λ lt. absurd (both_ways (covered (r ∷ rs) t) (covered-before (r ∷ rs) t (lt, each-weaker (λ s. r.to <ℤ s.from) (λ s. t <ℤ s.from) (λ s j. omega (arith, ints)) rs (first_ends r rs h))) k)) (λ le. le)
 
--- of two lists that cover the same times, the first range of one does not end before that of the other
+-- Of two lists that cover the same times, the first range of one does not end before that of the other.
 not_shorter : (r u : RangeValue) (rs us : List RangeValue) → IsCut (r ∷ rs) → IsCut (u ∷ us) → r.from ≡ u.from → ((t : ℤ) → covered (r ∷ rs) t ≡ covered (u ∷ us) t) → u.to ≤ℤ r.to
 not_shorter r u rs us h k e same =
     let full = h.each.0.not_empty in
     by_lt_z r.to u.to (λ lt.
     let here : contains u r.to ≡ true = grind (arith, ints) in
-    let gap : covered (r ∷ rs) r.to ≡ false = ap (λ s. s || covered rs r.to) (contains-behind r r.to (omega (arith, ints))) ∙ covered-before rs r.to (first_ends r rs h) in
+    let gap : covered (r ∷ rs) r.to ≡ false = ap (λ s. s || covered rs r.to) (contains-after r r.to (omega (arith, ints))) ∙ covered-before rs r.to (first_ends r rs h) in
     absurd (both_ways (covered (r ∷ rs) r.to) gap (same r.to ∙ ap (λ s. s || covered us r.to) here))) (λ le. le)
 
 rest-same : (r : RangeValue) (rs us : List RangeValue) → IsCut (r ∷ rs) → IsCut (r ∷ us) → ((t : ℤ) → covered (r ∷ rs) t ≡ covered (r ∷ us) t) → (t : ℤ) → covered rs t ≡ covered us t
@@ -197,7 +197,7 @@ rest-same r rs us h k same t =
     by_lt_z t r.to (λ lt.
     covered-before rs t (each-weaker (λ s. r.to <ℤ s.from) (λ s. t <ℤ s.from) (λ s j. omega (arith, ints)) rs (first_ends r rs h))
     ∙ sym (covered-before us t (each-weaker (λ s. r.to <ℤ s.from) (λ s. t <ℤ s.from) (λ s j. omega (arith, ints)) us (first_ends r us k)))) (λ le.
-    let out = contains-behind r t le in
+    let out = contains-after r t le in
     sym (ap (λ s. s || covered rs t) out) ∙ same t ∙ ap (λ s. s || covered us t) out)
 
 pub same_from-covered : (rs us : List RangeValue) → IsCut rs → IsCut us → ((t : ℤ) → covered rs t ≡ covered us t) → rs ≡ us
@@ -217,10 +217,10 @@ same_from-covered (r ∷ rs) (u ∷ us) h k same =
     let rest = same_from-covered rs us (IsCut-rest r rs h) (IsCut-rest u us k) (rest-same r rs us h cut times) in
     cc
 
--- ranges in order, the first of which begins behind this end
+-- Ranges in order, of which the first begins after this end.
 abbrev pub ApartFrom : Option ℤ → List RangeValue → Type 0
 ApartFrom end [] = Unit {0}
-ApartFrom end (r ∷ rs) = IsBehind end r.from × ApartFrom (Some r.to) rs
+ApartFrom end (r ∷ rs) = IsAfter end r.from × ApartFrom (Some r.to) rs
 
 pub apart-from : (r : RangeValue) (rs : List RangeValue) → AreApart (r ∷ rs) → ApartFrom (Some r.to) rs
 apart-from r [] h = tt
@@ -238,7 +238,7 @@ pub from_none-apart : (rs : List RangeValue) → ApartFrom None rs → AreApart 
 from_none-apart [] h = tt
 from_none-apart (r ∷ rs) h = from-apart r rs h.1
 
--- one range more
-pub apart-more : (all : List RangeValue) (end : Option ℤ) (r : RangeValue) (rs : List RangeValue) (was now : Bool) → AreApart all ↔ (IsTrue was × ApartFrom end (r ∷ rs)) → IsTrue now ↔ (IsTrue was × IsBehind end r.from) → AreApart all ↔ (IsTrue now × ApartFrom (Some r.to) rs)
+-- One range more.
+pub apart-more : (all : List RangeValue) (end : Option ℤ) (r : RangeValue) (rs : List RangeValue) (was now : Bool) → AreApart all ↔ (IsTrue was × ApartFrom end (r ∷ rs)) → IsTrue now ↔ (IsTrue was × IsAfter end r.from) → AreApart all ↔ (IsTrue now × ApartFrom (Some r.to) rs)
 apart-more all end r rs was now h n =
     (λ a. let p = h.0 a in (n.1 (p.0, p.1.0), p.1.1), λ p. let q = n.0 p.0 in h.1 (q.0, (q.1, p.1)))

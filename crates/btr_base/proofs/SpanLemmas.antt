@@ -23,7 +23,7 @@ pub width-root : width 10 ≡ 2 ^ 62
 unfolding width
 width-root = refl
 
--- the width of a height is a whole number of times that of a lower one
+-- The width of a height is a whole number of times that of a lower one.
 pub width-times : (d h : ℕ) → (m : ℕ) × (width (d + h) ≡ m * width h)
 width-times zero h = (1, let e : 0 + h ≡ h = omega arith in ap width e ∙ omega arith)
 width-times (suc d) h =
@@ -40,7 +40,7 @@ times-up_to a b w h =
     let e : suc a * w ≡ a * w + w = omega arith in
     omega arith
 
--- the last whole number of widths at or before an offset ends in the domain
+-- The span that contains an offset in the domain ends in the domain.
 pub width-fits : (h o : ℕ) → h ≤ 10 → o < 2 ^ 62 → (o / width h) * width h + width h ≤ 2 ^ 62
 width-fits h o low inside =
     let times = width-times (10 - h) h in
@@ -51,7 +51,7 @@ width-fits h o low inside =
     let next = times-up_to (o / width h) times.0 (width h) below in
     omega arith
 
--- the width of a span is 64 times that of its slots
+-- The width of a span is 64 times that of its slots.
 pub width-slots : (h : ℕ) → 1 ≤ h → width h ≡ 64 * width (h - 1)
 width-slots h low = let e : h ≡ suc (h - 1) = omega arith in ap width e ∙ width-next (h - 1)
 
@@ -69,7 +69,7 @@ slot-aligned s k i h low place =
       ends = omega (arith, ints);
     }
 
--- the offset of a slot's start
+-- The offset of a slot's start.
 pub slot-offset : (s : SpanValue) (i : ℕ) → 1 ≤ s.height → i < 64 → i * width (s.height - 1) + width (s.height - 1) ≤ width s.height
 slot-offset s i low place =
     let w = width (s.height - 1) in
@@ -81,9 +81,9 @@ pub width-at_most : (h : ℕ) → h ≤ 10 → width h ≤ 2 ^ 62
 width-at_most h low =
     let fits = width-fits h 0 low (omega arith) in omega arith
 
--- ---- the slot that an offset lies in
+-- ---- the slot that contains an offset
 
--- the offset is at or behind the slot's begin and before its end, and so it is not in another one
+-- The slot of this index contains the offset.
 pub record IsSlotAround (o w i : ℕ) : Type 0 where
   pub place : i < 64
   pub begins : i * w ≤ o

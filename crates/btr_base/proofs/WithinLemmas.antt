@@ -1,4 +1,4 @@
--- Lemmas on the points of a bag from a time up to another.
+-- Lemmas on the points of a bag from a time up to, and without, another.
 use Rattle.std.specs.Prelude.{◌≡◌, ℤ, Bool, true, false, not, ◌&&◌, int_le, int_lt, ◌≤ℤ◌, ◌<ℤ◌, List, [], ◌∷◌, ◌++◌, cond, IsTrue}
 use Rattle.std.specs.List.{filter, AllByRecursion}
 use Rattle.std.proofs.Common.{refl, sym, ap, ◌∙◌, arith}
@@ -9,8 +9,6 @@ use Rattle.btr_base.specs.Range.{RangeValue, covered}
 use Rattle.btr_base.specs.Bag.{IsInOrder, sort, outside, within, is_within}
 use Rattle.btr_base.proofs.ListLemmas.{each-weaker, filter-append, filter-filter, filter-swap, filter-same}
 use Rattle.btr_base.proofs.PointLemmas.{is_not_after-times, filter-sort, filter-in_order}
-
--- ---- filters
 
 -- ---- points between two times
 
@@ -106,11 +104,9 @@ split-late a m b p xs h late order rest =
     ∙ ap (λ c. c ++ cond t (p ∷ within m b xs) (within m b xs)) (sym none)
     ∙ ap (λ s. cond s (p ∷ within a m xs) (within a m xs) ++ cond t (p ∷ within m b xs) (within m b xs)) (sym out)
 
--- the points up to a time, and from it on
+-- The points up to a time, and from it on.
 pub within-split : (a m b : ℤ) (xs : List Point) → a ≤ℤ m → m ≤ℤ b → IsInOrder xs → within a b xs ≡ within a m xs ++ within m b xs
 within-split a m b [] h k order = refl
 within-split a m b (p ∷ xs) h k order =
     let rest = within-split a m b xs h k order.1 in
     by_lt_z p.time m (λ early. split-early a m b p xs k early rest) (λ late. split-late a m b p xs h late order rest)
-
--- ---- a list parted at a place

@@ -1,4 +1,4 @@
--- What differs between two bags: the aligned slots of time in which some time has other points in the one than in the other.
+-- The aligned slots of time in which two bags differ: at some time of the slot one has other points than the other.
 use Rattle.std.specs.Prelude.{ℕ, ◌+◌, ◌^◌, ℤ, Bool, true, false, not, ◌&&◌, int_le, List, [], ◌∷◌, ◌++◌, map, if◌then◌else◌}
 use Rattle.std.specs.Ordering.{int_eq}
 use Rattle.std.specs.List.{filter}
@@ -9,42 +9,42 @@ use Rattle.btr_base.specs.Range.{RangeValue}
 use Rattle.btr_base.specs.Bag.{sort}
 use Rattle.btr_base.specs.Windows.{window_of, window_at, begin_of}
 
--- the points at a time
+-- The points at a time.
 abbrev pub points_at : ℤ → List Point → List Point
 points_at t b = filter (λ p. int_eq p.time t) b
 
--- two lists are equal
+-- The two lists are equal.
 abbrev pub same_points : List Point → List Point → Bool
 same_points [] [] = true
 same_points [] (q ∷ qs) = false
 same_points (p ∷ ps) [] = false
 same_points (p ∷ ps) (q ∷ qs) = same_point p q && same_points ps qs
 
--- the two bags have other points at the time
+-- The two bags have different points at the time.
 abbrev pub differ_at : List Point → List Point → ℤ → Bool
 differ_at a b t = not (same_points (points_at t a) (points_at t b))
 
--- the points of both, in order, at whose times the two differ, in the domain
+-- The points of both, in order, at whose times the two differ, if those lie in the domain.
 abbrev pub changed : List Point → List Point → List Point
 changed a b =
     filter (λ p. differ_at a b p.time && in_domain p.time) (sort (a ++ b))
 
--- the aligned slot, `2^p` ns wide, that a time lies in
+-- The aligned slot, `2^p` ns wide, that contains a time.
 abbrev pub slot_around : ℕ → ℤ → RangeValue
 slot_around p t =
     record { from = begin_of FIRST (2 ^ p) t; to = window_at FIRST (2 ^ p) (window_of FIRST (2 ^ p) t + 1) }
 
--- a range before others, one with the first of them where the two touch
+-- A range before others. It is joined with the first of them if the two touch.
 abbrev pub joined_before : RangeValue → List RangeValue → List RangeValue
 joined_before r [] = r ∷ []
 joined_before r (s ∷ rs) =
     if int_le s.from r.to then record { from = r.from; to = s.to } ∷ rs else r ∷ s ∷ rs
 
--- the longest runs of ranges that stand in order of time
+-- The longest runs of ranges that are in order of time.
 abbrev pub runs : List RangeValue → List RangeValue
 runs [] = []
 runs (r ∷ rs) = joined_before r (runs rs)
 
--- the longest runs of slots that have a time at which the two bags differ
+-- The longest runs of slots that have a time at which the two bags differ.
 abbrev pub changes : ℕ → List Point → List Point → List RangeValue
 changes p a b = runs (map (λ q. slot_around p q.time) (changed a b))

@@ -1,6 +1,8 @@
 -- The limits as numerals, so that a clause that cites a constant cannot move with the code.
 use Rattle.std.specs.Prelude.{◌≡◌, ◌^◌, pos, negsuc}
-use Rattle.btr_base.specs.declared.limits.TheConstants.{FIRST, END, MAX_STREAMS, MAX_VERSIONS, MAX_POINTS, MAX_COMMIT_POINTS, MAX_COMMIT_RANGES, LEAF_POINTS, FAN_OUT, ROOT_HEIGHT, BOTTOM_WIDTH, MAX_EXPONENT, MAX_WIDTH}
+use Rattle.btr_base.specs.declared.limits.TheConstants.{FIRST, END, MAX_STREAMS, MAX_VERSIONS, MAX_POINTS, MAX_COMMIT_POINTS}
+use Rattle.btr_base.specs.declared.limits.TheConstants.{MAX_COMMIT_RANGES, LEAF_POINTS, FAN_OUT, ROOT_HEIGHT, BOTTOM_WIDTH}
+use Rattle.btr_base.specs.declared.limits.TheConstants.{MAX_EXPONENT, MAX_WIDTH}
 use Rattle.btr_base.specs.Span.{width}
 
 -- The limits of times, in nanoseconds.

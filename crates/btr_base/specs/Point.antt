@@ -1,4 +1,4 @@
--- Points, and the order in which they stand.
+-- Points, their order, and the times that a store can hold.
 use Rattle.std.specs.Prelude.{ℤ, Bool, not, ◌≤ℤ◌, ◌<ℤ◌, ◌&&◌, int_le, int_lt, List}
 use Rattle.std.specs.List.{AllByRecursion}
 use Rattle.std.specs.Ordering.{int_cmp, int_eq, ordering_then, is_lt}
@@ -6,15 +6,15 @@ use Rattle.std.specs.declared.cmp.Ordering.{Ordering}
 use Rattle.btr_base.specs.declared.point.Point.{Point}
 use Rattle.btr_base.specs.declared.limits.TheConstants.{FIRST, END}
 
--- by time, and points of one time by value
+-- By time, and points of one time by value.
 abbrev pub point_cmp : Point → Point → Ordering
 point_cmp p q = ordering_then (int_cmp p.time q.time) (int_cmp p.value q.value)
 
--- p may stand before q
+-- The point p may precede q.
 abbrev pub is_not_after : Point → Point → Bool
 is_not_after p q = not (is_lt (point_cmp q p))
 
--- the two are equal
+-- The two points are equal.
 abbrev pub same_point : Point → Point → Bool
 same_point p q = int_eq p.time q.time && int_eq p.value q.value
 

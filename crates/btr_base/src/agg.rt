@@ -5,14 +5,14 @@ ghost use Rattle.btr_base.specs.Agg.{IsSummary, agg, joined, one_point, join_end
 use crate::point::Point;
 use std::marker::Model;
 
-/// What is said of points without naming them: how many there are, the sum of their values, and the least and the
-/// greatest value (the aggregate of BTrDB, FAST 2016, in whole numbers and with the sum in place of the mean).
+/// The count of points, the sum of their values, and the least and the greatest value (the aggregate of BTrDB, FAST 2016, in
+/// whole numbers and with the sum in place of the mean).
 ///
-/// `ends` is `None` exactly where there is no point, and then the sum is 0. Else the sum lies from the count times the
-/// least value to the count times the greatest.
+/// `ends` is `None` exactly if there is no point, and then the sum is 0. Otherwise the sum lies from the count times the least
+/// value to the count times the greatest.
 #[derive(Clone, Copy, Debug, PartialEq, Eq)]
 pub struct Agg {
-    /// How many points there are.
+    /// The number of points.
     pub count: u64,
 
     /// The sum of their values, in the unit of the stream.
@@ -69,8 +69,8 @@ impl Agg {
         all
     }
 
-    /// The aggregate of the points of both, in constant time. Of the aggregates of two lists it is that of the one list
-    /// followed by the other.
+    /// The aggregate of the points of both, in constant time: if the two are the aggregates of two lists, that of the one list
+    /// followed by the other. Both counts together are below `2^64`.
     pub fn join(&self, other: &Agg) -> Agg
         requires { self.now.count + other.now.count < 2 ^ 64 }
         ensures numbers { result ≡ joined self.now other.now }
@@ -85,7 +85,7 @@ impl Agg {
     }
 }
 
-/// The lower of the least values and the higher of the greatest, of those that there are.
+/// The lower of the least values and the higher of the greatest values, of those that exist.
 fn join_ends(a: Option<(i64, i64)>, b: Option<(i64, i64)>) -> Option<(i64, i64)>
     ensures { result ≡ outer_ends a b }
 {

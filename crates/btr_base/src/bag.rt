@@ -1,4 +1,5 @@
-ghost use Rattle.std.specs.Prelude.{◌≡◌, ℕ, ◌≤◌, ◌<◌, ℤ, ◌≤ℤ◌, ◌<ℤ◌, List, [], ◌++◌, length, drop, slice_index_or, IfOk, filter, int_lt, not};
+ghost use Rattle.std.specs.Prelude.{◌≡◌, ℕ, ◌≤◌, ◌<◌, ℤ, ◌≤ℤ◌, ◌<ℤ◌, List, [], ◌++◌, length, drop};
+ghost use Rattle.std.specs.Prelude.{slice_index_or, IfOk, filter, int_lt, not};
 ghost use Rattle.btr_base.specs.declared.point.Point.{Point as APoint};
 ghost use Rattle.btr_base.specs.Bag.{IsInOrder, sort, outside, within};
 ghost use Rattle.btr_base.specs.Range.{RangeValue, IsCut, covered};
@@ -9,8 +10,8 @@ use crate::ranges::{Ranges, has_begun};
 use std::alloc::{AllocError, Global};
 use std::marker::Model;
 
-/// Points by time and value, of which equal ones each count: what a stream holds at one version (BTrDB, FAST 2016). A
-/// bag may hold any time, also outside the domain.
+/// Points by time and value, in which equal points each count: what a stream holds at one version (BTrDB, FAST 2016). A bag may
+/// hold any time, also outside the domain.
 #[derive(Debug, Drop)]
 pub struct Bag {
     points: Vec<Point>,
@@ -29,7 +30,7 @@ impl Model for Bag {
 }
 
 impl Bag {
-    /// The bag of these points. It sorts them where they lie, in `n log n` time, and takes no memory.
+    /// The bag of these points. It sorts them in place, in `n log n` time, and takes no memory.
     pub fn from_points(points: Vec<Point>) -> Bag
         ensures { result ≡ sort points.items }
     {
@@ -55,8 +56,8 @@ impl Bag {
         self.points.as_slice()
     }
 
-    /// The points whose time no range covers: what a cut leaves. It takes one pass over points and ranges, and memory for
-    /// as many points as the bag has. An `Err` is want of memory.
+    /// The points whose time no range covers: what a cut leaves. It takes one pass over points and ranges, and memory for as
+    /// many points as the bag has. An `Err` means out of memory.
     pub fn outside(&self, alloc: Global, cut: &Ranges) -> Result<Bag, AllocError>
         ensures { IfOk result (λ b. b ≡ outside self.now cut.now) }
     {
@@ -64,8 +65,8 @@ impl Bag {
         Ok(Bag { points })
     }
 
-    /// The points of both; a point that stands in both counts for each. It takes one pass over both, and memory for all
-    /// points of both. An `Err` is want of memory.
+    /// The points of both. A point that both contain counts for each. It takes one pass over both, and memory for all points
+    /// of both. An `Err` means out of memory.
     pub fn merge(&self, alloc: Global, other: &Bag) -> Result<Bag, AllocError>
         ensures { IfOk result (λ b. b ≡ sort (self.now ++ other.now)) }
     {
@@ -73,7 +74,7 @@ impl Bag {
         Ok(Bag { points })
     }
 
-    /// The same points in memory of their own, in linear time. An `Err` is want of memory.
+    /// The same points in memory of their own, in linear time. An `Err` means out of memory.
     pub fn copy(&self, alloc: Global) -> Result<Bag, AllocError>
         ensures { IfOk result (λ b. b ≡ self.now) }
     {
@@ -82,8 +83,8 @@ impl Bag {
     }
 }
 
-/// The points of a list in order whose time no range covers. It takes one pass over points and ranges, and memory for as
-/// many points as there are.
+/// The points of a list in order whose time no range covers. It takes one pass over points and ranges, and memory for as many
+/// points as there are. An `Err` means out of memory.
 pub fn points_outside(
     alloc: Global,
     points: &[Point],
@@ -104,8 +105,8 @@ pub fn points_outside(
     Ok(kept)
 }
 
-/// Parts points in order at a time, in nanoseconds: those before it, and those from it on. It takes time logarithmic in
-/// their number, and no memory.
+/// Divides points in order at a time, in nanoseconds: those before it, and those from it on. It takes time logarithmic in their
+/// number, and no memory.
 pub fn parted(points: &[Point], time: i64) -> (&[Point], &[Point])
     requires { IsInOrder points.now }
     ensures before { result.0.now ≡ filter (λ p. int_lt p.time time) points.now }
@@ -116,7 +117,7 @@ pub fn parted(points: &[Point], time: i64) -> (&[Point], &[Point])
     (&points[..place], &points[place..])
 }
 
-/// Of points in order those from a time up to, and without, another, in nanoseconds. It takes time logarithmic in their
+/// The points of a list in order from a time up to, and without, another, in nanoseconds. It takes time logarithmic in their
 /// number, and no memory.
 pub fn points_between(points: &[Point], from: i64, to: i64) -> &[Point]
     requires { IsInOrder points.now }
@@ -127,7 +128,7 @@ pub fn points_between(points: &[Point], from: i64, to: i64) -> &[Point]
     between
 }
 
-/// The place of the first range from `first` on that ends behind the time, or the number of ranges.
+/// The index of the first range from `first` on that ends after the time, or the number of ranges.
 fn skip_ended(ranges: &[Range], first: usize, time: i64) -> usize
     requires { first ≤ length ranges.now }
     ensures within { result ≤ length ranges.now }
@@ -145,7 +146,8 @@ fn skip_ended(ranges: &[Range], first: usize, time: i64) -> usize
     place
 }
 
-/// The points of two lists in order, in order. It takes one pass over both, and memory for all points of both.
+/// The points of two lists in order, in order. It takes one pass over both, and memory for all points of both. An `Err` means
+/// out of memory.
 pub fn merged(alloc: Global, a: &[Point], b: &[Point]) -> Result<Vec<Point>, AllocError>
     requires a { IsInOrder a.now }
     requires b { IsInOrder b.now }

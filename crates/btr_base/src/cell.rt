@@ -1,6 +1,6 @@
 use crate::agg::Agg;
 
-/// A window of time and what is said of its points.
+/// A window of time and the aggregate of its points.
 #[derive(Clone, Copy, Debug, PartialEq, Eq)]
 pub struct Cell {
     /// The first time of the window, in nanoseconds.

@@ -1,20 +1,20 @@
-//! Points, ranges of time and bags: the plain data that every other crate speaks of.
+//! Points, ranges of time, bags and aggregates: the plain data of every other crate.
 //!
-//! A [`Bag`] is a list of points by time and value in which equal points each count, [`Ranges`] is a set of times
-//! kept as its few longest ranges, and one commit takes the points inside ranges out of a bag (`outside`) and puts
-//! others in (`merge`). The crates above say what a version of a stream holds by these two calls alone.
+//! A [`Bag`] is a list of points by time and value, in which equal points each count. [`Ranges`] is a set of times, kept as its
+//! longest ranges. A commit removes the points inside ranges from a bag (`outside`) and adds others (`merge`). The crates above
+//! say what a version of a stream holds by these two calls alone.
 //!
-//! It knows no streams, no versions and no bytes.
+//! The crate has no streams, no versions and no bytes. The limits of all of them are constants here.
 #![tactic(auto)]
 
 mod limits;
 mod point;
-// what is cut
+// what a commit removes
 mod range;
 mod ranges;
-// what is kept
+// what a version holds
 mod bag;
-// what is said of it
+// what is asked of it
 mod agg;
 mod cell;
 mod grid;

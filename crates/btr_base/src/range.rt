@@ -4,7 +4,7 @@ ghost use Rattle.btr_base.specs.Range.{IsRange};
 use crate::limits::{END, FIRST};
 use std::marker::Model;
 
-/// The times from `from` up to, and without, `to`, in nanoseconds. It is never empty, and lies in the domain.
+/// The times from `from` up to, and without, `to`, in nanoseconds. A range is never empty, and lies in the domain.
 #[derive(Clone, Copy, Debug, PartialEq, Eq)]
 pub struct Range {
     pub from: i64,
@@ -24,8 +24,8 @@ impl Model for Range {
 }
 
 impl Range {
-    /// The range between two times, or `None` where it would be empty or a bound lies outside the domain. The end of
-    /// the domain is a good `to`.
+    /// The range between two times, in nanoseconds. It returns `None` if the range would be empty or a bound lies outside the
+    /// domain. `to` may be the end of the domain.
     pub fn new(from: i64, to: i64) -> Option<Range>
         ensures some { IsSome result ↔ IsRange (record { from = from; to = to }) }
         ensures value { IfSome result (λ r. r ≡ record { from = from; to = to }) }

@@ -1,13 +1,14 @@
-ghost use Rattle.std.specs.Prelude.{◌≡◌, true, false, ◌++◌, ℕ, ◌≤◌, ◌<◌, ℤ, List, [], ◌∷◌, ◌||◌, length, drop, slice_index_or, ◌≤ℤ◌, ◌<ℤ◌, IfOk, IfSome, IsSome, IsTrue, ◌↔◌, OnOk, OnErr};
+ghost use Rattle.std.specs.Prelude.{◌≡◌, true, false, ◌++◌, ℕ, ◌≤◌, ◌<◌, ℤ, List, [], ◌∷◌, ◌||◌, length, drop};
+ghost use Rattle.std.specs.Prelude.{slice_index_or, ◌≤ℤ◌, ◌<ℤ◌, IfOk, IfSome, IsSome, IsTrue, ◌↔◌, OnOk, OnErr};
 ghost use Rattle.std.specs.List.{AllByRecursion};
-ghost use Rattle.btr_base.specs.Range.{IsBehind};
-ghost use Rattle.btr_base.specs.Range.{RangeValue, IsRange, IsCut, AreApart, covered, contains};
+ghost use Rattle.btr_base.specs.Range.{RangeValue, IsRange, IsCut, AreApart, IsAfter, covered, contains};
 
 use crate::range::Range;
 use std::alloc::{AllocError, Global};
 use std::marker::Model;
 
-/// A set of times, kept as its longest ranges: in order, disjoint and not touching. It says which times a commit cuts.
+/// A set of times, kept as its longest ranges: in order, disjoint and not touching. A commit has one: the times whose points it
+/// removes.
 #[derive(Debug, Drop)]
 pub struct Ranges {
     ranges: Vec<Range>,
@@ -34,7 +35,7 @@ impl Ranges {
         }
     }
 
-    /// The ranges of a list, or `None` where they are not in order, each ending before the next begins with a time between
+    /// The set of the ranges of a list. It returns `None` unless each range ends before the next begins, with a time between
     /// them. It takes linear time and no memory.
     pub fn from_ranges(ranges: Vec<Range>) -> Option<Ranges>
         ensures apart { IsSome result ↔ AreApart ranges.items }
@@ -46,14 +47,14 @@ impl Ranges {
         Some(Ranges { ranges })
     }
 
-    /// Adds the times of a range, which may touch, overlap or bridge others. A range that begins behind the last one, or
-    /// in it, is added in constant time on average, and any other in time linear in the number of ranges. An `Err` is want of
-    /// memory, and changes nothing.
+    /// Adds the times of a range, which may touch, overlap or bridge others. A range that begins in the last one or after it is
+    /// added in constant time on average, and any other in time linear in the number of ranges. An `Err` means out of memory,
+    /// and nothing is changed.
     pub fn add(&mut self, range: Range) -> Result<(), AllocError>
         ensures times { OnOk result ((t : ℤ) → covered self.new t ≡ (contains range t || covered self.old t)) }
         ensures err { OnErr result (self.new ≡ self.old) }
     {
-        if is_behind(&self.ranges, &range) {
+        if is_after_last(&self.ranges, &range) {
             self.ranges.push(range)?;
             return Ok(());
         }
@@ -65,7 +66,7 @@ impl Ranges {
         Ok(())
     }
 
-    /// Whether a range covers the time, in nanoseconds; any `i64` may be asked. It takes time logarithmic in the number of
+    /// Whether a range covers the time, in nanoseconds. The time may be any `i64`. It takes time logarithmic in the number of
     /// ranges, and no memory.
     pub fn covers(&self, t: i64) -> bool
         ensures { result ≡ covered self.now t }
@@ -73,7 +74,7 @@ impl Ranges {
         is_covered(&self.ranges, t)
     }
 
-    /// The same ranges in memory of their own.
+    /// The same ranges in memory of their own, in linear time. An `Err` means out of memory.
     pub fn copy(&self, alloc: Global) -> Result<Ranges, AllocError>
         ensures { IfOk result (λ r. r ≡ self.now) }
     {
@@ -104,9 +105,9 @@ fn are_apart(ranges: &[Range]) -> bool
     apart
 }
 
-/// Whether it was so, and the time lies behind the end, if there is one.
+/// Whether the ranges so far are apart, and the time is after the end of the last one, if there is one.
 fn stays_apart(apart: bool, end: Option<i64>, from: i64) -> bool
-    ensures { IsTrue result ↔ (IsTrue apart × IsBehind end from) }
+    ensures { IsTrue result ↔ (IsTrue apart × IsAfter end from) }
 {
     match end {
         Some(end) => apart && end < from,
@@ -114,8 +115,8 @@ fn stays_apart(apart: bool, end: Option<i64>, from: i64) -> bool
     }
 }
 
-/// Whether the range begins behind the end of the last one, with a time between them.
-fn is_behind(ranges: &[Range], range: &Range) -> bool
+/// Whether the range begins after the end of the last one, with a time between them.
+fn is_after_last(ranges: &[Range], range: &Range) -> bool
     requires { IsCut ranges.now }
     ensures { result ≡ true → IsCut (ranges.now ++ range.now ∷ []) }
 {
@@ -126,8 +127,8 @@ fn is_behind(ranges: &[Range], range: &Range) -> bool
     }
 }
 
-/// Whether the range begins in the last one or at its end. Where it does, the union of both takes the place of the last
-/// one. It takes constant time and no memory.
+/// Whether the range begins in the last one or at its end. If it does, the last one becomes the union of both. It takes constant
+/// time and no memory.
 fn joins_last(ranges: &mut Vec<Range>, range: &Range) -> bool
     requires { IsCut ranges.old.items }
     ensures cut { IsCut ranges.new.items }
@@ -143,14 +144,14 @@ fn joins_last(ranges: &mut Vec<Range>, range: &Range) -> bool
     false
 }
 
-/// The ranges with one more, whose neighbors it joins.
+/// The ranges with one more, joined with those that it touches or overlaps.
 fn joined(alloc: Global, ranges: &[Range], range: Range) -> Result<Vec<Range>, AllocError>
     requires { IsCut ranges.now }
     ensures cut { IfOk result (λ v. IsCut v.items) }
     ensures times { IfOk result (λ v. (t : ℤ) → covered v.items t ≡ (contains range t || covered ranges.now t)) }
 {
     let mut done = Vec::with_capacity(alloc, ranges.len())?;
-    // it shows that the bounds are those of a range
+    // the proof reads here that the bounds are those of a range
     let _ = &range.from;
     let mut current = range;
     for next in ranges {
@@ -167,7 +168,7 @@ fn joined(alloc: Global, ranges: &[Range], range: Range) -> Result<Vec<Range>, A
     Ok(done)
 }
 
-/// Both of two ranges that touch or overlap.
+/// The union of two ranges that touch or overlap.
 fn union(a: &Range, b: &Range) -> Range
     requires a_reaches { b.now.from ≤ℤ a.now.to }
     requires b_reaches { a.now.from ≤ℤ b.now.to }
@@ -180,7 +181,7 @@ fn union(a: &Range, b: &Range) -> Range
     }
 }
 
-/// Whether a range covers the time, by halving.
+/// Whether a range covers the time, by binary search.
 fn is_covered(ranges: &[Range], t: i64) -> bool
     requires { IsCut ranges.now }
     ensures { result ≡ covered ranges.now t }
@@ -189,8 +190,8 @@ fn is_covered(ranges: &[Range], t: i64) -> bool
     has_begun(ranges, place, t)
 }
 
-/// Of ranges that stand apart in order, those that end behind a time, in nanoseconds. Of the times from it on they cover
-/// the same. It takes time logarithmic in the number of ranges, and no memory.
+/// Of ranges in order and apart, those that end after a time, in nanoseconds. Of the times from it on they cover the same. It
+/// takes time logarithmic in the number of ranges, and no memory.
 pub fn ranges_from(ranges: &[Range], from: i64) -> &[Range]
     requires { IsCut ranges.now }
     ensures cut { IsCut result.now }
@@ -201,8 +202,8 @@ pub fn ranges_from(ranges: &[Range], from: i64) -> &[Range]
     &ranges[place..]
 }
 
-/// Of ranges that stand apart in order, those that begin before a time, in nanoseconds. Of the times before it they cover
-/// the same. It takes time logarithmic in the number of ranges, and no memory.
+/// Of ranges in order and apart, those that begin before a time, in nanoseconds. Of the times before it they cover the same. It
+/// takes time logarithmic in the number of ranges, and no memory.
 pub fn ranges_before(ranges: &[Range], to: i64) -> &[Range]
     requires { IsCut ranges.now }
     ensures cut { IsCut result.now }
@@ -213,8 +214,8 @@ pub fn ranges_before(ranges: &[Range], to: i64) -> &[Range]
     &ranges[..place]
 }
 
-/// Whether there is a range at the place, and it begins at or before the time. All before it end by the time, and it
-/// ends behind the time.
+/// Whether there is a range at this index that begins at or before the time. All ranges before it end by the time, and it ends
+/// after the time.
 pub(crate) fn has_begun(ranges: &[Range], place: usize, time: i64) -> bool
     requires cut { IsCut ranges.now }
     requires ahead { (r : RangeValue) → place < length ranges.now → time <ℤ (slice_index_or ranges.now place r).to }

@@ -1,6 +1,6 @@
 ghost use Rattle.std.specs.Prelude.{◌≡◌, ℕ, ◌+◌, ◌-◌, ◌<◌, ◌≤◌, pos, ◌+ℤ◌, ◌≤ℤ◌, ◌<ℤ◌};
 ghost use Rattle.btr_base.specs.Point.{InDomain};
-ghost use Rattle.btr_base.specs.Span.{width as nanoseconds, IsSpan, slot_of};
+ghost use Rattle.btr_base.specs.Span.{width as span_ns, IsSpan, slot_of};
 
 use crate::limits::FIRST;
 use std::marker::Model;
@@ -35,7 +35,7 @@ impl Span {
         requires height { height ≤ 10 }
         ensures height { result.height ≡ height }
         ensures begins { result.start ≤ℤ time }
-        ensures ends { time <ℤ (result.start +ℤ pos (nanoseconds height)) }
+        ensures ends { time <ℤ (result.start +ℤ pos (span_ns height)) }
     {
         let offset = time.abs_diff(FIRST);
         let width = width(height);
@@ -45,15 +45,15 @@ impl Span {
         }
     }
 
-    /// The end of the span, the first time behind it, in nanoseconds.
+    /// The end of the span, the first time after it, in nanoseconds.
     pub fn end(&self) -> i64
-        ensures end { result ≡ self.now.start +ℤ pos (nanoseconds self.now.height) }
+        ensures end { result ≡ self.now.start +ℤ pos (span_ns self.now.height) }
         ensures span { IsSpan self.now }
     {
         self.start + width(self.height) as i64
     }
 
-    /// The `i`-th of the 64 spans of the next lower height that this one is made of, from 0.
+    /// The `i`-th of the 64 spans of the next lower height that this one consists of, from 0.
     pub fn slot(&self, i: u8) -> Span
         requires height { 1 ≤ self.now.height }
         requires place { i < 64 }
@@ -69,43 +69,43 @@ impl Span {
 }
 
 impl Span {
-    /// The place, from 0, of the one of the 64 slots that the time lies in.
+    /// The index, from 0, of the one of the 64 slots that contains the time.
     pub fn slot_at(&self, time: i64) -> u8
         requires height { 1 ≤ self.now.height }
         requires begins { self.now.start ≤ℤ time }
-        requires ends { time <ℤ (self.now.start +ℤ pos (nanoseconds self.now.height)) }
+        requires ends { time <ℤ (self.now.start +ℤ pos (span_ns self.now.height)) }
         ensures place { result < 64 }
         ensures begins { (slot_of self.now result).start ≤ℤ time }
-        ensures ends { time <ℤ ((slot_of self.now result).start +ℤ pos (nanoseconds (self.now.height - 1))) }
+        ensures ends { time <ℤ ((slot_of self.now result).start +ℤ pos (span_ns (self.now.height - 1))) }
     {
         let offset = time.abs_diff(self.start);
         (offset / width(self.height - 1)) as u8
     }
 
-    /// The places of the first and of the last of the 64 slots that have times from one up to, and without, another.
-    /// Some times of the span have to be among them.
+    /// The indices of the first and of the last of the 64 slots that have times from one up to, and without, another. Some of
+    /// those times lie in the span, the caller's condition.
     pub fn slots_between(&self, from: i64, to: i64) -> (u8, u8)
         requires height { 1 ≤ self.now.height }
         requires some { from <ℤ to }
-        requires begins { from <ℤ (self.now.start +ℤ pos (nanoseconds self.now.height)) }
+        requires begins { from <ℤ (self.now.start +ℤ pos (span_ns self.now.height)) }
         requires ends { self.now.start <ℤ to }
         ensures order { result.0 ≤ result.1 }
         ensures place { result.1 < 64 }
-        ensures before { (i : ℕ) → i < result.0 → ((slot_of self.now i).start +ℤ pos (nanoseconds (self.now.height - 1))) ≤ℤ from }
-        ensures first { from <ℤ ((slot_of self.now result.0).start +ℤ pos (nanoseconds (self.now.height - 1))) }
+        ensures before { (i : ℕ) → i < result.0 → ((slot_of self.now i).start +ℤ pos (span_ns (self.now.height - 1))) ≤ℤ from }
+        ensures first { from <ℤ ((slot_of self.now result.0).start +ℤ pos (span_ns (self.now.height - 1))) }
         ensures last { (slot_of self.now result.1).start <ℤ to }
         ensures behind { (i : ℕ) → result.1 < i → i < 64 → to ≤ℤ (slot_of self.now i).start }
     {
         (self.first_slot(from), self.last_slot(to))
     }
 
-    /// The place of the first slot that ends behind the time.
+    /// The index of the first slot that ends after the time.
     fn first_slot(&self, from: i64) -> u8
         requires height { 1 ≤ self.now.height }
-        requires begins { from <ℤ (self.now.start +ℤ pos (nanoseconds self.now.height)) }
+        requires begins { from <ℤ (self.now.start +ℤ pos (span_ns self.now.height)) }
         ensures place { result < 64 }
-        ensures before { (i : ℕ) → i < result → ((slot_of self.now i).start +ℤ pos (nanoseconds (self.now.height - 1))) ≤ℤ from }
-        ensures first { from <ℤ ((slot_of self.now result).start +ℤ pos (nanoseconds (self.now.height - 1))) }
+        ensures before { (i : ℕ) → i < result → ((slot_of self.now i).start +ℤ pos (span_ns (self.now.height - 1))) ≤ℤ from }
+        ensures first { from <ℤ ((slot_of self.now result).start +ℤ pos (span_ns (self.now.height - 1))) }
     {
         if from <= self.start {
             return 0;
@@ -113,7 +113,7 @@ impl Span {
         self.slot_at(from)
     }
 
-    /// The place of the last slot that begins before the time.
+    /// The index of the last slot that begins before the time.
     fn last_slot(&self, to: i64) -> u8
         requires height { 1 ≤ self.now.height }
         requires ends { self.now.start <ℤ to }
@@ -128,10 +128,10 @@ impl Span {
     }
 }
 
-/// How many nanoseconds a span of this height covers.
+/// The width of a span of this height, in nanoseconds.
 fn width(height: u8) -> u64
     requires { height ≤ 10 }
-    ensures { result ≡ nanoseconds height }
+    ensures { result ≡ span_ns height }
 {
     1 << (6 * u32::from(height) + 2)
 }

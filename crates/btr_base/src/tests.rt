@@ -1,8 +1,10 @@
 use crate::agg::Agg;
 use crate::bag::Bag;
 use crate::cell::Cell;
+use crate::grid::{Grid, slot_around};
+use crate::laws::limits_are_these;
 use crate::limits::{END, FIRST};
-use crate::point::Point;
+use crate::point::{Point, are_in_domain};
 use crate::range::Range;
 use crate::ranges::Ranges;
 use crate::span::Span;
@@ -245,15 +247,9 @@ fn points_of_both(rt: HostRuntime) -> Result<(), Fail> {
 }
 
 #[test]
-fn aggregates_of_values(rt: HostRuntime) {
-    assert_eq!(rt;
-        Agg::none(),
-        Agg {
-            count: 0,
-            sum: 0,
-            ends: None
-        }
-    );
+fn aggregates_of_values(rt: HostRuntime) -> Result<(), Fail> {
+    let alloc = rt.alloc();
+    assert_eq!(rt; Agg::of_points(&[]), Agg::none());
     for (values, sum, ends) in [
         ([5, 7, -2].as_slice(), 10, (-2, 7)),
         ([4].as_slice(), 4, (4, 4)),
@@ -264,16 +260,74 @@ fn aggregates_of_values(rt: HostRuntime) {
         ),
         ([i64::MIN, i64::MAX, 0].as_slice(), -1, (i64::MIN, i64::MAX)),
     ] {
-        let mut all = Agg::none();
+        let mut points = Vec::new(alloc);
         for value in values {
-            if all.count < 9 {
-                all = all.join(&Agg::of(*value));
-            }
+            points.push(Point {
+                time: 0,
+                value: *value,
+            })?;
         }
-        let cell = Cell { start: 0, agg: all };
-        assert_eq!(rt; cell.agg.count, values.len() as u64, "{values:?}");
-        assert_eq!(rt; cell.agg.sum, sum, "{values:?}");
-        assert_eq!(rt; cell.agg.ends, Some(ends), "{values:?}");
+        let agg = Agg::of_points(&points);
+        let count = values.len() as u64;
+        let want = Agg {
+            count,
+            sum,
+            ends: Some(ends),
+        };
+        assert_eq!(rt; agg, want, "{values:?}");
+    }
+    let both = Cell {
+        start: 0,
+        agg: Agg::of(5).join(&Agg::of(-2)),
+    };
+    assert_eq!(rt;
+        (both.agg.count, both.agg.sum, both.agg.ends),
+        (2, 3, Some((-2, 5)))
+    );
+    Ok(())
+}
+
+#[test]
+fn times_of_the_domain(rt: HostRuntime) {
+    for (time, want) in [
+        (i64::MIN, false),
+        (FIRST - 1, false),
+        (FIRST, true),
+        (0, true),
+        (END - 1, true),
+        (END, false),
+    ] {
+        let point = Point { time, value: 0 };
+        assert_eq!(rt; point.is_in_domain(), want, "{time}");
+        let inside = Point { time: 0, value: 0 };
+        assert_eq!(rt; are_in_domain(&[inside, point]), want, "{time}");
+    }
+    limits_are_these();
+}
+
+#[test]
+fn windows_and_slots_of_times(rt: HostRuntime) {
+    let grid = Grid { first: 5, width: 3 };
+    for (time, number, begin) in [(5, 0, 5), (7, 0, 5), (8, 1, 8), (20, 5, 20), (22, 5, 20)] {
+        assert_eq!(rt; grid.number_of(time), number, "{time}");
+        assert_eq!(rt; grid.begin_of(time), begin, "{time}");
+    }
+    assert_eq!(rt; (grid.start_of(2), grid.end_of(2)), (11, 14));
+    assert_eq!(rt;
+        Grid::aligned(3),
+        Grid {
+            first: FIRST,
+            width: 8
+        }
+    );
+    for (time, p, from, to) in [
+        (7, 2, 4, 8),
+        (-1, 3, -8, 0),
+        (5, 0, 5, 6),
+        (0, 62, FIRST, END),
+    ] {
+        let slot = slot_around(time, p);
+        assert_eq!(rt; (slot.from, slot.to), (from, to), "{time}");
     }
 }
 

@@ -1,7 +1,7 @@
-/// In which direction a point is sought.
+/// The direction in which the nearest point is sought.
 #[derive(Clone, Copy, Debug, PartialEq, Eq)]
 pub enum Toward {
-    /// The first point at or behind a time.
+    /// The first point at or after a time.
     Forward,
 
     /// The last point before a time.

@@ -1,4 +1,4 @@
--- Lemmas on the bounds of the windows that a range asks.
+-- Lemmas on the bounds of a range and of the windows in it.
 use Rattle.std.specs.Prelude.{◌≡◌, ℕ, ◌≤◌, ℤ, pos, ◌-ℤ◌, ◌≤ℤ◌, ◌<ℤ◌, unsigned_abs, true, List}
 use Rattle.std.proofs.Common.{ap, ◌∙◌, arith, SFits, w64, to_z, of_z}
 use Rattle.std.proofs.lemmas.Bool.Decides.{nat_tests}
@@ -10,9 +10,9 @@ use Rattle.btr_base.specs.Bag.{within}
 use Rattle.btr_base.specs.Windows.{IsGrid, begin_of}
 use Rattle.btr_hist.specs.Answer.{is_range, is_power, is_width}
 
--- ---- what the tests say
+-- ---- the tests as facts
 
--- the bounds of a range
+-- The bounds of a range.
 pub record AreBounds (from to : ℤ) : Type 0 where
   pub begins : FIRST ≤ℤ from
   pub not_empty : from <ℤ to
@@ -30,7 +30,7 @@ width-grid from w h low = record { begins = low; some = grind (arith, nat_tests)
 
 -- ---- windows that lie in a range
 
--- the last window of a width that ends at or before a time
+-- The last window of a width that ends at or before a time.
 pub whole-ends : (from to : ℤ) (w : ℕ) → AreBounds from to → begin_of from w to ≤ℤ END
 whole-ends from to w h =
     let o = unsigned_abs (to -ℤ from) in
@@ -44,12 +44,12 @@ whole-ends from to w h =
 pub as_word : (t : ℤ) → FIRST ≤ℤ t → t ≤ℤ END → to_z w64 (of_z w64 t) ≡ t
 as_word t low high = to_z-of_z w64 t (omega (arith, ints))
 
--- the points between two times
+-- The points between two times.
 pub within_as_words : (from to : ℤ) → SFits w64 from → SFits w64 to → (ps all : List Point) → ps ≡ within (to_z w64 (of_z w64 from)) (to_z w64 (of_z w64 to)) all → ps ≡ within from to all
 within_as_words from to h k ps all e =
     e ∙ ap (λ z. within z (to_z w64 (of_z w64 to)) all) (to_z-of_z w64 from h) ∙ ap (λ z. within from z all) (to_z-of_z w64 to k)
 
--- the time before one of the domain
+-- The time before one of the domain.
 pub before_as_word : (t u : ℤ) → FIRST <ℤ t → t ≤ℤ END → u ≡ t → to_z w64 (of_z w64 (u -ℤ pos 1)) ≡ t -ℤ pos 1
 before_as_word t u low high same =
     ap (λ z. to_z w64 (of_z w64 (z -ℤ pos 1))) same ∙ to_z-of_z w64 (t -ℤ pos 1) (omega (arith, ints))

@@ -1,4 +1,4 @@
--- In a list in order the points of one bottom span are neighbours.
+-- Lemmas on bottom spans in a list in order, in which the points of one span are neighbours.
 use Rattle.std.specs.Prelude.{◌≡◌, ℕ, ℤ, pos, ◌+◌, ◌+ℤ◌, ◌≤◌, ◌<◌, ◌≤ℤ◌, ◌<ℤ◌, nat_lt, int_lt, Bool, true, false, List, [], ◌∷◌, ◌++◌, length, drop, take, get_or, cond, Option, Some, None, IsTrue}
 use Rattle.std.specs.List.{find, AllByRecursion}
 use Rattle.std.specs.Option.{option_map, option_or}
@@ -21,7 +21,7 @@ use Rattle.btr_base.proofs.PointLemmas.{is_not_after-times, drop-in_order, times
 use Rattle.btr_base.proofs.SpanLemmas.{width-bottom}
 use Rattle.btr_base.proofs.WithinLemmas.{within-append, within-behind}
 
--- the first time after the bottom span of a time
+-- The first time after the bottom span of a time.
 abbrev end_of : ℤ → ℤ
 end_of t = bottom_start t +ℤ pos (width 0)
 
@@ -30,7 +30,7 @@ end-is t = ap (λ (w : ℕ). bottom_start t +ℤ pos w) width-bottom
 
 -- ---- how many points of a list in order lie in a bottom span
 
--- a later time lies in the bottom span exactly if its bottom span is the same
+-- A later time lies in the bottom span of a time exactly if its bottom span is the same.
 same-bottom : (t u : ℤ) → t ≤ℤ u → int_eq (bottom_start t) (bottom_start u) ≡ int_lt u (end_of t)
 same-bottom t u h =
     let s = bottom_start t in
@@ -49,13 +49,13 @@ same-bottom t u h =
 next-less : (n m : ℕ) → nat_lt (suc n) (suc m) ≡ nat_lt n m
 next-less n m = grind (arith, nat_tests)
 
--- no point of a list in order lies in a span that ends by the first of them
+-- No point of a list in order lies in a span that ends by the first of them.
 within-late : (s e : ℤ) (p : Point) (c : List Point) → IsInOrder (p ∷ c) → int_lt p.time e ≡ false → within s e (p ∷ c) ≡ []
 within-late s e p c order k =
     let late : e ≤ℤ p.time = grind (arith, ints) in
     within-behind s e (p ∷ c) (late, each-weaker (λ q. IsTrue (is_not_after p q)) (λ q. e ≤ℤ q.time) (λ q j. let next = is_not_after-times p q j in omega (arith, ints)) c order.0)
 
--- in a list in order the point of an index lies before a time exactly if more points than that do
+-- In a list in order the n-th point, from 0, lies before a time exactly if more than n points do.
 crowd-count : (n : ℕ) (c : List Point) (d : Point) (s e : ℤ) → AllByRecursion (λ q. s ≤ℤ q.time) c → IsInOrder c → n < length c → int_lt (get_or c n d).time e ≡ nat_lt n (length (within s e c))
 crowd-count n [] d s e low order inside = absurd (omega arith)
 crowd-count zero (p ∷ c) d s e low order inside =
@@ -101,14 +101,14 @@ module _ (b : List Point) (i : ℕ) (d : Point) (order : IsInOrder b) (low : i <
       let begins = (bottom-around point.time).0 in
       subst (AllByRecursion (λ q. start ≤ℤ q.time)) (sym split) (begins, each-weaker (λ q. IsTrue (is_not_after point q)) (λ q. start ≤ℤ q.time) (λ q k. let next = is_not_after-times point q k in omega (arith, ints)) (drop (i + 1) b) rest-in_order.0)
 
-  -- the test of the point that is n places further on
+  -- The program's test, if there are enough points.
   pub crowd-at : i + LEAF_POINTS < length b → int_eq start (bottom_start (get_or b (i + LEAF_POINTS) d).time) ≡ is_crowded (drop i b) start
   crowd-at more =
       same-bottom point.time (get_or b (i + LEAF_POINTS) d).time (times-rise b i (i + LEAF_POINTS) d order (omega arith) more)
       ∙ ap (λ (q : Point). int_lt q.time (end_of point.time)) (sym (get_or-drop i b LEAF_POINTS d))
       ∙ crowd-count LEAF_POINTS (drop i b) d start (end_of point.time) rest-from (drop-in_order i b order) (omega (arith, length-drop i b))
 
-  -- or there are too few points
+  -- There are too few points.
   pub crowd-few : length b ≤ i + LEAF_POINTS → is_crowded (drop i b) start ≡ false
   crowd-few few =
       let fewer = length-filter (is_within start (end_of point.time)) (drop i b) in
@@ -119,7 +119,7 @@ module _ (b : List Point) (i : ℕ) (d : Point) (order : IsInOrder b) (low : i <
 abbrev test : List Point → Point → Bool
 test b p = is_crowded b (bottom_start p.time)
 
--- a bottom span that has one of the points before is not crowded if none of those is
+-- If no span of the points before is crowded, no span that contains one of them is.
 passed : (b pre : List Point) (t : ℤ) → find (test b) pre ≡ None → 0 < length (within (bottom_start t) (end_of t) pre) → is_crowded b (bottom_start t) ≡ false
 passed b [] t none some = absurd (omega arith)
 passed b (q ∷ pre) t none some =
@@ -151,7 +151,7 @@ both-parts b i s e =
     ∙ ap (length {A = Point}) (within-append s e (take i b) (drop i b))
     ∙ length-append (within s e (take i b)) (within s e (drop i b))
 
--- none so far, and this one is crowded from here on: it is the first
+-- No point so far is crowded, and this one is from here on: it is the first.
 pub crowded-found : (b : List Point) (i : ℕ) (d : Point) → i < length b → find (test b) (take i b) ≡ None → is_crowded (drop i b) (bottom_start (get_or b i d).time) ≡ true → crowded b ≡ Some (bottom_start (get_or b i d).time)
 crowded-found b i d low none here =
     let p = get_or b i d in
@@ -165,7 +165,7 @@ crowded-found b i d low none here =
     ap (find (test b)) (sym (take-append-drop i b)) ∙ find-append (test b) (take i b) (drop i b) ∙ ap {A = Option Point} {B = Option Point} (λ o. option_or o (find (test b) (drop i b))) none ∙ found in
     ap (option_map (λ (q : Point). bottom_start q.time)) all
 
--- none so far, and this one is not crowded from here on: none up to it
+-- No point so far is crowded, and this one is not from here on: none up to it is.
 pub crowded-passed : (b : List Point) (i : ℕ) (d : Point) → i < length b → find (test b) (take i b) ≡ None → is_crowded (drop i b) (bottom_start (get_or b i d).time) ≡ false → find (test b) (take (i + 1) b) ≡ None
 crowded-passed b i d low none here =
     let p = get_or b i d in

@@ -30,7 +30,7 @@ pointwise-is (p ∷ a) (q ∷ b) = ap (λ t. same_point p q && t) (pointwise-is 
 one-time : (t u : ℤ) → (int_le t u && int_lt u (t +ℤ pos 1)) ≡ int_eq u t
 one-time t u = grind (arith, ints)
 
--- the points from a time up to the next one are those of that time
+-- The points from a time up to the next one are those of that time.
 pub points-time : (t n : ℤ) (b : List Point) → n ≡ t +ℤ pos 1 → within t n b ≡ points_at t b
 points-time t n b is =
     ap (λ z. within t z b) is ∙ filter-same (is_within t (t +ℤ pos 1)) (λ p. int_eq p.time t) b (λ p. one-time t p.time)
@@ -44,7 +44,7 @@ differ-is t r a b x y is left right =
 
 -- ---- the slots of the points that were passed
 
--- the slot of one of the points at whose times the two lists differ has the time
+-- The time lies in the slot of one of the points at whose times the two lists differ.
 abbrev pub hits : ℕ → List Point → List Point → ℤ → List Point → Bool
 hits p a b t ps = list_any (λ q. contains (slot_around p q.time) t) (filter (λ q. differ_at a b q.time) ps)
 
@@ -63,7 +63,7 @@ hits-one p a b t q h =
 hits-none : (p : ℕ) (a b : List Point) (t : ℤ) (q : Point) → differ_at a b q.time ≡ false → hits p a b t (q ∷ []) ≡ false
 hits-none p a b t q h = ap (λ s. list_any (λ (r : Point). contains (slot_around p r.time) t) (cond s (q ∷ []) [])) h
 
--- a point at whose time the two differ
+-- A point at whose time the two differ.
 pub hits-more : (p : ℕ) (a b : List Point) (t : ℤ) (ps : List Point) (i : ℕ) (d : Point) (was now : Bool) → i < length ps → differ_at a b (get_or ps i d).time ≡ true → was ≡ hits p a b t (take i ps) → now ≡ (contains (slot_around p (get_or ps i d).time) t || was) → now ≡ hits p a b t (take (i + 1) ps)
 hits-more p a b t ps i d was now low differ so_far more =
     let q = get_or ps i d in
@@ -73,7 +73,7 @@ hits-more p a b t ps i d was now low differ so_far more =
     ∙ sym (hits-push p a b t (take i ps) q)
     ∙ sym (ap (hits p a b t) (take_more ps i d low))
 
--- another one
+-- Another point.
 pub hits-same : (p : ℕ) (a b : List Point) (t : ℤ) (ps : List Point) (i : ℕ) (d : Point) (was now : Bool) → i < length ps → differ_at a b (get_or ps i d).time ≡ false → was ≡ hits p a b t (take i ps) → now ≡ was → now ≡ hits p a b t (take (i + 1) ps)
 hits-same p a b t ps i d was now low same so_far still =
     let q = get_or ps i d in
@@ -83,13 +83,13 @@ hits-same p a b t ps i d was now low same so_far still =
     ∙ sym (hits-push p a b t (take i ps) q)
     ∙ sym (ap (hits p a b t) (take_more ps i d low))
 
--- the points of both in the domain at whose times they differ are the changed ones
+-- The points of both in the domain at whose times they differ are the changed ones.
 changed-is : (a b : List Point) → filter (λ q. differ_at a b q.time) (within FIRST END (sort (a ++ b))) ≡ changed a b
 changed-is a b =
     filter-filter (λ q. differ_at a b q.time) (is_within FIRST END) (sort (a ++ b))
     ∙ filter-same (λ q. is_within FIRST END q && differ_at a b q.time) (λ q. differ_at a b q.time && is_within FIRST END q) (sort (a ++ b)) (λ q. and_comm (is_within FIRST END q) (differ_at a b q.time))
 
--- all points were passed
+-- The end of the walk.
 pub changes-found : (p : ℕ) (a b ps : List Point) (i : ℕ) (found : List RangeValue) → p ≤ 62 → IsCut found → ps ≡ within FIRST END (sort (a ++ b)) → length ps ≤ i → ((t : ℤ) → covered found t ≡ hits p a b t (take i ps)) → found ≡ changes p a b
 changes-found p a b ps i found low cut is done times =
     same_from-covered found (changes p a b) cut (changes-cut p a b low) (λ t.

@@ -24,7 +24,7 @@ commit-in_domain h stream c allowed =
     let last = when (nat_le MAX_VERSIONS (latest h stream)) VersionLimit ∷ points_rejection (next_bag h stream c) ∷ [] in
     change-in_domain c (first_none (change_rejection c) last (rest_none none (change_rejection c ∷ last) allowed))
 
--- the points that an entry adds lie in the domain
+-- The points that an entry adds lie in the domain.
 abbrev AddsInDomain : Entry → Type 0
 AddsInDomain (Create id) = Unit {0}
 AddsInDomain (Commit s cut added) = AllByRecursion (λ p. InDomain p.time) added

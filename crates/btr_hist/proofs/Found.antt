@@ -1,4 +1,4 @@
--- Lemmas on the answer at a version that is asked, where it is refused and where it is found.
+-- Lemmas on the answer at a version, if it is refused and if it is found.
 use Rattle.std.specs.Prelude.{◌≡◌, ℕ, ℤ, Bool, ◌&&◌, List, Ok, Err}
 use Rattle.std.proofs.Common.{sym, ap, ◌∙◌, SFits, w64, to_z, of_z}
 use Rattle.std.proofs.lemmas.Int.{to_z-of_z}
@@ -11,22 +11,22 @@ use Rattle.btr_hist.specs.History.{bag}
 use Rattle.btr_hist.specs.Answer.{answer_at, is_range}
 use Rattle.btr_hist.specs.Asked.{IsAsked}
 
--- the question is refused, where its other numbers are tested in another way
+-- The refusal of a question whose other numbers are tested in another way.
 pub refused : (h : List Entry) (stream version : ℕ) (good want : Bool) (rows : List Point → Rows) (r : Refusal) → good ≡ want → IsAsked h stream version good (Err r) → Refused r ≡ answer_at h stream version want rows
 refused h stream version good want rows r same asked =
     sym (asked rows) ∙ ap (λ t. answer_at h stream version t rows) same
 
--- the version is found, and so are the rows of its points
+-- The rows of a version that is found.
 pub found : (h : List Entry) (stream version : ℕ) (good want : Bool) (rows : List Point → Rows) (v : ℕ) (all : Rows) → good ≡ want → IsAsked h stream version good (Ok v) → all ≡ rows (bag h stream v) → Found v all ≡ answer_at h stream version want rows
 found h stream version good want rows v all same asked is =
     ap (Found v) is ∙ sym (asked.2 rows) ∙ ap (λ t. answer_at h stream version t rows) same
 
--- the test of a range, with its bounds as machine words
+-- The test of a range, with its bounds as machine words.
 pub range_as_words : (from to : ℤ) (t : Bool) → SFits w64 from → SFits w64 to → t ≡ is_range (to_z w64 (of_z w64 from)) (to_z w64 (of_z w64 to)) → t ≡ is_range from to
 range_as_words from to t h k e =
     e ∙ ap (λ z. is_range z (to_z w64 (of_z w64 to))) (to_z-of_z w64 from h) ∙ ap (is_range from) (to_z-of_z w64 to k)
 
--- that test with another one
+-- The test of a range and another test, with the bounds as machine words.
 pub tested_as_words : (from to : ℤ) (t other : Bool) → SFits w64 from → SFits w64 to → t ≡ (is_range (to_z w64 (of_z w64 from)) (to_z w64 (of_z w64 to)) && other) → t ≡ (is_range from to && other)
 tested_as_words from to t other h k e =
     e ∙ ap (λ z. is_range z (to_z w64 (of_z w64 to)) && other) (to_z-of_z w64 from h) ∙ ap (λ z. is_range from z && other) (to_z-of_z w64 to k)

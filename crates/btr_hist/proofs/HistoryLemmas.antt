@@ -1,4 +1,4 @@
--- Lemmas on histories that grow, and on what their versions hold.
+-- Lemmas on histories that grow, and on the points of their versions.
 use Rattle.std.specs.Prelude.{◌≡◌, ℕ, ◌+◌, ◌≤◌, ◌==◌, true, false, not, List, [], ◌∷◌, ◌++◌, length, take, cond, slice_get, Some, None}
 use Rattle.std.specs.List.{AllByRecursion}
 use Rattle.std.proofs.Common.{refl, sym, ap, ◌∙◌, arith, inl, inr, subst}
@@ -43,7 +43,7 @@ pub take_commits-append : (h more : List Entry) (stream version : ℕ) → versi
 take_commits-append h more stream version old =
     ap (λ (l : List Change). take version l) (commits-append h more stream) ∙ take-append-le version (commits h stream) (commits more stream) old
 
--- what a version holds stays
+-- The points of a version never change.
 pub bag-append : (h more : List Entry) (stream version : ℕ) → version ≤ latest h stream → bag (h ++ more) stream version ≡ bag h stream version
 bag-append h more stream version old = ap (replay []) (take_commits-append h more stream version old)
 
@@ -53,11 +53,11 @@ pub replay-append : (b : List Point) (cs ds : List Change) → replay b (cs ++ d
 replay-append b [] ds = refl
 replay-append b (c ∷ cs) ds = replay-append (after b c) cs ds
 
--- the latest version
+-- The latest version.
 pub bag-latest : (h : List Entry) (stream : ℕ) → bag h stream (latest h stream) ≡ replay [] (commits h stream)
 bag-latest h stream = ap (replay []) (take_all (latest h stream) (commits h stream) (omega arith))
 
--- each version is in order
+-- Each version is in order.
 pub replay-in_order : (b : List Point) (cs : List Change) → IsInOrder b → IsInOrder (replay b cs)
 replay-in_order b [] h = h
 replay-in_order b (c ∷ cs) h = replay-in_order (after b c) cs (sort-in_order (outside b c.cut ++ c.added))
@@ -71,12 +71,12 @@ pub each-after : (P : Point → Type 0) (b : List Point) (c : Change) → AllByR
 each-after P b c h k =
     each-sort P (outside b c.cut ++ c.added) (each-append P (outside b c.cut) c.added (each-filter P (λ p. not (covered c.cut p.time)) b h) k)
 
--- what holds of each point that a commit adds, holds of each point of each version
+-- What holds of each point that a commit adds holds of each point of each version.
 pub each-replay : (P : Point → Type 0) (b : List Point) (cs : List Change) → AllByRecursion P b → AllByRecursion (λ c. AllByRecursion P c.added) cs → AllByRecursion P (replay b cs)
 each-replay P b [] h k = h
 each-replay P b (c ∷ cs) h k = each-replay P (after b c) cs (each-after P b c h k.0) k.1
 
--- ---- how often a point stands in a version
+-- ---- how often a version contains a point
 
 pub copies-commit : (p : Point) (b : List Point) (c : Change) → copies p (after b c) ≡ cond (covered c.cut p.time) 0 (copies p b) + copies p c.added
 copies-commit p b c =
@@ -100,20 +100,20 @@ copies-replay p b (c ∷ cs) =
 pub legal-none : Legal []
 legal-none n e at = absurd (omega (arith, slice_get_within {A = Entry} [] n e at))
 
--- a prefix of a legal history is legal
+-- A prefix of a legal history is legal.
 pub legal-prefix : (h more : List Entry) → Legal (h ++ more) → Legal h
 legal-prefix h more legal n e at =
     let low = slice_get_within h n e at in
     let same : take n (h ++ more) ≡ take n h = take-append-le n h more (omega arith) in
     subst (λ l. rejection l e ≡ None) same (legal n e (get-append h more n e at))
 
--- the last entry of a legal history is allowed after the others
+-- The last entry of a legal history is allowed after the others.
 pub legal-last : (h : List Entry) (e : Entry) → Legal (h ++ e ∷ []) → rejection h e ≡ None
 legal-last h e legal =
     let same : take (length h) (h ++ e ∷ []) ≡ h = take-append-le (length h) h (e ∷ []) (omega arith) ∙ take_all (length h) h (omega arith) in
     subst (λ l. rejection l e ≡ None) same (legal (length h) e (get_last h e))
 
--- an entry that is allowed keeps a history legal
+-- A history stays legal with an entry that is allowed.
 pub legal-push : (h : List Entry) (e : Entry) → Legal h → rejection h e ≡ None → Legal (h ++ e ∷ [])
 legal-push h e legal allowed n f at =
     let within = slice_get_within (h ++ e ∷ []) n f at in

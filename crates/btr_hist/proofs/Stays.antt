@@ -1,4 +1,4 @@
--- What is answered of versions that are there is answered for good.
+-- The answer about versions that exist never changes.
 use Rattle.std.specs.Prelude.{◌≡◌, ℕ, ◌+◌, ◌≤◌, ◌<◌, nat_lt, nat_le, max, true, ◌&&◌, Bool, List, ◌++◌, length, cond}
 use Rattle.std.proofs.Common.{sym, ap, ◌∙◌, arith}
 use Rattle.std.proofs.lemmas.Bool.{lt-leb, le-ltb}
@@ -25,7 +25,7 @@ use Rattle.btr_hist.specs.Answer.{answer, answer_at, version_of, is_range, is_po
 use Rattle.btr_hist.specs.Laws.{IsThere, IsSettled}
 use Rattle.btr_hist.proofs.HistoryLemmas.{ids-append, latest-append, bag-append}
 
--- what is answered of a version that is there
+-- The answer about a version that exists.
 pub answer_at-there : (h : List Entry) (stream version : ℕ) (good : Bool) (rows : List Point → Rows) → stream < length (ids h) → version ≤ latest h stream → answer_at h stream version good rows ≡ cond good (Found version (rows (bag h stream version))) (Refused BadRange)
 answer_at-there h stream version good rows known old =
     let found : Answer = cond good (Found version (rows (bag h stream version))) (Refused BadRange) in

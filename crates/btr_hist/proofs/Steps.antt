@@ -1,4 +1,4 @@
--- One step of a walk over the entries of a history.
+-- Lemmas on one step of a walk over the entries of a history.
 use Rattle.std.specs.Prelude.{◌≡◌, ℕ, ◌+◌, ◌≤◌, ◌<◌, nat_eq, Bool, true, false, ◌||◌, not, Option, Some, List, ◌∷◌, length, take, drop, get_or, cond}
 use Rattle.std.specs.List.{list_any, position_from}
 use Rattle.std.proofs.Common.{suc, sym, ap, ◌∙◌, arith}
@@ -13,7 +13,7 @@ use Rattle.btr_base.specs.Commit.{Change, after}
 use Rattle.btr_hist.specs.History.{ids, replay, commits}
 use Rattle.btr_hist.specs.Legal.{first_out_of_domain}
 
--- the element at a place, and those after it
+-- The element at an index, and those after it.
 pub drop_step : {X : Type 0} (xs : List X) (i : ℕ) (x y : X) → i < length xs → x ≡ get_or xs i x → x ≡ y → drop i xs ≡ y ∷ drop (i + 1) xs
 drop_step {X} xs i x y low at is = drop_more xs i x low ∙ ap (λ (z : X). z ∷ drop (i + 1) xs) (sym at ∙ is)
 
@@ -39,28 +39,28 @@ module _ (h : List Entry) (i : ℕ) (e : Entry) (low : i < length h) (at : e ≡
       let rest = commits (drop (i + 1) h) stream in
       ap (λ (l : List Entry). commits l stream) (drop_step h i e (Commit s cut added) low at is) ∙ ap (λ t. cond t (c ∷ rest) rest) (ne_eqb s stream other)
 
--- a test of the first of a list
+-- A test of the first of a list.
 pub any-first : (x y : ℕ) (xs : List ℕ) → y ≡ x → list_any (nat_eq x) (y ∷ xs) ≡ true
 any-first x y xs same = ap (λ t. t || list_any (nat_eq x) xs) (eq-eqb x y (sym same))
 
 pub any-rest : (x y : ℕ) (xs : List ℕ) → (y ≡ x → ⊥) → list_any (nat_eq x) (y ∷ xs) ≡ list_any (nat_eq x) xs
 any-rest x y xs other = ap (λ t. t || list_any (nat_eq x) xs) (ne_eqb x y (λ e. other (sym e)))
 
--- the place of the first of a list that is this one
+-- The index of the first of a list that equals this one.
 pub position-first : (x y i : ℕ) (xs : List ℕ) → y ≡ x → position_from (nat_eq x) i (y ∷ xs) ≡ Some i
 position-first x y i xs same = ap {A = Bool} {B = Option ℕ} (λ t. cond t (Some i) (position_from (nat_eq x) (i + 1) xs)) (eq-eqb x y (sym same))
 
 pub position-rest : (x y i : ℕ) (xs : List ℕ) → (y ≡ x → ⊥) → position_from (nat_eq x) i (y ∷ xs) ≡ position_from (nat_eq x) (i + 1) xs
 position-rest x y i xs other = ap {A = Bool} {B = Option ℕ} (λ t. cond t (Some i) (position_from (nat_eq x) (i + 1) xs)) (ne_eqb x y (λ e. other (sym e)))
 
--- a point outside the domain, or inside it, as the first of a list
+-- A point outside the domain, or inside it, as the first of a list.
 pub out_of_domain-first : (p : Point) (b : List Point) → in_domain p.time ≡ false → first_out_of_domain (p ∷ b) ≡ Some p
 out_of_domain-first p b out = ap {A = Bool} {B = Option Point} (λ t. cond (not t) (Some p) (first_out_of_domain b)) out
 
 pub out_of_domain-rest : (p : Point) (b : List Point) → in_domain p.time ≡ true → first_out_of_domain (p ∷ b) ≡ first_out_of_domain b
 out_of_domain-rest p b inside = ap {A = Bool} {B = Option Point} (λ t. cond (not t) (Some p) (first_out_of_domain b)) inside
 
--- ---- a walk that applies so many commits
+-- ---- a walk that applies the first commits
 
 pub walk-commit : (b b' goal : List Point) (c : Change) (cs rest : List Change) (left next : ℕ) → cs ≡ c ∷ rest → replay b (take left cs) ≡ goal → b' ≡ after b c → left ≡ suc next → replay b' (take next rest) ≡ goal
 walk-commit b b' goal c cs rest left next is so_far made one =

@@ -1,4 +1,4 @@
--- Lemmas on windows that are found one after the other, each once.
+-- Lemmas on a walk over points that finds each of their windows once.
 use Rattle.std.specs.Prelude.{◌≡◌, ℕ, ◌+◌, ◌<◌, ◌≤◌, nat_eq, ℤ, ◌≤ℤ◌, Bool, true, false, not, List, [], ◌∷◌, ◌++◌, length, map, drop, get_or, cond, Option, Some, None}
 use Rattle.std.specs.Option.{option_eq}
 use Rattle.std.proofs.Common.{refl, sym, ap, ◌∙◌, arith, append_assoc}
@@ -16,7 +16,7 @@ use Rattle.btr_base.specs.Windows.{IsGrid, IsWindow, dedup, window_of}
 
 -- ---- numbers, each once
 
--- those of the numbers behind the last one that differ from the one before
+-- Of the numbers after the last one, those that differ from the one before.
 abbrev pub dedup_after : Option ℕ → List ℕ → List ℕ
 dedup_after last [] = []
 dedup_after None (l ∷ ls) = l ∷ dedup_after (Some l) ls
@@ -57,7 +57,7 @@ seen (Some j) k ks h =
 
 -- ---- a walk over points
 
--- a point in another window than the one before
+-- A point in another window than the one before.
 pub walk-fresh : {C : Type 0} (f : ℕ → C) (num : Point → ℕ) (ps : List Point) (i : ℕ) (d : Point) (k : ℕ) (last next : Option ℕ) (done new goal : List C) → i < length ps → k ≡ num (get_or ps i d) → not (option_eq nat_eq last (Some k)) ≡ true → next ≡ Some k → new ≡ done ++ f k ∷ [] → done ++ map f (dedup_after last (map num (drop i ps))) ≡ goal → new ++ map f (dedup_after next (map num (drop (i + 1) ps))) ≡ goal
 walk-fresh f num ps i d k last next done new goal low at other is more so_far =
     let rest = map num (drop (i + 1) ps) in
@@ -69,7 +69,7 @@ walk-fresh f num ps i d k last next done new goal low at other is more so_far =
     ∙ ap (λ ks. done ++ map f ks) (sym step)
     ∙ so_far
 
--- a point in the same window as the one before
+-- A point in the same window as the one before.
 pub walk-seen : {C : Type 0} (f : ℕ → C) (num : Point → ℕ) (ps : List Point) (i : ℕ) (d : Point) (k : ℕ) (last next : Option ℕ) (done new goal : List C) → i < length ps → k ≡ num (get_or ps i d) → not (option_eq nat_eq last (Some k)) ≡ false → next ≡ last → new ≡ done → done ++ map f (dedup_after last (map num (drop i ps))) ≡ goal → new ++ map f (dedup_after next (map num (drop (i + 1) ps))) ≡ goal
 walk-seen f num ps i d k last next done new goal low at other is more so_far =
     let rest = map num (drop (i + 1) ps) in
@@ -78,18 +78,18 @@ walk-seen f num ps i d k last next done new goal low at other is more so_far =
     ap (dedup_after last) split ∙ seen last k rest other ∙ ap (λ o. dedup_after o rest) (sym is) in
     ap (λ cs. cs ++ map f (dedup_after next rest)) more ∙ ap (λ ks. done ++ map f ks) (sym step) ∙ so_far
 
--- all points are passed
+-- The end of the walk.
 pub walk-done : {C : Type 0} (f : ℕ → C) (num : Point → ℕ) (ps : List Point) (i : ℕ) (last : Option ℕ) (done goal : List C) → length ps ≤ i → done ++ map f (dedup_after last (map num (drop i ps))) ≡ goal → done ≡ goal
 walk-done f num ps i last done goal high so_far =
     let none : map f (dedup_after last (map num (drop i ps))) ≡ [] = ap (λ qs. map f (dedup_after last (map num qs))) (drop_all i ps high) in
     sym (append-nil done) ∙ ap (λ cs. done ++ cs) (sym none) ∙ so_far
 
--- ---- windows that times lie in
+-- ---- windows of times
 
 inside : (from to : ℤ) (p : Point) → is_within from to p ≡ true → (from ≤ℤ p.time) × (p.time ≤ℤ to)
 inside from to p h = (grind (arith, ints), grind (arith, ints))
 
--- a point between two times of the domain
+-- The window of a point between two times of the domain.
 pub window-within : (first from to : ℤ) (width : ℕ) (ps : List Point) (i : ℕ) (d : Point) → IsGrid first width → first ≤ℤ from → to ≤ℤ END → i < length (within from to ps) → IsWindow first width (window_of first width (get_or (within from to ps) i d).time)
 window-within first from to width ps i d are low high at =
     let each = each-weaker (λ p. is_within from to p ≡ true) (λ p. (from ≤ℤ p.time) × (p.time ≤ℤ to)) (inside from to) (within from to ps) (filter-passes (is_within from to) ps) in

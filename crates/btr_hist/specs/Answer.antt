@@ -1,5 +1,6 @@
--- What a question about a history answers.
-use Rattle.std.specs.Prelude.{ℕ, ◌+◌, ℤ, Bool, true, ◌&&◌, nat_lt, nat_le, max, int_le, int_lt, List, [], ◌∷◌, length, if◌then◌else◌, Option, Some, None}
+-- The answer to a question about a history.
+use Rattle.std.specs.Prelude.{ℕ, ◌+◌, ℤ, Bool, true, ◌&&◌, nat_lt, nat_le, max, int_le, int_lt, List, [], ◌∷◌, length, if◌then◌else◌}
+use Rattle.std.specs.Prelude.{Option, Some, None}
 use Rattle.btr_base.specs.declared.point.Point.{Point}
 use Rattle.btr_base.specs.declared.limits.TheConstants.{FIRST, END, MAX_EXPONENT, MAX_WIDTH}
 use Rattle.btr_base.specs.Agg.{agg_within}
@@ -20,24 +21,24 @@ use Rattle.btr_hist.specs.declared.answer.Rows.TheVariants.{Points, Cells, Range
 use Rattle.btr_hist.specs.declared.answer.StreamRow.{StreamRow}
 use Rattle.btr_hist.specs.History.{ids, latest, bag}
 
--- the number of the version that is asked
+-- The number of the version that a question is about.
 abbrev pub version_of : List Entry → ℕ → At → ℕ
 version_of h stream (Number v) = v
 version_of h stream Latest = latest h stream
 
--- the bounds are those of a range: it is not empty, and lies in the domain
+-- The bounds are those of a range, which is not empty and lies in the domain.
 abbrev pub is_range : ℤ → ℤ → Bool
 is_range from to = int_le FIRST from && int_lt from to && int_le to END
 
--- windows and slots of `2^p` ns can be asked
+-- Windows and slots of `2^p` ns can be asked for.
 abbrev pub is_power : ℕ → Bool
 is_power p = nat_le p MAX_EXPONENT
 
--- windows of this width in nanoseconds can be asked
+-- Windows of this width, in nanoseconds, can be asked for.
 abbrev pub is_width : ℕ → Bool
 is_width width = nat_le 1 width && nat_le width MAX_WIDTH
 
--- what there is to say of the points of a version, where the stream has that version and the question is a good one
+-- The rows of the points of a version, if the stream has that version and the other numbers of the question are good.
 abbrev pub answer_at : List Entry → ℕ → ℕ → Bool → (List Point → Rows) → Answer
 answer_at h stream version good rows =
     if nat_le (length (ids h)) stream then Refused NoStream
@@ -45,17 +46,17 @@ answer_at h stream version good rows =
     else if good then Found version (rows (bag h stream version))
     else Refused BadRange
 
--- one point or none as a list
+-- One point or none as a list.
 abbrev pub list_of : Option Point → List Point
 list_of None = []
 list_of (Some p) = p ∷ []
 
--- the streams with these ids, numbered from one on, each with its latest version
+-- The streams with these ids, numbered from the given number on, each with its latest version.
 abbrev pub rows_from : List Entry → ℕ → List ℕ → List StreamRow
 rows_from h number [] = []
 rows_from h number (id ∷ rest) = record { id = id; latest = latest h number } ∷ rows_from h (number + 1) rest
 
--- the answer to a question
+-- The answer to a question.
 abbrev pub answer : List Entry → Query → Answer
 answer h (ask.Points stream from to at) =
     answer_at h stream (version_of h stream at) (is_range from to) (λ b. Points (within from to b))

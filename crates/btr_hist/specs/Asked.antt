@@ -8,9 +8,10 @@ use Rattle.btr_hist.specs.declared.answer.Rows.{Rows}
 use Rattle.btr_hist.specs.History.{bag}
 use Rattle.btr_hist.specs.Answer.{answer_at}
 
--- the version that is found is the one that is asked, and a refusal is what is answered, whatever is asked of its points
+-- An `Ok` is the version that was asked for, and its rows are the answer. An `Err` is the answer, whatever rows were asked for.
 abbrev pub IsAsked : List Entry → ℕ → ℕ → Bool → Result ℕ Refusal → Type 0
 IsAsked h stream version good (Ok v) =
-    (v ≡ version) × (good ≡ true) × ((rows : List Point → Rows) → answer_at h stream version good rows ≡ Found v (rows (bag h stream v)))
+    (v ≡ version) × (good ≡ true)
+    × ((rows : List Point → Rows) → answer_at h stream version good rows ≡ Found v (rows (bag h stream v)))
 IsAsked h stream version good (Err r) =
     (rows : List Point → Rows) → answer_at h stream version good rows ≡ Refused r

@@ -6,7 +6,7 @@ pub mod Legal
 pub mod Query
 pub mod Answer
 pub mod Machine
--- what holds of all histories
+-- the laws of all histories
 pub mod Laws
 -- what the private functions promise
 pub mod Asked

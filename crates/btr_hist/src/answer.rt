@@ -3,7 +3,7 @@ ghost use Rattle.std.specs.Prelude.{◌≡◌, List};
 use btr_base::{Agg, Cell, Point, Ranges};
 use std::marker::Model;
 
-/// Points as a list, as an answer has them.
+/// The points of an answer, as a list.
 #[derive(Debug, Drop)]
 pub struct PointList {
     points: Vec<Point>,
@@ -42,7 +42,7 @@ impl PointList {
     }
 }
 
-/// Windows of time as a list, as an answer has them.
+/// The windows of an answer, as a list.
 #[derive(Debug, Drop)]
 pub struct CellList {
     cells: Vec<Cell>,
@@ -73,7 +73,7 @@ impl CellList {
     }
 }
 
-/// A stream as a list of all streams has it.
+/// A stream in the list of all streams.
 #[derive(Clone, Copy, Debug, PartialEq, Eq)]
 pub struct StreamRow {
     pub id: u128,
@@ -82,7 +82,7 @@ pub struct StreamRow {
     pub latest: u64,
 }
 
-/// Streams as a list, as an answer has them.
+/// The streams of an answer, as a list.
 #[derive(Debug, Drop)]
 pub struct StreamList {
     rows: Vec<StreamRow>,
@@ -113,13 +113,13 @@ impl StreamList {
     }
 }
 
-/// What was found.
+/// The rows of an answer.
 #[derive(Debug, Drop)]
 pub enum Rows {
-    /// Points by time and value; at most one where the nearest was asked.
+    /// Points by time and value; at most one for the nearest point.
     Points(PointList),
 
-    /// Windows in order, each with a point.
+    /// Windows in order, each with at least one point.
     Cells(CellList),
 
     /// Changed ranges in order.
@@ -132,24 +132,24 @@ pub enum Rows {
     Streams(StreamList),
 }
 
-/// Why a question has no answer. Where several causes stand together the first in this order is told.
+/// The reason why a question has no answer. If there are several, the first in this order.
 #[derive(Clone, Copy, Debug, PartialEq, Eq)]
 pub enum Refusal {
     /// The number is not that of a stream.
     NoStream,
 
-    /// The stream has no such version yet. The one that was asked and the latest are told.
+    /// The stream has no such version yet: the version that was asked for, and the latest.
     NoVersion { asked: u64, latest: u64 },
 
-    /// The range is empty, or a bound lies outside the domain; or windows or slots of such a width cannot be asked; or the
-    /// first of two versions is behind the second.
+    /// The range is empty, or a bound lies outside the domain; or windows or slots of this width cannot be asked for; or the
+    /// first of two versions is later than the second.
     BadRange,
 }
 
 /// The answer to a question.
 #[derive(Debug, Drop)]
 pub enum Answer {
-    /// The version that was asked, the second of two, or the number of entries where streams were asked; and what was found.
+    /// The version that was asked for (the second of two; for all streams the number of entries), and the rows.
     Found { version: u64, rows: Rows },
 
     Refused(Refusal),

@@ -1,8 +1,10 @@
-//! What each question answers, by filters and folds over all entries.
+//! The answer to each question, by filters and folds over all entries.
 ghost use Rattle.std.specs.Prelude.{◌≡◌, Bool, List, [], ◌&&◌, nat_le, max, length, true, MatchResult, IfOk};
 ghost use Rattle.btr_base.specs.Bag.{IsInOrder, within};
 ghost use Rattle.btr_base.specs.Nearest.{nearest};
-ghost use Rattle.btr_hist.specs.declared.query.Query.TheVariants.{Points as AskPoints, Nearest as AskNearest, Aligned as AskAligned, Windows as AskWindows, Changes as AskChanges, Info as AskInfo, Streams as AskStreams};
+ghost use Rattle.btr_hist.specs.declared.query.Query.TheVariants.{Points as AskPoints, Nearest as AskNearest, Aligned as AskAligned};
+ghost use Rattle.btr_hist.specs.declared.query.Query.TheVariants.{Windows as AskWindows, Changes as AskChanges, Info as AskInfo};
+ghost use Rattle.btr_hist.specs.declared.query.Query.TheVariants.{Streams as AskStreams};
 ghost use Rattle.btr_hist.specs.History.{ids};
 ghost use Rattle.btr_hist.specs.Answer.{answer, version_of, is_range, is_power, is_width, rows_from, list_of};
 ghost use Rattle.btr_hist.specs.Asked.{IsAsked};
@@ -16,7 +18,7 @@ use crate::query::{At, Query};
 use btr_base::{Agg, END, FIRST, MAX_EXPONENT, MAX_WIDTH, Point, Toward, parted, points_between};
 use std::alloc::{AllocError, Global};
 
-/// The version that is asked, or why the question is refused. `good` says that the other numbers of the question are good.
+/// The version that is asked for, or the reason of a refusal. `good` says whether the other numbers of the question are good.
 fn version_asked(entries: &[Entry], stream: u32, at: At, good: bool) -> Result<u64, Refusal>
     ensures { IsAsked entries.now stream (version_of entries.now stream at) good result }
 {
@@ -41,7 +43,7 @@ fn version_asked(entries: &[Entry], stream: u32, at: At, good: bool) -> Result<u
     }
 }
 
-/// The answer to a question for points.
+/// The answer to a question for points. An `Err` means out of memory.
 pub(crate) fn points_answer(
     alloc: Global,
     entries: &[Entry],
@@ -64,7 +66,7 @@ pub(crate) fn points_answer(
     })
 }
 
-/// The answer to a question for the nearest point.
+/// The answer to a question for the nearest point. An `Err` means out of memory.
 pub(crate) fn nearest_answer(
     alloc: Global,
     entries: &[Entry],
@@ -87,7 +89,7 @@ pub(crate) fn nearest_answer(
     })
 }
 
-/// The answer to a question for aligned windows.
+/// The answer to a question for aligned windows. An `Err` means out of memory.
 pub(crate) fn aligned_answer(
     alloc: Global,
     entries: &[Entry],
@@ -111,7 +113,7 @@ pub(crate) fn aligned_answer(
     })
 }
 
-/// The answer to a question for windows of any width.
+/// The answer to a question for windows of any width. An `Err` means out of memory.
 pub(crate) fn windows_answer(
     alloc: Global,
     entries: &[Entry],
@@ -135,7 +137,7 @@ pub(crate) fn windows_answer(
     })
 }
 
-/// The answer to a question for the changes from one version to another.
+/// The answer to a question for the changes from one version to another. An `Err` means out of memory.
 pub(crate) fn changes_answer(
     alloc: Global,
     entries: &[Entry],
@@ -160,7 +162,7 @@ pub(crate) fn changes_answer(
     })
 }
 
-/// The answer to a question for a version as a whole.
+/// The answer to a question for a version as a whole. An `Err` means out of memory.
 pub(crate) fn info_answer(
     alloc: Global,
     entries: &[Entry],
@@ -181,7 +183,7 @@ pub(crate) fn info_answer(
     })
 }
 
-/// The answer to a question for all streams.
+/// The answer to a question for all streams. An `Err` means out of memory.
 pub(crate) fn streams_answer(alloc: Global, entries: &[Entry]) -> Result<Answer, AllocError>
     ensures { IfOk result (λ a. a ≡ answer entries.now AskStreams) }
 {
@@ -192,7 +194,7 @@ pub(crate) fn streams_answer(alloc: Global, entries: &[Entry]) -> Result<Answer,
     })
 }
 
-/// All streams, each with its latest version.
+/// All streams, each with its latest version. An `Err` means out of memory.
 fn stream_rows(alloc: Global, entries: &[Entry]) -> Result<Vec<StreamRow>, AllocError>
     ensures { IfOk result (λ v. v.items ≡ rows_from entries.now 0 (ids entries.now)) }
 {
@@ -210,7 +212,7 @@ fn stream_rows(alloc: Global, entries: &[Entry]) -> Result<Vec<StreamRow>, Alloc
     Ok(rows)
 }
 
-/// The point of a list in order that is nearest to a time.
+/// The point of a list in order that is nearest to a time, in nanoseconds.
 fn nearest_point(points: &[Point], time: i64, toward: Toward) -> Option<Point>
     requires { IsInOrder points.now }
     ensures { result ≡ nearest toward time points.now }
@@ -233,28 +235,28 @@ fn list_of(alloc: Global, point: Option<Point>) -> Result<Vec<Point>, AllocError
     Ok(points)
 }
 
-/// Whether the bounds are those of a range: it is not empty, and lies in the domain.
+/// Whether the bounds are those of a range, which is not empty and lies in the domain.
 fn is_range(from: i64, to: i64) -> bool
     ensures { result ≡ is_range from to }
 {
     FIRST <= from && from < to && to <= END
 }
 
-/// Whether aligned windows of `2^p` ns that meet the range can be asked.
+/// Whether aligned windows of `2^p` ns that meet the range can be asked for.
 fn can_align(from: i64, to: i64, p: u8) -> bool
     ensures { result ≡ (is_range from to && is_power p) }
 {
     is_range(from, to) && p <= MAX_EXPONENT
 }
 
-/// Whether windows of a width in nanoseconds in the range can be asked.
+/// Whether windows of this width in the range can be asked for, in nanoseconds.
 fn can_divide(from: i64, to: i64, width: u64) -> bool
     ensures { result ≡ (is_range from to && is_width width) }
 {
     is_range(from, to) && 1 <= width && width <= MAX_WIDTH
 }
 
-/// Whether the changes from one version to another in slots of `2^p` ns can be asked.
+/// Whether the changes from one version to another in slots of `2^p` ns can be asked for.
 fn can_compare(old: u64, new: u64, p: u8) -> bool
     ensures { result ≡ (nat_le old new && is_power p) }
 {

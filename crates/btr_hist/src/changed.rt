@@ -1,4 +1,4 @@
-//! What differs between two lists of points.
+//! The slots in which two lists of points differ.
 ghost use Rattle.std.specs.Prelude.{◌≡◌, ◌≤◌, IfOk};
 ghost use Rattle.btr_base.specs.Bag.{IsInOrder};
 ghost use Rattle.btr_base.specs.Changes.{differ_at, changes};
@@ -7,8 +7,8 @@ ghost use Rattle.btr_base.specs.Point.{InDomain};
 use btr_base::{END, FIRST, Point, Ranges, merged, points_between, slot_around};
 use std::alloc::{AllocError, Global};
 
-/// The longest runs of aligned slots of `2^p` ns in which two lists of points in order differ. It looks at both lists for each
-/// point.
+/// The longest runs of aligned slots of `2^p` ns in which two lists of points in order differ. It searches both lists for each
+/// point. An `Err` means out of memory.
 pub(crate) fn changed_ranges(
     alloc: Global,
     old: &[Point],
@@ -27,12 +27,12 @@ pub(crate) fn changed_ranges(
             found.add(slot_around(point.time, p))?;
         }
     }
-    // it shows that the ranges stand apart
+    // the proof reads here that the ranges are apart
     let _ = found.as_slice();
     Ok(found)
 }
 
-/// Whether two lists of points in order have other points at a time.
+/// Whether two lists of points in order have different points at a time, in nanoseconds.
 fn differ_at(a: &[Point], b: &[Point], time: i64) -> bool
     requires a_order { IsInOrder a.now }
     requires b_order { IsInOrder b.now }

@@ -1,14 +1,14 @@
 use btr_base::{Bag, Ranges};
 
-/// One entry of a history. A stream's number is its place among the streams, in order of creation, from 0.
+/// One entry of a history. A stream's number is its index among the streams in order of creation, from 0.
 #[derive(Debug, Drop)]
 pub enum Entry {
-    /// A new stream, known by its id from then on.
+    /// A new stream, with this id.
     Create {
         id: u128,
     },
 
-    /// One commit of a stream, which makes its next version: the points in the cut go, and then the added ones come.
+    /// A commit of a stream, which makes its next version: it removes the points in the cut, and then adds the added points.
     Commit {
         stream: u32,
         cut: Ranges,

@@ -1,10 +1,12 @@
-ghost use Rattle.std.specs.Prelude.{◌≡◌, ℕ, ◌≤◌, List, [], ◌∷◌, ◌++◌, length, nat_eq, max, IfOk, IfSome, IsNone, OnOk, OnErr, Option, Some, None};
+ghost use Rattle.std.specs.Prelude.{◌≡◌, ℕ, ◌≤◌, List, [], ◌∷◌, ◌++◌, length, nat_eq, max, IfOk, IfSome, IsNone, OnOk, OnErr, Option};
+ghost use Rattle.std.specs.Prelude.{Some, None};
 ghost use Rattle.std.specs.List.{list_any};
 ghost use Rattle.std.specs.Option.{option_map};
 ghost use Rattle.btr_base.specs.Bag.{IsInOrder};
 ghost use Rattle.btr_base.specs.Commit.{after};
 ghost use Rattle.btr_hist.specs.History.{ids, stream_of, latest, bag};
-ghost use Rattle.btr_hist.specs.Legal.{rejection, create_rejection, change_rejection, points_rejection, commit_rejection, first_out_of_domain};
+ghost use Rattle.btr_hist.specs.Legal.{rejection, create_rejection, change_rejection, points_rejection, commit_rejection};
+ghost use Rattle.btr_hist.specs.Legal.{first_out_of_domain};
 ghost use Rattle.btr_hist.specs.Answer.{answer};
 
 use crate::answer::Answer;
@@ -48,7 +50,8 @@ impl History {
         }
     }
 
-    /// Adds an entry, allowed or not: `rejection` says which it is. An `Err` changes nothing.
+    /// Adds an entry, which need not be allowed (see [`History::rejection`]). An `Err` means out of memory, and nothing is
+    /// changed.
     pub fn push(&mut self, entry: Entry) -> Result<(), AllocError>
         ensures ok { OnOk result (self.new ≡ self.old ++ entry ∷ []) }
         ensures err { OnErr result (self.new ≡ self.old) }
@@ -57,7 +60,7 @@ impl History {
         Ok(())
     }
 
-    /// Takes the last entry away again, if there is one, and gives it back. It takes no memory.
+    /// Removes the last entry, if there is one, and returns it. It takes no memory.
     pub fn pop(&mut self) -> Option<Entry>
         ensures last { IfSome result (λ e. self.old ≡ self.new ++ e ∷ []) }
         ensures none { IsNone result → (self.old ≡ []) × (self.new ≡ []) }
@@ -65,22 +68,22 @@ impl History {
         self.entries.pop()
     }
 
-    /// How many entries there are, in constant time. It takes no memory.
+    /// The number of entries, in constant time. It takes no memory.
     pub fn entries(&self) -> usize
         ensures { result ≡ length self.now }
     {
         self.entries.len()
     }
 
-    /// The number of the stream with this id, the first one in order of creation, if there is one. It goes through all
-    /// entries, and takes no memory.
+    /// The number of the first stream with this id in order of creation, if there is one. It goes through all entries, and takes
+    /// no memory.
     pub fn find(&self, id: u128) -> Option<usize>
         ensures { result ≡ stream_of self.now id }
     {
         stream_number(&self.entries, id)
     }
 
-    /// How many streams there are. It goes through all entries, and takes no memory.
+    /// The number of streams. It goes through all entries, and takes no memory.
     pub fn streams(&self) -> usize
         ensures { result ≡ length (ids self.now) }
     {
@@ -94,7 +97,8 @@ impl History {
         latest_of(&self.entries, stream as usize)
     }
 
-    /// The answer to a question, by filters and folds over all entries. It costs the whole history, each time.
+    /// The answer to a question, by filters and folds over all entries. It costs the whole history each time. An `Err` means
+    /// out of memory.
     pub fn answer(&self, alloc: Global, query: &Query) -> Result<Answer, AllocError>
         ensures { IfOk result (λ a. a ≡ answer self.now query.now) }
     {
@@ -137,7 +141,8 @@ impl History {
         }
     }
 
-    /// Why an entry may not follow, or `None` where it may. It costs the whole history, each time.
+    /// The reason why an entry may not follow, or `None` if it may. It costs the whole history each time. An `Err` means out of
+    /// memory.
     pub fn rejection(&self, alloc: Global, entry: &Entry) -> Result<Option<Rejection>, AllocError>
         ensures { IfOk result (λ r. r ≡ rejection self.now entry.now) }
     {
@@ -154,7 +159,7 @@ impl History {
     }
 }
 
-/// Why a stream with this id may not be created.
+/// The reason why a stream with this id may not be created, or `None`.
 fn creation(entries: &[Entry], id: u128) -> Option<Rejection>
     ensures { result ≡ create_rejection entries.now id }
 {
@@ -167,7 +172,7 @@ fn creation(entries: &[Entry], id: u128) -> Option<Rejection>
     None
 }
 
-/// Why a commit may not follow.
+/// The reason why a commit may not follow, or `None`. An `Err` means out of memory.
 fn commit(
     alloc: Global,
     entries: &[Entry],
@@ -192,8 +197,8 @@ fn commit(
     Ok(points_rejection(next.as_slice()))
 }
 
-/// Why a commit of these ranges and points may not be, whatever the stream holds, or `None`. It takes time linear in the
-/// number of points and no memory.
+/// The reason why a commit of these ranges and points is not allowed, whatever the stream holds, or `None`. It takes time linear
+/// in the number of points, and no memory.
 pub fn change_rejection(cut: &[Range], added: &[Point]) -> Option<Rejection>
     ensures { result ≡ change_rejection (record { cut = cut.now; added = added.now }) }
 {
@@ -211,7 +216,7 @@ pub fn change_rejection(cut: &[Range], added: &[Point]) -> Option<Rejection>
     None
 }
 
-/// Why a version may not hold these points, or `None`. It takes time linear in their number and no memory.
+/// The reason why a version may not hold these points, or `None`. It takes time linear in their number, and no memory.
 pub fn points_rejection(points: &[Point]) -> Option<Rejection>
     requires { IsInOrder points.now }
     ensures { result ≡ points_rejection points.now }
@@ -226,7 +231,7 @@ pub fn points_rejection(points: &[Point]) -> Option<Rejection>
     None
 }
 
-/// How many streams there are.
+/// The number of streams.
 pub(crate) fn stream_count(entries: &[Entry]) -> usize
     ensures { result ≡ length (ids entries.now) }
 {
@@ -269,7 +274,7 @@ fn has_id(entries: &[Entry], id: u128) -> bool
     false
 }
 
-/// How many commits a stream has.
+/// The number of commits of a stream.
 pub(crate) fn latest_of(entries: &[Entry], stream: usize) -> usize
     ensures { result ≡ latest entries.now stream }
 {
@@ -284,8 +289,8 @@ pub(crate) fn latest_of(entries: &[Entry], stream: usize) -> usize
     count
 }
 
-/// The points of a version: those after so many commits of the stream. It goes through all entries, and each commit of the
-/// stream costs the points that it finds.
+/// The points of a version n: those after the first n commits of the stream. It goes through all entries, and each commit of
+/// the stream costs the points that it finds. An `Err` means out of memory.
 pub(crate) fn points_of_version(
     alloc: Global,
     entries: &[Entry],
@@ -312,7 +317,7 @@ pub(crate) fn points_of_version(
     Ok(bag)
 }
 
-/// The points after one commit, in one pass over points and ranges.
+/// The points after one commit, in one pass over points and ranges. An `Err` means out of memory.
 fn points_after(alloc: Global, bag: &Bag, cut: &Ranges, added: &Bag) -> Result<Bag, AllocError>
     ensures { IfOk result (λ b. b ≡ after bag.now (record { cut = cut.now; added = added.now })) }
 {

@@ -1,13 +1,13 @@
-//! What holds of all histories: each function's clause is the law, and its body is empty.
+//! The laws of all histories. Each is a function with an empty body, and its contract is the law.
 
 ghost use Rattle.btr_hist.specs.Laws.{OldVersionsStay, HoldsWhatWasPutIn, PrefixesAreLegal, PointsLieInTheDomain, MachineStaysLegal};
 
-/// What is answered of versions that are there, and named by their numbers, is answered for good, whatever is committed later.
+/// The answer to a question about versions that exist, given by their numbers, never changes, whatever is committed later.
 pub fn old_versions_stay()
     ensures { OldVersionsStay }
 {}
 
-/// A version holds exactly what was put in and not cut since, each equal point as often.
+/// A version holds exactly what was added and not cut since, and equal points each count.
 pub fn versions_hold_what_was_put_in()
     ensures { HoldsWhatWasPutIn }
 {}
@@ -22,7 +22,7 @@ pub fn points_lie_in_the_domain()
     ensures { PointsLieInTheDomain }
 {}
 
-/// Whatever users do, in whatever order, the history is legal.
+/// The history is legal, whatever users do and in whatever order.
 pub fn the_machine_stays_legal()
     ensures { MachineStaysLegal }
 {}

@@ -1,21 +1,20 @@
-//! What a store means, over plain lists: the history of its commits, what each version of a stream holds, which
-//! entries are allowed, and what each question answers.
+//! The meaning of a store, over plain lists: the history of its commits, the points of each version of a stream, the entries
+//! that are allowed, and the answer to each question.
 //!
-//! A history is a list of entries. All that the store ever promises is said by the definitions in `specs/`, and
-//! [`History`] is the plain and slow program that computes them: `History::answer` is the definition itself, run over
-//! the list. Every fast crate above is proved to answer as it does.
+//! A history is a list of entries. The definitions in `specs/` say all that the store promises. [`History`] is the plain, slow
+//! program that computes them by going over the list. Every fast crate above is proved to answer as it does.
 //!
 //! Streams, versions and the calls on them are those of BTrDB (Andersen and Culler, FAST 2016).
 #![tactic(auto)]
 
-// what is kept
+// which entries are allowed
 mod crowded;
 mod entry;
 mod rejection;
 // what is asked and answered
 mod answer;
 mod query;
-// the plain program, and what holds of all histories
+// the plain program, and the laws of all histories
 mod answering;
 mod cells;
 mod changed;

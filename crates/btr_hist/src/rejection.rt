@@ -1,30 +1,30 @@
-/// Why an entry may not follow a history. Where several causes stand together the first in this order is told.
+/// The reason why an entry may not follow a history. If there are several, the first in this order.
 #[derive(Clone, Copy, Debug, PartialEq, Eq)]
 pub enum Rejection {
     /// The number is not that of a stream.
     NoStream,
 
-    /// A stream has this id.
+    /// A stream with this id exists.
     StreamExists,
 
-    /// An added point lies outside the domain. The least such time is told, in nanoseconds.
+    /// An added point lies outside the domain: the least such time, in nanoseconds.
     OutOfDomain { time: i64 },
 
-    /// There is nothing to cut and nothing to add.
+    /// There are no ranges to cut and no points to add.
     Empty,
 
-    /// There are too many points or ranges. The greater of their numbers is told.
+    /// There are too many points or ranges: the greater of their numbers.
     TooMany { count: u64 },
 
-    /// There are as many streams as there may be.
+    /// There are as many streams as a store can have.
     StreamLimit,
 
-    /// The stream has as many versions as it may have.
+    /// The stream has as many versions as a stream can have.
     VersionLimit,
 
-    /// A bottom span would hold too many points. The start of the first such span is told.
+    /// A bottom span would hold too many points: the start of the first such span, in nanoseconds.
     Crowded { start: i64 },
 
-    /// The version would hold too many points. Their number is told.
+    /// The version would hold too many points: their number.
     TooManyPoints { count: u64 },
 }

@@ -1,5 +1,5 @@
-//! The worked examples of the model, and what is rejected: each cause that can be reached, each boundary, and two
-//! causes at once. The limits of versions and of points of a version are too far to be reached here.
+//! Worked examples of the model, and rejections: each cause, each boundary, and two causes at once. The limits of versions and
+//! of points of a version are too great to be reached here.
 
 mod questions;
 
@@ -30,7 +30,7 @@ fn bag(alloc: Global, pairs: &[(i64, i64)]) -> Result<Bag, AllocError> {
     Ok(Bag::from_points(points))
 }
 
-/// So many points at each of these times, with the values from 0 on.
+/// For each time and count, `count` points at that time, with the values from 0 on.
 fn runs(alloc: Global, runs: &[(i64, u32)]) -> Result<Bag, AllocError> {
     let mut points = Vec::new(alloc);
     for (time, count) in runs {
@@ -39,7 +39,7 @@ fn runs(alloc: Global, runs: &[(i64, u32)]) -> Result<Bag, AllocError> {
     Ok(Bag::from_points(points))
 }
 
-/// Adds so many points of one time, with the values from 0 on.
+/// Adds `count` points at one time, with the values from 0 on.
 fn push_run(points: &mut Vec<Point>, time: i64, count: u32) -> Result<(), AllocError> {
     for value in 0..count {
         points.push(Point {
@@ -59,11 +59,11 @@ fn cut(alloc: Global, pairs: &[(i64, i64)]) -> Result<Ranges, Fail> {
     Ok(ranges)
 }
 
-/// So many ranges, of one nanosecond in every two from 100 on.
+/// `count` ranges, of one nanosecond in every two from 100 on.
 fn many_ranges(alloc: Global, count: u32) -> Result<Ranges, Fail> {
     let mut ranges = Ranges::none(alloc);
-    for place in 0..count {
-        let from = 100 + 2 * i64::from(place);
+    for i in 0..count {
+        let from = 100 + 2 * i64::from(i);
         ranges.add(Range::new(from, from + 1).ok_or("no range")?)?;
     }
     Ok(ranges)
@@ -161,7 +161,7 @@ fn the_worked_examples(rt: HostRuntime) -> Result<(), Fail> {
 }
 
 #[test]
-fn what_is_cut_stays_in_the_versions_before(rt: HostRuntime) -> Result<(), Fail> {
+fn cut_points_stay_in_earlier_versions(rt: HostRuntime) -> Result<(), Fail> {
     let alloc = rt.alloc();
     let mut history = History::empty(alloc);
     history.push(Entry::Create { id: 1 })?;
@@ -208,7 +208,7 @@ fn two_streams(alloc: Global) -> Result<History, Fail> {
     Ok(history)
 }
 
-/// So many points at each of these times, for one of the two streams.
+/// A commit of the points of [`runs`] to one of the two streams.
 fn insert(alloc: Global, stream: u32, added: &[(i64, u32)]) -> Result<Entry, AllocError> {
     Ok(Entry::Commit {
         stream,
@@ -218,10 +218,10 @@ fn insert(alloc: Global, stream: u32, added: &[(i64, u32)]) -> Result<Entry, All
 }
 
 #[test]
-fn what_no_stream_takes(rt: HostRuntime) -> Result<(), Fail> {
+fn commits_that_are_rejected(rt: HostRuntime) -> Result<(), Fail> {
     let alloc = rt.alloc();
     let history = two_streams(alloc)?;
-    let stray = |time| Some(Rejection::OutOfDomain { time });
+    let outside = |time| Some(Rejection::OutOfDomain { time });
     let cases: [(&str, u32, &[(i64, u32)], Option<Rejection>); 13] = [
         ("one point", 0, &[(4, 1)], None),
         ("equal points", 0, &[(4, 1), (4, 1)], None),
@@ -240,21 +240,21 @@ fn what_no_stream_takes(rt: HostRuntime) -> Result<(), Fail> {
             "before the first time",
             0,
             &[(-1152921504606846977, 1)],
-            stray(-1152921504606846977),
+            outside(-1152921504606846977),
         ),
         (
-            "behind the last time",
+            "after the last time",
             0,
             &[(3458764513820540928, 1)],
-            stray(3458764513820540928),
+            outside(3458764513820540928),
         ),
         (
             "the least",
             0,
             &[(i64::MAX, 1), (0, 1), (i64::MIN, 1), (END, 1)],
-            stray(i64::MIN),
+            outside(i64::MIN),
         ),
-        ("outside, too many", 0, &[(END, 65537)], stray(END)),
+        ("outside, too many", 0, &[(END, 65537)], outside(END)),
         (
             "too many, crowded",
             0,
@@ -270,7 +270,7 @@ fn what_no_stream_takes(rt: HostRuntime) -> Result<(), Fail> {
 }
 
 #[test]
-fn what_is_crowded(rt: HostRuntime) -> Result<(), Fail> {
+fn crowded_commits(rt: HostRuntime) -> Result<(), Fail> {
     let alloc = rt.alloc();
     let history = two_streams(alloc)?;
     let cases: [(&str, u32, &[(i64, u32)], Option<i64>); 12] = [
@@ -294,14 +294,14 @@ fn what_is_crowded(rt: HostRuntime) -> Result<(), Fail> {
     ];
     for (name, stream, added, want) in cases {
         let entry = insert(alloc, stream, added)?;
-        let told = want.map(|start| Rejection::Crowded { start });
-        assert_eq!(rt; history.rejection(alloc, &entry)?, told, "{name}");
+        let rejection = want.map(|start| Rejection::Crowded { start });
+        assert_eq!(rt; history.rejection(alloc, &entry)?, rejection, "{name}");
     }
     Ok(())
 }
 
 #[test]
-fn what_a_cut_takes_is_not_in_the_way(rt: HostRuntime) -> Result<(), Fail> {
+fn points_that_a_cut_removes_do_not_crowd(rt: HostRuntime) -> Result<(), Fail> {
     let alloc = rt.alloc();
     let history = two_streams(alloc)?;
     let cases: [&[(i64, u32)]; 2] = [&[], &[(3, 252)]];
@@ -332,8 +332,8 @@ fn many_ranges_are_rejected(rt: HostRuntime) -> Result<(), Fail> {
             cut: many_ranges(alloc, count)?,
             added: runs(alloc, added)?,
         };
-        let told = want.map(|count| Rejection::TooMany { count });
-        assert_eq!(rt; history.rejection(alloc, &entry)?, told);
+        let rejection = want.map(|count| Rejection::TooMany { count });
+        assert_eq!(rt; history.rejection(alloc, &entry)?, rejection);
     }
     Ok(())
 }
@@ -353,7 +353,7 @@ fn an_id_is_taken_once(rt: HostRuntime) -> Result<(), Fail> {
 }
 
 #[test]
-fn no_more_streams_than_may_be(rt: HostRuntime) -> Result<(), Fail> {
+fn streams_up_to_the_limit(rt: HostRuntime) -> Result<(), Fail> {
     let alloc = rt.alloc();
     let mut history = History::empty(alloc);
     for id in 0..65535u32 {

@@ -1,10 +1,10 @@
-//! What is answered to each kind of question, and why one is refused.
+//! The answer to each kind of question, and refusals.
 
 use super::{bag, cut};
 use crate::answer::{Answer, CellList, Rows, StreamList, StreamRow};
 use crate::entry::Entry;
 use crate::history::History;
-use crate::query::{At, Query};
+use crate::query::{At, Query, StreamQuery};
 use btr_base::{Agg, END, FIRST, Ranges, Toward};
 use std::alloc::Global;
 use std::process::Abort;
@@ -30,7 +30,7 @@ fn three_versions(alloc: Global) -> Result<History, Fail> {
     Ok(history)
 }
 
-/// Each question is answered so, in words of this test.
+/// Compares the answer to each question, as [`shown`] writes it.
 fn check(rt: &(impl Abort + AllocGlobal), cases: &[(Query, &str)]) -> Result<(), Fail> {
     let alloc = rt.alloc();
     let history = three_versions(alloc)?;
@@ -41,6 +41,7 @@ fn check(rt: &(impl Abort + AllocGlobal), cases: &[(Query, &str)]) -> Result<(),
     Ok(())
 }
 
+/// The version, and then each row: a point as `time:value`, a window as `start:(count sum least greatest)`.
 fn shown(alloc: Global, answer: &Answer) -> Result<String, Fail> {
     match answer {
         Answer::Found { version, rows } => rows_shown(alloc, *version, rows),
@@ -242,6 +243,7 @@ fn the_lists_of_an_answer(rt: HostRuntime) -> Result<(), Fail> {
     assert_eq!(rt; answer.as_str(), "0");
     let refused = shown(alloc, &empty.answer(alloc, &changes(1, 0, 63))?)?;
     assert_eq!(rt; refused.as_str(), "NoStream");
-
+    let at = At::Latest;
+    assert_eq!(rt; StreamQuery::Info { at }.of(7), info(7, at));
     Ok(())
 }

@@ -10,7 +10,7 @@ use Rattle.btr_base.proofs.bag.points_between.Goals as goal
 between : (from to t : ℤ) → (int_lt t to && not (int_lt t from)) ≡ (int_le from t && int_lt t to)
 between from to t = grind (arith, ints)
 
--- of the points before the one time those that are not before the other
+-- Of the points before the one time, those that are not before the other.
 both : (from to : ℤ) (a b ps : List Point) → a ≡ filter (λ p. int_lt p.time to) ps → b ≡ filter (λ p. not (int_lt p.time from)) a → b ≡ within from to ps
 both from to a b ps e f =
     f

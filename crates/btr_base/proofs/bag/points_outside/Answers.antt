@@ -11,7 +11,7 @@ use Rattle.btr_base.proofs.RangeLemmas.{outside-same}
 use Rattle.btr_base.proofs.bag.points_outside.Goals as goal
 use Rattle.btr_base.proofs.bag.points_outside.Goals.{then-not-has_begun+in_ok-push, else-not-has_begun}
 
--- the points from place i on, by the ranges that have not ended by the time of the first of them
+-- The points from an index on, by the ranges that have not ended by the time of the first of them.
 outside-step : (b : List Point) (old new : List RangeValue) (i : ℕ) (d : Point) → i < length b → IsInOrder b → ((t : ℤ) → (get_or b i d).time ≤ℤ t → covered new t ≡ covered old t) → outside (drop i b) old ≡ cond (not (covered new (get_or b i d).time)) (get_or b i d ∷ outside (drop (i + 1) b) new) (outside (drop (i + 1) b) new)
 outside-step b old new i d h in_order same =
     let p = get_or b i d in

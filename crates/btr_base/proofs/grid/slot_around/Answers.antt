@@ -9,7 +9,7 @@ use Rattle.btr_base.specs.Changes.{slot_around}
 use Rattle.btr_base.proofs.ChangesLemmas.{slot-is, slot-range, slot-fits}
 use Rattle.btr_base.proofs.grid.slot_around.Goals as goal
 
--- the bounds of the slot, by the offset and the width
+-- The bounds of the slot, by the offset and the width.
 record IsSlotBy (p : ℕ) (t : ℤ) (o w : ℕ) : Type 0 where
   from : FIRST +ℤ pos (o / w * w) ≡ (slot_around p t).from
   to : FIRST +ℤ pos (o / w * w + w) ≡ (slot_around p t).to

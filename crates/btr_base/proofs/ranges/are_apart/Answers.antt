@@ -2,7 +2,7 @@ use Rattle.std.proofs.Common.{◌≡◌, ◌+◌, ◌∷◌, drop, take, Some, I
 use Rattle.std.proofs.lemmas.List.{drop_more, take_more}
 use Rattle.std.proofs.lemmas.Int.{ints}
 use Rattle.std.specs.List.{AllByRecursion}
-use Rattle.btr_base.specs.Range.{IsRange, AreApart, IsBehind}
+use Rattle.btr_base.specs.Range.{IsRange, AreApart, IsAfter}
 use Rattle.btr_base.proofs.RangeLemmas.{ApartFrom, apart-from_none, from_none-apart, apart-more, each-push}
 use Rattle.btr_base.proofs.ranges.are_apart.Goals as goal
 
@@ -22,7 +22,7 @@ loop-range-preserved c =
     let now = c.stays_apart-apart.result in
     let end = c.loop-range.end in
     let before : AreApart ranges ↔ (IsTrue was × ApartFrom end (next ∷ rest)) = subst (λ s. AreApart ranges ↔ (IsTrue was × ApartFrom end s)) e c.loop-range.invariant.apart in
-    let here : IsTrue now ↔ (IsTrue was × IsBehind end next.from) = subst (λ z. IsTrue now ↔ (IsTrue was × IsBehind end z)) from c.stays_apart-apart.ensures in
+    let here : IsTrue now ↔ (IsTrue was × IsAfter end next.from) = subst (λ z. IsTrue now ↔ (IsTrue was × IsAfter end z)) from c.stays_apart-apart.ensures in
     record {
       each = subst (AllByRecursion IsRange) (sym (take_more ranges i next (omega arith) ∙ ap (λ r. take i ranges ++ r ∷ []) (sym c.range-item.is))) (each-push IsRange (take i ranges) next c.loop-range.invariant.each (subst IsRange c.range.view_is c.range.invariant));
       apart = subst (λ z. AreApart ranges ↔ (IsTrue now × ApartFrom (Some z) rest)) (sym to) (apart-more ranges end next rest was now before here);

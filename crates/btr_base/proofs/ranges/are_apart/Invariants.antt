@@ -4,7 +4,7 @@ use Rattle.btr_base.specs.Range.{IsRange, AreApart}
 use Rattle.btr_base.proofs.RangeLemmas.{ApartFrom}
 use Rattle.btr_base.proofs.ranges.are_apart.Given as goal
 
--- what was seen is apart, and the rest is to be apart from its end on
+-- The ranges so far are apart, and the rest begins after their end.
 abbrev pub invariant-loop-range : goal.invariant-loop-range
 invariant-loop-range l = record {
   each : AllByRecursion IsRange (take l.range-index l.ranges);

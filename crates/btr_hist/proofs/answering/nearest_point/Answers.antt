@@ -7,7 +7,7 @@ use Rattle.btr_base.specs.Nearest.{nearest}
 use Rattle.btr_base.proofs.ListLemmas.{filter-same}
 use Rattle.btr_hist.proofs.answering.nearest_point.Goals as goal
 
--- the points that are not before a time are those from it on
+-- The points that are not before a time are those from it on.
 from-time : (t u : ℤ) (ps all : List Point) → ps ≡ filter (λ p. not (int_lt p.time u)) all → u ≡ t → ps ≡ filter (λ p. int_le t p.time) all
 from-time t u ps all is same =
     is
@@ -18,7 +18,7 @@ last-at : (o : Option Point) (p : Point) (ps : List Point) → slice_get (p ∷ 
 last-at o p [] = refl
 last-at o p (q ∷ ps) = last-at (Some p) q ps
 
--- the last element is the one at the greatest index
+-- The last element is the one at the greatest index.
 last-is : (ps : List Point) → slice_get ps (length ps - 1) ≡ last_or None ps
 last-is [] = refl
 last-is (p ∷ ps) =

@@ -7,7 +7,7 @@ use Rattle.btr_hist.proofs.Steps.{ids-create, ids-commit}
 use Rattle.btr_hist.proofs.answering.stream_rows.Goals as goal
 use Rattle.btr_hist.proofs.answering.stream_rows.Goals.{in-Create+in_ok-push, in_default}
 
--- one more stream
+-- One more stream.
 row-more : (h : List Entry) (done new all : List StreamRow) (number next id last : ℕ) (prefix rest : List ℕ) → prefix ≡ id ∷ rest → last ≡ latest h number → next ≡ number + 1 → new ≡ done ++ record { id = id; latest = last } ∷ [] → done ++ rows_from h number prefix ≡ all → new ++ rows_from h next rest ≡ all
 row-more h done new all number next id last prefix rest split at more pushed so_far =
     let row = λ (l : ℕ). let r : StreamRow = record { id = id; latest = l } in r in
@@ -17,7 +17,7 @@ row-more h done new all number next id last prefix rest split at more pushed so_
     ∙ ap (λ (is : List ℕ). done ++ rows_from h number is) (sym split)
     ∙ so_far
 
--- no stream more
+-- An entry that is no new stream.
 row-same : (h : List Entry) (done new all : List StreamRow) (number next : ℕ) (prefix rest : List ℕ) → prefix ≡ rest → next ≡ number → new ≡ done → done ++ rows_from h number prefix ≡ all → new ++ rows_from h next rest ≡ all
 row-same h done new all number next prefix rest same still kept so_far = cc
 

@@ -7,7 +7,7 @@ use Rattle.btr_base.proofs.WindowLemmas.{window-around, aligned-grid, aligned-en
 use Rattle.btr_hist.proofs.Bounds.{AreBounds, range-bounds, as_word, before_as_word}
 use Rattle.btr_hist.proofs.cells.aligned_cells.Goals as goal
 
--- the time before the end of a range
+-- The time before the end of a range.
 before-end : (from to : ℤ) → AreBounds from to → to_z w64 (of_z w64 (to_z w64 (of_z w64 to) -ℤ pos 1)) ≡ to -ℤ pos 1
 before-end from to h =
     let begins = h.begins in
@@ -15,7 +15,7 @@ before-end from to h =
     let ends = h.ends in
     before_as_word to (to_z w64 (of_z w64 to)) (omega (arith, ints)) h.ends (as_word to (omega (arith, ints)) h.ends)
 
--- the begin of a range
+-- The start of a range.
 begin-word : (from to : ℤ) → AreBounds from to → to_z w64 (of_z w64 from) ≡ from
 begin-word from to h =
     let full = h.not_empty in
@@ -32,7 +32,7 @@ begin_of-begin-requires-clause-time c =
     let first = c.aligned-grid.ensures.first_is in
     omega (arith, ints, begin-word c.args.from c.args.to range)
 
--- the number of the last window
+-- The number of the last window.
 last-number : (first from to : ℤ) (width k : ℕ) → AreBounds from to → k ≡ window_of first width (to_z w64 (of_z w64 (to_z w64 (of_z w64 to) -ℤ pos 1))) → k ≡ window_of first width (to -ℤ pos 1)
 last-number first from to width k range is = is ∙ ap (window_of first width) (before-end from to range)
 

@@ -6,7 +6,7 @@ use Rattle.btr_base.specs.Windows.{begin_of, cells}
 use Rattle.btr_hist.proofs.Bounds.{range-bounds, whole-ends}
 use Rattle.btr_hist.proofs.cells.whole_cells.Goals as goal
 
--- where the last window ends
+-- The end of the last window.
 end-is : (c : goal.After-begin_of-end) → to_z w64 (of_z w64 c.begin_of-end.result) ≡ begin_of c.args.from c.args.width c.args.to
 end-is c =
     let fits : SFits w64 c.begin_of-end.result = search rules in

@@ -15,7 +15,7 @@ pub points_between-point-items-requires : goal.points_between-point-items-requir
 points_between-point-items-requires c =
     subst IsInOrder (sym (c.deref.ensures.value ∙ c.in_ok-both.ensures)) (sort-in_order (c.args.old.now ++ c.args.new.now))
 
--- the point at a place, as machine words
+-- The point at an index, as machine words.
 here : (ps all : List Point) (i : ℕ) (d : Point) → ps ≡ within FIRST END all → i < length ps → to_z w64 (of_z w64 (get_or ps i d).time) ≡ (get_or ps i d).time → InDomain (to_z w64 (of_z w64 (get_or ps i d).time))
 here ps all i d is low fits = subst InDomain (sym fits) (within-domain ps all i d is low)
 

@@ -7,7 +7,7 @@ use Rattle.btr_base.specs.Point.{InDomain}
 use Rattle.btr_hist.proofs.Differ.{points-time, differ-is}
 use Rattle.btr_hist.proofs.changed.differ_at.Goals as goal
 
--- the points of the time, with its bounds as machine words
+-- The points of the time, with its bounds as machine words.
 at-time : (t : ℤ) (ps b : List Point) → InDomain t → ps ≡ within (to_z w64 (of_z w64 t)) (to_z w64 (of_z w64 (to_z w64 (of_z w64 t) +ℤ pos 1))) b → ps ≡ points_at t b
 at-time t ps b inside is =
     let low = inside.0 in

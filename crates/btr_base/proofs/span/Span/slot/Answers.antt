@@ -5,7 +5,7 @@ use Rattle.btr_base.specs.Span.{width, SpanValue, IsSpan, slot_of}
 use Rattle.btr_base.proofs.SpanLemmas.{slot-aligned, slot-offset, width-at_most}
 use Rattle.btr_base.proofs.span.Span.slot.Goals as goal
 
--- what the code computes as the offset of the slot
+-- The offset of the slot, as the code computes it.
 pub record IsOffset (s : SpanValue) (i product : ℕ) : Type 0 where
   pub is : product ≡ i * width (s.height - 1)
   pub small : product ≤ 2 ^ 62

@@ -3,9 +3,9 @@ use Rattle.std.proofs.lemmas.Int.{ints}
 use Rattle.std.proofs.lemmas.List.Elements.{recursion_from_All}
 use Rattle.btr_base.specs.Range.{RangeValue, IsRange, IsCut}
 use Rattle.btr_base.proofs.RangeLemmas.{EndBefore, ends-rise, IsCut-push}
-use Rattle.btr_base.proofs.ranges.is_behind.Goals as goal
+use Rattle.btr_base.proofs.ranges.is_after_last.Goals as goal
 
--- where the last range ends before the time, each does
+-- If the last range ends before the time, each does.
 all_end : (rs : List RangeValue) (last : RangeValue) (t : ℤ) → IsCut rs → ((d : RangeValue) → last ≡ get_or rs (length rs - 1) d) → last.to <ℤ t → EndBefore t rs
 all_end rs last t h is lt =
     recursion_from_All (λ r. r.to <ℤ t) rs (λ k d in_rs. let rise = ends-rise rs k (length rs - 1) d h (omega arith) (omega arith) in let same = ap (λ r. r.to) (is d) in omega (arith, ints, rise, same))
