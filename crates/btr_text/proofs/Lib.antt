@@ -1,4 +1,4 @@
-pub mod Words
-pub mod Numbers
-pub mod Texts
-pub mod Forms
+pub mod WordLemmas
+pub mod DigitLemmas
+pub mod FormLemmas
+pub mod TextLemmas

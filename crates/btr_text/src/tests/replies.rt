@@ -1,3 +1,4 @@
+//! Replies as users read them.
 use crate::{LineReply, Reason, write_reply};
 use btr_base::{Agg, Cell, Point, Range, Ranges};
 use btr_hist::{CellList, PointList, Refusal, Rejection, Rows, StreamList, StreamRow};
@@ -93,7 +94,7 @@ fn each_rejection_and_refusal_has_its_reason(rt: HostRuntime) {
 }
 
 #[test]
-fn replies_stand_one_behind_the_other(rt: HostRuntime) -> Result<(), Fail> {
+fn replies_follow_one_another(rt: HostRuntime) -> Result<(), Fail> {
     let mut out = Vec::new(rt.alloc());
     write_reply(&LineReply::Done { version: 0 }, &mut out)?;
     write_reply(&LineReply::Done { version: 12 }, &mut out)?;
@@ -130,7 +131,7 @@ fn replies_stand_one_behind_the_other(rt: HostRuntime) -> Result<(), Fail> {
     Ok(())
 }
 
-// The reply of these rows at version 1 is this text.
+/// Asserts that the reply with these rows at version 1 has this text.
 fn is_written(rt: &(impl Abort + AllocGlobal), rows: Rows, want: &str) -> Result<(), Fail> {
     let mut out = Vec::new(rt.alloc());
     write_reply(&LineReply::Found { version: 1, rows }, &mut out)?;
@@ -171,7 +172,7 @@ fn windows_are_written(rt: HostRuntime) -> Result<(), Fail> {
 }
 
 #[test]
-fn a_version_as_a_whole_is_written(rt: HostRuntime) -> Result<(), Fail> {
+fn aggregates_of_versions_are_written(rt: HostRuntime) -> Result<(), Fail> {
     let agg = Agg {
         count: 252,
         sum: 31626,

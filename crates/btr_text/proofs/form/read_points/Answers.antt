@@ -1,6 +1,6 @@
 use Rattle.std.proofs.Common.{◌∙◌}
 use Rattle.btr_text.specs.Word.{words_of}
-use Rattle.btr_text.proofs.Forms.{points_of-more}
+use Rattle.btr_text.proofs.FormLemmas.{points_of-more}
 use Rattle.btr_text.proofs.form.read_points.Goals as goal
 
 pub loop-time-preserved : goal.loop-time-preserved

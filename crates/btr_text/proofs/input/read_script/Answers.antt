@@ -5,7 +5,7 @@ use Rattle.std.specs.Str.Lines.{strip_carriage_return}
 use Rattle.std.proofs.lemmas.Iterator.Consumers.{YieldsList-end, YieldsList-at}
 use Rattle.std.proofs.lemmas.Iterator.Splits.{YieldsList-from_slice_split}
 use Rattle.btr_text.specs.Input.{script_line}
-use Rattle.btr_text.proofs.Forms.{filter_map-one_more, map-twice}
+use Rattle.btr_text.proofs.FormLemmas.{filter_map-one_more, map-twice}
 use Rattle.btr_text.proofs.input.read_script.Goals as goal
 
 pub loop-line-preserved : goal.loop-line-preserved

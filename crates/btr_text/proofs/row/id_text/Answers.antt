@@ -1,5 +1,5 @@
 use Rattle.std.proofs.Common.{rules}
-use Rattle.btr_text.proofs.Texts.{text_of_id}
+use Rattle.btr_text.proofs.TextLemmas.{text_of_id}
 use Rattle.btr_text.proofs.row.id_text.Goals as goal
 
 pub returns : goal.returns

@@ -1,6 +1,6 @@
 use Rattle.std.proofs.Common.{arith, append_assoc}
 use Rattle.std.proofs.lemmas.Grind.{common_steps}
-use Rattle.btr_text.proofs.Texts.{join_words}
+use Rattle.btr_text.proofs.TextLemmas.{join_words}
 use Rattle.btr_text.proofs.text.append_line.Goals as goal
 
 pub returns-clause-ok : goal.returns-clause-ok

@@ -1,5 +1,5 @@
 use Rattle.std.proofs.Common.{drop, take, arith, ◌∙◌, sym, ap}
-use Rattle.btr_text.proofs.Words.{no_word, first_word}
+use Rattle.btr_text.proofs.WordLemmas.{no_word, first_word}
 use Rattle.btr_text.proofs.word.next_word.Goals as goal
 
 pub returns-then-end-eq0-clause-words : goal.returns-then-end-eq0-clause-words

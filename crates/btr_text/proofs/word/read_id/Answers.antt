@@ -3,7 +3,7 @@ use Rattle.std.specs.Option.{option_map}
 use Rattle.std.specs.Int.{from_be_bytes, w128}
 use Rattle.std.proofs.lemmas.Bool.{false≢true}
 use Rattle.uuid.specs.Text.{parsed}
-use Rattle.btr_text.proofs.Numbers.{nothing_parsed}
+use Rattle.btr_text.proofs.DigitLemmas.{nothing_parsed}
 use Rattle.btr_text.proofs.word.read_id.Goals as goal
 
 pub returns-in-Err : goal.returns-in-Err

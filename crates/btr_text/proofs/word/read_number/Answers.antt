@@ -1,5 +1,5 @@
 use Rattle.std.proofs.Common.{sym, refl, get_or}
-use Rattle.btr_text.proofs.Numbers.{number-stuck}
+use Rattle.btr_text.proofs.DigitLemmas.{number-stuck}
 use Rattle.btr_text.proofs.word.read_number.Goals as goal
 
 pub returns-in_err-number-clause-number : goal.returns-in_err-number-clause-number

@@ -1,5 +1,5 @@
 use Rattle.std.proofs.Common.{◌≡◌, ◌≤◌, drop}
-use Rattle.btr_text.proofs.Numbers.{onward}
+use Rattle.btr_text.proofs.DigitLemmas.{onward}
 use Rattle.btr_text.proofs.word.read_number.Given as goal
 
 abbrev pub invariant-loop-digit : goal.invariant-loop-digit

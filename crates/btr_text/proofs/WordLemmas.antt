@@ -8,7 +8,7 @@ use Rattle.btr_text.specs.Word.{words_of}
 one_more : (n : ℕ) → 1 + n ≡ suc n
 one_more n = omega arith
 
--- a part is a word where it is not empty
+-- A piece is a word if it is not empty.
 abbrev is_word : List ℕ → Bool
 is_word w = not (eqb (length w) 0)
 
@@ -20,7 +20,7 @@ words_of-drop_spaces (x ∷ xs) =
       | false ↦ λ e. rw e refl
     ] refl
 
--- a list up to the first element that passes p is the prefix, and the rest begins with an empty one
+-- The first piece of a list ends before the first element that passes `p`. The pieces of the rest are an empty one, then the others.
 pub slice_split-first : (p : ℕ → Bool) (xs : List ℕ) →
     (parts : List (List ℕ)) × (slice_split p xs ≡ take (prefix_len (λ b. not (p b)) xs) xs ∷ parts) × (slice_split p (drop (prefix_len (λ b. not (p b)) xs) xs) ≡ [] ∷ parts)
 slice_split-first p [] = ([], refl, refl)
@@ -36,14 +36,14 @@ not_empty n h = grind (arith, nat_tests)
 kept : (w : List ℕ) (ws : List (List ℕ)) → 0 < length w → filter is_word (w ∷ ws) ≡ w ∷ filter is_word ws
 kept w ws h = rw (not_empty (length w) h) refl
 
--- where a list does not begin with a space, its first word ends before the first one
+-- If a line does not begin with a space, its first word ends before the first space.
 pub words_of-first : (xs : List ℕ) → 0 < prefix_len (λ b. not (eqb b 32)) xs →
     words_of xs ≡ take (prefix_len (λ b. not (eqb b 32)) xs) xs ∷ words_of (drop (prefix_len (λ b. not (eqb b 32)) xs) xs)
 words_of-first xs h =
     let s = slice_split-first (λ b. eqb b 32) xs in
     ap (filter is_word) s.1 ∙ kept _ s.0 (rw (length-prefix_len (λ b. not (eqb b 32)) xs) h) ∙ sym (ap (λ ws. take (prefix_len (λ b. not (eqb b 32)) xs) xs ∷ filter is_word ws) s.2)
 
--- where nothing stands behind the spaces at its prefix, a list has no word
+-- If nothing follows the leading spaces of a line, the line has no word.
 no_letters : (xs : List ℕ) → prefix_len (λ b. not (eqb b 32)) (drop (prefix_len (λ b. eqb b 32) xs) xs) ≡ 0 → words_of xs ≡ []
 no_letters [] h = refl
 no_letters (x ∷ xs) h =

@@ -1,4 +1,4 @@
--- Lemmas on numbers that are read digit by digit.
+-- Lemmas on numbers, which are read digit by digit.
 use Rattle.std.proofs.Common.{◌≡◌, ℕ, ◌+◌, ◌*◌, ◌<◌, ◌≤◌, Bool, true, false, cond, ◌&&◌, leb, ltb, List, [], ◌∷◌, length, get_or, drop, Option, Some, None, refl, sym, ap, ◌∙◌, arith}
 use Rattle.std.specs.List.{list_all}
 use Rattle.std.specs.Char.{is_ascii_digit, digit_value}
@@ -8,7 +8,7 @@ use Rattle.std.proofs.lemmas.List.{at_drop_more}
 use Rattle.std.proofs.lemmas.Option.{cond_some}
 use Rattle.btr_text.specs.Word.{next_number, number_up_to}
 
--- the number that digits write behind another, where there is nothing else and it is not above the limit
+-- The number that digits write after the number `n`, if there is nothing else and it is at most `most`.
 abbrev pub onward : ℕ → ℕ → List ℕ → Option ℕ
 onward most n ds = cond (list_all is_ascii_digit ds && leb (digits_value_after 10 n ds) most) (Some (digits_value_after 10 n ds)) None
 
@@ -47,7 +47,7 @@ number-stuck most n i c w h e k s =
     let f : next_number n (get_or w i 0) most ≡ None = rw e at s in
     number_up_to-onward most w (omega arith) ∙ sym k ∙ at_drop_more (onward most n) w i 0 h ∙ onward-stuck most n (get_or w i 0) (drop (i + 1) w) f
 
--- what no bytes are read from is no id
+-- An option that is no `Some` is `None`.
 pub nothing_parsed : {A : Type 0} (o : Option A) → (((a : A) × (o ≡ Some a)) → ⊥) → o ≡ None
 nothing_parsed None h = refl
 nothing_parsed (Some a) h = absurd (h (a, refl))
