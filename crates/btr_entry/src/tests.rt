@@ -84,7 +84,7 @@ fn create_has_its_spelling(rt: HostRuntime) -> Result<(), Fail> {
 }
 
 #[test]
-fn insert_is_read_and_spelled_again(rt: HostRuntime) -> Result<(), Fail> {
+fn insert_round_trips(rt: HostRuntime) -> Result<(), Fail> {
     let entry = decode(rt.alloc(), &INSERT)?.ok_or("the bytes are no entry")?;
     match &entry {
         Entry::Commit { stream, cut, added } => {
@@ -100,51 +100,51 @@ fn insert_is_read_and_spelled_again(rt: HostRuntime) -> Result<(), Fail> {
 
 #[test]
 fn commits_at_the_bounds_are_read(rt: HostRuntime) -> Result<(), Fail> {
-    let alloc = rt.alloc();
-    let whole = commit(alloc, &[(FIRST, END)], &[])?;
-    let apart = commit(alloc, &[(0, 1), (2, 3)], &[(FIRST, 0), (END - 1, -1)])?;
-    let equal = commit(alloc, &[], &[(7, 1), (7, 1), (7, 2)])?;
-    for bytes in [&whole, &apart, &equal] {
-        assert!(rt; round_trips(alloc, bytes)?);
+    for (ranges, points) in [
+        ([(FIRST, END)].as_slice(), [].as_slice()),
+        (&[(0, 1), (2, 3)], &[(FIRST, 0), (END - 1, -1)]),
+        (&[], &[(7, 1), (7, 1), (7, 2)]),
+    ] {
+        let bytes = commit(rt.alloc(), ranges, points)?;
+        assert!(rt; round_trips(rt.alloc(), bytes.as_slice())?);
     }
     Ok(())
 }
 
 #[test]
-fn bytes_outside_the_grammar_are_refused(rt: HostRuntime) -> Result<(), Fail> {
-    let alloc = rt.alloc();
-    let mut longer = Vec::from_slice(alloc, &INSERT)?;
+fn commits_outside_the_grammar_are_refused(rt: HostRuntime) -> Result<(), Fail> {
+    for (ranges, points) in [
+        // Points out of order, by time and by value.
+        ([].as_slice(), [(3, 7), (0, 5)].as_slice()),
+        (&[], &[(3, 7), (3, 5)]),
+        // Points outside the domain.
+        (&[], &[(FIRST - 1, 0)]),
+        (&[], &[(END, 0)]),
+        // Ranges that are empty, touch, are out of order or end after the domain.
+        (&[(5, 5)], &[]),
+        (&[(0, 1), (1, 2)], &[]),
+        (&[(4, 5), (0, 1)], &[]),
+        (&[(0, END + 1)], &[]),
+        // Nothing to do.
+        (&[], &[]),
+    ] {
+        let bytes = commit(rt.alloc(), ranges, points)?;
+        assert!(rt; is_refused(rt.alloc(), bytes.as_slice())?);
+    }
+    Ok(())
+}
+
+#[test]
+fn other_lengths_and_counts_are_refused(rt: HostRuntime) -> Result<(), Fail> {
+    let mut longer = Vec::from_slice(rt.alloc(), &INSERT)?;
     longer.push(0)?;
-    let mut four = INSERT;
-    four[20] = 4;
+    let mut one_more = INSERT;
+    one_more[20] = 4;
     let mut huge = INSERT;
     huge[13] = 0x10;
-    let unordered = commit(alloc, &[], &[(3, 7), (0, 5)])?;
-    let unordered_values = commit(alloc, &[], &[(3, 7), (3, 5)])?;
-    let nothing = commit(alloc, &[], &[])?;
-    let empty_range = commit(alloc, &[(5, 5)], &[])?;
-    let touching = commit(alloc, &[(0, 1), (1, 2)], &[])?;
-    let unordered_ranges = commit(alloc, &[(4, 5), (0, 1)], &[])?;
-    let before = commit(alloc, &[], &[(FIRST - 1, 0)])?;
-    let at_the_end = commit(alloc, &[], &[(END, 0)])?;
-    let past_the_end = commit(alloc, &[(0, END + 1)], &[])?;
-    for bytes in [
-        &longer,
-        &unordered,
-        &unordered_values,
-        &nothing,
-        &empty_range,
-        &touching,
-    ] {
-        assert!(rt; is_refused(alloc, bytes)?);
+    for bytes in [longer.as_slice(), &one_more, &huge, &[], &INSERT[..68]] {
+        assert!(rt; is_refused(rt.alloc(), bytes)?);
     }
-    for bytes in [&unordered_ranges, &before, &at_the_end, &past_the_end] {
-        assert!(rt; is_refused(alloc, bytes)?);
-    }
-    assert!(rt; is_refused(alloc, &four)?);
-    assert!(rt; is_refused(alloc, &huge)?);
-    assert!(rt; is_refused(alloc, &[])?);
-    assert!(rt; is_refused(alloc, &INSERT[..68])?);
     Ok(())
 }
 
