@@ -4,6 +4,7 @@ pub mod Moments
 pub mod Causes
 pub mod Gate
 pub mod Publish
+pub mod Numbers
 pub mod Memory
 pub mod Fuse
 pub mod Torn

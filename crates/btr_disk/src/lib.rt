@@ -5,6 +5,7 @@
 //! written may hold any bytes, and all else what a read gives.
 #![tactic(auto)]
 
+pub mod bytes;
 mod call_record;
 mod disk;
 mod fuse;

@@ -1,7 +1,8 @@
 -- The head of an extent's body: its grammar, and its 64 bytes.
-use Rattle.std.specs.Prelude.{◌≡◌, ◌⊎◌, ℕ, ◌+◌, ◌/◌, ◌^◌, ◌<◌, ◌≤◌, List, ◌++◌, take, drop, codes}
-use Rattle.std.specs.Int.{w32, w64, to_be_bytes, from_be_bytes}
+use Rattle.std.specs.Prelude.{◌≡◌, ◌⊎◌, ℕ, ◌+◌, ◌/◌, ◌^◌, ◌<◌, ◌≤◌, List, ◌++◌, codes}
+use Rattle.std.specs.Int.{w32, w64, to_be_bytes}
 use Rattle.btr_disk.specs.Gate.{zeros}
+use Rattle.btr_disk.specs.Numbers.{u32_at, u64_at}
 use Rattle.btr_log.specs.declared.head.Head.{Head}
 
 -- ASCII `BTR-BODY`
@@ -69,21 +70,14 @@ pub record Spells (bytes : List ℕ) (head : Head) : Type 0 where
 abbrev pub IsNoHead : List ℕ → Type 0
 IsNoHead bytes = (head : Head) → Spells bytes head → ⊥
 
--- the number of four, or of eight, bytes at this offset
-abbrev pub number_4_at : ℕ → List ℕ → ℕ
-number_4_at offset bytes = from_be_bytes w32 (take 4 (drop offset bytes))
-
-abbrev pub number_at : ℕ → List ℕ → ℕ
-number_at offset bytes = from_be_bytes w64 (take 8 (drop offset bytes))
-
 -- the fields where they stand
 unfoldable pub head_at : List ℕ → Head
 head_at bytes = record {
-  kind = number_4_at 8 bytes;
-  format = number_4_at 12 bytes;
-  number = number_at 16 bytes;
-  n = number_at 24 bytes;
-  length = number_at 32 bytes;
-  nodes = number_at 40 bytes;
-  root = number_at 48 bytes;
+  kind = u32_at 8 bytes;
+  format = u32_at 12 bytes;
+  number = u64_at 16 bytes;
+  n = u64_at 24 bytes;
+  length = u64_at 32 bytes;
+  nodes = u64_at 40 bytes;
+  root = u64_at 48 bytes;
 }

@@ -1,6 +1,8 @@
 // The first 64 bytes of an extent's body: what the body is, and how many blocks it has.
-ghost use Rattle.std.specs.Prelude.{◌≡◌, ◌+◌, ◌≤◌, ◌↔◌, ◌++◌, length, take, IfSome, IsNone, IsTrue};
-ghost use Rattle.btr_log.specs.Head.{number_at, number_4_at, head_at, head_bytes, content_blocks, entry_head, IsHead, IsNoHead, Spells};
+ghost use Rattle.std.specs.Prelude.{◌≡◌, ◌↔◌, length, IfSome, IsNone, IsTrue};
+ghost use Rattle.btr_log.specs.Head.{head_at, head_bytes, content_blocks, entry_head, IsHead, IsNoHead, Spells};
+
+use btr_disk::bytes::{put, u32_at, u64_at};
 
 /// Bytes in a head.
 pub const HEAD_BYTES: usize = 64;
@@ -99,50 +101,23 @@ fn blocks_of_content(length: u64) -> u64
     length / 4096 + (length % 4096 + 63) / 4096 + 1
 }
 
-// The fields where they stand, whatever stands there.
+/// The fields at their places, whatever the bytes are.
 fn read_fields(bytes: &[u8]) -> Head
     requires { length bytes.now ≡ 64 }
     ensures { result ≡ head_at bytes.now }
 {
     Head {
-        kind: read_4(bytes, 8),
-        format: read_4(bytes, 12),
-        number: read_8(bytes, 16),
-        n: read_8(bytes, 24),
-        length: read_8(bytes, 32),
-        nodes: read_8(bytes, 40),
-        root: read_8(bytes, 48),
+        kind: u32_at(bytes, 8),
+        format: u32_at(bytes, 12),
+        number: u64_at(bytes, 16),
+        n: u64_at(bytes, 24),
+        length: u64_at(bytes, 32),
+        nodes: u64_at(bytes, 40),
+        root: u64_at(bytes, 48),
     }
 }
 
-// The number of four bytes at this offset.
-fn read_4(bytes: &[u8], at: usize) -> u32
-    requires { at + 4 ≤ length bytes.now }
-    ensures { result ≡ number_4_at at bytes.now }
-{
-    let mut word = [0; 4];
-    word.copy_from_slice(&bytes[at..at + 4]);
-    u32::from_be_bytes(word)
-}
-
-// The number of eight bytes at this offset.
-fn read_8(bytes: &[u8], at: usize) -> u64
-    requires { at + 8 ≤ length bytes.now }
-    ensures { result ≡ number_at at bytes.now }
-{
-    let mut word = [0; 8];
-    word.copy_from_slice(&bytes[at..at + 8]);
-    u64::from_be_bytes(word)
-}
-
-// Writes the piece at this offset.
-pub(crate) fn put(to: &mut [u8], at: usize, piece: &[u8])
-    requires { at + length piece.now ≤ length to.old }
-    ensures { take (at + length piece.now) to.new ≡ take at to.old ++ piece.now }
-{
-    to[at..at + piece.len()].copy_from_slice(piece);
-}
-
+/// Whether two slices have the same bytes.
 fn is_same(first: &[u8], second: &[u8]) -> bool
     ensures { IsTrue result ↔ (first.now ≡ second.now) }
 {

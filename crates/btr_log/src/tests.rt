@@ -6,9 +6,9 @@ ghost use Rattle.btr_log.specs.Log.{blocks_of};
 ghost use Rattle.btr_log.specs.Append.{IsAppendRun};
 
 use super::*;
-use crate::head::put;
 use crate::laws::is_same_head;
 use crate::read::{copy_to_prefix, zeroed};
+use btr_disk::bytes::put;
 use btr_disk::{BLOCK, Capacity, GATE_MARK, MemDisk, is_open_gate};
 use std::alloc::{AllocError, Global};
 use std::process::Abort;

@@ -1,11 +1,8 @@
 -- The bytes of a superblock are written field by field into a block of zeros.
 use Rattle.std.specs.Prelude.{◌≡◌, ℕ, ◌+◌, List, [], ◌++◌, length, take, drop, codes}
 use Rattle.std.proofs.Common.{refl, sym, ◌∙◌, ap, arith, append_assoc, length-append}
-use Rattle.std.proofs.lemmas.List.{replicate-append-replicate, take_at, drop_at}
-use Rattle.std.proofs.lemmas.Slice.{put_mid-paste}
-use Rattle.std.proofs.Math.Seq.{take-length}
+use Rattle.std.proofs.lemmas.List.{replicate-append-replicate, take_at, drop_at, take-append-drop}
 use Rattle.std.specs.Int.{w32, w64, to_be_bytes}
-use borrow.Rule.Slice.PartMut.{put_mid}
 use Rattle.btr_disk.specs.Gate.{zeros}
 use Rattle.btr_disk.proofs.GateLemmas.{length-zeros}
 use Rattle.btr_super.specs.declared.superblock.Super.{Super}
@@ -15,23 +12,23 @@ zeros-add : (m n : ℕ) → zeros (m + n) ≡ zeros m ++ zeros n
 unfolding zeros
 zeros-add m n = sym (replicate-append-replicate m n 0)
 
--- zeros behind a prefix, of which some are now another prefix
-behind : (prefix : List ℕ) (m n : ℕ) → prefix ++ zeros (m + n) ≡ prefix ++ zeros m ++ zeros n
-behind prefix m n = ap (λ z. prefix ++ z) (zeros-add m n) ∙ sym (append_assoc prefix (zeros m) (zeros n))
+-- zeros after a prefix, of which some are now another prefix
+zeros_after : (prefix : List ℕ) (m n : ℕ) → prefix ++ zeros (m + n) ≡ prefix ++ zeros m ++ zeros n
+zeros_after prefix m n = ap (λ z. prefix ++ z) (zeros-add m n) ∙ sym (append_assoc prefix (zeros m) (zeros n))
 
--- where zeros stood behind a prefix, these bytes stand in the place of the first of them
+-- if zeros follow a prefix, these bytes take the place of the first of them
 abbrev pub Puts : ℕ → List ℕ → List ℕ → List ℕ → Type 0
 Puts at bytes old new =
     (prefix : List ℕ) (rest : ℕ) → length prefix ≡ at → old ≡ prefix ++ zeros (length bytes + rest) → new ≡ prefix ++ bytes ++ zeros rest
 
-pub put_mid-grown : (at k : ℕ) (old new bytes : List ℕ) → new ≡ bytes → length bytes ≡ k → Puts at bytes old (put_mid at k old new)
-put_mid-grown at k old new bytes same size prefix rest at_prefix shape =
+-- a piece that is put
+pub put-grown : (at : ℕ) (old new bytes : List ℕ) → take (at + length bytes) new ≡ take at old ++ bytes → drop (at + length bytes) new ≡ drop (at + length bytes) old → Puts at bytes old new
+put-grown at old new bytes begins same prefix rest at_prefix shape =
     let n : ℕ = length bytes in
-    let pasted = put_mid-paste at k old new bytes n same size refl in
     let left : take at old ≡ prefix = ap (take at) shape ∙ take_at prefix (zeros (n + rest)) at at_prefix in
     let there : length (prefix ++ zeros n) ≡ at + n = omega (arith, length-append prefix (zeros n), length-zeros n) in
-    let right : drop (at + n) old ≡ zeros rest = ap (drop (at + n)) (shape ∙ behind prefix n rest) ∙ drop_at (prefix ++ zeros n) (zeros rest) (at + n) there in
-    pasted ∙ ap (λ x. x ++ take n bytes ++ drop (at + n) old) left ∙ ap (λ x. prefix ++ x ++ drop (at + n) old) (take-length bytes) ∙ ap (λ x. prefix ++ bytes ++ x) right
+    let right : drop (at + n) old ≡ zeros rest = ap (drop (at + n)) (shape ∙ zeros_after prefix n rest) ∙ drop_at (prefix ++ zeros n) (zeros rest) (at + n) there in
+    sym (take-append-drop (at + n) new) ∙ ap (λ x. x ++ drop (at + n) new) (begins ∙ ap (λ x. x ++ bytes) left) ∙ ap (λ x. prefix ++ bytes ++ x) (same ∙ right)
 
 -- all fields in a block of zeros
 fields_put : (m f q b t k : List ℕ) (b0 b1 b2 b3 b4 b5 b6 : List ℕ) → length m ≡ 8 → length f ≡ 4 → length q ≡ 8 → length b ≡ 8 → length t ≡ 8 → length k ≡ 8 → b0 ≡ zeros 4096 → Puts 0 m b0 b1 → Puts 8 f b1 b2 → Puts 16 q b2 b3 → Puts 24 b b3 b4 → Puts 32 t b4 b5 → Puts 40 k b5 b6 → b6 ≡ m ++ f ++ zeros 4 ++ q ++ b ++ t ++ k ++ zeros 4048
@@ -50,7 +47,7 @@ fields_put m f q b t k b0 b1 b2 b3 b4 b5 b6 lm lf lq lb lt lk e0 p1 p2 p3 p4 p5 
     let n6 : 4056 ≡ length k + 4048 = omega arith in
     let e1 : b1 ≡ m ++ zeros 4088 = p1 [] 4088 refl (e0 ∙ ap zeros n1) in
     let e2 : b2 ≡ m ++ f ++ zeros 4084 = p2 m 4084 lm (e1 ∙ ap (λ n. m ++ zeros n) n2) in
-    let e3 : b3 ≡ word ++ q ++ zeros 4072 = p3 word 4072 l3 (e2 ∙ ap (λ n. m ++ f ++ zeros n) n3 ∙ behind (m ++ f) 4 (length q + 4072)) in
+    let e3 : b3 ≡ word ++ q ++ zeros 4072 = p3 word 4072 l3 (e2 ∙ ap (λ n. m ++ f ++ zeros n) n3 ∙ zeros_after (m ++ f) 4 (length q + 4072)) in
     let e4 : b4 ≡ word ++ q ++ b ++ zeros 4064 = p4 (word ++ q) 4064 l4 (e3 ∙ ap (λ n. word ++ q ++ zeros n) n4) in
     let e5 : b5 ≡ word ++ q ++ b ++ t ++ zeros 4056 = p5 (word ++ q ++ b) 4056 l5 (e4 ∙ ap (λ n. word ++ q ++ b ++ zeros n) n5) in
     p6 (word ++ q ++ b ++ t) 4048 l6 (e5 ∙ ap (λ n. word ++ q ++ b ++ t ++ zeros n) n6)

@@ -1,22 +1,11 @@
-// A superblock's body as a block, and a block as a superblock's body.
-ghost use Rattle.std.specs.Prelude.{◌≡◌, ◌↔◌, ℕ, ◌+◌, ◌≤◌, List, ◌++◌, length, take, drop, IsTrue, IfSome};
-ghost use Rattle.std.specs.Int.{w32, w64, from_be_bytes};
-ghost use Rattle.btr_disk.specs.Gate.{zeros};
+//! The codec of a superblock's body: from superblock to block and back, and the table that it keeps.
+ghost use Rattle.std.specs.Prelude.{◌≡◌, ◌↔◌, ◌≤◌, length, IsTrue, IfSome};
 ghost use Rattle.btr_super.specs.declared.superblock.Super.{Super};
 ghost use Rattle.btr_super.specs.Super.{super_bytes, IsSuper, FitsFields};
 
 use crate::superblock::{FORMAT, LOG_START, MAX_BLOCKS, MIN_BLOCKS, SUPER_MARK, Super};
 use btr_disk::BLOCK;
-
-/// Writes `bytes` into `block` from the index `at` on.
-fn put(block: &mut [u8], at: usize, bytes: &[u8])
-    requires { at + length bytes.now ≤ length block.old }
-    ensures size { length block.new ≡ length block.old }
-    ensures grown { (prefix : List ℕ) (rest : ℕ) → length prefix ≡ at
-        → block.old ≡ prefix ++ zeros (length bytes.now + rest) → block.new ≡ prefix ++ bytes.now ++ zeros rest }
-{
-    block[at..at + bytes.len()].copy_from_slice(bytes);
-}
+use btr_disk::bytes::{put, u32_at, u64_at};
 
 /// The body of a superblock.
 pub(crate) fn encode(s: &Super) -> [u8; BLOCK]
@@ -30,26 +19,6 @@ pub(crate) fn encode(s: &Super) -> [u8; BLOCK]
     put(&mut block, 32, &s.tail.to_be_bytes());
     put(&mut block, 40, &s.checkpoint.to_be_bytes());
     block
-}
-
-/// The number of four bytes at the index `at`, the first byte highest.
-fn u32_at(block: &[u8], at: usize) -> u32
-    requires { at + 4 ≤ length block.now }
-    ensures { result ≡ from_be_bytes w32 (take 4 (drop at block.now)) }
-{
-    let bytes = &block[at..at + 4];
-    u32::from_be_bytes([bytes[0], bytes[1], bytes[2], bytes[3]])
-}
-
-/// The number of eight bytes at the index `at`, the first byte highest.
-fn u64_at(block: &[u8], at: usize) -> u64
-    requires { at + 8 ≤ length block.now }
-    ensures { result ≡ from_be_bytes w64 (take 8 (drop at block.now)) }
-{
-    let bytes = &block[at..at + 8];
-    u64::from_be_bytes([
-        bytes[0], bytes[1], bytes[2], bytes[3], bytes[4], bytes[5], bytes[6], bytes[7],
-    ])
 }
 
 /// The superblock of this side that a block spells. A superblock has one spelling, and a block that
