@@ -27,7 +27,7 @@ Has-from_each image address (b ∷ bytes) each =
           subst (λ i. image i ≡ get_or bytes k 0) f (each (suc k) (omega arith))),
     )
 
--- where two images agree on the range, both have the bytes
+-- if two images agree on the range, both have the bytes
 pub Has-along : (old new : Image) (address : ℕ) (bytes : List ℕ) → Has old address bytes → ((k : ℕ) → address ≤ k → k < address + length bytes → new k ≡ old k) → Has new address bytes
 Has-along old new address bytes has agree =
     Has-from_each new address bytes (λ k lt. agree (address + k) (omega arith) (omega arith) ∙ Has-at old address bytes has k lt)
@@ -35,7 +35,7 @@ Has-along old new address bytes has agree =
 pub Has-Same : (old new : Image) (address : ℕ) (bytes : List ℕ) → Same old new → Has old address bytes → Has new address bytes
 Has-Same old new address bytes same has = Has-along old new address bytes has (λ k low high. same k)
 
--- one list at most of a length stands at an address
+-- at most one list of a length is at an address
 pub Has-one : (image : Image) (address : ℕ) (xs ys : List ℕ) → length xs ≡ length ys → Has image address xs → Has image address ys → xs ≡ ys
 Has-one image address xs ys size x y =
     ext_get_or 0 xs ys size (λ k lt. sym (Has-at image address xs x k lt) ∙ Has-at image address ys y k (omega arith))
@@ -124,7 +124,7 @@ pub SameBut-wider : (address n wide more : ℕ) (old new : Image) → wide ≤ a
 SameBut-wider address n wide more old new low high but =
     record { below = λ k lt. but.below k (omega arith); above = λ k le. but.above k (omega arith) }
 
--- the prefix, and then the second behind it
+-- a list in two parts
 pub Has-append : (image : Image) (address : ℕ) (xs ys : List ℕ) → Has image address (xs ++ ys) → Has image address xs × Has image (address + length xs) ys
 Has-append image address [] ys has =
     let e : address ≡ address + 0 = omega arith in
@@ -142,6 +142,6 @@ Has-joined image address (x ∷ xs) ys first second =
     let e : address + suc (length xs) ≡ suc address + length xs = omega arith in
     (first.0, Has-joined image (suc address) xs ys first.1 (subst (λ a. Has image a ys) e second))
 
--- a prefix of what stands there
+-- a prefix of the bytes at an address
 pub Has-take : (image : Image) (address n : ℕ) (xs : List ℕ) → Has image address xs → Has image address (take n xs)
 Has-take image address n xs has = (Has-append image address (take n xs) (drop n xs) (subst (Has image address) (sym (take-append-drop n xs)) has)).0

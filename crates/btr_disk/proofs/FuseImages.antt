@@ -1,9 +1,9 @@
 -- How the images of a fuse change as a call is passed on or refused.
-use Rattle.std.specs.Prelude.{◌≡◌, ◌⊎◌, ℕ, ◌+◌, ◌*◌, ◌/◌, ◌≤◌, min}
+use Rattle.std.specs.Prelude.{◌≡◌, ℕ, ◌*◌, ◌/◌, ◌≤◌, min}
 use Rattle.std.proofs.Common.{sym, ◌∙◌, subst, inl, inr, ⊎_elim, arith}
 use Rattle.btr_disk.specs.declared.disk.Disk.{Ghosts}
 use Rattle.btr_disk.specs.declared.fuse.FuseDisk.{FuseDisk}
-use Rattle.btr_disk.specs.Bytes.{Image, AreBytes, SameBut}
+use Rattle.btr_disk.specs.Bytes.{Image, AreBytes}
 use Rattle.btr_disk.specs.Images.{Only, SameImages, Torn, MayTear, Tears}
 use Rattle.btr_disk.specs.Moments.{Elapses}
 use Rattle.btr_disk.specs.Torn.{IsTornAt, Tore}

@@ -35,7 +35,7 @@ module _ (old : Image) (address : ℕ) (body : List ℕ) (place : ℕ) where
       inl (SameBut-trans address (length body) old mid c but (SameBut-from_Same address (length body) mid c same))
 
   module _ (below : IsOutside address (length body) place) (above : place < address → place + 4096 ≤ address) where
-    -- the gate's block is outside the body's place
+    -- the gate's block is outside the body's blocks
     apart : (k : ℕ) → address ≤ k → k < address + length body → IsOutside place 4096 k
     apart k low high le =
         ⊎_elim (λ lt. omega (arith, above lt)) (λ ge. absurd (omega (arith, below ge))) (cases_lt place address)
@@ -52,7 +52,7 @@ module _ (old : Image) (address : ℕ) (body : List ℕ) (place : ℕ) where
         let from = torn c left in
         inr (with_body mid c has but (SameBut-trans place 4096 mid from.0 c (SameBut-from_Same place 4096 mid from.0 (only.each from.0 from.1)) from.2))
 
-    -- what stands after it, where it succeeded
+    -- what the device has after it, if it succeeded
     pub gate_written : (mid c : Image) (gate : List ℕ) → Has mid address body → SameBut address (length body) old mid → SameBut place 4096 mid c → Has c place gate → Published old address body place gate c
     gate_written mid c gate has but then stored =
         let it = with_body mid c has but then in

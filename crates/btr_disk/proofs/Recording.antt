@@ -1,28 +1,18 @@
 -- How the images of a device in memory change as a call enters its record, or is left out of it.
-use Rattle.std.specs.Prelude.{◌≡◌, ℕ, ◌+◌, ◌-◌, ◌*◌, ◌/◌, ◌<◌, ◌≤◌, ◌⊎◌, Bool, true, false, Some, slice_get, List, [], ◌∷◌, ◌++◌, length, take, drop, reverse, MatchBool}
+use Rattle.std.specs.Prelude.{◌≡◌, ℕ, ◌+◌, ◌-◌, ◌*◌, ◌/◌, ◌<◌, ◌≤◌, Bool, true, false, List, [], ◌∷◌, ◌++◌, length, take, drop, reverse, MatchBool}
 use Rattle.std.proofs.Common.{get_or, refl, sym, ◌∙◌, ap, subst, inl, inr, ⊎_elim, arith, length-append, length-take, get_or-take, get_or-drop}
-use Rattle.std.proofs.lemmas.Bool.{cases_lt}
 use Rattle.std.proofs.lemmas.List.{get_or_append_left, get_or-append_right, reverse-append, length-reverse, take_at, drop_at, append-nil}
-use Rattle.btr_disk.specs.Bytes.{Image, Has, Same, SameBut, IsOutside, AreBytes}
+use Rattle.btr_disk.specs.Bytes.{Image, Has, Same, SameBut, AreBytes}
 use Rattle.btr_disk.specs.Images.{Torn, MayTear, Tears}
 use Rattle.btr_disk.specs.Moments.{Elapses}
-use Rattle.btr_disk.proofs.ByteLemmas.{Has-at, Has-from_each, Same-is, Same-refl, SameBut-refl, SameBut-at, SameBut-sym, SameBut-patched, patched, patched-inside, AreBytes-patched, cases_range}
-use Rattle.btr_disk.specs.CallRecord.{contents_of, MayLeave, MayHaveLeft, IsBefore, IsUnsyncedAt, replaced_before, newest_first, call_count, Records, IsLeftOut, TearsOnly}
+use Rattle.btr_disk.proofs.ByteLemmas.{Has-at, Has-from_each, Same-is, Same-refl, SameBut-at, SameBut-sym, SameBut-patched, patched, patched-inside, AreBytes-patched, cases_range}
+use Rattle.btr_disk.specs.CallRecord.{contents_of, MayLeave, MayHaveLeft, MayLeaveNow, MayLeaveSince, IsBefore, IsUnsyncedAt, replaced_before, newest_first, call_count, Records, IsLeftOut, TearsOnly}
 use Rattle.btr_disk.specs.Torn.{IsTornAt, Tore}
 use Rattle.btr_disk.proofs.TornBlocks.{is_torn, same_torn, more_torn}
 use Rattle.btr_disk.specs.declared.call_record.Call.{Call}
 use Rattle.btr_disk.specs.declared.call_record.Call.TheVariants.{Nothing, Wrote, Synced}
 use Rattle.btr_disk.specs.declared.call_record.CallRecord.{CallRecord}
 use Rattle.btr_disk.specs.RecordLaws.{MayLeave-torn}
-
--- what a crash may have left since a call number
-abbrev since : Image → CallRecord → ℕ → Image → Type 0
-since now made t c =
-    MayLeave now (newest_first made) made.torn.flags.items c ⊎ MayHaveLeft now (newest_first made) made.replaced.items t c
-
--- what it may leave now
-abbrev left_now : Image → CallRecord → Image → Type 0
-left_now now made = MayLeave now (newest_first made) made.torn.flags.items
 
 -- a call enters: what a read returned before it is known, and so is what earlier writes replaced
 enters : (call : Call) (calls : List Call) (was now : Image) (replaced after : List ℕ) → IsBefore call after now was → ((past : Image) → IsBefore call after now past → Same past was) → replaced_before call after ≡ replaced → Elapses (length calls) (MayHaveLeft was calls replaced) (MayHaveLeft now (call ∷ calls) after) (MayLeave now (call ∷ calls) [])
@@ -41,14 +31,14 @@ from_now now [] replaced t c left = left
 from_now now (call ∷ earlier) replaced t c left = inl left
 
 -- no block of a record that is not full is torn
-untorn : (made : CallRecord) → made.unrecorded ≡ 0 → (now : Image) (t : ℕ) (c : Image) → since now made t c → MayHaveLeft now (newest_first made) made.replaced.items t c
+untorn : (made : CallRecord) → made.unrecorded ≡ 0 → (now : Image) (t : ℕ) (c : Image) → MayLeaveSince now made t c → MayHaveLeft now (newest_first made) made.replaced.items t c
 untorn made none now t c =
     ⊎_elim
     (λ left. from_now now (newest_first made) made.replaced.items t c (record { bytes = left.bytes; synced = λ k no _. left.synced k no (made.untorn none (k / 4096)) }))
     (λ left. left)
 
--- the same over the record of the device
-recorded : (call : Call) (bytes : List ℕ) (was now : Image) (old new : CallRecord) → Records call bytes old new → Elapses (length (newest_first old)) (MayHaveLeft was (newest_first old) old.replaced.items) (MayHaveLeft now (call ∷ newest_first old) new.replaced.items) (MayLeave now (call ∷ newest_first old) []) → Elapses (call_count old) (since was old) (since now new) (left_now now new)
+-- a call enters the record of the device
+recorded : (call : Call) (bytes : List ℕ) (was now : Image) (old new : CallRecord) → Records call bytes old new → Elapses (length (newest_first old)) (MayHaveLeft was (newest_first old) old.replaced.items) (MayHaveLeft now (call ∷ newest_first old) new.replaced.items) (MayLeave now (call ∷ newest_first old) []) → Elapses (call_count old) (MayLeaveSince was old) (MayLeaveSince now new) (MayLeaveNow now new)
 recorded call bytes was now old new it time =
     let newest : newest_first new ≡ call ∷ newest_first old = ap reverse it.calls ∙ reverse-append old.calls.items (call ∷ []) in
     let size : length (newest_first old) ≡ call_count old = omega (arith, length-reverse old.calls.items, it.none_unrecorded) in
@@ -66,18 +56,18 @@ recorded call bytes was now old new it time =
     }
 
 -- a call that does nothing, as a read
-pub nothing_recorded : (now : Image) (old new : CallRecord) → Records Nothing [] old new → Elapses (call_count old) (since now old) (since now new) (left_now now new)
+pub nothing_recorded : (now : Image) (old new : CallRecord) → Records Nothing [] old new → Elapses (call_count old) (MayLeaveSince now old) (MayLeaveSince now new) (MayLeaveNow now new)
 nothing_recorded now old new it =
     recorded Nothing [] now now old new it
     (enters Nothing (newest_first old) now now old.replaced.items new.replaced.items (Same-refl now) (λ past same k. sym (same k)) (it.replaced ∙ append-nil old.replaced.items))
 
-pub sync_recorded : (now : Image) (old new : CallRecord) → Records Synced [] old new → Elapses (call_count old) (since now old) (since now new) (left_now now new)
+pub sync_recorded : (now : Image) (old new : CallRecord) → Records Synced [] old new → Elapses (call_count old) (MayLeaveSince now old) (MayLeaveSince now new) (MayLeaveNow now new)
 sync_recorded now old new it =
     recorded Synced [] now now old new it
     (enters Synced (newest_first old) now now old.replaced.items new.replaced.items (Same-refl now) (λ past same k. sym (same k)) (it.replaced ∙ append-nil old.replaced.items))
 
--- a call that was left out, and after it blocks may be torn
-left_out : (now : Image) (old new : CallRecord) → new.calls.items ≡ old.calls.items → new.replaced.items ≡ old.replaced.items → ((k : ℕ) → IsTornAt old.torn.flags.items k → IsTornAt new.torn.flags.items k) → Elapses (call_count old) (since now old) (since now new) (left_now now new)
+-- a call that was left out, after which blocks may be torn
+left_out : (now : Image) (old new : CallRecord) → new.calls.items ≡ old.calls.items → new.replaced.items ≡ old.replaced.items → ((k : ℕ) → IsTornAt old.torn.flags.items k → IsTornAt new.torn.flags.items k) → Elapses (call_count old) (MayLeaveSince now old) (MayLeaveSince now new) (MayLeaveNow now new)
 left_out now old new same_calls same_replaced more =
     let newest : newest_first new ≡ newest_first old = ap reverse same_calls in
     record {
@@ -92,11 +82,11 @@ left_out now old new same_calls same_replaced more =
           (λ p. inr (subst (λ (l : List ℕ). MayHaveLeft now (newest_first new) l t c) (sym same_replaced) (subst (λ (l : List Call). MayHaveLeft now l old.replaced.items t c) (sym newest) p))) left;
     }
 
-pub counted_alone : (now : Image) (old new : CallRecord) → IsLeftOut old new → Elapses (call_count old) (since now old) (since now new) (left_now now new)
+pub counted_alone : (now : Image) (old new : CallRecord) → IsLeftOut old new → Elapses (call_count old) (MayLeaveSince now old) (MayLeaveSince now new) (MayLeaveNow now new)
 counted_alone now old new it =
     left_out now old new it.calls it.replaced (λ k is. subst (λ l. IsTornAt l k) (sym it.torn) is)
 
-pub nothing_either : (r : Bool) (now : Image) (old new : CallRecord) → MatchBool r (Records Nothing [] old new) (IsLeftOut old new) → Elapses (call_count old) (since now old) (since now new) (left_now now new)
+pub nothing_either : (r : Bool) (now : Image) (old new : CallRecord) → MatchBool r (Records Nothing [] old new) (IsLeftOut old new) → Elapses (call_count old) (MayLeaveSince now old) (MayLeaveSince now new) (MayLeaveNow now new)
 nothing_either true now old new it = nothing_recorded now old new it
 nothing_either false now old new it = counted_alone now old new it
 
@@ -113,7 +103,7 @@ same_by_parts address n bytes now was past size but has other_but other_has k =
     (cases_range address n k)
 
 -- a write
-pub write_recorded : (address n : ℕ) (bytes : List ℕ) (was now : Image) (old new : CallRecord) → length bytes ≡ n → Records (Wrote address n) bytes old new → Has was address bytes → SameBut address n was now → Elapses (call_count old) (since was old) (since now new) (left_now now new)
+pub write_recorded : (address n : ℕ) (bytes : List ℕ) (was now : Image) (old new : CallRecord) → length bytes ≡ n → Records (Wrote address n) bytes old new → Has was address bytes → SameBut address n was now → Elapses (call_count old) (MayLeaveSince was old) (MayLeaveSince now new) (MayLeaveNow now new)
 write_recorded address n bytes was now old new size it has but =
     let total : length new.replaced.items ≡ length old.replaced.items + n = ap length it.replaced ∙ length-append old.replaced.items bytes ∙ ap (λ (x : ℕ). length old.replaced.items + x) size in
     let start : length new.replaced.items - n ≡ length old.replaced.items = omega arith in
@@ -131,7 +121,7 @@ module _ (address n : ℕ) (bytes : List ℕ) (was now : Image) (old new : CallR
   newest : newest_first new ≡ Wrote address n ∷ newest_first old
   newest = ap reverse it.calls ∙ reverse-append old.calls.items (Wrote address n ∷ [])
 
-  write_torn : AreBytes was → Torn address n (left_now was old) (left_now now new)
+  write_torn : AreBytes was → Torn address n (MayLeaveNow was old) (MayLeaveNow now new)
   write_torn are c left =
       let here : MayLeave now (Wrote address n ∷ newest_first old) new.torn.flags.items c = subst (λ (l : List Call). MayLeave now l new.torn.flags.items c) newest left in
       let d : Image = patched address n was c in (
@@ -150,7 +140,7 @@ module _ (address n : ℕ) (bytes : List ℕ) (was now : Image) (old new : CallR
         SameBut-sym address n c d (SameBut-patched address n was c),
       )
 
-  write_tears : MayTear address n (left_now was old) (left_now now new)
+  write_tears : MayTear address n (MayLeaveNow was old) (MayLeaveNow now new)
   write_tears c d left same are =
       subst (λ (l : List Call). MayLeave now l new.torn.flags.items c) (sym newest)
       (record {
@@ -165,7 +155,7 @@ module _ (address n : ℕ) (bytes : List ℕ) (was now : Image) (old new : CallR
             (cases_range address n k);
       })
 
-  pub write_images : AreBytes was → Tears address n (left_now was old) (left_now now new)
+  pub write_images : AreBytes was → Tears address n (MayLeaveNow was old) (MayLeaveNow now new)
   write_images are = record { torn = write_torn are; unsynced = write_tears }
 
 -- a write that was left out, and whose blocks were marked as torn
@@ -176,10 +166,10 @@ module _ (first count : ℕ) (now : Image) (old mid new : CallRecord) (out : IsL
   tore : Tore first count old.torn.flags.items new.torn.flags.items
   tore = subst (λ l. Tore first count l new.torn.flags.items) out.torn it.torn
 
-  pub tear_time : Elapses (call_count old) (since now old) (since now new) (left_now now new)
+  pub tear_time : Elapses (call_count old) (MayLeaveSince now old) (MayLeaveSince now new) (MayLeaveNow now new)
   tear_time = left_out now old new (it.calls ∙ out.calls) (it.replaced ∙ out.replaced) (more_torn first count old.torn.flags.items new.torn.flags.items tore)
 
-  tear_torn : AreBytes now → Torn (4096 * first) (4096 * count) (left_now now old) (left_now now new)
+  tear_torn : AreBytes now → Torn (4096 * first) (4096 * count) (MayLeaveNow now old) (MayLeaveNow now new)
   tear_torn are c left =
       let a = 4096 * first in
       let n = 4096 * count in
@@ -198,7 +188,7 @@ module _ (first count : ℕ) (now : Image) (old mid new : CallRecord) (out : IsL
         SameBut-sym a n c d (SameBut-patched a n now c),
       )
 
-  tear_tears : MayTear (4096 * first) (4096 * count) (left_now now old) (left_now now new)
+  tear_tears : MayTear (4096 * first) (4096 * count) (MayLeaveNow now old) (MayLeaveNow now new)
   tear_tears c d left same are =
       let a = 4096 * first in
       let n = 4096 * count in
@@ -213,7 +203,7 @@ module _ (first count : ℕ) (now : Image) (old mid new : CallRecord) (out : IsL
             (cases_range a n k);
       }
 
-  pub tear_images : AreBytes now → Tears (4096 * first) (4096 * count) (left_now now old) (left_now now new)
+  pub tear_images : AreBytes now → Tears (4096 * first) (4096 * count) (MayLeaveNow now old) (MayLeaveNow now new)
   tear_images are = record { torn = tear_torn are; unsynced = tear_tears }
 
 -- a part of the contents, by the address where it begins

@@ -1,5 +1,6 @@
 -- What a device in memory remembers of its calls, and the images that follow from it.
-use Rattle.std.specs.Prelude.{◌≡◌, ◌⊎◌, ℕ, ◌+◌, ◌-◌, ◌*◌, ◌<◌, ◌≤◌, Bool, List, [], ◌∷◌, ◌++◌, length, take, drop, reverse, slice_index, vec_len, vec_capacity}
+use Rattle.std.specs.Prelude.{◌≡◌, ◌⊎◌, ℕ, ◌+◌, ◌-◌, ◌*◌, ◌<◌, ◌≤◌, Bool, List, [], ◌∷◌, ◌++◌, length, take, drop, reverse}
+use Rattle.std.specs.Prelude.{slice_index, vec_len, vec_capacity}
 use Rattle.btr_disk.specs.Bytes.{Image, Has, Same, SameBut, AreBytes}
 use Rattle.btr_disk.specs.Causes.{Counted}
 use Rattle.btr_disk.specs.Torn.{IsTornAt, Tore}
@@ -40,11 +41,20 @@ abbrev pub MayHaveLeft : Image → List Call → List ℕ → ℕ → Image → 
 MayHaveLeft now [] replaced t c = MayLeave now [] [] c
 MayHaveLeft now (call ∷ earlier) replaced t c =
     MayLeave now (call ∷ earlier) [] c
-    ⊎ ((t ≤ length earlier) × ((past : Image) × IsBefore call replaced now past × MayHaveLeft past earlier (replaced_before call replaced) t c))
+    ⊎ ((t ≤ length earlier)
+    × ((past : Image) × IsBefore call replaced now past × MayHaveLeft past earlier (replaced_before call replaced) t c))
 
 -- The calls of the record, the newest first.
 abbrev pub newest_first : CallRecord → List Call
 newest_first made = reverse made.calls.items
+
+-- What a crash may leave now, of a device that has these contents.
+abbrev pub MayLeaveNow : Image → CallRecord → Image → Type 0
+MayLeaveNow now made = MayLeave now (newest_first made) made.torn.flags.items
+
+-- What a crash may leave now, or may have left after the call number or a later call of the record.
+abbrev pub MayLeaveSince : Image → CallRecord → ℕ → Image → Type 0
+MayLeaveSince now made t c = MayLeaveNow now made c ⊎ MayHaveLeft now (newest_first made) made.replaced.items t c
 
 -- How many calls were made, with those that the record left out.
 abbrev pub call_count : CallRecord → ℕ

@@ -39,7 +39,8 @@ pub record KeepsCounts {D : Type 0} (size calls faults : D → ℕ) (old new : D
   pub more_faults : faults old ≤ faults new
 
 -- Calls of a device: it has as many blocks as before, at most n calls were counted, and a fault has its cause.
-pub record UsesDevice {D T E : Type 0} (n : ℕ) (size calls faults : D → ℕ) (old new : D) (result : Result T E) (fault : Type 0) : Type 0 where
+pub record UsesDevice {D T E : Type 0} (n : ℕ) (size calls faults : D → ℕ) (old new : D) (result : Result T E) (fault : Type 0)
+    : Type 0 where
   pub same_size : size new ≡ size old
   pub counted : CountsCalls n (calls old) (calls new) result
   pub cause : CausesFault (faults old) (faults new) fault

@@ -1,23 +1,23 @@
--- Gates: a block that is open or closed, and so decides whether what stands behind it counts.
+-- Gates: a gate is a block that is open or closed, and so decides whether the blocks after it count.
 use Rattle.std.specs.Prelude.{ℕ, ◌*◌, List, ◌++◌, replicate, codes}
 use Rattle.btr_disk.specs.Bytes.{Image, Has}
 
--- ASCII `BTR-GATE`
+-- ASCII `BTR-GATE`.
 abbrev pub mark : List ℕ
 mark = codes "BTR-GATE"
 
--- the block begins with the mark, whatever follows
+-- The block begins with the mark, whatever follows.
 abbrev pub IsOpen : Image → ℕ → Type 0
 IsOpen image block = Has image (4096 * block) mark
 
--- every other block is closed
+-- Every other block is closed.
 abbrev pub IsClosed : Image → ℕ → Type 0
 IsClosed image block = IsOpen image block → ⊥
 
--- zeros, so many
+-- A list of n zeros.
 unfoldable pub zeros : ℕ → List ℕ
 zeros n = replicate n 0
 
--- an open gate as it is written: the mark, and then zeros
+-- An open gate as it is written: the mark, and then zeros.
 abbrev pub gate_block : List ℕ
 gate_block = mark ++ zeros 4088

@@ -1,22 +1,22 @@
--- What a crash may leave: sets of images, and how a call may change them.
+-- What a crash may leave: sets of images, and how calls change them.
 use Rattle.std.specs.Prelude.{◌≡◌, ◌≢◌, ℕ, ◌+◌, ◌<◌, ◌≤◌}
 use Rattle.btr_disk.specs.Bytes.{Image, Same, SameBut, SameButTwo, AreBytes}
 
--- the images are these contents and nothing else
+-- The contents are the only image.
 pub record Only (contents : Image) (images : Image → Type 0) : Type 0 where
   pub each : (c : Image) → images c → Same contents c
   pub itself : (c : Image) → Same contents c → images c
 
--- no image is gone, and none is new
+-- No image is gone, and none is new.
 pub record SameImages (old new : Image → Type 0) : Type 0 where
   pub none_new : (c : Image) → new c → old c
   pub none_gone : (c : Image) → old c → new c
 
--- each new image is an old one but for the `length` addresses from this one on
+-- Each new image is an old one but for the `length` addresses from this one on.
 abbrev pub Torn : ℕ → ℕ → (Image → Type 0) → (Image → Type 0) → Type 0
 Torn address length old new = (c : Image) → new c → (d : Image) × old d × SameBut address length d c
 
--- an old image with any bytes at the `length` addresses from this one on is a new one
+-- An old image with any bytes at the `length` addresses from this one on is a new one.
 abbrev pub MayTear : ℕ → ℕ → (Image → Type 0) → (Image → Type 0) → Type 0
 MayTear address length old new = (c d : Image) → old d → SameBut address length d c → AreBytes c → new c
 
@@ -25,26 +25,26 @@ pub record Tears (address length : ℕ) (old new : Image → Type 0) : Type 0 wh
   pub torn : Torn address length old new
   pub unsynced : MayTear address length old new
 
--- two ranges in place of one: each new image is an old one but for these
+-- Each new image is an old one but for two ranges.
 abbrev pub TornTwice : ℕ → ℕ → ℕ → ℕ → (Image → Type 0) → (Image → Type 0) → Type 0
 TornTwice address length other more old new =
     (c : Image) → new c → (d : Image) × old d × SameButTwo address length other more d c
 
--- and an old image with any bytes in these is a new one
+-- An old image with any bytes in two ranges is a new one.
 abbrev pub MayTearTwice : ℕ → ℕ → ℕ → ℕ → (Image → Type 0) → (Image → Type 0) → Type 0
 MayTearTwice address length other more old new =
     (c d : Image) → old d → SameButTwo address length other more d c → AreBytes c → new c
 
--- each image has this byte at the address k
+-- Each image has this byte at the address k.
 abbrev pub AllHave : ℕ → ℕ → (Image → Type 0) → Type 0
 AllHave k byte images = (c : Image) → images c → c k ≡ byte
 
--- each image is these contents but for the `length` addresses from this one on, and so is each beside each other
+-- Each image differs from the contents, and from each other image, at most at the `length` addresses from this one on.
 pub record DifferIn (address length : ℕ) (contents : Image) (images : Image → Type 0) : Type 0 where
   pub each : (c : Image) → images c → SameBut address length contents c
   pub two : (c d : Image) → images c → images d → SameBut address length c d
 
--- a crash may leave these addresses as they were, as they are, or with bytes that were at none of both times there
+-- A crash may leave these addresses as they were, as a read returns them, or with bytes that are neither.
 pub record IsUnsynced (address length : ℕ) (old new : Image) (images : Image → Type 0) : Type 0 where
   pub before : images old
   pub after : images new

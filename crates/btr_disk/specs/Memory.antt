@@ -1,18 +1,17 @@
 -- What a device in memory means: its images now, those since a call number, and which of its calls fail.
-use Rattle.std.specs.Prelude.{ℕ, ◌⊎◌, ◌==◌, Bool, length, IsTrue, IsFalse}
+use Rattle.std.specs.Prelude.{ℕ, ◌==◌, Bool, length, IsTrue, IsFalse}
 use Rattle.std.specs.List.{list_any}
 use Rattle.btr_disk.specs.Bytes.{Image}
-use Rattle.btr_disk.specs.CallRecord.{CanRecord, contents_of, MayLeave, MayHaveLeft, newest_first}
+use Rattle.btr_disk.specs.CallRecord.{CanRecord, contents_of, MayLeaveNow, MayLeaveSince}
 use Rattle.btr_disk.specs.declared.memory.MemDisk.{MemDisk}
 
 -- What a crash may leave now.
 abbrev pub images_of : MemDisk → Image → Type 0
-images_of disk = MayLeave (contents_of disk.bytes.items) (newest_first disk.made) disk.made.torn.flags.items
+images_of disk = MayLeaveNow (contents_of disk.bytes.items) disk.made
 
--- What a crash may leave now, or may have left after the call number or a later call of the record.
+-- What a crash may leave now, or may have left after the call number or a later call.
 abbrev pub since_of : MemDisk → ℕ → Image → Type 0
-since_of disk t c =
-    images_of disk c ⊎ MayHaveLeft (contents_of disk.bytes.items) (newest_first disk.made) disk.made.replaced.items t c
+since_of disk = MayLeaveSince (contents_of disk.bytes.items) disk.made
 
 -- The number of the next call is in the list of those that fail.
 abbrev pub is_listed : MemDisk → Bool

@@ -1,5 +1,6 @@
 //! What a device in memory remembers of its calls. The memory for it is allocated when the device is made.
-ghost use Rattle.std.specs.Prelude.{◌≡◌, ◌+◌, ◌-◌, ◌^◌, ◌<◌, ◌≤◌, ℕ, min, [], ◌++◌, ◌↔◌, length, IfOk, IsTrue, MatchBool, vec_len, vec_capacity};
+ghost use Rattle.std.specs.Prelude.{◌≡◌, ◌+◌, ◌-◌, ◌^◌, ◌<◌, ◌≤◌, ℕ, min, [], ◌++◌, ◌↔◌, length, IfOk, IsTrue, MatchBool};
+ghost use Rattle.std.specs.Prelude.{vec_len, vec_capacity};
 ghost use Rattle.btr_disk.specs.Torn.{IsUntorn};
 
 use crate::torn::TornBlocks;

@@ -73,7 +73,7 @@ impl<D: Disk> Disk for FuseDisk<D> {
     ghost use Rattle.btr_disk.specs.Moments.{Elapses};
     ghost use Rattle.btr_disk.specs.Causes.{Counted, HasCause};
     ghost use Rattle.btr_disk.specs.Fuse.{RefusesIfBlown, FuseMayLeave, FuseMayHaveLeft, fuse_calls, fuse_faults};
-    ghost use Rattle.btr_disk.specs.FuseLaws.{of_passed, fuse_counts_now, fuse_only_now, fuse_fewer_later};
+    ghost use Rattle.btr_disk.specs.FuseLaws.{fuse_reads, fuse_counts_now, fuse_only_now, fuse_fewer_later};
 
     ghost is_observable = { D.is_observable };
 
@@ -91,19 +91,23 @@ impl<D: Disk> Disk for FuseDisk<D> {
 
     ghost image_bytes = { λ is_observable fuse c left. left.bytes };
 
-    ghost reads_as_image = { λ is_observable fuse. of_passed fuse (D.contents fuse.disk) (D.image_bytes is_observable fuse.disk (D.contents fuse.disk) (D.reads_as_image is_observable fuse.disk)) (D.reads_as_image is_observable fuse.disk) };
+    ghost reads_as_image = { λ is_observable fuse. fuse_reads fuse
+        (D.image_bytes is_observable fuse.disk (D.contents fuse.disk) (D.reads_as_image is_observable fuse.disk))
+        (D.reads_as_image is_observable fuse.disk) };
 
     ghost counts_now = { λ is_observable fuse t c le left. fuse_counts_now fuse t c left };
 
-    ghost only_now = { λ is_observable fuse c left. fuse_only_now fuse c (D.image_bytes is_observable fuse.disk) (D.only_now is_observable fuse.disk c) left };
+    ghost only_now = { λ is_observable fuse c left.
+        fuse_only_now fuse c (D.image_bytes is_observable fuse.disk) (D.only_now is_observable fuse.disk c) left };
 
-    ghost fewer_later = { λ is_observable fuse s t c le _ left. fuse_fewer_later fuse s t c le (λ a b. D.fewer_later is_observable fuse.disk a b c) left };
+    ghost fewer_later = { λ is_observable fuse s t c le _ left.
+        fuse_fewer_later fuse s t c le (λ a b. D.fewer_later is_observable fuse.disk a b c) left };
 
     fn blocks(&self) -> u64 {
         self.disk.blocks()
     }
 
-    // The clauses of the trait, and one more: which calls are refused.
+    /// The clauses of the trait, and one more: which calls are refused.
     fn read(&mut self, first: u64, buf: &mut [u8]) -> Result<(), Failed>
         requires { IsBlockRange (D.size self.old.disk) first (length buf.old) }
         ensures size { D.size self.new.disk ≡ D.size self.old.disk }
@@ -122,14 +126,15 @@ impl<D: Disk> Disk for FuseDisk<D> {
         }
     }
 
-    // The clauses of the trait, and one more: which calls are refused.
+    /// The clauses of the trait, and one more: which calls are refused.
     fn write(&mut self, first: u64, bytes: &[u8]) -> Result<(), Failed>
         requires { IsBlockRange (D.size self.old.disk) first (length bytes.now) }
         ensures size { D.size self.new.disk ≡ D.size self.old.disk }
         ensures calls { Counted (fuse_calls self.old) (fuse_calls self.new) }
         ensures cause { HasCause (fuse_faults self.old) (fuse_faults self.new) result }
         ensures written { D.is_observable → OnOk result (Has (D.contents self.new.disk) (4096 * first) bytes.now) }
-        ensures elsewhere { D.is_observable → SameBut (4096 * first) (length bytes.now) (D.contents self.old.disk) (D.contents self.new.disk) }
+        ensures elsewhere { D.is_observable
+            → SameBut (4096 * first) (length bytes.now) (D.contents self.old.disk) (D.contents self.new.disk) }
         ensures images { D.is_observable → Tears (4096 * first) (length bytes.now) (FuseMayLeave self.old) (FuseMayLeave self.new) }
         ensures time { D.is_observable
             → Elapses (fuse_calls self.old) (FuseMayHaveLeft self.old) (FuseMayHaveLeft self.new) (FuseMayLeave self.new) }
@@ -144,7 +149,7 @@ impl<D: Disk> Disk for FuseDisk<D> {
         }
     }
 
-    // The clauses of the trait, and one more: which calls are refused.
+    /// The clauses of the trait, and one more: which calls are refused.
     fn sync(&mut self) -> Result<(), Failed>
         ensures size { D.size self.new.disk ≡ D.size self.old.disk }
         ensures calls { Counted (fuse_calls self.old) (fuse_calls self.new) }

@@ -12,7 +12,7 @@ use crate::{BLOCK, Disk, Failed};
 /// The first eight bytes of an open gate: ASCII `BTR-GATE`.
 pub const GATE_MARK: [u8; 8] = *b"BTR-GATE";
 
-/// Whether a block is an open gate: whether it begins with the mark. Its other bytes do not matter.
+/// Whether a block is an open gate: it begins with the mark. Its other bytes do not matter.
 pub fn is_open_gate(block: &[u8]) -> bool
     requires { 8 ≤ length block.now }
     ensures { IsTrue result ↔ (take 8 block.now ≡ mark) }
@@ -32,11 +32,12 @@ pub fn open_gate() -> [u8; BLOCK]
 
 /// Makes `body` durable at block `first`, and then writes `gate`, one block, at block `at`, durably.
 ///
-/// Both are whole blocks inside the device, and the gate's block is outside the body's. Four calls:
-/// a write and a sync for each. A crash before the gate is written leaves all blocks but the body's
-/// as they were, the gate's old block among them; a crash from then on finds the whole body. After
-/// `Ok` both stand there and no crash takes them away. `Failed` comes from the device, and leaves
-/// what a crash at that moment might.
+/// The caller passes whole blocks inside the device, and a gate outside the body. It makes four calls, a
+/// write and a sync for each of the two, and stops at the first that fails.
+///
+/// A crash before the gate is written leaves all blocks but the body's as they were, also the gate's
+/// old block. A crash after that leaves the whole body. After `Ok` both are durable. After `Failed` the
+/// device is as a crash at that moment might leave it.
 pub fn publish<D: Disk>(
     device: &mut D,
     first: u64,
@@ -55,9 +56,10 @@ pub fn publish<D: Disk>(
     ensures published { D.is_observable
         → OnOk result (Published (D.contents device.old) (4096 * first) body.now (4096 * at) gate.now (D.contents device.new)) }
     ensures synced { D.is_observable → OnOk result (Only (D.contents device.new) (D.images_now device.new)) }
-    // where a crash before it left what a read gives
+    // Given that a crash before the call left what a read returns.
     ensures moments { D.is_observable → Only (D.contents device.old) (D.images_now device.old)
-        → Leaves D.calls D.images_since device.old device.new (IsBeforeOrHasBody (D.contents device.old) (4096 * first) body.now (4096 * at)) }
+        → Leaves D.calls D.images_since device.old device.new
+        (IsBeforeOrHasBody (D.contents device.old) (4096 * first) body.now (4096 * at)) }
 {
     device.write(first, body)?;
     device.sync()?;

@@ -20,9 +20,11 @@ pub fn write_two<D: Disk>(
     ensures size { D.size device.new ≡ D.size device.old }
     ensures cause { HasCause (D.faults device.old) (D.faults device.new) result }
     ensures torn { D.is_observable
-        → TornTwice (4096 * first) (length bytes.now) (4096 * second) (length others.now) (D.images_now device.old) (D.images_now device.new) }
+        → TornTwice (4096 * first) (length bytes.now) (4096 * second) (length others.now)
+        (D.images_now device.old) (D.images_now device.new) }
     ensures unsynced { D.is_observable
-        → OnOk result (MayTearTwice (4096 * first) (length bytes.now) (4096 * second) (length others.now) (D.images_now device.old) (D.images_now device.new)) }
+        → OnOk result (MayTearTwice (4096 * first) (length bytes.now) (4096 * second) (length others.now)
+        (D.images_now device.old) (D.images_now device.new)) }
 {
     device.write(first, bytes)?;
     device.write(second, others)

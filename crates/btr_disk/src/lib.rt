@@ -1,8 +1,8 @@
 //! A block device with its crash images, and one in memory.
 //!
 //! The device is the trait [`Disk`]: blocks of 4096 bytes that are read, written and synced.
-//! What a crash may leave of it is part of each contract: between two syncs a block that was
-//! written may hold any bytes, and all else what a read gives.
+//! What a crash may leave of it is part of each contract: a block that was written since the last sync
+//! that succeeded may hold any bytes, and each other block holds what a read returns.
 #![tactic(auto)]
 
 pub mod bytes;

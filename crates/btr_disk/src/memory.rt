@@ -178,7 +178,7 @@ impl Disk for MemDisk {
         (self.bytes.len() / BLOCK) as u64
     }
 
-    // The clauses of the trait, and one more: which calls fail.
+    /// The clauses of the trait, and one more: which calls fail.
     fn read(&mut self, first: u64, buf: &mut [u8]) -> Result<(), Failed>
         requires { IsBlockRange (length self.old.bytes.items / 4096) first (length buf.old) }
         ensures size { length self.new.bytes.items / 4096 ≡ length self.old.bytes.items / 4096 }
@@ -202,7 +202,7 @@ impl Disk for MemDisk {
         Ok(())
     }
 
-    // The clauses of the trait, and one more: which calls fail.
+    /// The clauses of the trait, and one more: which calls fail.
     fn write(&mut self, first: u64, bytes: &[u8]) -> Result<(), Failed>
         requires { IsBlockRange (length self.old.bytes.items / 4096) first (length bytes.now) }
         ensures size { length self.new.bytes.items / 4096 ≡ length self.old.bytes.items / 4096 }
@@ -217,10 +217,8 @@ impl Disk for MemDisk {
         let at = BLOCK * first as usize;
         let end = at + bytes.len();
         let fails = self.fails_now();
-        if !self
-            .made
-            .note(Call::Wrote(at, bytes.len()), &self.bytes[at..end])
-        {
+        let call = Call::Wrote(at, bytes.len());
+        if !self.made.note(call, &self.bytes[at..end]) {
             self.made.tear(first as usize, bytes.len() / BLOCK);
             return Err(fault(&mut self.faults));
         }
@@ -231,7 +229,7 @@ impl Disk for MemDisk {
         Ok(())
     }
 
-    // The clauses of the trait, and one more: which calls fail.
+    /// The clauses of the trait, and one more: which calls fail.
     fn sync(&mut self) -> Result<(), Failed>
         ensures size { length self.new.bytes.items / 4096 ≡ length self.old.bytes.items / 4096 }
         ensures calls { Counted (call_count self.old.made) (call_count self.new.made) }

@@ -1,4 +1,4 @@
-// The calls of the device in memory, and each generic function over it.
+//! The calls of the device in memory and of the fuse, and each generic function over them.
 ghost use Rattle.std.specs.Prelude.{◌≡◌, IfOk, length};
 
 use super::*;
@@ -12,14 +12,14 @@ const CAPACITY: Capacity = Capacity {
     blocks: 4,
 };
 
-// A block of one value.
+/// A block of one value.
 fn block(alloc: Global, value: u8) -> Result<Vec<u8>, AllocError>
     ensures { IfOk result (λ bytes. length bytes.items ≡ 4096) }
 {
     vec![in alloc; value; BLOCK]
 }
 
-// A device of eight blocks of zeros.
+/// A device of eight blocks of zeros.
 fn disk(alloc: Global, failing: Vec<u64>) -> Result<MemDisk, AllocError>
     ensures { IfOk result (λ disk. ⟦<MemDisk as Disk>⟧.size disk ≡ 8) }
 {
@@ -51,7 +51,7 @@ fn the_calls_of_the_list_fail(rt: HostRuntime) -> Result<(), Fail> {
     let mut disk = disk(alloc, vec![in alloc; 0, 2]?)?;
     let seven = block(alloc, 7)?;
     let mut buf = block(alloc, 9)?;
-    // the write of the list is not read, and the sync of the list is none
+    // The failed write changed nothing that is read.
     assert!(rt; disk.write(1, &seven).is_err());
     assert_eq!(rt; disk.faults(), 1);
     assert!(rt; disk.read(1, &mut buf).is_ok());
@@ -68,7 +68,7 @@ fn the_calls_of_the_list_fail(rt: HostRuntime) -> Result<(), Fail> {
 }
 
 #[test]
-fn a_call_past_the_room_fails(rt: HostRuntime) -> Result<(), Fail> {
+fn a_call_beyond_the_capacity_fails(rt: HostRuntime) -> Result<(), Fail> {
     let alloc = rt.alloc();
     let capacity = Capacity {
         calls: 4,
@@ -79,16 +79,13 @@ fn a_call_past_the_room_fails(rt: HostRuntime) -> Result<(), Fail> {
     let seven = block(alloc, 7)?;
     let mut buf = block(alloc, 0)?;
     assert!(rt; disk.write(0, &seven).is_ok());
-    // a second block is past the room, and a read is not
+    // A second block is beyond the capacity, and so is each later call.
     assert!(rt; disk.write(1, &seven).is_err());
-    assert!(rt; disk.read(1, &mut buf).is_ok());
-    assert_eq!(rt; buf[0], 1);
-    assert!(rt; disk.sync().is_ok());
-    // a fifth call is
-    assert!(rt; disk.read(0, &mut buf).is_err());
-    assert_eq!(rt; buf[0], 1);
-    assert_eq!(rt; disk.faults(), 2);
-    assert_eq!(rt; disk.calls(), 5);
+    assert!(rt; disk.read(1, &mut buf).is_err());
+    assert!(rt; disk.sync().is_err());
+    assert_eq!(rt; buf[0], 0);
+    assert_eq!(rt; disk.faults(), 3);
+    assert_eq!(rt; disk.calls(), 4);
     Ok(())
 }
 
@@ -113,8 +110,8 @@ fn an_unsynced_block_is_old_or_new_or_neither(rt: HostRuntime) -> Result<(), Fai
     Ok(())
 }
 
-// Publishes a body of two blocks at block 1 with its gate at block 0, where the calls of the list
-// fail, and gives the first byte of each of the three blocks with the number of faults.
+/// Publishes a body of two blocks at block 1 with its gate at block 0, on a device at which the calls of the
+/// list fail. Returns the first byte of each of the three blocks, and the number of faults.
 fn published(rt: &impl Abort, alloc: Global, failing: Vec<u64>) -> Result<(u8, u8, u8, u64), Fail> {
     let mut disk = disk(alloc, failing)?;
     let body = vec![in alloc; 3; 8192]?;
@@ -126,14 +123,25 @@ fn published(rt: &impl Abort, alloc: Global, failing: Vec<u64>) -> Result<(u8, u
     Ok((bytes[0], bytes[4096], bytes[8192], faults))
 }
 
+/// The number of a call that fails, and what is published then.
+const PUBLISHED: [(u64, (u8, u8, u8, u64)); 5] = [
+    (0, (0, 0, 0, 1)),
+    (1, (0, 3, 3, 1)),
+    (2, (0, 3, 3, 1)),
+    (3, (2, 3, 3, 1)),
+    (4, (2, 3, 3, 0)),
+];
+
 #[test]
 fn a_body_is_published_before_its_gate(rt: HostRuntime) -> Result<(), Fail> {
     let alloc = rt.alloc();
-    assert_eq!(rt; published(&rt, alloc, Vec::new(alloc))?, (2, 3, 3, 0));
-    assert_eq!(rt; published(&rt, alloc, vec![in alloc; 0]?)?, (0, 0, 0, 1));
-    assert_eq!(rt; published(&rt, alloc, vec![in alloc; 1]?)?, (0, 3, 3, 1));
-    assert_eq!(rt; published(&rt, alloc, vec![in alloc; 2]?)?, (0, 3, 3, 1));
-    assert_eq!(rt; published(&rt, alloc, vec![in alloc; 3]?)?, (2, 3, 3, 1));
+    for (call, want) in PUBLISHED {
+        assert_eq!(rt;
+            published(&rt, alloc, vec![in alloc; call]?)?,
+            want,
+            "{call}"
+        );
+    }
     Ok(())
 }
 

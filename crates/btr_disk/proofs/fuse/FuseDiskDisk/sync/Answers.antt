@@ -1,5 +1,5 @@
 use Rattle.std.proofs.lemmas.Result.{on_ok_weaker}
-use Rattle.btr_disk.proofs.FuseImages.{passed_only, passed_same, passed_time, refused_same, refused_time}
+use Rattle.btr_disk.proofs.FuseImages.{passed_only, passed_time}
 use Rattle.btr_disk.proofs.fuse.FuseDiskDisk.sync.Goals as goal
 
 pub returns-in-Ok-clause-synced : goal.returns-in-Ok-clause-synced

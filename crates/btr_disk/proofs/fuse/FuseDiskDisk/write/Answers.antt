@@ -2,7 +2,7 @@ use Rattle.std.specs.Prelude.{◌≡◌, ◌*◌, ◌/◌, length}
 use Rattle.std.proofs.Common.{subst, arith}
 use Rattle.btr_disk.specs.Torn.{Tore}
 use Rattle.btr_disk.specs.declared.torn.TornBlocks.{TornBlocks}
-use Rattle.btr_disk.proofs.FuseImages.{passed_tears, passed_time, refused_tears, refused_write_time}
+use Rattle.btr_disk.proofs.FuseImages.{passed_tears, passed_time, refused_tears}
 use Rattle.btr_disk.proofs.fuse.FuseDiskDisk.write.Goals as goal
 
 pub returns-in-Ok-clause-images : goal.returns-in-Ok-clause-images

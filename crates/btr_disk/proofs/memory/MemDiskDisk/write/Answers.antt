@@ -4,7 +4,7 @@ use Rattle.btr_disk.specs.Bytes.{Image, Has}
 use Rattle.btr_disk.proofs.ByteLemmas.{SameBut-refl}
 use Rattle.btr_disk.specs.Images.{Tears}
 use Rattle.btr_disk.specs.Memory.{images_of}
-use Rattle.btr_disk.specs.CallRecord.{contents_of, newest_first, MayLeave}
+use Rattle.btr_disk.specs.CallRecord.{contents_of, MayLeaveNow}
 use Rattle.btr_disk.proofs.Recording.{Has-part, tear_time, tear_images, write_recorded, write_images}
 use Rattle.btr_disk.proofs.memory.MemDiskDisk.write.Goals as goal
 
@@ -59,7 +59,7 @@ returns-then-not-note-clause-images c =
     let disk = c.args.self.now in
     let n = length c.args.bytes.now in
     let whole : 4096 * (n / 4096) ≡ n = omega (arith, c.requires.whole) in
-    subst (λ (x : ℕ). Tears (4096 * c.args.first) x (images_of disk) (MayLeave (contents_of disk.bytes.items) (newest_first c.tear.new.self) c.tear.new.self.torn.flags.items)) whole
+    subst (λ (x : ℕ). Tears (4096 * c.args.first) x (images_of disk) (MayLeaveNow (contents_of disk.bytes.items) c.tear.new.self)) whole
     (tear_images c.args.first (n / 4096) (contents_of disk.bytes.items) disk.made c.note.new.self c.tear.new.self c.if-not-note.ensures.recorded c.tear.ensures disk.are_bytes)
 
 pub returns-then-not-note-clause-time : goal.returns-then-not-note-clause-time
