@@ -1,36 +1,54 @@
-// A device in a file.
-ghost use Rattle.std.specs.Prelude.{◌≡◌, ◌+◌, ◌^◌, ◌<◌, ◌≤◌, length, IfOk};
+//! A device in a file.
+ghost use Rattle.std.specs.Prelude.{◌≡◌, ◌+◌, ◌^◌, ◌<◌, ◌≤◌, ◌≤ℤ◌, ◌↔◌, length, pos, IfOk, IsOk};
+ghost use Rattle.std.specs.Fd.{file_raw_fd};
 ghost use Rattle.btr_disk.specs.Causes.{Counted, HasCause};
 
-use crate::MOST_BLOCKS;
+use crate::MAX_BLOCKS;
 use crate::count::raise;
 use btr_disk::{BLOCK, Disk, Failed};
 use std::fs::{File, Files, OpenOptions};
 use std::io;
 use std::io::ErrorKind;
+use std::os::fd::AsRawFd;
 use std::os::unix::fs::FileExt;
 
-/// A file as a device of 2^32 blocks. Bytes past the file's end read as zeros, and a write past it
-/// makes the file longer. A sync is the system's `fsync`.
+/// The lock on a device's file, which excludes other processes that lock it too.
+#[derive(Clone, Copy, Debug, PartialEq, Eq)]
+pub enum Lock {
+    /// Other processes may hold a shared lock at the same time.
+    Shared,
+
+    /// No other process holds a lock at the same time.
+    Exclusive,
+}
+
+/// A file as a device of `2^32` blocks. Bytes past the file's end read as zeros, and a write past it makes the file
+/// longer. A sync is the system's `fsync`. The file's descriptor is at least 3, so it is never that of a standard
+/// stream that was closed. The file is locked until the device is dropped or the process ends.
 ///
-/// What the file holds is told by no contract, so that a write reaches it, a read gives it and a sync
-/// keeps it over a crash is trusted to the system and the disk.
+/// No contract says what the file holds. The system and the disk are trusted: a write reaches the file, a read returns
+/// what was written, and what was synced survives a crash.
 #[derive(Drop)]
 pub struct FileDisk {
     file: File,
     calls: u64,
     faults: u64,
+    ghost above_streams: { pos 3 ≤ℤ file_raw_fd file },
 }
 
 impl FileDisk {
-    /// Opens a file for reading and writing, and makes an empty one where there is none.
-    pub fn open<R: Files<File = File>>(rt: &R, path: &str) -> io::Result<FileDisk>
+    /// Opens a file for reading and writing, creates it empty if it is missing, and locks it. It does not wait for a
+    /// lock: if another process holds one that excludes this one, the call returns an error, as it does if the system
+    /// cannot lock the file.
+    pub fn open<R: Files<File = File>>(rt: &R, path: &str, lock: Lock) -> io::Result<FileDisk>
         ensures calls { IfOk result (λ disk. disk.calls ≡ 0) }
         ensures faults { IfOk result (λ disk. disk.faults ≡ 0) }
+        ensures above_streams { IfOk result (λ disk. pos 3 ≤ℤ file_raw_fd disk.file) }
     {
         let mut options = OpenOptions::new();
         options.read(true).write(true).create(true);
-        let file = options.open(rt, path)?;
+        let file = above_streams(options.open(rt, path)?)?;
+        take_lock(&file, lock)?;
         Ok(FileDisk {
             file,
             calls: 0,
@@ -38,10 +56,11 @@ impl FileDisk {
         })
     }
 
-    // Counts a fault where the system has answered an error.
+    /// Counts a fault if the system has returned an error.
     fn counted(&mut self, answer: io::Result<()>) -> Result<(), Failed>
         ensures calls { self.new.calls ≡ self.old.calls }
         ensures cause { HasCause self.old.faults self.new.faults result }
+        ensures ok { IsOk result ↔ IsOk answer }
     {
         match answer {
             Ok(()) => Ok(()),
@@ -69,7 +88,7 @@ impl Disk for FileDisk {
     ghost faults = { λ disk. disk.faults };
 
     fn blocks(&self) -> u64 {
-        MOST_BLOCKS
+        MAX_BLOCKS
     }
 
     fn read(&mut self, first: u64, buf: &mut [u8]) -> Result<(), Failed> {
@@ -90,18 +109,43 @@ impl Disk for FileDisk {
         self.counted(answer)
     }
 
-    ghost image_bytes = { λ told. absurd told };
+    ghost image_bytes = { λ observable. absurd observable };
 
-    ghost reads_as_image = { λ told. absurd told };
+    ghost reads_as_image = { λ observable. absurd observable };
 
-    ghost counts_now = { λ told. absurd told };
+    ghost counts_now = { λ observable. absurd observable };
 
-    ghost only_now = { λ told. absurd told };
+    ghost only_now = { λ observable. absurd observable };
 
-    ghost fewer_later = { λ told. absurd told };
+    ghost fewer_later = { λ observable. absurd observable };
 }
 
-// Fills the buffer with the file's bytes from this offset on, and with zeros past the file's end.
+/// The same open file at a descriptor of at least 3. A file that is opened while a standard stream is closed gets the
+/// stream's descriptor. It is then closed there, and later calls on the stream fail.
+fn above_streams(file: File) -> io::Result<File>
+    ensures { IfOk result (λ file. pos 3 ≤ℤ file_raw_fd file) }
+{
+    if file.as_raw_fd() >= 3 {
+        return Ok(file);
+    }
+    let copy = file.try_clone()?;
+    if copy.as_raw_fd() >= 3 {
+        Ok(copy)
+    } else {
+        Err(io::Error::from(ErrorKind::Other))
+    }
+}
+
+/// Takes a lock on the whole file, or returns an error at once.
+fn take_lock(file: &File, lock: Lock) -> io::Result<()> {
+    match lock {
+        Lock::Shared => file.try_lock_shared()?,
+        Lock::Exclusive => file.try_lock()?,
+    }
+    Ok(())
+}
+
+/// Fills the buffer with the file's bytes from this offset on, and with zeros past the file's end.
 fn read_full(file: &File, offset: u64, buf: &mut [u8]) -> io::Result<()>
     requires { offset + length buf.old < 2 ^ 64 }
 {
@@ -117,7 +161,7 @@ fn read_full(file: &File, offset: u64, buf: &mut [u8]) -> io::Result<()>
     Ok(())
 }
 
-// One read at an offset, made again where a signal interrupts it.
+/// One read at an offset, which is repeated if a signal interrupts it.
 fn read_some(file: &File, offset: u64, buf: &mut [u8]) -> io::Result<usize>
     ensures { IfOk result (λ n. n ≤ length buf.old) }
 {

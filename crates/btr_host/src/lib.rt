@@ -1,11 +1,10 @@
-//! The real file and the standard streams behind the traits `Disk`, `Source` and `Sink`.
+//! A file as a `Disk`, and the standard streams as `Source` and `Sink`.
 //!
-//! This is the trusted edge: what a file, standard input or standard output holds is told by no
-//! contract. Each type here keeps a count of its faults, which rises at each error of the system, and
-//! answers `Failed` only then. The layers above promise the rest over devices and streams that tell
-//! what they hold.
+//! No contract says what a file, standard input or standard output holds. Each type here counts its faults: the count
+//! rises at each error of the system, and a call returns `Failed` only then. The layers above state the rest for
+//! devices and streams that tell what they hold.
 //!
-//! A call that a signal interrupts is made again. No call takes memory.
+//! A call that a signal interrupts is repeated. No call on a device or a stream takes memory.
 #![tactic(auto)]
 
 mod count;
@@ -14,13 +13,13 @@ mod no_disk;
 mod std_sink;
 mod std_source;
 
-pub use file_disk::FileDisk;
+pub use file_disk::{FileDisk, Lock};
 pub use no_disk::NoDisk;
 pub use std_sink::StdSink;
 pub use std_source::StdSource;
 
-// Blocks of a real device: the greatest number that a store may have.
-const MOST_BLOCKS: u64 = 1 << 32;
+/// Blocks of a device in a file: the greatest number that a store may have.
+const MAX_BLOCKS: u64 = 1 << 32;
 
 #[cfg(test)]
 mod tests;

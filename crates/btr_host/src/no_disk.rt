@@ -1,13 +1,13 @@
-// The device where there is none.
+//! The device of a run that has no file.
 ghost use Rattle.std.specs.Prelude.{◌≡◌, ◌^◌};
 ghost use Rattle.btr_disk.specs.Causes.{Counted};
 
-use crate::MOST_BLOCKS;
+use crate::MAX_BLOCKS;
 use crate::count::raise;
 use btr_disk::{Disk, Failed};
 
-/// A device of 2^32 blocks at which each read, write and sync fails. It stands where a device file
-/// was not named or could not be opened. It tells nothing of content.
+/// A device of `2^32` blocks on which each read, write and sync fails: the device of a run without a path, or whose
+/// file cannot be opened. It tells nothing of content.
 #[derive(Debug, Drop)]
 pub struct NoDisk {
     calls: u64,
@@ -15,7 +15,7 @@ pub struct NoDisk {
 }
 
 impl NoDisk {
-    /// No call was made yet.
+    /// A device on which no call was made.
     pub fn new() -> NoDisk
         ensures calls { result.calls ≡ 0 }
         ensures faults { result.faults ≡ 0 }
@@ -26,7 +26,7 @@ impl NoDisk {
         }
     }
 
-    // Counts a call, which fails.
+    /// Counts a call and a fault.
     fn fail(&mut self) -> Failed
         ensures calls { Counted self.old.calls self.new.calls }
         ensures faults { Counted self.old.faults self.new.faults }
@@ -53,7 +53,7 @@ impl Disk for NoDisk {
     ghost faults = { λ disk. disk.faults };
 
     fn blocks(&self) -> u64 {
-        MOST_BLOCKS
+        MAX_BLOCKS
     }
 
     fn read(&mut self, _first: u64, _buf: &mut [u8]) -> Result<(), Failed> {
@@ -68,13 +68,13 @@ impl Disk for NoDisk {
         Err(self.fail())
     }
 
-    ghost image_bytes = { λ told. absurd told };
+    ghost image_bytes = { λ observable. absurd observable };
 
-    ghost reads_as_image = { λ told. absurd told };
+    ghost reads_as_image = { λ observable. absurd observable };
 
-    ghost counts_now = { λ told. absurd told };
+    ghost counts_now = { λ observable. absurd observable };
 
-    ghost only_now = { λ told. absurd told };
+    ghost only_now = { λ observable. absurd observable };
 
-    ghost fewer_later = { λ told. absurd told };
+    ghost fewer_later = { λ observable. absurd observable };
 }

@@ -1,4 +1,4 @@
-// A stream of the system that is written.
+//! A writer of the system as a sink.
 ghost use Rattle.std.specs.Prelude.{◌≡◌, ◌≤◌, [], length, IfOk};
 ghost use Rattle.btr_io.specs.Faults.{HasCause};
 
@@ -7,8 +7,8 @@ use btr_io::{Failed, Sink};
 use std::io;
 use std::io::{ErrorKind, Write};
 
-/// A writer of the system as a sink: `StdSink::new(rt.stdout())` is standard output. It tells nothing
-/// of the bytes that were written. A write that takes none of some bytes is a fault.
+/// A writer of the system as a sink: `StdSink::new(rt.stdout())` is standard output. It tells nothing of the bytes that
+/// were written. A write that takes none of at least one byte is a fault.
 #[derive(Drop)]
 pub struct StdSink<W> {
     writer: W,
@@ -16,7 +16,7 @@ pub struct StdSink<W> {
 }
 
 impl<W: Write> StdSink<W> {
-    /// A sink over this writer, with a count of 0.
+    /// A sink over this writer, with no fault counted.
     pub fn new(writer: W) -> StdSink<W>
         ensures { result.faults ≡ 0 }
     {
@@ -52,7 +52,7 @@ impl<W: Write> Sink for StdSink<W> {
     }
 }
 
-// One write, made again where a signal interrupts it.
+/// One write, which is repeated if a signal interrupts it.
 fn write_some<W: Write>(writer: &mut W, bytes: &[u8]) -> io::Result<usize>
     ensures { IfOk result (λ n. n ≤ length bytes.now) }
 {

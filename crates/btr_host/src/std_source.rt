@@ -1,4 +1,4 @@
-// A stream of the system that is read.
+//! A reader of the system as a source.
 ghost use Rattle.std.specs.Prelude.{◌≡◌, ◌≤◌, [], length, IfOk};
 
 use crate::count::raise;
@@ -6,8 +6,8 @@ use btr_io::{Failed, Source};
 use std::io;
 use std::io::{ErrorKind, Read};
 
-/// A reader of the system as a source: `StdSource::new(rt.stdin())` is standard input. It tells
-/// nothing of the bytes that are left.
+/// A reader of the system as a source: `StdSource::new(rt.stdin())` is standard input. Its bytes are not observable,
+/// that are left.
 #[derive(Drop)]
 pub struct StdSource<R> {
     reader: R,
@@ -15,7 +15,7 @@ pub struct StdSource<R> {
 }
 
 impl<R: Read> StdSource<R> {
-    /// A source over this reader, with a count of 0.
+    /// A source over this reader, with no fault counted.
     pub fn new(reader: R) -> StdSource<R>
         ensures { result.faults ≡ 0 }
     {
@@ -41,7 +41,7 @@ impl<R: Read> Source for StdSource<R> {
     }
 }
 
-// One read, made again where a signal interrupts it.
+/// One read, which is repeated if a signal interrupts it.
 fn read_some<R: Read>(reader: &mut R, buf: &mut [u8]) -> io::Result<usize>
     ensures { IfOk result (λ n. n ≤ length buf.old) }
 {

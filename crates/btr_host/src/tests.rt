@@ -1,4 +1,4 @@
-// What no contract can say: a real file and a real pipe hold what was written to them.
+//! What no contract can say: a file and a pipe hold what was written to them, and a locked file is refused.
 ghost use Rattle.std.specs.Prelude.{◌≡◌, ◌+◌, ◌*◌, ◌^◌, ◌<◌, ◌≤◌, IfOk, vec_len};
 
 use super::*;
@@ -9,7 +9,7 @@ use std::io::{ErrorKind, Read, Write};
 use std::test::Fail;
 use std::{env, fs, io};
 
-// Blocks that hold one byte all over.
+/// Blocks that are filled with one byte.
 fn filled(alloc: Global, blocks: usize, byte: u8) -> Result<Vec<u8>, AllocError>
     requires { blocks < 100 }
     ensures { IfOk result (λ bytes. vec_len bytes ≡ 4096 * blocks) }
@@ -17,18 +17,18 @@ fn filled(alloc: Global, blocks: usize, byte: u8) -> Result<Vec<u8>, AllocError>
     vec![in alloc; byte; 4096 * blocks]
 }
 
-// How often a byte stands in a slice.
+/// How often a slice has a byte.
 fn count(bytes: &[u8], byte: u8) -> usize {
     bytes.iter().filter(|b| **b == byte).count()
 }
 
-// Writes blocks 1 and 2, and syncs.
+/// Writes blocks 1 and 2, and syncs.
 fn write_two(alloc: Global, disk: &mut FileDisk) -> Result<bool, AllocError> {
     let two = filled(alloc, 2, 7)?;
     Ok(disk.write(1, &two).is_ok() && disk.sync().is_ok())
 }
 
-// Reads blocks, or no byte where the read fails.
+/// Reads blocks; none if the read fails.
 fn read_blocks(
     alloc: Global,
     disk: &mut FileDisk,
@@ -46,17 +46,23 @@ fn read_blocks(
     Ok(bytes)
 }
 
-// A file keeps blocks until a second opening, and reads as zeros past its end.
+/// The path of a file for a test of this process, in the folder for temporary files.
+fn path_for(rt: &HostRuntime, name: &str) -> io::Result<String> {
+    let process = std::process::id(rt.process());
+    let folder = env::temp_dir(rt)?;
+    Ok(format!(in rt.alloc(); "{}/btr_host_{}_{}", folder.as_str(), process, name)?)
+}
+
+/// A file keeps blocks until a second opening, and reads as zeros past its end.
 #[test]
 fn a_file_keeps_blocks(rt: HostRuntime) -> Result<(), Fail> {
     let alloc = rt.alloc();
-    let process = std::process::id(rt.process());
-    let folder = env::temp_dir(&rt)?;
-    let path = format!(in alloc; "{}/btr_host_{}", folder.as_str(), process)?;
+    let path = path_for(&rt, "blocks")?;
 
-    let mut disk = FileDisk::open(&rt, &path)?;
+    let mut disk = FileDisk::open(&rt, &path, Lock::Exclusive)?;
     assert!(rt; write_two(alloc, &mut disk)?);
-    let mut again = FileDisk::open(&rt, &path)?;
+    drop(disk);
+    let mut again = FileDisk::open(&rt, &path, Lock::Shared)?;
     let four = read_blocks(alloc, &mut again, 0, 4)?;
     assert_eq!(rt; (count(&four, 7), count(&four, 0)), (8192, 8192));
     assert_eq!(rt; four.iter().position(|byte| *byte == 7), Some(4096));
@@ -66,6 +72,46 @@ fn a_file_keeps_blocks(rt: HostRuntime) -> Result<(), Fail> {
     Ok(())
 }
 
+/// Whether a file can be opened under the second lock while it is open under the first.
+fn opens_beside(rt: &HostRuntime, path: &str, first: Lock, second: Lock) -> io::Result<bool> {
+    let held = FileDisk::open(rt, path, first)?;
+    let opened = FileDisk::open(rt, path, second).is_ok();
+    drop(held);
+    Ok(opened)
+}
+
+/// Shared locks exclude exclusive ones alone, and a lock ends when its device is dropped.
+#[test]
+fn a_locked_file_is_refused(rt: HostRuntime) -> Result<(), Fail> {
+    let path = path_for(&rt, "lock")?;
+    assert_eq!(rt; opens_beside(&rt, &path, Lock::Shared, Lock::Shared)?, true);
+    assert_eq!(rt;
+        opens_beside(&rt, &path, Lock::Shared, Lock::Exclusive)?,
+        false
+    );
+    assert_eq!(rt;
+        opens_beside(&rt, &path, Lock::Exclusive, Lock::Shared)?,
+        false
+    );
+    assert_eq!(rt;
+        opens_beside(&rt, &path, Lock::Exclusive, Lock::Exclusive)?,
+        false
+    );
+    fs::remove_file(&rt, &path)?;
+    Ok(())
+}
+
+/// A folder, and a file in a folder that is missing, cannot be opened.
+#[test]
+fn what_is_no_file_is_refused(rt: HostRuntime) -> Result<(), Fail> {
+    let folder = env::temp_dir(&rt)?;
+    let path = path_for(&rt, "missing/device")?;
+    assert!(rt; FileDisk::open(&rt, folder.as_str(), Lock::Shared).is_err());
+    assert!(rt; FileDisk::open(&rt, &path, Lock::Exclusive).is_err());
+    Ok(())
+}
+
+/// Each call on the missing device fails.
 #[test]
 fn no_disk_fails_each_call(rt: HostRuntime) -> Result<(), Fail> {
     let mut disk = NoDisk::new();
@@ -77,6 +123,7 @@ fn no_disk_fails_each_call(rt: HostRuntime) -> Result<(), Fail> {
     Ok(())
 }
 
+/// What a sink writes into a pipe, a source reads from it.
 #[test]
 fn a_pipe_from_end_to_end(rt: HostRuntime) -> Result<(), Fail> {
     let alloc = rt.alloc();
@@ -91,7 +138,7 @@ fn a_pipe_from_end_to_end(rt: HostRuntime) -> Result<(), Fail> {
     Ok(())
 }
 
-// A stream that fails: its writes take nothing, its reads and flushes give an error.
+/// A stream that fails: its writes take nothing, its reads and flushes return an error.
 #[derive(Drop)]
 struct Broken;
 
@@ -111,6 +158,7 @@ impl Write for Broken {
     }
 }
 
+/// A source and a sink fail if their stream does.
 #[test]
 fn a_broken_stream_fails(rt: HostRuntime) -> Result<(), Fail> {
     let alloc = rt.alloc();

@@ -1,29 +1,62 @@
-//! `btr_run DEVICE COMMAND ..`: the program. It opens the device and the streams, and leaves all else to [`btr_top::run`].
+//! `btr_run DEVICE COMMAND ..`: the program. It opens the device and the streams, and leaves all else to
+//! [`btr_top::run`].
 #![tactic(auto)]
 
-use btr_host::{FileDisk, NoDisk, StdSink, StdSource};
-use btr_top::run;
+ghost use Rattle.std.specs.Prelude.{◌≡◌, ◌↔◌, map, string_bytes, Some};
+ghost use Rattle.btr_host.specs.declared.file_disk.Lock.TheVariants.{Shared};
+ghost use Rattle.btr_top.specs.Words.{command_of};
+ghost use Rattle.btr_top.specs.declared.words.Command.TheVariants.{Ask};
+
+use btr_host::{FileDisk, Lock, NoDisk, StdSink, StdSource};
+use btr_top::{Command, read_words, run};
+use std::alloc::AllocError;
+use std::env;
 use std::io::ErrorKind;
 use std::process::ExitCode;
-use std::{env, io};
 
-fn main(rt: HostRuntime) -> io::Result<ExitCode> {
-    let alloc = rt.alloc();
-    let words = words(&rt)?;
-    let mut source = StdSource::new(rt.stdin());
-    let mut sink = StdSink::new(rt.stdout());
-    let status = match words.as_slice() {
-        [_, path, rest @ ..] => match FileDisk::open(&rt, path.as_str()) {
-            Ok(disk) => run(&rt, alloc, rest, &mut source, &mut sink, disk).status,
-            Err(_) => run(&rt, alloc, rest, &mut source, &mut sink, NoDisk::new()).status,
-        },
-        _ => run(&rt, alloc, &[], &mut source, &mut sink, NoDisk::new()).status,
+fn main(rt: HostRuntime) -> ExitCode {
+    let status = match words(&rt) {
+        Ok(words) => run_words(&rt, words.as_slice()),
+        Err(AllocError) => end_without_memory(&rt),
     };
-    Ok(ExitCode::from(status))
+    ExitCode::from(status)
 }
 
-/// The program's name and the words behind it; none where one of them is not UTF-8, since those are no command.
-fn words(rt: &HostRuntime) -> io::Result<Vec<String>> {
+/// Runs the words of the command line on the device that the second of them names. The first is the program's name.
+fn run_words(rt: &HostRuntime, words: &[String]) -> u8 {
+    let alloc = rt.alloc();
+    let mut source = StdSource::new(rt.stdin());
+    let mut sink = StdSink::new(rt.stdout());
+    match words {
+        [_, path, rest @ ..] => match FileDisk::open(rt, path.as_str(), lock_of(rest)) {
+            Ok(disk) => run(rt, alloc, rest, &mut source, &mut sink, disk).status,
+            Err(_) => run(rt, alloc, rest, &mut source, &mut sink, NoDisk::new()).status,
+        },
+        _ => run(rt, alloc, &[], &mut source, &mut sink, NoDisk::new()).status,
+    }
+}
+
+/// The lock that a run takes on its device: a shared one for `ask`, which writes nothing there, and an exclusive one
+/// for all else.
+fn lock_of(words: &[String]) -> Lock
+    ensures { (result ≡ Shared) ↔ (command_of (map string_bytes words.now) ≡ Some Ask) }
+{
+    match read_words(words) {
+        Some(Command::Ask) => Lock::Shared,
+        _ => Lock::Exclusive,
+    }
+}
+
+/// Ends a run for whose words there is no memory.
+fn end_without_memory(rt: &HostRuntime) -> u8 {
+    match println!(rt; "no memory") {
+        Ok(()) => 9,
+        Err(_) => 4,
+    }
+}
+
+/// The program's name and the words that follow it; none if one of them is not UTF-8, since those are no command.
+fn words(rt: &HostRuntime) -> Result<Vec<String>, AllocError> {
     let mut words = Vec::new(rt.alloc());
     match env::args(rt) {
         Ok(given) => {
@@ -32,7 +65,7 @@ fn words(rt: &HostRuntime) -> io::Result<Vec<String>> {
             }
             Ok(words)
         }
-        Err(error) if error.kind() == ErrorKind::InvalidData => Ok(words),
-        Err(error) => Err(error),
+        Err(error) if error.kind() == ErrorKind::OutOfMemory => Err(AllocError),
+        Err(_) => Ok(words),
     }
 }
