@@ -2,7 +2,7 @@
 //!
 //! No contract says what a file, standard input or standard output holds. Each type here counts its faults: the count
 //! rises at each error of the system, and a call returns `Failed` only then. The layers above state the rest for
-//! devices and streams that tell what they hold.
+//! devices and streams whose contents are observable.
 //!
 //! A call that a signal interrupts is repeated. No call on a device or a stream takes memory.
 #![tactic(auto)]

@@ -7,7 +7,7 @@ use crate::count::raise;
 use btr_disk::{Disk, Failed};
 
 /// A device of `2^32` blocks on which each read, write and sync fails: the device of a run without a path, or whose
-/// file cannot be opened. It tells nothing of content.
+/// file cannot be opened. Its contents are not observable.
 #[derive(Debug, Drop)]
 pub struct NoDisk {
     calls: u64,

@@ -7,8 +7,8 @@ use btr_io::{Failed, Sink};
 use std::io;
 use std::io::{ErrorKind, Write};
 
-/// A writer of the system as a sink: `StdSink::new(rt.stdout())` is standard output. It tells nothing of the bytes that
-/// were written. A write that takes none of at least one byte is a fault.
+/// A writer of the system as a sink: `StdSink::new(rt.stdout())` is standard output. The bytes that
+/// were written are not observable. A write that takes none of at least one byte is a fault.
 #[derive(Drop)]
 pub struct StdSink<W> {
     writer: W,

@@ -6,8 +6,8 @@ use btr_io::{Failed, Source};
 use std::io;
 use std::io::{ErrorKind, Read};
 
-/// A reader of the system as a source: `StdSource::new(rt.stdin())` is standard input. Its bytes are not observable,
-/// that are left.
+/// A reader of the system as a source: `StdSource::new(rt.stdin())` is standard input. The bytes that
+/// are left are not observable.
 #[derive(Drop)]
 pub struct StdSource<R> {
     reader: R,
