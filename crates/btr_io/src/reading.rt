@@ -81,7 +81,8 @@ fn read_piece<S: Source>(
     ensures end { S.is_observable → IfOk result (λ more. more ≡ false → S.left source.new ≡ []) }
     ensures within { OnOk result (length bytes.new.items ≤ limit) }
     ensures given { S.is_observable → Gives (limit + 1 - length bytes.old.items) (S.left source.old) (S.left source.new) }
-    ensures too_long { S.is_observable → (IsErrOf result TooLong ↔ (limit < length bytes.old.items + gave (S.left source.old) (S.left source.new))) }
+    ensures too_long { S.is_observable
+        → (IsErrOf result TooLong ↔ (limit < length bytes.old.items + gave (S.left source.old) (S.left source.new))) }
     ensures fault { IsErrOf result Fault → Rose (S.faults source.old) (S.faults source.new) }
     ensures never_falls { S.faults source.old ≤ S.faults source.new }
 {
