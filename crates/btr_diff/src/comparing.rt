@@ -79,7 +79,8 @@ fn compare_roots(
 
 /// Returns the version that a node carries.
 fn version_of(node: Node<'_>) -> u64
-    ensures { (span : SpanValue) (h : List Commit) → (is : IsNodeOf span node.entry h) → result ≡ node_version is.0 span.height span.start h }
+    ensures { (span : SpanValue) (h : List Commit) → (is : IsNodeOf span node.entry h)
+        → result ≡ node_version is.0 span.height span.start h }
 {
     match node {
         Node::Leaf { version, .. } => version,

@@ -45,7 +45,8 @@ fn joins_last(cells: &mut Vec<Cell>, start: i64, agg: &Agg) -> bool
     requires room { counted cells.old.items + agg.now.count < 2 ^ 64 }
     ensures joined { result ≡ true → cells.new.items ≡ with_part cells.old.items start agg.now }
     ensures left { result ≡ false → cells.new.items ≡ cells.old.items }
-    ensures apart { result ≡ false → with_part cells.old.items start agg.now ≡ cells.old.items ++ record { start = start; agg = agg.now } ∷ [] }
+    ensures apart { result ≡ false
+        → with_part cells.old.items start agg.now ≡ cells.old.items ++ record { start = start; agg = agg.now } ∷ [] }
 {
     if let Some(last) = cells.last_mut() {
         if last.start == start {
