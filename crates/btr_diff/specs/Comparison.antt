@@ -11,7 +11,8 @@ use Rattle.btr_tree.specs.declared.node.Child.{Child}
 use Rattle.btr_tree.specs.declared.node.Node.{Node}
 use Rattle.btr_tree.specs.declared.node.Slot.{Slot}
 use Rattle.btr_tree.specs.History.{Commit, bag}
-use Rattle.btr_tree.specs.Nodes.{points_of, is_inner, slot_version}
+use Rattle.btr_tree.specs.Nodes.{is_inner, slot_version}
+use Rattle.btr_tree.specs.EachHistory.{points_in}
 use Rattle.btr_tree.specs.Newer.{sum_of, newer_nodes}
 use Rattle.btr_tree.specs.Agree.{AgreeSince}
 use Rattle.btr_tree.specs.Shape.{slot_start, HasSlots, HasChildren, IsNode, IsChild}
@@ -42,12 +43,11 @@ pub record IsFirstTime (t : ℤ) (a b : List Point) : Type 0 where
 
 -- The points are those of the span.
 abbrev pub ArePointsOf : SpanValue → List Point → List Commit → Type 0
-ArePointsOf span points h = points ≡ points_of span.height span.start (bag h)
+ArePointsOf span points h = points ≡ points_in span (bag h)
 
 -- Those of the points that are in the span are the points of the span.
 abbrev pub IncludesPointsOf : SpanValue → List Point → List Commit → Type 0
-IncludesPointsOf span points h =
-    points_of span.height span.start points ≡ points_of span.height span.start (bag h)
+IncludesPointsOf span points h = points_in span points ≡ points_in span (bag h)
 
 -- The child is that of the span.
 abbrev pub IsChildOf : SpanValue → Child → List Commit → Type 0
@@ -96,13 +96,19 @@ pub record BelongsTo (span : SpanValue) (Belongs : List Commit → Type 0) : Typ
 -- If both sides agree since the version, the changed slots of the span are added.
 abbrev pub Compares : Comparison → SpanValue → (List Commit → Type 0) → (List Commit → Type 0) → List RangeValue → List RangeValue → Type 0
 Compares by span IsOlder IsNewer old new =
-    (h k : List Commit) → IsOlder h → IsNewer k → AgreeSince by.since h k → AddsChangedSlots by.p old new (points_of span.height span.start (bag h)) (points_of span.height span.start (bag k))
+    (h k : List Commit)
+    → IsOlder h
+    → IsNewer k
+    → AgreeSince by.since h k
+    → AddsChangedSlots by.p old new (points_in span (bag h)) (points_in span (bag k))
 
 -- How many nodes below a span carry a version above this one.
 unfoldable pub newer_below : ℕ → ℤ → List Commit → ℕ → ℕ
 newer_below zero start h version = 0
 newer_below (suc below) start h version =
-    if is_inner (suc below) start (bag h) then sum_of 64 (λ i. newer_nodes below (slot_start below start i) (is_inner (suc below) start) h version) else 0
+    if is_inner (suc below) start (bag h)
+    then sum_of 64 (λ i. newer_nodes below (slot_start below start i) (is_inner (suc below) start) h version)
+    else 0
 
 -- The steps rise at most by the number of nodes below the span that carry a version above this one.
 abbrev pub VisitsBelow : ℕ → SpanValue → (List Commit → Type 0) → ℕ → ℕ → Type 0
@@ -112,4 +118,6 @@ VisitsBelow since span IsNewer old new =
 -- The steps rise at most by the number of nodes in the slot that carry a version above this one.
 abbrev pub VisitsSlot : ℕ → SpanValue → ℕ → Child → ℕ → ℕ → Type 0
 VisitsSlot since span version child old new =
-    (k : List Commit) → (slot : IsSlotOf span version child k) → new ≤ old + newer_nodes span.height span.start (is_inner slot.above slot.begin) k since
+    (k : List Commit)
+    → (slot : IsSlotOf span version child k)
+    → new ≤ old + newer_nodes span.height span.start (is_inner slot.above slot.begin) k since

@@ -15,12 +15,12 @@ use btr_base::{Ranges, Span};
 use btr_tree::{Child, Node, Steps, Tree, root_span, visit};
 use std::alloc::{AllocError, Global};
 
-/// Returns the longest runs of aligned slots of `2^p` ns in which some time has other points in the newer tree than in the
-/// older one (BTrDB's ComputeDiff). Equal points count each. `p` is 0 to 62, the caller's condition.
+/// Returns the longest runs of aligned slots of `2^p` ns in which some time has other points in the newer tree than in
+/// the older one (BTrDB's ComputeDiff). Equal points count each. `p` is 0 to 62, the caller's condition.
 ///
-/// The answer is exact if `old` is version `since` of the same stream as `new`. Of the newer tree the call visits the root,
-/// and else only nodes with a version above `since`; each is one step. Of the older tree it visits the nodes in the spans of
-/// those, which are not counted. An `Err` is out of memory.
+/// The answer is exact if `old` is version `since` of the same stream as `new`. Of the newer tree the call visits the
+/// root, and else only nodes with a version above `since`; each is one step. Of the older tree it visits the nodes in
+/// the spans of those, which are not counted. An `Err` is out of memory.
 pub fn changes(
     alloc: Global,
     old: &Tree,
@@ -49,8 +49,8 @@ pub fn changes(
     Ok(out)
 }
 
-/// Adds to `out` the slots in which the trees differ in a span. Visits the newer node, and continues if its version is above
-/// `since`.
+/// Adds to `out` the slots in which the trees differ in a span. Visits the newer node, and continues if its version is
+/// above `since`.
 fn compare_roots(
     span: Span,
     old: &Child,

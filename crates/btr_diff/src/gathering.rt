@@ -1,7 +1,7 @@
 //! The points of a span of the older tree.
 ghost use Rattle.std.specs.Prelude.{◌≡◌, ◌++◌, List, OnOk};
 ghost use Rattle.btr_tree.specs.History.{Commit, bag};
-ghost use Rattle.btr_tree.specs.Nodes.{points_of};
+ghost use Rattle.btr_tree.specs.EachHistory.{points_in};
 ghost use Rattle.btr_diff.specs.Comparison.{BelongsTo, IsChildOf, AreChildrenOf};
 
 use btr_base::{FAN_OUT, Point, Span};
@@ -18,7 +18,7 @@ fn gather_child(
 ) -> Result<(), AllocError>
     requires { BelongsTo span (IsChildOf span child.now) }
     ensures { OnOk result ((h : List Commit) → IsChildOf span child.now h
-        → out.new.items ≡ out.old.items ++ points_of span.height span.start (bag h)) }
+        → out.new.items ≡ out.old.items ++ points_in span (bag h)) }
 {
     match visit(child, &mut Steps::new(alloc)) {
         None => Ok(()),
@@ -39,7 +39,7 @@ pub(crate) fn gather_slots(
 ) -> Result<(), AllocError>
     requires { BelongsTo span (AreChildrenOf span children.now) }
     ensures { OnOk result ((h : List Commit) → AreChildrenOf span children.now h
-        → out.new.items ≡ out.old.items ++ points_of span.height span.start (bag h)) }
+        → out.new.items ≡ out.old.items ++ points_in span (bag h)) }
 {
     for i in 0..FAN_OUT {
         gather_child(alloc, span.slot(i), &children[usize::from(i)], out)?;

@@ -1,7 +1,7 @@
 //! The changes between two versions of a stream, found by their trees (BTrDB, FAST 2016).
 //!
-//! [`changes`] compares two trees and returns the slots of time in which they differ (BTrDB's ComputeDiff). It visits no
-//! part of the newer tree that is as old as the older version: that part is equal in both trees.
+//! [`changes`] compares two trees and returns the slots of time in which they differ (BTrDB's ComputeDiff). It visits
+//! no part of the newer tree that is as old as the older version: that part is equal in both trees.
 #![tactic(auto)]
 
 // two lists of points

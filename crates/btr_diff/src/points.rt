@@ -7,8 +7,8 @@ ghost use Rattle.btr_diff.specs.Comparison.{AddsChangedSlots, IsFirstTime};
 use btr_base::{Point, Ranges, parted, slot_around};
 use std::alloc::AllocError;
 
-/// Adds to `out` the aligned slots of `2^p` ns in which two lists of points in order differ. It goes through both lists once,
-/// time by time.
+/// Adds to `out` the aligned slots of `2^p` ns in which two lists of points in order differ. It goes through both lists
+/// once, time by time.
 pub(crate) fn compare_points(
     old: &[Point],
     new: &[Point],

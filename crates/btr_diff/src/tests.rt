@@ -162,7 +162,8 @@ fn nodes_of(versions: &[Version]) -> u64 {
     nodes
 }
 
-/// The starts of the changed slots between two versions by their trees, and point by point, and how many nodes were visited.
+/// The starts of the changed slots between two versions by their trees, and point by point, and how many nodes were
+/// visited.
 fn both_ways(
     alloc: Global,
     old: &Version,

@@ -3,7 +3,7 @@ ghost use Rattle.std.specs.Prelude.{◌≤◌, ◌<◌, ℕ, List, OnOk};
 ghost use Rattle.btr_base.specs.Point.{AreInDomain};
 ghost use Rattle.btr_base.specs.Bag.{IsInOrder};
 ghost use Rattle.btr_tree.specs.History.{Commit, bag};
-ghost use Rattle.btr_tree.specs.Nodes.{points_of};
+ghost use Rattle.btr_tree.specs.EachHistory.{points_in};
 ghost use Rattle.btr_diff.specs.Comparison.{AddsChangedSlots, BelongsTo, Compares, VisitsBelow, VisitsSlot};
 ghost use Rattle.btr_diff.specs.Comparison.{IsChildOf, IsNodeOf, IsSlotOf, AreChildrenOf, AreSlotsOf};
 
@@ -15,7 +15,8 @@ use btr_base::{FAN_OUT, Point, Ranges, Span};
 use btr_tree::{Child, Node, Slot, Steps, visit};
 use std::alloc::AllocError;
 
-/// Adds to `out` the slots in which the trees differ in a span. Visits the newer node, and below it those that are newer.
+/// Adds to `out` the slots in which the trees differ in a span. Visits the newer node, and below it those that are
+/// newer.
 #[cycle(tree_walk)]
 fn compare_child(
     span: Span,
@@ -167,7 +168,7 @@ pub(crate) fn compare_with_points(
     requires order { IsInOrder new.now }
     requires domain { AreInDomain new.now }
     ensures { OnOk result ((h : List Commit) → IsChildOf span old.now h
-        → AddsChangedSlots comparison.p out.old out.new (points_of span.height span.start (bag h)) new.now) }
+        → AddsChangedSlots comparison.p out.old out.new (points_in span (bag h)) new.now) }
 {
     match visit(old, &mut Steps::new(comparison.alloc)) {
         None => compare_points(&[], new, comparison.p, out),

@@ -7,7 +7,8 @@ use Rattle.btr_base.specs.declared.limits.TheConstants.{END}
 use Rattle.btr_base.specs.Range.{IsRange}
 use Rattle.btr_base.specs.Windows.{window_of}
 use Rattle.btr_base.specs.Windows.{IsGrid, begin_of}
-use Rattle.btr_window.proofs.Cells.{begin-bounds, numbered}
+use Rattle.btr_base.proofs.WindowLemmas.{numbered}
+use Rattle.btr_window.proofs.Cells.{begin-bounds}
 use Rattle.btr_base.specs.Span.{SpanValue, IsSpan}
 use Rattle.btr_base.proofs.SpanLemmas.{width-positive}
 

@@ -3,7 +3,6 @@ use Rattle.std.specs.Prelude.{◌≡◌, ℕ, ◌+◌, ◌*◌, ◌<◌, ◌≤�
 use Rattle.std.specs.Ordering.{int_eq}
 use Rattle.std.specs.List.{AllByRecursion}
 use Rattle.std.proofs.Common.{inl, inr, refl, sym, ap, ◌∙◌, arith, subst, mul-le-mul_right}
-use Rattle.std.proofs.Math.Nat.{div-mul-le_self, lt-div-mul-add}
 use Rattle.std.proofs.lemmas.Int.{ints}
 use Rattle.std.proofs.lemmas.Bool.{cases_lt}
 use Rattle.std.proofs.lemmas.Bool.Decides.{nat_tests}
@@ -12,7 +11,8 @@ use Rattle.btr_base.specs.Point.{is_not_after}
 use Rattle.btr_base.specs.Bag.{IsInOrder, within, is_within}
 use Rattle.btr_base.proofs.ListLemmas.{each-weaker, filter-passes}
 use Rattle.btr_base.proofs.PointLemmas.{is_not_after-times}
-use Rattle.btr_base.proofs.WithinLemmas.{within-nested, within-in_order}
+use Rattle.btr_base.proofs.WithinLemmas.{within-nested, within-in_order, within-empty}
+use Rattle.btr_base.proofs.WindowLemmas.{numbered}
 use Rattle.btr_base.specs.Windows.{window_of, window_at, dedup, windows_with, cell_of, cells}
 use Rattle.btr_base.specs.Agg.{AggValue, joined, one_point, agg, agg_within}
 use Rattle.btr_base.proofs.AggLemmas.{joined-assoc, none-joined}
@@ -21,19 +21,6 @@ use Rattle.btr_window.specs.Accumulate.{add_points}
 use Rattle.btr_window.proofs.Adding.{cell, same-eq, add_points-prefix}
 
 -- ---- Windows by number.
-
--- The number of the window of a time, and the time, by the offset from the first time.
-pub record IsNumbered (first : ℤ) (width : ℕ) (t : ℤ) (k offset : ℕ) : Type 0 where
-  pub at : t ≡ first +ℤ pos offset
-  pub low : k * width ≤ offset
-  pub high : offset < (k + 1) * width
-
-pub numbered : (first : ℤ) (width : ℕ) (t : ℤ) → 1 ≤ width → first ≤ℤ t → IsNumbered first width t (window_of first width t) (unsigned_abs (t -ℤ first))
-numbered first width t some h =
-    let o = unsigned_abs (t -ℤ first) in
-    let low = div-mul-le_self o width in
-    let high = lt-div-mul-add {a = o} {b = width} some in
-    record { at = omega (arith, ints); low = low; high = omega arith }
 
 pub times-less : (a b w : ℕ) → a < b → (a + 1) * w ≤ b * w
 times-less a b w h = mul-le-mul_right w (omega arith)
@@ -342,3 +329,8 @@ module _ (first : ℤ) (width : ℕ) (some : 1 ≤ width) where
 pub cells-as : (first : ℤ) (width : ℕ) (from to : ℤ) (a c : ℕ) (b : List Point) → from ≡ window_at first width a → to ≡ window_at first width c → add_points first width [] (within (window_at first width a) (window_at first width c) b) ≡ cells first width (window_at first width a) (window_at first width c) b → add_points first width [] (within from to b) ≡ cells first width from to b
 cells-as first width from to a c b p q h =
     subst (λ x. add_points first width [] (within x to b) ≡ cells first width x to b) (sym p) (subst (λ x. add_points first width [] (within (window_at first width a) x b) ≡ cells first width (window_at first width a) x b) (sym q) h)
+
+-- There are no windows between a time and itself.
+pub cells-none : (first : ℤ) (width : ℕ) (from to : ℤ) (b : List Point) → to ≡ from → cells first width from to b ≡ []
+cells-none first width from to b e =
+    ap (λ x. map (cell_of first width b) (windows_with first width x)) (ap (λ t. within from t b) e ∙ within-empty from b)

@@ -5,4 +5,3 @@ pub mod Starts
 pub mod Slots
 pub mod Joined
 pub mod Bounds
-pub mod Dividing

@@ -1,5 +1,5 @@
 -- Lemmas on the slots of a span that a range meets.
-use Rattle.std.specs.Prelude.{◌≡◌, ℕ, ◌+◌, ◌-◌, ◌*◌, ◌<◌, ◌≤◌, ℤ, pos, ◌+ℤ◌, ◌-ℤ◌, ◌≤ℤ◌, ◌<ℤ◌, false, ◌&&◌, int_le, int_lt, List, [], ◌∷◌}
+use Rattle.std.specs.Prelude.{length, ◌^◌, ◌≡◌, ℕ, ◌+◌, ◌-◌, ◌*◌, ◌<◌, ◌≤◌, ℤ, pos, ◌+ℤ◌, ◌-ℤ◌, ◌≤ℤ◌, ◌<ℤ◌, false, ◌&&◌, int_le, int_lt, List, [], ◌∷◌}
 use Rattle.std.proofs.Common.{zero, suc, refl, sym, ap, ◌∙◌, arith, subst, mul-le-mul_right, to_z, of_z, w64, inl, inr}
 use Rattle.std.specs.List.{filter}
 use Rattle.std.proofs.lemmas.Bool.{cases_lt}
@@ -11,10 +11,16 @@ use Rattle.btr_base.specs.Range.{RangeValue, IsRange}
 use Rattle.btr_base.proofs.ListLemmas.{filter-filter, filter-same}
 use Rattle.btr_base.proofs.WithinLemmas.{within-empty}
 use Rattle.btr_base.specs.Span.{width, SpanValue, slot_of}
-use Rattle.btr_tree.specs.Change.{end_of}
+use Rattle.std.specs.Borrow.{Bor}
+use Rattle.btr_tree.specs.declared.node.Child.{Child}
+use Rattle.btr_tree.specs.declared.node.Node.{Node}
+use Rattle.btr_tree.specs.declared.node.Node.TheVariants.{Inner}
+use Rattle.btr_tree.specs.declared.node.Slot.{Slot}
+use Rattle.btr_tree.specs.History.{bag}
+use Rattle.btr_tree.specs.Change.{IsSomeChild, AreSomeSlots, end_of}
 use Rattle.btr_tree.specs.Nodes.{points_of}
-use Rattle.btr_tree.specs.Shape.{slot_start}
-use Rattle.btr_tree.proofs.NodeLemmas.{slot-next, slot-end, slot-first, slot-part}
+use Rattle.btr_tree.specs.Shape.{slot_start, IsNode}
+use Rattle.btr_tree.proofs.NodeLemmas.{inner-is, slot-next, slot-end, slot-first, slot-part}
 
 -- ---- A range as numbers.
 
@@ -82,6 +88,22 @@ pub within-inside : (from to a b : ℤ) (xs : List Point) → from ≤ℤ a → 
 within-inside from to a b xs h k =
     filter-filter (is_within from to) (is_within a b) xs
     ∙ filter-same (λ p. is_within a b p && is_within from to p) (is_within a b) xs (λ p. inside-within from to a b p.time h k)
+
+-- ---- An inner node.
+
+-- The slots of an inner node belong to some history if its child does.
+pub inner-some : (span : SpanValue) (more : ℕ) (child : Child) (n : Node) (v : ℕ) (ss : Bor (List Slot)) (cs : Bor (List Child)) → (some : IsSomeChild span.height span.start child more) → n ≡ Inner v ss cs → IsNode span.height span.start some.above some.commits n → (below : ℕ) × (span.height ≡ suc below) × AreSomeSlots below span.start ss.now cs.now more
+inner-some span more child n v ss cs some e node =
+    let body = inner-is span.height span.start some.above some.commits n v ss cs e node in (
+      body.below,
+      body.height,
+      record {
+        commits = some.commits;
+        holds = body.inner.all;
+        each = body.each;
+        few = subst (λ k. length (points_of k span.start (bag some.commits)) + more < 2 ^ 64) body.height some.few;
+      },
+    )
 
 -- ---- Slots.
 

@@ -10,11 +10,13 @@ use Rattle.btr_base.specs.Bag.{within}
 use Rattle.btr_base.specs.Range.{RangeValue}
 use Rattle.btr_base.specs.Windows.{window_at, begin_of}
 
--- An aggregate of points in the window that starts at `start` joins the last window if that is the same, or else follows it.
+-- An aggregate of the window that starts at `start` joins the last window if that is the same, or else follows it.
 abbrev pub add_part : List Cell → ℤ → AggValue → List Cell
 add_part [] start agg = record { start = start; agg = agg } ∷ []
 add_part (c ∷ []) start agg =
-    if int_eq c.start start then record { start = c.start; agg = joined c.agg agg } ∷ [] else c ∷ record { start = start; agg = agg } ∷ []
+    if int_eq c.start start
+    then record { start = c.start; agg = joined c.agg agg } ∷ []
+    else c ∷ record { start = start; agg = agg } ∷ []
 add_part (c ∷ d ∷ cs) start agg = c ∷ add_part (d ∷ cs) start agg
 
 -- Points are added one after the other.

@@ -84,8 +84,8 @@ fn start_of(cells: &[Cell], grid: Grid, time: i64) -> i64
     }
 }
 
-/// Returns the start of the window that contains the time, from the start of the last window. It divides only if that is
-/// neither the same window nor the next one.
+/// Returns the start of the window that contains the time, from the start of the last window. It divides only if that
+/// is neither the same window nor the next one.
 fn start_from(last: i64, grid: Grid, time: i64) -> i64
     requires grid { IsGrid grid.first grid.width }
     requires time { grid.first ≤ℤ time }

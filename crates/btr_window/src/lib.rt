@@ -1,8 +1,9 @@
 //! Statistics of one version of a stream, read from its tree (BTrDB, FAST 2016).
 //!
-//! [`aggregate`] returns the number of points of a range, their sum, and the least and the greatest value. [`aligned`] returns
-//! the same of each aligned window of `2^p` ns that a range meets (BTrDB's GetStatisticalRange), and [`windows`] of each window
-//! of one width from the start of a range on. A slot that lies in one window is not visited: its own aggregate is enough.
+//! [`aggregate`] returns the number of points of a range, their sum, and the least and the greatest value. [`aligned`]
+//! returns the same of each aligned window of `2^p` ns that a range meets (BTrDB's GetStatisticalRange), and
+//! [`windows`] of each window of one width from the start of a range on. A slot that lies in one window is not visited:
+//! its own aggregate is enough.
 #![tactic(auto)]
 
 // ranges and windows

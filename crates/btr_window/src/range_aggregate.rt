@@ -11,8 +11,8 @@ use crate::inside::is_inside;
 use btr_base::{Agg, END, FIRST, Range, Span, points_between};
 use btr_tree::{Child, Node, Slot, Steps, Tree, root_span, visit};
 
-/// Returns the aggregate of the points of a version with `from <= time < to`. It visits at most 21 nodes, each one step: those
-/// on the way to the two ends of the range. It takes no memory.
+/// Returns the aggregate of the points of a version with `from <= time < to`. It visits at most 21 nodes, each one
+/// step: those on the way to the two ends of the range. It takes no memory.
 pub fn aggregate(tree: &Tree, range: Range, steps: &mut Steps) -> Agg
     ensures agg { (h : List Commit) → IsTree h tree.now → result ≡ agg_within range.from range.to (bag h) }
     ensures bounded { steps.new ≤ steps.old + 21 }
@@ -22,8 +22,8 @@ pub fn aggregate(tree: &Tree, range: Range, steps: &mut Steps) -> Agg
     agg_in_child(root_span(), tree.root(), range, steps)
 }
 
-/// Returns the aggregate of the points of a span in a range that meets it. It visits the node of the span, and below it, for
-/// each end of the range inside the span, one node at each height.
+/// Returns the aggregate of the points of a span in a range that meets it. It visits the node of the span, and below
+/// it, for each end of the range inside the span, one node at each height.
 #[cycle(range_aggregate)]
 fn agg_in_child(span: Span, child: &Child, range: Range, steps: &mut Steps) -> Agg
     requires some { IsSomeChild span.height span.start child.now 0 }
@@ -74,7 +74,8 @@ fn agg_in_slots(
     all
 }
 
-/// Returns the aggregate of the points of a slot in a range. It visits no node if the slot has no point or is inside the range.
+/// Returns the aggregate of the points of a slot in a range. It visits no node if the slot has no point or is inside
+/// the range.
 #[cycle(range_aggregate)]
 fn agg_in_slot(span: Span, slot: &Slot, child: &Child, range: Range, steps: &mut Steps) -> Agg
     requires some { IsSomeSlot span.height span.start slot.now child.now 0 }

@@ -140,7 +140,8 @@ fn rows_of(alloc: Global, cells: &[Cell]) -> Result<Vec<Row>, Fail> {
     Ok(rows)
 }
 
-/// The rows of the windows from a first time on that start at `low` or later and end at `high` or earlier: point by point.
+/// The rows of the windows from a first time on that start at `low` or later and end at `high` or earlier: point by
+/// point.
 fn plain_rows(
     alloc: Global,
     points: &[Point],

@@ -15,10 +15,11 @@ use btr_base::{Cell, END, FIRST, Grid, Range, Span, points_between};
 use btr_tree::{Child, Node, Slot, Steps, Tree, root_span, visit};
 use std::alloc::{AllocError, Global};
 
-/// Returns the aligned windows that meet a range and have a point, in order, each whole: those of `2^p` ns from the first time
-/// of the domain on (BTrDB's GetStatisticalRange). `p` is 0 to 62, the caller's condition.
+/// Returns the aligned windows that meet a range and have a point, in order, each whole: those of `2^p` ns from the
+/// first time of the domain on (BTrDB's GetStatisticalRange). `p` is 0 to 62, the caller's condition.
 ///
-/// It costs its windows, and of the tree the nodes in which a window starts or ends, in one walk. An `Err` is out of memory.
+/// It costs its windows, and of the tree the nodes in which a window starts or ends, in one walk. An `Err` is out of
+/// memory.
 pub fn aligned(alloc: Global, tree: &Tree, range: Range, p: u8) -> Result<Vec<Cell>, AllocError>
     requires { p ≤ 62 }
     ensures { IfOk result (λ v. (h : List Commit) → IsTree h tree.now → v.items ≡ aligned_of p range.from range.to (bag h)) }
@@ -28,11 +29,11 @@ pub fn aligned(alloc: Global, tree: &Tree, range: Range, p: u8) -> Result<Vec<Ce
     cells_of(alloc, tree, grid, whole)
 }
 
-/// Returns the windows of a width, in nanoseconds, side by side from the start of a range on, that end at or before its end and
-/// have a point, in order. The width is 1 to 2^62, the caller's condition.
+/// Returns the windows of a width, in nanoseconds, side by side from the start of a range on, that end at or before its
+/// end and have a point, in order. The width is 1 to 2^62, the caller's condition.
 ///
-/// It costs its windows, and of the tree the nodes in which a window starts or ends, in one walk. From one window to the next
-/// it adds the width, and divides only after a gap. An `Err` is out of memory.
+/// It costs its windows, and of the tree the nodes in which a window starts or ends, in one walk. From one window to
+/// the next it adds the width, and divides only after a gap. An `Err` is out of memory.
 pub fn windows(
     alloc: Global,
     tree: &Tree,
@@ -147,8 +148,8 @@ fn walk_slots(
     Ok(())
 }
 
-/// Adds to the windows the points of a slot in a range that meets it. It visits no node if the slot has no point, or if it is
-/// inside the range and one window.
+/// Adds to the windows the points of a slot in a range that meets it. It visits no node if the slot has no point, or if
+/// it is inside the range and one window.
 #[cycle(window_walk)]
 fn walk_slot(
     alloc: Global,

@@ -11,7 +11,7 @@ use Rattle.btr_base.specs.Bag.{IsInOrder}
 use Rattle.btr_base.specs.Changes.{same_points, slot_around}
 use Rattle.btr_base.proofs.ListLemmas.{each-weaker, each-both, each-filter, filter-passes}
 use Rattle.btr_base.proofs.PointLemmas.{filter-in_order}
-use Rattle.btr_diff.specs.Comparison.{AddsChangedSlots, rest_from}
+use Rattle.btr_diff.specs.Comparison.{AddsChangedSlots, IsFirstTime, rest_from}
 use Rattle.btr_diff.proofs.ChangedSlots.{AllAt, AreParts, Before, From, is_changed_at-time, adds-none, adds-parts, same_points-true}
 use Rattle.btr_diff.proofs.points.compare_points.Goals as goal
 
@@ -62,6 +62,13 @@ parted-is t u b here rest e low order domain is is_rest all =
       short = ap length is_rest ∙ ap (λ v. length (rest_from v b)) e;
     }
 
+-- Both lists are the points of the first time, and the later ones.
+both-parted : (t u : ℤ) (a b a_here a_rest b_here b_rest : List Point) → IsFirstTime t a b → IsInOrder a → IsInOrder b → AreInDomain a → AreInDomain b → u ≡ t +ℤ pos 1 → a_here ≡ filter (λ q. int_lt q.time u) a → a_rest ≡ rest_from u a → a_here ++ a_rest ≡ a → b_here ≡ filter (λ q. int_lt q.time u) b → b_rest ≡ rest_from u b → b_here ++ b_rest ≡ b → IsParted t u a a_here a_rest × IsParted t u b b_here b_rest
+both-parted t u a b a_here a_rest b_here b_rest first p q m n e v w x y z all = (
+  parted-is t u a a_here a_rest e first.a_from p m v w x,
+  parted-is t u b b_here b_rest e first.b_from q n y z all,
+)
+
 -- ---- One time more.
 
 or-swap : (a b : Bool) → (a || b) ≡ (b || a)
@@ -97,15 +104,14 @@ loop-time-preserved-in_ok-add c =
     let inside = first.inside i.old_domain i.new_domain in
     let low = inside.0 in
     let high = inside.1 in
-    let a = parted-is t _ c.loop-time.old_left.now c.parted.result.0.now c.parted.result.1.now (omega (arith, ints)) first.a_from i.old_order i.old_domain c.parted.ensures.before c.parted.ensures.from c.parted.ensures.all in
-    let b = parted-is t _ c.loop-time.new_left.now c.parted-in-Some.result.0.now c.parted-in-Some.result.1.now (omega (arith, ints)) first.b_from i.new_order i.new_domain c.parted-in-Some.ensures.before c.parted-in-Some.ensures.from c.parted-in-Some.ensures.all in
+    let both = both-parted t _ c.loop-time.old_left.now c.loop-time.new_left.now _ _ _ _ first i.old_order i.new_order i.old_domain i.new_domain (omega (arith, ints)) c.parted.ensures.before c.parted.ensures.from c.parted.ensures.all c.parted-in-Some.ensures.before c.parted-in-Some.ensures.from c.parted-in-Some.ensures.all in
     record {
-      old_order = a.order;
-      new_order = b.order;
-      old_domain = a.domain;
-      new_domain = b.domain;
+      old_order = both.0.order;
+      new_order = both.1.order;
+      old_domain = both.0.domain;
+      new_domain = both.1.domain;
       times = λ now more.
-          i.times now (adds-step c.args.p t _ c.loop-time.out c.add.new.self now c.loop-time.old_left.now c.parted.result.0.now c.parted.result.1.now c.loop-time.new_left.now c.parted-in-Some.result.0.now c.parted-in-Some.result.1.now a b (adds-time c.args.p t c.loop-time.out c.add.new.self c.parted.result.0.now c.parted-in-Some.result.0.now c.slot_around.result a.at b.at (differ-true c.ne.result c.parted.result.0.now c.parted-in-Some.result.0.now c.ne.ensures c.if-ne.true) inside (slot-same c.args.p (to_z w64 (of_z w64 t)) t c.slot_around.result c.slot_around.ensures (omega (arith, ints))) c.in_ok-add.ensures.times) more);
+          i.times now (adds-step c.args.p t _ c.loop-time.out c.add.new.self now c.loop-time.old_left.now c.parted.result.0.now c.parted.result.1.now c.loop-time.new_left.now c.parted-in-Some.result.0.now c.parted-in-Some.result.1.now both.0 both.1 (adds-time c.args.p t c.loop-time.out c.add.new.self c.parted.result.0.now c.parted-in-Some.result.0.now c.slot_around.result both.0.at both.1.at (differ-true c.ne.result c.parted.result.0.now c.parted-in-Some.result.0.now c.ne.ensures c.if-ne.true) inside (slot-same c.args.p (to_z w64 (of_z w64 t)) t c.slot_around.result c.slot_around.ensures (omega (arith, ints))) c.in_ok-add.ensures.times) more);
     }
 
 pub loop-time-preserved : goal.loop-time-preserved
@@ -116,16 +122,15 @@ loop-time-preserved c =
     let inside = first.inside i.old_domain i.new_domain in
     let low = inside.0 in
     let high = inside.1 in
-    let a = parted-is t _ c.loop-time.old_left.now c.parted.result.0.now c.parted.result.1.now (omega (arith, ints)) first.a_from i.old_order i.old_domain c.parted.ensures.before c.parted.ensures.from c.parted.ensures.all in
-    let b = parted-is t _ c.loop-time.new_left.now c.parted-in-Some.result.0.now c.parted-in-Some.result.1.now (omega (arith, ints)) first.b_from i.new_order i.new_domain c.parted-in-Some.ensures.before c.parted-in-Some.ensures.from c.parted-in-Some.ensures.all in
+    let both = both-parted t _ c.loop-time.old_left.now c.loop-time.new_left.now _ _ _ _ first i.old_order i.new_order i.old_domain i.new_domain (omega (arith, ints)) c.parted.ensures.before c.parted.ensures.from c.parted.ensures.all c.parted-in-Some.ensures.before c.parted-in-Some.ensures.from c.parted-in-Some.ensures.all in
     let same = differ-false c.ne.result c.parted.result.0.now c.parted-in-Some.result.0.now c.ne.ensures c.if-ne.false in
     record {
-      old_order = a.order;
-      new_order = b.order;
-      old_domain = a.domain;
-      new_domain = b.domain;
+      old_order = both.0.order;
+      new_order = both.1.order;
+      old_domain = both.0.domain;
+      new_domain = both.1.domain;
       times = λ now more.
-          i.times now (adds-step c.args.p t _ c.loop-time.out c.loop-time.out now c.loop-time.old_left.now c.parted.result.0.now c.parted.result.1.now c.loop-time.new_left.now c.parted-in-Some.result.0.now c.parted-in-Some.result.1.now a b (subst (AddsChangedSlots c.args.p c.loop-time.out c.loop-time.out c.parted.result.0.now) same (adds-none c.args.p c.loop-time.out c.parted.result.0.now)) more);
+          i.times now (adds-step c.args.p t _ c.loop-time.out c.loop-time.out now c.loop-time.old_left.now c.parted.result.0.now c.parted.result.1.now c.loop-time.new_left.now c.parted-in-Some.result.0.now c.parted-in-Some.result.1.now both.0 both.1 (subst (AddsChangedSlots c.args.p c.loop-time.out c.loop-time.out c.parted.result.0.now) same (adds-none c.args.p c.loop-time.out c.parted.result.0.now)) more);
     }
 
 pub loop-time-smaller : goal.loop-time-smaller
@@ -136,10 +141,9 @@ loop-time-smaller c =
     let inside = first.inside i.old_domain i.new_domain in
     let low = inside.0 in
     let high = inside.1 in
-    let a = parted-is t _ c.loop-time.old_left.now c.parted.result.0.now c.parted.result.1.now (omega (arith, ints)) first.a_from i.old_order i.old_domain c.parted.ensures.before c.parted.ensures.from c.parted.ensures.all in
-    let b = parted-is t _ c.loop-time.new_left.now c.parted-in-Some.result.0.now c.parted-in-Some.result.1.now (omega (arith, ints)) first.b_from i.new_order i.new_domain c.parted-in-Some.ensures.before c.parted-in-Some.ensures.from c.parted-in-Some.ensures.all in
-    let short_a = a.short in
-    let short_b = b.short in
+    let both = both-parted t _ c.loop-time.old_left.now c.loop-time.new_left.now _ _ _ _ first i.old_order i.new_order i.old_domain i.new_domain (omega (arith, ints)) c.parted.ensures.before c.parted.ensures.from c.parted.ensures.all c.parted-in-Some.ensures.before c.parted-in-Some.ensures.from c.parted-in-Some.ensures.all in
+    let short_a = both.0.short in
+    let short_b = both.1.short in
     let fewer = first.fewer in
     omega arith
 

@@ -13,7 +13,7 @@ use Rattle.btr_tree.proofs.NodeLemmas.{leaf-is, inner-is, slot-at, slot-few, slo
 use Rattle.btr_tree.proofs.VersionLemmas.{points-in_order}
 use Rattle.btr_window.specs.RangeEnds.{ends_inside}
 use Rattle.btr_window.proofs.EndsInside.{ends-longer, ends-some, steps-first, steps-next, cost-as}
-use Rattle.btr_window.proofs.Slots.{between-is, range-from, range-to, slot-rise, slot-begins, slot-ends, within-as, within-inside}
+use Rattle.btr_window.proofs.Slots.{inner-some, between-is, range-from, range-to, slot-rise, slot-begins, slot-ends, within-as, within-inside}
 use Rattle.btr_window.proofs.Joined.{agg-more, count-fits, agg-empty}
 use Rattle.btr_window.proofs.range_aggregate.+range_aggregate.Goals as goal
 use Rattle.btr_window.proofs.range_aggregate.+range_aggregate.Goals.{agg_in_slot-then-agg-eq0-via-then-agg-eq0, agg_in_slot-then-agg-eq0-via-else-agg-eq0+then-is_inside}
@@ -31,24 +31,10 @@ pub agg_in_child-agg_in_slots-requires : goal.agg_in_child-agg_in_slots-requires
 agg_in_child-agg_in_slots-requires t c =
     let some = c.requires.some in
     let span = c.args.span in
-    let body = inner-is span.height span.start some.above some.commits c.in-Some.node c.in-Inner.version c.in-Inner.slots c.in-Inner.children c.in-Inner.is (c.in-Some.ensures.node span.height span.start some.above some.commits some.holds) in
     let d = c.decreases in
-    let high = body.height in (
-      omega arith,
-      (
-        (
-          body.below,
-          high,
-          record {
-            commits = some.commits;
-            holds = body.inner.all;
-            each = body.each;
-            few = subst (λ k. length (points_of k span.start (bag some.commits)) + 0 < 2 ^ 64) high some.few;
-          },
-        ),
-        (c.requires.begins, c.requires.ends),
-      ),
-    )
+    let slots = inner-some span 0 c.args.child.now c.in-Some.node c.in-Inner.version c.in-Inner.slots c.in-Inner.children some c.in-Inner.is (c.in-Some.ensures.node span.height span.start some.above some.commits some.holds) in
+    let high = slots.1 in
+    (omega arith, (slots, (c.requires.begins, c.requires.ends)))
 
 pub agg_in_child-returns-in-None-clause-agg : goal.agg_in_child-returns-in-None-clause-agg
 agg_in_child-returns-in-None-clause-agg t c above h holds =

@@ -17,7 +17,7 @@ use Rattle.btr_tree.proofs.NodeLemmas.{leaf-is, inner-is, slot-at, prefix-part, 
 use Rattle.btr_tree.proofs.VersionLemmas.{points-in_order}
 use Rattle.btr_base.specs.Windows.{window_of, begin_of}
 use Rattle.btr_window.specs.Accumulate.{add_part, add_points, counted, AreStarts}
-use Rattle.btr_window.proofs.Slots.{between-is, range-from, range-to, slot-rise, slot-begins, slot-ends, within-as, within-inside}
+use Rattle.btr_window.proofs.Slots.{inner-some, between-is, range-from, range-to, slot-rise, slot-begins, slot-ends, within-as, within-inside}
 use Rattle.btr_window.proofs.Joined.{no-points}
 use Rattle.btr_window.proofs.Adding.{points-more, room-more, add_points-part}
 use Rattle.btr_window.proofs.Cells.{within-between}
@@ -55,24 +55,10 @@ pub walk_child-walk_slots-requires : goal.walk_child-walk_slots-requires
 walk_child-walk_slots-requires t c =
     let some = c.requires.some in
     let span = c.args.span in
-    let body = inner-is span.height span.start some.above some.commits c.in-Some.node c.in-Inner.version c.in-Inner.slots c.in-Inner.children c.in-Inner.is (c.in-Some.ensures.node span.height span.start some.above some.commits some.holds) in
     let d = c.decreases in
-    let high = body.height in (
-      omega arith,
-      (
-        (
-          body.below,
-          high,
-          record {
-            commits = some.commits;
-            holds = body.inner.all;
-            each = body.each;
-            few = subst (λ k. length (points_of k span.start (bag some.commits)) + counted c.args.cells.now.items < 2 ^ 64) high some.few;
-          },
-        ),
-        (c.requires.grid, (c.requires.begins, (c.requires.ends, c.requires.starts))),
-      ),
-    )
+    let slots = inner-some span (counted c.args.cells.now.items) c.args.child.now c.in-Some.node c.in-Inner.version c.in-Inner.slots c.in-Inner.children some c.in-Inner.is (c.in-Some.ensures.node span.height span.start some.above some.commits some.holds) in
+    let high = slots.1 in
+    (omega arith, (slots, (c.requires.grid, (c.requires.begins, (c.requires.ends, c.requires.starts)))))
 
 pub walk_child-returns-in-None-clause-cells : goal.walk_child-returns-in-None-clause-cells
 walk_child-returns-in-None-clause-cells t c above h holds =

@@ -2,7 +2,7 @@ use Rattle.std.proofs.Common.{◌+◌, pos, ◌-ℤ◌, ◌∙◌}
 use Rattle.std.proofs.lemmas.Result.{IfOk-weaker}
 use Rattle.btr_base.specs.Windows.{window_of}
 use Rattle.btr_tree.specs.History.{bag}
-use Rattle.btr_window.proofs.Dividing.{aligned-grid, begin-next, aligned-cells}
+use Rattle.btr_base.proofs.WindowLemmas.{aligned-grid, begin-next, aligned-cells}
 use Rattle.btr_window.proofs.window_walk.aligned.Goals as goal
 
 pub cells_of-requires-clause-grid : goal.cells_of-requires-clause-grid
@@ -19,4 +19,4 @@ returns c =
     let grid = c.aligned-grid.result in
     let range = c.args.range in
     let whole = c.whole_windows-whole.result in
-    IfOk-weaker c.cells_of.result _ _ (λ v said h tree. said h tree ∙ aligned-cells c.args.p grid.first grid.width range.from range.to whole.from whole.to (bag h) c.aligned-grid.ensures c.whole_windows-whole.ensures.from c.whole_windows-whole.ensures.to) c.cells_of.ensures
+    IfOk-weaker c.cells_of.result _ _ (λ v said h tree. said h tree ∙ aligned-cells c.args.p grid.first grid.width range.from range.to whole.from whole.to (bag h) c.aligned-grid.ensures c.whole_windows-whole.ensures.from (c.whole_windows-whole.ensures.to ∙ begin-next grid.first grid.width (range.to -ℤ pos 1))) c.cells_of.ensures

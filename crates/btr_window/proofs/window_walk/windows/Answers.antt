@@ -3,7 +3,7 @@ use Rattle.std.proofs.lemmas.Int.{to_z-of_z}
 use Rattle.btr_tree.specs.History.{bag}
 use Rattle.btr_base.specs.Windows.{begin_of}
 use Rattle.btr_window.proofs.Slots.{range-from, range-to}
-use Rattle.btr_window.proofs.Dividing.{cells-none}
+use Rattle.btr_window.proofs.Cells.{cells-none}
 use Rattle.btr_window.proofs.window_walk.windows.Goals as goal
 
 pub returns-then-to-range : goal.returns-then-to-range
