@@ -1,4 +1,4 @@
--- What the images of an append stand for: the log of before, or the log with the body behind it.
+-- What the images of an append are: the log of before, or the log with the body at its end.
 use Rattle.std.specs.Prelude.{◌≡◌, ℕ, ◌+◌, ◌*◌, ◌/◌, ◌<◌, false, List, [], ◌∷◌, ◌++◌, length, Result, Ok, Err, OnOk, is_err}
 use Rattle.std.proofs.Common.{subst, inl, inr, ⊎_elim, arith}
 use Rattle.btr_disk.specs.Bytes.{Image, Has, Same, SameBut}
@@ -18,7 +18,7 @@ from_ok (Ok x) P ran fact = fact
 from_ok (Err e) P ran fact = cc
 
 module _ (old : Image) (tail : ℕ) (bodies : List (List ℕ)) (run : List ℕ) (is : IsAppendRun run) (extents : Extents old first_gate bodies tail) where
-  -- where the run stands behind an open gate, and all before the gate is as it was
+  -- the image has the run after an open gate, and all before the gate as it was
   pub grown : (new : Image) → Has new (4096 * (tail + 1)) run → IsOpen new tail → ((k : ℕ) → k < 4096 * tail → new k ≡ old k) → Extents new first_gate (bodies ++ body_in_run run ∷ []) (tail + need (body_in_run run)) × IsClosed new (tail + need (body_in_run run))
   grown new stored is_open below =
       let body = body_in_run run in
@@ -31,7 +31,7 @@ module _ (old : Image) (tail : ℕ) (bodies : List (List ℕ)) (run : List ℕ) 
       )
 
   module _ (closed : IsClosed old tail) where
-    -- all but the place of the run is as it was
+    -- all but the blocks of the run is as it was
     pub before : (c : Image) → SameBut (4096 * (tail + 1)) (length run) old c → IsLog c first_gate bodies
     before c but = (
       tail,
@@ -39,7 +39,7 @@ module _ (old : Image) (tail : ℕ) (bodies : List (List ℕ)) (run : List ℕ) 
       IsClosed-along old c tail (λ k low high. but.below k (omega arith)) closed,
     )
 
-    -- the run stands there, and the gate's block has any bytes
+    -- the image has the run, and any bytes in the gate's block
     pub half_way : (c : Image) → HasBody old (4096 * (tail + 1)) run (4096 * tail) c → IsMoment old tail bodies (body_in_run run) c
     half_way c has =
         let below : (k : ℕ) → k < 4096 * tail → c k ≡ old k = λ k lt. has.elsewhere k (λ le. absurd (omega arith)) (λ le. absurd (omega arith)) in

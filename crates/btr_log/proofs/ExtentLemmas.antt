@@ -1,4 +1,4 @@
--- Lemmas on extents: where they stand, along images that agree, one more at the end, and that one list of bodies is a log's.
+-- Lemmas on extents: along images that agree, with one more at the end, and that a log has one list of bodies.
 use Rattle.std.specs.Prelude.{◌≡◌, ◌⊎◌, ℕ, ◌+◌, ◌*◌, ◌<◌, ◌≤◌, List, [], ◌∷◌, ◌++◌, length, take}
 use Rattle.std.proofs.Common.{suc, refl, sym, ◌∙◌, ap, subst, inl, inr, ⊎_elim, arith}
 use Rattle.std.proofs.lemmas.Bool.{cases_eq}
@@ -12,7 +12,7 @@ use Rattle.btr_log.specs.declared.head.Head.{Head}
 use Rattle.btr_log.proofs.HeadLemmas.{Spells-one}
 use Rattle.btr_log.specs.Extents.{IsBody, body_blocks, need, IsExtent, Extents, IsLog, AtRest, first_gate}
 
--- bytes stand at an address or not
+-- an image has bytes at an address or not
 pub Has_or_not : (image : Image) (address : ℕ) (bytes : List ℕ) → Has image address bytes ⊎ (Has image address bytes → ⊥)
 Has_or_not image address [] = inl tt
 Has_or_not image address (byte ∷ bytes) =
@@ -50,7 +50,7 @@ Extents-le image gate [] tail same = omega arith
 Extents-le image gate (body ∷ rest) tail is =
     omega (arith, Extents-le image (gate + need body) rest tail is.1)
 
--- where two images agree from the gate to the tail
+-- if two images agree from the gate to the tail
 pub Extents-along : (old new : Image) (gate : ℕ) (bodies : List (List ℕ)) (tail : ℕ) → ((k : ℕ) → 4096 * gate ≤ k → k < 4096 * tail → new k ≡ old k) → Extents old gate bodies tail → Extents new gate bodies tail
 Extents-along old new gate [] tail agree same = same
 Extents-along old new gate (body ∷ rest) tail agree is =
@@ -68,7 +68,7 @@ Extents-along old new gate (body ∷ rest) tail agree is =
       Extents-along old new (gate + need body) rest tail (λ k low high. agree k (omega arith) high) is.1,
     )
 
--- one extent more behind the others
+-- one more extent at the end
 pub Extents-push : (image : Image) (gate : ℕ) (bodies : List (List ℕ)) (tail : ℕ) (body : List ℕ) (head : Head) → Extents image gate bodies tail → IsExtent image tail body head → Extents image gate (bodies ++ body ∷ []) (tail + need body)
 Extents-push image gate [] tail body head same one =
     let at : IsExtent image gate body head = subst (λ g. IsExtent image g body head) (sym same) one in
@@ -76,7 +76,7 @@ Extents-push image gate [] tail body head same one =
 Extents-push image gate (first ∷ rest) tail body head is one =
     (is.0, Extents-push image (gate + need first) rest tail body head is.1 one)
 
--- two bodies that stand at one address are one
+-- two bodies at one address are one
 pub IsBody-one : (image : Image) (address : ℕ) (xs ys : List ℕ) (first second : Head) → IsBody xs first → IsBody ys second → Has image address xs → Has image address ys → xs ≡ ys
 IsBody-one image address xs ys first second x y has has_too =
     let low : 64 ≤ length xs = omega (arith, IsBody-some xs first x) in
@@ -118,7 +118,7 @@ pub AtRest-images : (contents : Image) (images : Image → Type 0) (tail : ℕ) 
 AtRest-images contents images tail bodies rest c left =
     IsLog-Same contents c first_gate bodies (rest.only.each c left) (AtRest-IsLog contents images tail bodies rest)
 
--- and stays so where nothing is written
+-- a log stays at rest if nothing is written
 pub AtRest-along : (old new : Image) (before after : Image → Type 0) (tail : ℕ) (bodies : List (List ℕ)) → Same old new → SameImages before after → AtRest old before tail bodies → AtRest new after tail bodies
 AtRest-along old new before after tail bodies same images rest = record {
   extents = Extents-along old new first_gate bodies tail (λ k low high. same k) rest.extents;

@@ -1,4 +1,4 @@
--- A gate's block and the first block of its body, read together, and the rest of the body behind it.
+-- A gate's block and the first block of its body, which are read together, and then the rest of the body.
 use Rattle.std.specs.Prelude.{◌≡◌, ℕ, ◌+◌, ◌-◌, ◌*◌, ◌<◌, ◌≤◌, List, [], ◌++◌, length, take, drop}
 use Rattle.std.proofs.Common.{refl, sym, ◌∙◌, ap, subst, inl, inr, arith, length-drop, append-nil}
 use Rattle.std.proofs.lemmas.List.{take-take, take_at, drop_all, length-take-le, take-append-drop}
@@ -45,7 +45,7 @@ module _ (image : Image) (gate : ℕ) (prefix : List ℕ) (size : length prefix 
       let drops : length (drop 4096 prefix) ≡ 4096 = omega (arith, length-drop 4096 prefix) in
       ap length (take-take 64 (length prefix - 4096) (drop 4096 prefix) le) ∙ length-take-le 64 (drop 4096 prefix) (omega arith)
 
-  -- the head that stands in the image is the one that was read
+  -- the head in the image is the one that was read
   pub SpellsAt-prefix : (head : Head) → Spells (take 64 (after_first prefix)) head → SpellsAt image (gate + 1) head
   SpellsAt-prefix head spells = record {
     is_head = spells.is_head;

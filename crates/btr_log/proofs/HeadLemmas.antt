@@ -10,7 +10,7 @@ pub length-head_bytes : (head : Head) → length (head_bytes head) ≡ 64
 unfolding head_bytes zeros
 length-head_bytes head = refl
 
--- the fields read where they were written
+-- the fields are read at the places at which they are written
 pub head_at-head_bytes : (head : Head) → IsHead head → head_at (head_bytes head) ≡ head
 unfolding head_bytes head_at
 head_at-head_bytes head is =

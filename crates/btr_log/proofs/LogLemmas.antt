@@ -1,4 +1,4 @@
--- What is true of every log, and of one that wrote nothing.
+-- Lemmas on logs: what holds of every log, and of one whose calls wrote nothing.
 use Rattle.std.specs.Prelude.{ℕ, ◌^◌, ◌<◌, ◌≤◌, List, IsTrue}
 use Rattle.std.proofs.Common.{sym, subst}
 use Rattle.btr_disk.specs.declared.disk.Disk.{Ghosts}
@@ -27,7 +27,7 @@ holds_of_log log = record {
   rose = log.rose;
 }
 
--- a log at rest stays so where nothing is written, as at a read of an extent
+-- a log stays at rest if nothing is written, as by a read of an extent
 pub IsAtRest-WroteNothing : {D : Type 0} {disk : Ghosts D} (old new : Log D disk) (bodies : List (List ℕ)) → LogWroteNothing old new → KeepsLog old new → IsAtRest old bodies → IsAtRest new bodies
 IsAtRest-WroteNothing {D} {disk} old new bodies nothing kept rest =
     let before = disk.images_now (device old) in

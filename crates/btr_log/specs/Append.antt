@@ -1,4 +1,4 @@
--- What an append promises: which runs it takes, when each answer comes, and what the log is then.
+-- What an append promises: which runs it takes, when each result comes, and what the log is then.
 use Rattle.std.specs.Prelude.{◌≡◌, ◌⊎◌, ℕ, ◌+◌, ◌-◌, ◌*◌, ◌<◌, ◌≤◌, false, true, List, [], ◌∷◌, ◌++◌, length, take, IsTrue, IsFalse}
 use Rattle.btr_disk.specs.declared.disk.Disk.{Ghosts}
 use Rattle.btr_disk.specs.Bytes.{Image}
@@ -11,32 +11,32 @@ use Rattle.btr_log.specs.declared.append.AppendFault.TheVariants.{Full, Fault, S
 use Rattle.btr_log.specs.Extents.{IsBody, need, IsLog, first_gate}
 use Rattle.btr_log.specs.Log.{device, tail_of, room_of, extents_of, is_stopped}
 
--- the body that a run brings: all but its last block
+-- The body in a run: all but its last block.
 abbrev pub body_in_run : List ℕ → List ℕ
 body_in_run run = take (length run - 4096) run
 
--- a body, and then a block of zeros for the place of the next gate
+-- A body, and then a block of zeros, which will be the next gate.
 pub record IsAppendRun (run : List ℕ) : Type 0 where
   pub body : (head : Head) × IsBody (body_in_run run) head
   pub closed_after : run ≡ body_in_run run ++ zeros 4096
 
--- the image is the log of these bodies, or of these and one more
+-- The image is the log of these bodies, or of these and one more.
 abbrev pub IsLogOrMore : List (List ℕ) → List ℕ → Image → Type 0
 IsLogOrMore bodies body image =
     IsLog image first_gate bodies ⊎ IsLog image first_gate (bodies ++ body ∷ [])
 
--- An image at a moment of an append: all below the gate at the tail is as it was, and it is the log of these bodies, or of
--- these and one more.
+-- An image at a moment of an append: all below the gate at the tail is as before, and the image is the log of these bodies,
+-- or of these and one more.
 pub record IsMoment (old : Image) (tail : ℕ) (bodies : List (List ℕ)) (body : List ℕ) (image : Image) : Type 0 where
   pub below : (k : ℕ) → k < 4096 * tail → image k ≡ old k
   pub log : IsLogOrMore bodies body image
 
 module _ {D : Type 0} {disk : Ghosts D} where
-  -- there are fewer blocks behind the tail than the run needs
+  -- There are fewer blocks after the tail than the run needs.
   abbrev pub IsTooLong : Log D disk → List ℕ → Type 0
   IsTooLong log run = room_of log < need (body_in_run run)
 
-  -- its device has failed, within one to four calls, and it is stopped; it has no extent more
+  -- The device has failed, within one to four calls. The log is stopped, and has the extents that it had.
   pub record StopsByFault (old new : Log D disk) : Type 0 where
     pub rose : Rose (disk.faults (device old)) (disk.faults (device new))
     pub called : Rose (disk.calls (device old)) (disk.calls (device new))
@@ -45,7 +45,7 @@ module _ {D : Type 0} {disk : Ghosts D} where
     pub tail : tail_of new ≡ tail_of old
     pub extents : extents_of new ≡ extents_of old
 
-  -- why an append fails, and what the log is then
+  -- Why an append fails, and what the log is then.
   abbrev pub AppendCause : Log D disk → Log D disk → List ℕ → AppendFault → Type 0
   AppendCause old new run (Full needed room) =
       IsFalse (is_stopped old) × IsTooLong old run × (needed ≡ need (body_in_run run)) × (room ≡ room_of old) × (new ≡ old)
@@ -53,7 +53,7 @@ module _ {D : Type 0} {disk : Ghosts D} where
   AppendCause old new run (Stopped extents) =
       IsTrue (is_stopped old) × (extents ≡ extents_of old) × (new ≡ old)
 
-  -- the log has one extent more, by four calls of the device
+  -- The log has one more extent, by four calls of the device.
   pub record IsAppended (old new : Log D disk) (run : List ℕ) : Type 0 where
     pub tail : tail_of new ≡ tail_of old + need (body_in_run run)
     pub extents : extents_of new ≡ extents_of old + 1

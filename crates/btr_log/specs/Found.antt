@@ -1,4 +1,4 @@
--- What is found at a gate: nothing more, an extent, or an extent that is damaged.
+-- What is found at a gate: a closed gate, an extent, or a damaged extent.
 use Rattle.std.specs.Prelude.{◌≡◌, ◌⊎◌, ℕ, ◌+◌, ◌*◌, ◌<◌, ◌≤◌, List}
 use Rattle.btr_disk.specs.declared.disk.Disk.{Ghosts}
 use Rattle.btr_disk.specs.Bytes.{Image, Has}
@@ -14,64 +14,65 @@ use Rattle.btr_log.specs.Head.{head_bytes, IsHead}
 use Rattle.btr_log.specs.Extents.{IsBody}
 use Rattle.btr_log.specs.Log.{device, blocks_of}
 
--- a body with its head, and the gate behind it, which is inside the log's blocks
+-- A body with its head, and the gate after it, which is inside the log's blocks.
 pub record IsWholeExtent (blocks gate : ℕ) (head : Head) (body : List ℕ) (next : ℕ) : Type 0 where
   pub is_body : IsBody body head
   pub follows : next ≡ gate + head.n + 1
   pub inside : next < blocks
 
--- whatever the device tells
+-- What is found is a whole extent, whether the device is observable or not.
 abbrev pub IsWhole : ℕ → ℕ → Found → Type 0
 IsWhole blocks gate Closed = Unit {0}
 IsWhole blocks gate (Extent head body next) = IsWholeExtent blocks gate head body.items next
 
--- what stands on the device
+-- What is found is what the device has.
 abbrev pub MatchesDevice : Image → ℕ → Found → Type 0
 MatchesDevice image gate Closed = IsClosed image gate
 MatchesDevice image gate (Extent head body next) = IsOpen image gate × Has image (4096 * (gate + 1)) body.items
 
--- in this image the block begins with the head
+-- In this image the block begins with the head.
 pub record SpellsAt (image : Image) (block : ℕ) (head : Head) : Type 0 where
   pub is_head : IsHead head
   pub stored : Has image (4096 * block) (head_bytes head)
 
--- the block begins with no head
+-- The block begins with no head.
 abbrev pub HasNoHead : Image → ℕ → Type 0
 HasNoHead image block = (head : Head) → SpellsAt image block head → ⊥
 
--- the block behind the gate begins with a head whose extent leaves no room for the next gate
+-- The block after the gate begins with a head whose extent leaves no room for the next gate.
 abbrev pub HasNoRoom : Image → ℕ → ℕ → Type 0
 HasNoRoom image blocks gate =
     (head : Head) × SpellsAt image (gate + 1) head × (blocks ≤ gate + head.n + 1)
 
--- the gate is open at the last block
+-- The gate is the last block.
 abbrev pub IsOpenAtEnd : ℕ → ℕ → ℕ → Type 0
 IsOpenAtEnd blocks gate block = (gate + 1 ≡ blocks) × (block ≡ gate)
 
--- the block behind the gate is the damaged one
+-- The block after the gate breaks the format.
 abbrev pub IsDamagedBody : Image → ℕ → ℕ → ℕ → Type 0
 IsDamagedBody image blocks gate block =
     (gate + 1 < blocks) × (block ≡ gate + 1) × (HasNoHead image (gate + 1) ⊎ HasNoRoom image blocks gate)
 
--- The gate is open, but this block is not as it should be.
+-- The gate is open, but this block breaks the format.
 pub record IsDamagedExtent (image : Image) (blocks gate block : ℕ) : Type 0 where
   pub is_open : IsOpen image gate
   pub damage : IsOpenAtEnd blocks gate block ⊎ IsDamagedBody image blocks gate block
 
--- why nothing is found, on a device that tells what it holds or not
+-- Why nothing is found, on a device that is observable or not.
 abbrev pub FindCause : Type 0 → Image → ℕ → ℕ → ℕ → ℕ → ExtentFault → Type 0
 FindCause is_observable image blocks gate before after (Damaged block) =
     is_observable → IsDamagedExtent image blocks gate block
 FindCause is_observable image blocks gate before after Fault = Rose before after
 FindCause is_observable image blocks gate before after Want = Unit {0}
 
--- why blocks were not read
+-- Why blocks were not read.
 abbrev pub ReadCause : ℕ → ℕ → ExtentFault → Type 0
 ReadCause before after (Damaged block) = ⊥
 ReadCause before after Fault = Rose before after
 ReadCause before after Want = Unit {0}
 
--- why a log finds nothing at a gate
+-- Why a log finds nothing at a gate.
 abbrev pub ExtentCause : {D : Type 0} {disk : Ghosts D} → Log D disk → Log D disk → ℕ → ExtentFault → Type 0
 ExtentCause {D} {disk} old new gate fault =
-    FindCause disk.is_observable (disk.contents (device old)) (blocks_of old) gate (disk.faults (device old)) (disk.faults (device new)) fault
+    FindCause disk.is_observable (disk.contents (device old)) (blocks_of old) gate
+    (disk.faults (device old)) (disk.faults (device new)) fault

@@ -5,15 +5,15 @@ use Rattle.btr_disk.specs.Gate.{zeros}
 use Rattle.btr_disk.specs.Numbers.{u32_at, u64_at}
 use Rattle.btr_log.specs.declared.head.Head.{Head}
 
--- ASCII `BTR-BODY`
+-- ASCII `BTR-BODY`.
 abbrev pub mark : List ℕ
 mark = codes "BTR-BODY"
 
--- the blocks that the head and a content of this many bytes fill, the last one filled up
+-- The number of blocks that the head and a content of this many bytes fill, the last one filled up.
 abbrev pub content_blocks : ℕ → ℕ
 content_blocks length = (64 + length + 4095) / 4096
 
--- each number of eight bytes fits them
+-- Each number of eight bytes fits them.
 pub record FitsFields (head : Head) : Type 0 where
   pub number : head.number < 2 ^ 64
   pub n : head.n < 2 ^ 64
@@ -21,15 +21,15 @@ pub record FitsFields (head : Head) : Type 0 where
   pub nodes : head.nodes < 2 ^ 64
   pub root : head.root < 2 ^ 64
 
--- an entry has a number from 1 on
+-- An entry has a number from 1 on.
 abbrev pub IsEntryHead : Head → Type 0
 IsEntryHead head = (head.kind ≡ 1) × (1 ≤ head.number)
 
--- a checkpoint has no nodes and no root
+-- A checkpoint has no nodes and no root.
 abbrev pub IsCheckpointHead : Head → Type 0
 IsCheckpointHead head = (head.kind ≡ 2) × (head.nodes ≡ 0) × (head.root ≡ 0)
 
--- the grammar of a head, apart from its bytes
+-- The grammar of a head, apart from its bytes.
 pub record IsHead (head : Head) : Type 0 where
   pub kind : IsEntryHead head ⊎ IsCheckpointHead head
   pub format : head.format ≡ 1
@@ -48,7 +48,7 @@ entry_head number length = record {
   root = 0;
 }
 
--- the 64 bytes of a head: the mark, the fields with the highest byte first, and zeros
+-- The 64 bytes of a head: the mark, the fields with the highest byte first, and zeros.
 unfoldable pub head_bytes : Head → List ℕ
 head_bytes head =
     mark
@@ -61,16 +61,16 @@ head_bytes head =
     ++ to_be_bytes w64 head.root
     ++ zeros 8
 
--- the bytes spell the head
+-- The bytes spell the head.
 pub record Spells (bytes : List ℕ) (head : Head) : Type 0 where
   pub is_head : IsHead head
   pub spelling : bytes ≡ head_bytes head
 
--- the bytes spell no head
+-- The bytes spell no head.
 abbrev pub IsNoHead : List ℕ → Type 0
 IsNoHead bytes = (head : Head) → Spells bytes head → ⊥
 
--- the fields where they stand
+-- The fields at their places.
 unfoldable pub head_at : List ℕ → Head
 head_at bytes = record {
   kind = u32_at 8 bytes;

@@ -1,4 +1,4 @@
-// The append: one body more at the end of the log, durable before its gate is open.
+//! The append: one more body at the end of the log, durable before its gate is open.
 ghost use Rattle.std.specs.Prelude.{◌≡◌, ◌+◌, ◌*◌, ◌++◌, ◌∷◌, [], List, ℕ, IsTrue, IsFalse, IfErr, OnOk};
 ghost use Rattle.btr_disk.specs.Gate.{gate_block};
 ghost use Rattle.btr_disk.specs.Publish.{Published};
@@ -12,23 +12,27 @@ use btr_disk::{BLOCK, Disk, open_gate, publish};
 /// Why a body was not appended.
 #[derive(Clone, Copy, Debug, PartialEq, Eq)]
 pub enum AppendFault {
-    /// There is less room than the body needs, both in blocks. The log is as before.
+    /// The body needs more blocks than are left. The log is as before.
     Full { need: u64, left: u64 },
-    /// The device failed. The log is stopped; a crash leaves it with the body or without it.
+
+    /// The device failed. The log is stopped. A crash leaves the log with the body or without it.
     Fault,
-    /// The log was stopped, with so many extents acknowledged. It is as before.
+
+    /// The log was stopped already, with this many extents acknowledged. It is as before.
     Stopped { extents: u64 },
 }
 
 impl<D: Disk> Log<D> {
     /// Appends a body. After `Ok` it is durable, and no crash takes it away.
     ///
-    /// The run is the body, which begins with its head, and then one block of zeros, which is the
-    /// caller's condition. `Full` comes exactly where the log is not stopped and the body's blocks and
-    /// one more are more than the room, and `Stopped` exactly where the log is stopped; neither makes
-    /// a call of the device. A crash at any moment leaves the log as it was or with this body.
+    /// The caller passes a run: the body, which begins with its head, and then one block of zeros.
     ///
-    /// Four calls of the device, a write and a sync for the run and then for the gate. No memory is taken.
+    /// `Stopped` is returned exactly if the log is stopped. `Full` is returned exactly if the log is not
+    /// stopped and the body's blocks and one more are more than the room. Neither calls the device. A
+    /// crash at any moment leaves the log as it was or with this body.
+    ///
+    /// It makes four calls of the device, a write and a sync for the run and then for the gate, or fewer
+    /// if one of them fails. It allocates no memory.
     pub fn append(&mut self, run: &[u8]) -> Result<(), AppendFault>
         requires { IsAppendRun run.now }
         ensures stopped { IsTrue (is_stopped self.old)
@@ -39,8 +43,9 @@ impl<D: Disk> Log<D> {
         ensures kept { KeepsBounds self.old self.new }
         ensures appended { OnOk result (IsAppended self.old self.new run.now) }
         ensures written { D.is_observable
-            → OnOk result (Published (D.contents (device self.old)) (4096 * (tail_of self.old + 1)) run.now (4096 * tail_of self.old) gate_block (D.contents (device self.new))) }
-        // where the log was at rest with some bodies
+            → OnOk result (Published (D.contents (device self.old)) (4096 * (tail_of self.old + 1)) run.now
+            (4096 * tail_of self.old) gate_block (D.contents (device self.new))) }
+        // Given that the log was at rest with these bodies.
         ensures at_rest { D.is_observable → (bodies : List (List ℕ)) → IsAtRest self.old bodies
             → OnOk result (IsAtRest self.new (bodies ++ body_in_run run.now ∷ [])) }
         ensures moments { D.is_observable → (bodies : List (List ℕ)) → IsAtRest self.old bodies

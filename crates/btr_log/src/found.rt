@@ -1,14 +1,15 @@
-// What is found at a gate of the log, and why nothing is.
+//! What is found at a gate of the log, and why nothing is.
 use crate::Head;
 use btr_disk::Failed;
 use std::alloc::AllocError;
 
-/// What stands at a gate.
+/// What is found at a gate.
 #[derive(Debug, Drop)]
 pub enum Found {
-    /// The gate is closed: nothing behind it counts.
+    /// The gate is closed: what follows it does not count.
     Closed,
-    /// The gate is open: its extent, with the gate behind it, a block's number.
+
+    /// The gate is open: the head and the body of its extent, and the block of the gate that follows.
     Extent {
         head: Head,
         body: Vec<u8>,
@@ -19,12 +20,14 @@ pub enum Found {
 /// Why no extent was read.
 #[derive(Clone, Copy, Debug, PartialEq, Eq)]
 pub enum ExtentFault {
-    /// The gate is open, but this block is not as it should be: the gate's own where it is the last
-    /// one, else the one behind it, which begins with no head, or with one whose extent leaves no
-    /// room for the next gate.
+    /// The gate is open, but this block breaks the format. It is the gate's own block if that is the last one
+    /// of the log. Else it is the block after the gate, which begins with no head, or with a head whose
+    /// extent leaves no room for the next gate.
     Damaged { block: u64 },
+
     /// The device failed.
     Fault,
+
     /// There was no memory.
     Want,
 }

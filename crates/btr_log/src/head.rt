@@ -1,4 +1,4 @@
-// The first 64 bytes of an extent's body: what the body is, and how many blocks it has.
+//! The first 64 bytes of an extent's body: what the body is, and how many blocks it has.
 ghost use Rattle.std.specs.Prelude.{◌≡◌, ◌↔◌, length, IfSome, IsNone, IsTrue};
 ghost use Rattle.btr_log.specs.Head.{head_at, head_bytes, content_blocks, entry_head, IsHead, IsNoHead, Spells};
 
@@ -10,25 +10,31 @@ pub const HEAD_BYTES: usize = 64;
 /// The first eight bytes of a head: ASCII `BTR-BODY`.
 pub const HEAD_MARK: [u8; 8] = *b"BTR-BODY";
 
-/// What stands at the beginning of an extent's body.
+/// The head of an extent's body.
 ///
-/// As 64 bytes: the mark, then the fields in their order, with their own widths and the highest
-/// byte first, and then 8 zero bytes. The grammar of a head is that its format is 1, its kind
-/// is 1 or 2, and `n` is the blocks of head and content, the last one filled up, and the node blocks.
+/// Its 64 bytes are the mark, the fields in their order and width with the highest byte first, and 8 zero
+/// bytes. The grammar of a head: its format is 1, its kind is 1 or 2, and `n` is the number of blocks of
+/// head and content, the last one filled up, and of node blocks.
 #[derive(Clone, Copy, Debug, PartialEq, Eq)]
 pub struct Head {
-    /// 1 for an entry, whose number is at least 1, and 2 for a checkpoint, without nodes and root.
+    /// 1 for an entry, whose number is at least 1, or 2 for a checkpoint, which has no nodes and no root.
     pub kind: u32,
+
     /// The format of the body, 1.
     pub format: u32,
-    /// Of an entry its number, from 1 on; of a checkpoint how many entries stand before it.
+
+    /// The number of the entry, from 1 on; for a checkpoint, the number of entries before it.
     pub number: u64,
-    /// Blocks of the body.
+
+    /// The number of blocks of the body.
     pub n: u64,
-    /// Bytes of the content, which stands behind the head.
+
+    /// The number of bytes of the content, which follows the head.
     pub length: u64,
-    /// Node blocks, the last ones of the body.
+
+    /// The number of node blocks, the last ones of the body.
     pub nodes: u64,
+
     /// The block of the root node, or 0.
     pub root: u64,
 }
@@ -49,7 +55,7 @@ impl Head {
         }
     }
 
-    /// Writes the head's 64 bytes, its one spelling. The head keeps the grammar, which is the caller's condition.
+    /// Writes the head's 64 bytes, its only spelling. The caller passes a head that keeps the grammar.
     pub fn encode(&self, to: &mut [u8; HEAD_BYTES])
         requires { IsHead self.now }
         ensures { to.new ≡ head_bytes self.now }
@@ -65,7 +71,7 @@ impl Head {
         put(to, 56, &[0; 8]);
     }
 
-    /// The head that these bytes spell, or `None` exactly where they spell none.
+    /// The head that these bytes spell, or `None` exactly if they spell none.
     pub fn decode(bytes: &[u8; HEAD_BYTES]) -> Option<Head>
         ensures found { IfSome result (Spells bytes.now) }
         ensures none { IsNone result → IsNoHead bytes.now }
@@ -84,7 +90,7 @@ impl Head {
     }
 }
 
-// Whether the fields are those of a head.
+/// Whether the fields keep the grammar of a head.
 fn keeps_grammar(head: Head) -> bool
     ensures { IsTrue result ↔ IsHead head }
 {
@@ -94,7 +100,7 @@ fn keeps_grammar(head: Head) -> bool
     head.format == 1 && is_kind && head.n >= content && head.n - content == head.nodes
 }
 
-// The blocks that the head and a content of this many bytes fill.
+/// The number of blocks that the head and a content of `length` bytes fill.
 fn blocks_of_content(length: u64) -> u64
     ensures { result ≡ content_blocks length }
 {

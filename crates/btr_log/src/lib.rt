@@ -1,7 +1,7 @@
 //! A log of extents on a block device: each a gate, a body, and then the next gate.
 //!
-//! An append makes the body durable first and opens the gate that stands before it then, so that
-//! a crash at any moment leaves the log as it was or with the whole body behind it.
+//! An append makes the body durable first, and then opens the gate before it. So a crash at any moment
+//! leaves the log as it was, or with the whole body at its end.
 #![tactic(auto)]
 
 mod append;

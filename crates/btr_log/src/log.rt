@@ -1,4 +1,4 @@
-// A log on a device: where it ends, and how much room is left.
+//! A log on a device: where it ends, and how much room is left.
 ghost use Rattle.std.specs.Prelude.{◌≡◌, ◌<◌, ◌≤◌, ◌^◌, IsTrue, ◌↔◌};
 ghost use Rattle.btr_disk.specs.Causes.{Rose};
 
@@ -7,12 +7,12 @@ use std::snapshot::Snapshot;
 
 /// A log on a device: extents from block 4 on, the last of which ends before the gate at the tail.
 ///
-/// It is a run of extents, each a gate of one block, a body of whole blocks of 4096 bytes, and
-/// then the next gate. An open gate says that a body stands behind it; the gate at the tail is
-/// closed. The form is that of a log that is made durable by one block, as in BTrDB (FAST 2016).
+/// An extent is a gate of one block and a body of whole blocks of 4096 bytes; then comes the next gate. An
+/// open gate says that a body follows; the gate at the tail is closed. One block makes an extent durable,
+/// as in the log of BTrDB (FAST 2016).
 ///
-/// A log whose device failed in an append is stopped, and stays so: what of the body is durable
-/// is known only after another opening. Then the count of faults has risen since the log was made.
+/// If the device fails in an append, the log is stopped and stays so: only another opening shows whether the
+/// body is durable. The count of faults of its device is then above the one when the log was made.
 #[derive(Drop)]
 pub struct Log<D: Disk> {
     pub(crate) disk: D,
@@ -20,7 +20,7 @@ pub struct Log<D: Disk> {
     pub(crate) blocks: u64,
     pub(crate) extents: u64,
     pub(crate) stopped: bool,
-    // the device as it was when the log was made, for its count of faults; without bytes
+    /// The device as it was when the log was made, for its count of faults. It takes no bytes.
     at: Snapshot<D>,
     ghost tail_inside: { tail < blocks },
     ghost counted: { extents ≤ tail },
@@ -33,11 +33,8 @@ pub struct Log<D: Disk> {
 impl<D: Disk> Log<D> {
     ghost use Rattle.btr_log.specs.Log.{device, tail_of, room_of, extents_of, is_stopped, faults_at, IsMadeOf};
 
-    /// The log on this device whose gate at the end is `tail`, with `extents` before it and
-    /// `blocks` blocks to use. It is not stopped.
-    ///
-    /// The tail is below `blocks`, `extents` at most the tail, and `blocks` at most the device's
-    /// and at most 2^32, which are the caller's conditions. It makes no call of the device.
+    /// The log on this device whose gate at the end is `tail`, with `extents` extents before it and
+    /// `blocks` blocks to use. It is not stopped. It makes no call of the device.
     pub fn at(disk: D, tail: u64, blocks: u64, extents: u64) -> Log<D>
         requires tail { tail < blocks }
         requires extents { extents ≤ tail }
@@ -63,14 +60,14 @@ impl<D: Disk> Log<D> {
         self.tail
     }
 
-    /// The blocks behind the gate at the end. An append needs those of its body and one more.
+    /// The number of blocks after the gate at the end. An append needs those of its body and one more.
     pub fn room(&self) -> u64
         ensures { result ≡ room_of self.now }
     {
         self.blocks - 1 - self.tail
     }
 
-    /// How many extents are acknowledged.
+    /// The number of acknowledged extents.
     pub fn extents(&self) -> u64
         ensures { result ≡ extents_of self.now }
     {

@@ -1,4 +1,4 @@
-// Reading an extent: the gate and the first block of the body in one call, the rest in another.
+//! Reading an extent: the gate and the first block of the body in one call, the rest in another.
 ghost use Rattle.std.specs.Prelude.{◌≡◌, ◌+◌, ◌*◌, ◌<◌, ◌≤◌, ◌^◌, length, take, IfErr, IfOk, IfSome, IsNone, OnOk};
 ghost use Rattle.btr_disk.specs.Bytes.{Has, IsBlockRange};
 ghost use Rattle.btr_log.specs.Head.{Spells, IsNoHead};
@@ -12,12 +12,13 @@ use btr_disk::{BLOCK, Disk, is_open_gate};
 use std::alloc::{AllocError, Global};
 
 impl<D: Disk> Log<D> {
-    /// What stands at this gate, which is below the log's blocks: that is the caller's condition.
+    /// Reads what is at this gate, which is below the log's blocks.
     ///
-    /// `Closed` comes exactly where the gate is closed, and `Damaged` only where it is open and the
-    /// block that is named is not as it should be. Nothing is written, and the log stays as it is.
+    /// `Closed` is returned only if the gate is closed, `Extent` only if it is open and the body follows,
+    /// and `Damaged` only if it is open and the named block breaks the format. Nothing is written, and the
+    /// log stays as it is.
     ///
-    /// One call of the device where the body is one block or nothing is found, else two.
+    /// It makes two calls of the device if the body has more than one block, else one.
     pub fn read_extent(&mut self, alloc: Global, gate: u64) -> Result<Found, ExtentFault>
         requires { gate < blocks_of self.old }
         ensures kept { KeepsLog self.old self.new }
@@ -31,7 +32,7 @@ impl<D: Disk> Log<D> {
     }
 }
 
-// What stands at the gate, in a log of so many blocks.
+/// Reads what is at the gate, in a log of `blocks` blocks.
 fn find_extent<D: Disk>(
     alloc: Global,
     disk: &mut D,
@@ -69,7 +70,7 @@ fn find_extent<D: Disk>(
     })
 }
 
-// What stands at a gate that is the last block.
+/// Reads what is at a gate that is the last block.
 fn find_at_end<D: Disk>(alloc: Global, disk: &mut D, gate: u64) -> Result<Found, ExtentFault>
     requires gate { gate < D.size disk.old }
     requires addressable { gate < 2 ^ 32 }
@@ -87,7 +88,7 @@ fn find_at_end<D: Disk>(alloc: Global, disk: &mut D, gate: u64) -> Result<Found,
     }
 }
 
-// The head at the beginning of a body, or none.
+/// The head at the beginning of a body, or `None`.
 fn head_of(body: &[u8]) -> Option<Head>
     requires { 64 ≤ length body.now }
     ensures found { IfSome result (Spells (take 64 body.now)) }
@@ -98,7 +99,7 @@ fn head_of(body: &[u8]) -> Option<Head>
     Head::decode(&bytes)
 }
 
-// Reads so many blocks from this one on, in one call.
+/// Reads `count` blocks from `first` on, in one call.
 fn read_blocks<D: Disk>(
     alloc: Global,
     disk: &mut D,
@@ -118,7 +119,7 @@ fn read_blocks<D: Disk>(
     Ok(bytes)
 }
 
-// Zeros, so many blocks.
+/// A list of `count` blocks of zeros.
 pub(crate) fn zeroed(alloc: Global, count: u64) -> Result<Vec<u8>, AllocError>
     requires { count ≤ 2 ^ 32 }
     ensures { IfOk result (λ bytes. length bytes.items ≡ 4096 * count) }
@@ -126,7 +127,7 @@ pub(crate) fn zeroed(alloc: Global, count: u64) -> Result<Vec<u8>, AllocError>
     vec![in alloc; 0; BLOCK * count as usize]
 }
 
-// The body of n blocks from this one on, the first of which is read already; the others in one call.
+/// The body of `n` blocks from `first` on. Its first block is `prefix`; the others are read in one call.
 fn read_body<D: Disk>(
     alloc: Global,
     disk: &mut D,
@@ -151,7 +152,7 @@ fn read_body<D: Disk>(
     Ok(body)
 }
 
-// Room for a body of n blocks, with the first of them.
+/// A body of `n` blocks whose first block is `prefix`; the others are zeros.
 fn with_first_block(alloc: Global, prefix: &[u8], n: u64) -> Result<Vec<u8>, AllocError>
     requires prefix { length prefix.now ≡ 4096 }
     requires some { 1 ≤ n }
@@ -164,7 +165,7 @@ fn with_first_block(alloc: Global, prefix: &[u8], n: u64) -> Result<Vec<u8>, All
     Ok(body)
 }
 
-// Writes these bytes at the beginning.
+/// Writes `prefix` at the beginning of `body`.
 pub(crate) fn copy_to_prefix(body: &mut [u8], prefix: &[u8])
     requires { length prefix.now ≤ length body.old }
     ensures { take (length prefix.now) body.new ≡ prefix.now }
@@ -172,7 +173,7 @@ pub(crate) fn copy_to_prefix(body: &mut [u8], prefix: &[u8])
     body[..prefix.len()].copy_from_slice(prefix);
 }
 
-// Reads the blocks behind the first one of a body, if there are any.
+/// Reads the blocks of a body after its first one, if there are any.
 fn read_rest<D: Disk>(disk: &mut D, first: u64, body: &mut [u8]) -> Result<(), ExtentFault>
     requires some { 4096 ≤ length body.old }
     requires run { IsBlockRange (D.size disk.old) first (length body.old) }

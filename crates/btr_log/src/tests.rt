@@ -1,4 +1,4 @@
-// The log over a device in memory.
+//! The log over a device in memory.
 ghost use Rattle.std.specs.Prelude.{◌≡◌, ◌<◌, ◌≤◌, ◌^◌, length, IfOk};
 ghost use Rattle.btr_log.specs.Head.{content_blocks, IsHead};
 ghost use Rattle.btr_log.specs.Extents.{IsBody};
@@ -19,7 +19,7 @@ const CAPACITY: Capacity = Capacity {
     blocks: 64,
 };
 
-// An entry with the number 1 and 5 bytes of content, written out by hand.
+/// The head of an entry with the number 1 and 5 bytes of content, written out by hand.
 const ENTRY: [u8; HEAD_BYTES] = [
     0x42, 0x54, 0x52, 0x2d, 0x42, 0x4f, 0x44, 0x59, 0, 0, 0, 1, 0, 0, 0, 1, 0, 0, 0, 0, 0, 0, 0, 1,
     0, 0, 0, 0, 0, 0, 0, 1, 0, 0, 0, 0, 0, 0, 0, 5, 0, 0, 0, 0, 0, 0, 0, 0, 0, 0, 0, 0, 0, 0, 0, 0,
@@ -37,6 +37,7 @@ fn a_head_is_spelled_as_by_hand(rt: HostRuntime) {
         nodes: 0,
         root: 0,
     };
+    assert_eq!(rt; Head::for_entry(1, 5), head);
     let mut bytes = [7; HEAD_BYTES];
     head.encode(&mut bytes);
     assert_eq!(rt; bytes, ENTRY);
@@ -44,7 +45,7 @@ fn a_head_is_spelled_as_by_hand(rt: HostRuntime) {
     assert!(rt; is_same_head(&head, &head));
 }
 
-// A body with this head, and sevens behind it.
+/// A body with this head, and sevens after it.
 fn body_of(alloc: Global, head: &Head) -> Result<Vec<u8>, AllocError>
     requires head { IsHead head.now }
     requires few { head.now.n ≤ 2 ^ 20 }
@@ -57,7 +58,7 @@ fn body_of(alloc: Global, head: &Head) -> Result<Vec<u8>, AllocError>
     Ok(body)
 }
 
-// A body with this head, and a block of zeros.
+/// A body with this head, and a block of zeros.
 fn run_of(alloc: Global, head: &Head) -> Result<Vec<u8>, AllocError>
     requires head { IsHead head.now }
     requires few { head.now.n ≤ 2 ^ 20 }
@@ -68,7 +69,7 @@ fn run_of(alloc: Global, head: &Head) -> Result<Vec<u8>, AllocError>
     Ok(run)
 }
 
-// The head of an entry with this number and a content of so many bytes.
+/// The head of an entry with this number and a content of `length` bytes.
 fn entry(number: u64, n: u64, length: u64) -> Head
     requires number { 1 ≤ number }
     requires blocks { n ≡ content_blocks length }
@@ -86,7 +87,7 @@ fn entry(number: u64, n: u64, length: u64) -> Head
     }
 }
 
-// A log of so many blocks on a device of zeros, empty from block 4 on.
+/// A log of `blocks` blocks on a device of zeros, empty from block 4 on.
 fn log_of(alloc: Global, blocks: u64, failing: Vec<u64>) -> Result<Log<MemDisk>, AllocError>
     requires some { 5 ≤ blocks }
     requires few { blocks ≤ 2 ^ 10 }
@@ -184,7 +185,7 @@ fn a_log_whose_device_failed_is_stopped(rt: HostRuntime) -> Result<(), Fail> {
     Ok(())
 }
 
-// Eight blocks of zeros, but for an open gate and the bytes behind it.
+/// Eight blocks of zeros, but for an open gate and the bytes after it.
 fn image_of(alloc: Global, gate: usize, head: &[u8]) -> Result<Vec<u8>, AllocError>
     requires gate { gate ≤ 6 }
     requires head { length head.now ≤ 4096 }
@@ -204,7 +205,7 @@ fn open_at(bytes: &mut [u8], gate: usize, head: &[u8])
     put(bytes, BLOCK * (gate + 1), head);
 }
 
-// What is found at a gate of such an image.
+/// What is found at a gate of such an image.
 fn found_at(
     alloc: Global,
     gate: usize,
@@ -220,7 +221,7 @@ fn found_at(
     Ok(Log::at(disk, 4, 8, 0).read_extent(alloc, asked))
 }
 
-// One byte of the head by hand is another.
+/// The head by hand with another byte at `at`.
 fn changed(at: usize, value: u8) -> [u8; HEAD_BYTES] {
     let mut head = ENTRY;
     if let Some(byte) = head.get_mut(at) {

@@ -1,4 +1,4 @@
--- An answer that fits the device is its only one.
+-- The result that a device calls for is the only one.
 use Rattle.std.specs.Prelude.{◌≡◌, ◌↔◌, ℕ, ◌+◌, List, Result, Ok, Err, IfOk}
 use Rattle.std.proofs.Common.{ap, subst, arith, get_or}
 use Rattle.btr_disk.specs.Bytes.{Image, Has}

@@ -1,4 +1,4 @@
--- Lemmas on choosing: one superblock at most is chosen, and where one is, nothing is damaged and there is a store.
+-- Lemmas on choosing: at most one superblock is chosen, and if one is, nothing is damaged and there is a store.
 use Rattle.std.specs.Prelude.{◌≡◌, ℕ, ◌+◌, ◌-◌, ◌*◌, ◌<◌, ◌≤◌}
 use Rattle.std.proofs.Common.{sym, ◌∙◌, ap, subst, arith, ⊎_elim}
 use Rattle.std.proofs.lemmas.Bool.{cases_eq}

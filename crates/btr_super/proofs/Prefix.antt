@@ -12,7 +12,7 @@ use Rattle.btr_super.proofs.SuperLemmas.{length-super_bytes}
 use Rattle.btr_super.specs.Choose.{Spells}
 use Rattle.btr_super.specs.Chosen.{IsBlockOf}
 
--- what stands from a later place on
+-- the bytes from a later address on
 Has-drop : (image : Image) (n : ℕ) (prefix : List ℕ) → n ≤ length prefix → Has image 0 prefix → Has image n (drop n prefix)
 Has-drop image n prefix le has =
     let split = Has-append image 0 (take n prefix) (drop n prefix) (subst (Has image 0) (sym (take-append-drop n prefix)) has) in

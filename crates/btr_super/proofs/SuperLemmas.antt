@@ -9,7 +9,7 @@ use Rattle.btr_disk.proofs.GateLemmas.{length-zeros}
 use Rattle.btr_super.specs.declared.superblock.Super.{Super}
 use Rattle.btr_super.specs.Super.{super_bytes, IsSuper, FitsFields}
 
--- a field behind a prefix
+-- a field after a prefix
 field_at : (prefix x rest : List ℕ) (at n : ℕ) → length prefix ≡ at → length x ≡ n → take n (drop at (prefix ++ (x ++ rest))) ≡ x
 field_at prefix x rest at n at_prefix size = ap (take n) (drop_at prefix (x ++ rest) at at_prefix) ∙ take_at x rest n size
 

@@ -127,7 +127,7 @@ module _ {D : Type 0} (calls : D → ℕ) (since : D → ℕ → Image → Type 
   pub next_step : (old mid new : D) → Leaves calls since old mid P → Step calls since image mid new → ((c : Image) → image new c → P c) → Leaves calls since old new P
   next_step old mid new so_far step after = goes_on calls since old mid new P (image new) so_far step.counted step.time after
 
--- two writes from where a crash leaves what a read gives
+-- two writes on a device of which a crash leaves what a read returns
 module _ {D : Type 0} (calls : D → ℕ) (since : D → ℕ → Image → Type 0) (image : D → Image → Type 0) (start : D) (now : (c : Image) → since start (calls start) c → image start c) (old : Image) (settled : Only old (image start)) (a n b m : ℕ) where
   pub one_written : (first : D) → Step calls since image start first → Torn a n (image start) (image first) → Leaves calls since start first (SameButTwo a n b m old)
   one_written first step torn =

@@ -1,4 +1,4 @@
 pub mod Super
 pub mod Choose
-pub mod Chosen
 pub mod Format
+pub mod Chosen

@@ -1,15 +1,22 @@
--- Superblocks: how one is spelled, and the table that it keeps.
+-- Superblocks: the bytes of one, and the table that it keeps.
 use Rattle.std.specs.Prelude.{◌≡◌, ℕ, ◌+◌, ◌-◌, ◌^◌, ◌<◌, ◌≤◌, List, ◌++◌, codes}
 use Rattle.std.specs.Int.{w32, w64, to_be_bytes}
 use Rattle.btr_disk.specs.Gate.{zeros}
 use Rattle.btr_super.specs.declared.superblock.Super.{Super}
 
--- the 4096 bytes of a superblock's body, numbers with their first byte highest
+-- The 4096 bytes of a superblock's body; numbers have their highest byte first.
 unfoldable pub super_bytes : Super → List ℕ
 super_bytes s =
-    codes "BTR-SUPR" ++ to_be_bytes w32 s.format ++ zeros 4 ++ to_be_bytes w64 s.seq ++ to_be_bytes w64 s.blocks ++ to_be_bytes w64 s.tail ++ to_be_bytes w64 s.checkpoint ++ zeros 4048
+    codes "BTR-SUPR"
+    ++ to_be_bytes w32 s.format
+    ++ zeros 4
+    ++ to_be_bytes w64 s.seq
+    ++ to_be_bytes w64 s.blocks
+    ++ to_be_bytes w64 s.tail
+    ++ to_be_bytes w64 s.checkpoint
+    ++ zeros 4048
 
--- the table, on a device of `size` blocks
+-- The table that a superblock keeps on a device of `size` blocks.
 pub record IsSuper (size : ℕ) (s : Super) : Type 0 where
   pub known_format : s.format ≡ 1
   pub has_side : s.side ≤ 1
@@ -20,11 +27,11 @@ pub record IsSuper (size : ℕ) (s : Super) : Type 0 where
   pub inside : s.blocks ≤ size
   pub tail_from : 4 ≤ s.tail
   pub tail_to : s.tail < s.blocks
-  -- checkpoints come later
+  -- There are no checkpoints, so the log is read from its beginning.
   pub no_checkpoint : s.checkpoint ≡ 0
   pub from_start : s.checkpoint ≡ 0 → s.tail ≡ 4
 
--- each field fits the number that spells it
+-- Each field fits the number that spells it.
 pub record FitsFields (s : Super) : Type 0 where
   pub format : s.format < 2 ^ 32
   pub seq : s.seq < 2 ^ 64
@@ -32,6 +39,6 @@ pub record FitsFields (s : Super) : Type 0 where
   pub tail : s.tail < 2 ^ 64
   pub checkpoint : s.checkpoint < 2 ^ 64
 
--- the superblock of a store that has no entry: side A, the first number, and the log from its beginning
+-- The superblock of a store that has no entry: side A, the first number, and the log from its beginning.
 abbrev pub first_super : ℕ → Super
 first_super blocks = record { seq = 1; side = 0; blocks = blocks; tail = 4; checkpoint = 0; format = 1 }

@@ -1,4 +1,4 @@
-// Which superblock of a device counts.
+//! Which superblock of a device counts.
 ghost use Rattle.std.specs.Prelude.{IfOk, ◌≡◌, ◌≢◌, ◌↔◌, ℕ, ◌+◌, ◌*◌, ◌<◌, ◌≤◌, length, min, IsTrue, IsNone, IfSome, MatchOption, OnOk};
 ghost use Rattle.btr_disk.specs.Bytes.{Image, Has};
 ghost use Rattle.btr_disk.specs.Moments.{WroteNothing};
@@ -17,7 +17,7 @@ use btr_disk::{BLOCK, Disk, Failed, is_open_gate};
 /// Why no superblock was chosen.
 #[derive(Clone, Copy, Debug, PartialEq, Eq)]
 pub enum ChooseFault {
-    /// Neither superblock has an open gate: no store stands on the device.
+    /// Neither superblock has an open gate: there is no store on the device.
     NotAStore,
     /// The body of an open superblock breaks the table, or both have the same number.
     Damaged {
@@ -39,7 +39,7 @@ impl From<Failed> for ChooseFault {
 /// Bytes of the two superblocks, gates and bodies.
 const FRONT: usize = 4 * BLOCK;
 
-/// One block of the prefix, where the device has it.
+/// One block of the prefix, if the device has it.
 fn block_of(prefix: &[u8], block: usize) -> Option<&[u8]>
     requires { block ≤ 3 }
     ensures there { IfSome result (λ bytes. IsBlockOf prefix.now block bytes.now) }
@@ -65,13 +65,14 @@ fn has_open_gate(prefix: &[u8], block: usize, size: u64) -> bool
     }
 }
 
-/// The superblock of this side that this block spells, where it is there.
+/// The superblock of this side that this block spells, if it is there.
 fn spelled(prefix: &[u8], block: usize, side: u8, size: u64) -> Option<Super>
     requires block { block ≤ 3 }
     requires side { side ≤ 1 }
     requires prefix { length prefix.now ≡ 4096 * min 4 size }
     ensures { (image : Image) → Has image 0 prefix.now
-        → MatchOption result ((s : Super) → s.side ≡ side → Spells size image block s → ⊥) (λ s. (s.side ≡ side) × Spells size image block s) }
+        → MatchOption result ((s : Super) → s.side ≡ side → Spells size image block s → ⊥)
+        (λ s. (s.side ≡ side) × Spells size image block s) }
 {
     let found = decode(block_of(prefix, block)?, side)?;
     if keeps_table(&found, size) {
@@ -81,7 +82,7 @@ fn spelled(prefix: &[u8], block: usize, side: u8, size: u64) -> Option<Super>
     }
 }
 
-/// The superblock of this side, where its gate is open.
+/// The superblock of this side, if its gate is open.
 fn open_super(prefix: &[u8], side: u8, size: u64) -> Result<Option<Super>, ChooseFault>
     requires side { side ≤ 1 }
     requires prefix { length prefix.now ≡ 4096 * min 4 size }
@@ -99,7 +100,7 @@ fn open_super(prefix: &[u8], side: u8, size: u64) -> Result<Option<Super>, Choos
     }
 }
 
-/// Of both superblocks the one with the greater number.
+/// The one of both superblocks that has the greater number.
 fn later(first: Super, second: Super) -> Result<Super, ChooseFault>
     ensures { IsLater first second result }
 {
@@ -112,7 +113,7 @@ fn later(first: Super, second: Super) -> Result<Super, ChooseFault>
     }
 }
 
-/// What a device of `size` blocks has, by its first blocks.
+/// The superblock that counts on a device of `size` blocks, by its first blocks.
 fn choose_in(prefix: &[u8], size: u64) -> Result<Super, ChooseFault>
     requires { length prefix.now ≡ 4096 * min 4 size }
     ensures { (image : Image) → Has image 0 prefix.now → ChoiceIs size image result }
@@ -126,7 +127,7 @@ fn choose_in(prefix: &[u8], size: u64) -> Result<Super, ChooseFault>
     }
 }
 
-/// Reads the prefix, which has a block for each of the first four that the device has.
+/// Reads the prefix, which has as many of the first four blocks as the device has.
 fn read_prefix<D: Disk>(device: &mut D, prefix: &mut [u8]) -> Result<(), Failed>
     requires { length prefix.old ≡ 4096 * min 4 (D.size device.old) }
     ensures size { D.size device.new ≡ D.size device.old }
@@ -143,12 +144,13 @@ fn read_prefix<D: Disk>(device: &mut D, prefix: &mut [u8]) -> Result<(), Failed>
 
 /// The superblock that counts: of those with an open gate the one with the greater number.
 ///
-/// The superblock of an open gate whose body breaks the table is not passed over: it is `Damaged`,
-/// the first of both, and so are two of the same number. Where neither gate is open, no store stands
-/// on the device.
+/// If the body of an open gate breaks the table, the result is `Damaged` with the first such block, and the
+/// other superblock does not count. If both have the same number, the result is `Damaged` too. If neither
+/// gate is open, there is no store on the device.
 ///
-/// Reads blocks 0 to 3 in one call, or as many of them as the device has; one that it does not have
-/// is closed as a gate, and spells nothing as a body. Takes no memory. Nothing is written.
+/// It reads blocks 0 to 3 in one call, or as many of them as the device has. A gate that the device does not
+/// have counts as closed, and a body that it does not have spells nothing. It writes nothing and allocates no
+/// memory.
 pub fn choose<D: Disk>(device: &mut D) -> Result<Super, ChooseFault>
     ensures size { D.size device.new ≡ D.size device.old }
     ensures calls { D.calls device.old ≤ D.calls device.new }

@@ -21,8 +21,8 @@ pub(crate) fn encode(s: &Super) -> [u8; BLOCK]
     block
 }
 
-/// The superblock of this side that a block spells. A superblock has one spelling, and a block that
-/// differs from it spells none.
+/// The superblock of this side that a block spells. A superblock has one spelling, and a block that differs
+/// from it spells none.
 pub(crate) fn decode(block: &[u8], side: u8) -> Option<Super>
     requires { length block.now ≡ 4096 }
     ensures found { IfSome result (λ s. (s.side ≡ side) × (block.now ≡ super_bytes s)) }
@@ -43,7 +43,7 @@ pub(crate) fn decode(block: &[u8], side: u8) -> Option<Super>
     }
 }
 
-/// Whether a superblock of a side keeps the table, on a device of `size` blocks.
+/// Whether a superblock keeps the table, on a device of `size` blocks.
 pub(crate) fn keeps_table(s: &Super, size: u64) -> bool
     requires { s.now.side ≤ 1 }
     ensures { IsTrue result ↔ IsSuper size s.now }

@@ -1,4 +1,4 @@
-// Making a store that has no entry.
+//! Making a store that has no entry.
 ghost use Rattle.std.specs.Prelude.{◌≡◌, ◌≢◌, ◌↔◌, ◌⊎◌, ℕ, ◌*◌, ◌^◌, ◌<◌, ◌≤◌, OnOk};
 ghost use Rattle.btr_disk.specs.Bytes.{Has, SameBut, SameButTwo};
 ghost use Rattle.btr_disk.specs.Images.{Only};
@@ -17,18 +17,21 @@ use btr_disk::{BLOCK, Disk, Failed, open_gate};
 /// Why a device was not formatted.
 #[derive(Clone, Copy, Debug, PartialEq, Eq)]
 pub enum FormatFault {
-    /// A superblock's gate is open already: a store stands on the device. Nothing was written.
+    /// A superblock's gate is open: there is a store on the device. Nothing was written.
     Occupied {
         /// The gate's block: 0 or 2.
         block: u64,
     },
+
     /// The device has fewer blocks than were asked for. It was not called.
     TooSmall {
-        /// The blocks that were asked for.
+        /// The number of blocks that were asked for.
         asked: u64,
-        /// The blocks of the device.
+
+        /// The number of blocks of the device.
         blocks: u64,
     },
+
     /// The device failed.
     Fault,
 }
@@ -103,23 +106,28 @@ fn write_store<D: Disk>(device: &mut D, blocks: u64) -> Result<(), Failed>
 
 /// Makes a store of `blocks` blocks that has no entry.
 ///
-/// The device's first `blocks` blocks are the store's. Eight calls: sync, read blocks 0 and 2, write
-/// blocks 1 and 4, sync, write block 0, sync. A crash at any moment of it leaves no open gate of a
-/// superblock, or the whole store. Takes no memory.
+/// The store has the first `blocks` blocks of the device. A crash at any moment leaves no open gate of a
+/// superblock, or the whole store.
+///
+/// It makes eight calls: sync, read blocks 0 and 2, write blocks 1 and 4, sync, write block 0, sync. It stops
+/// at the first that fails, and after the reads if a gate is open. It allocates no memory.
 pub fn format<D: Disk>(device: &mut D, blocks: u64) -> Result<(), FormatFault>
     requires least { 8 ≤ blocks }
     requires greatest { blocks ≤ 2 ^ 32 }
     ensures counts { UsesDevice 8 D.size D.calls D.faults device.old device.new result (result ≡ Err FormatFault.Fault) }
-    ensures too_small { (asked has : ℕ) → (result ≡ Err (FormatFault.TooSmall asked has)) ↔ IsTooSmall (D.size device.old) blocks asked has }
+    ensures too_small { (asked has : ℕ)
+        → (result ≡ Err (FormatFault.TooSmall asked has)) ↔ IsTooSmall (D.size device.old) blocks asked has }
     ensures uncalled { D.size device.old < blocks → device.new ≡ device.old }
     ensures occupied { D.is_observable → blocks ≤ D.size device.old → result ≢ Err FormatFault.Fault
         → (block : ℕ) → (result ≡ Err (FormatFault.Occupied block)) ↔ IsOccupied (D.contents device.old) block }
     ensures refused { D.is_observable → (block : ℕ) → result ≡ Err (FormatFault.Occupied block)
         → IsUnwritten D.calls D.contents D.images_now D.images_since device.old device.new }
-    ensures formatted { D.is_observable → OnOk result (Formatted (D.size device.old) blocks (D.contents device.old) (D.contents device.new)) }
+    ensures formatted { D.is_observable
+        → OnOk result (Formatted (D.size device.old) blocks (D.contents device.old) (D.contents device.new)) }
     ensures synced { D.is_observable → OnOk result (Only (D.contents device.new) (D.images_now device.new)) }
     ensures moments { D.is_observable → IsUnwritten D.calls D.contents D.images_now D.images_since device.old device.new
-        ⊎ ((start : D) × WritesFrom D.calls D.contents D.images_now D.images_since (IsFormatting (D.size device.old) blocks (D.contents device.old)) device.old start device.new) }
+        ⊎ ((start : D) × WritesFrom D.calls D.contents D.images_now D.images_since
+        (IsFormatting (D.size device.old) blocks (D.contents device.old)) device.old start device.new) }
 {
     let has = device.blocks();
     if blocks > has {

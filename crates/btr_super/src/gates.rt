@@ -1,4 +1,4 @@
-// Reading the gate of a superblock from a device.
+//! Reading the gates of the superblocks from a device.
 ghost use Rattle.std.specs.Prelude.{◌≡◌, ◌↔◌, ◌<◌, ◌≤◌, IsTrue, IfOk, OnOk};
 ghost use Rattle.btr_disk.specs.Images.{Only};
 ghost use Rattle.btr_disk.specs.Moments.{WroteNothing};
@@ -22,7 +22,7 @@ pub(crate) fn read_gate<D: Disk>(device: &mut D, block: u64) -> Result<bool, Fai
     Ok(is_open_gate(&bytes))
 }
 
-/// Syncs, and then tells of each superblock's gate whether it is open.
+/// Syncs, and then reads whether each superblock's gate is open.
 pub(crate) fn read_gates<D: Disk>(device: &mut D) -> Result<(bool, bool), Failed>
     requires { 4 ≤ D.size device.old }
     ensures size { D.size device.new ≡ D.size device.old }

@@ -1,8 +1,8 @@
-//! The two superblocks of a device: which store stands on it, and how one is made.
+//! The two superblocks of a device: which store is on it, and how an empty store is made.
 //!
-//! Blocks 0 and 1 are gate and body of superblock A (side 0), blocks 2 and 3 those of superblock
-//! B (side 1). The body of an open gate says how many blocks the store has and from which gate its
-//! log is read. The log begins at block [`LOG_START`].
+//! Blocks 0 and 1 are gate and body of superblock A (side 0), blocks 2 and 3 those of superblock B
+//! (side 1). The body of an open gate says how many blocks the store has, and from which gate its log is
+//! read. The log begins at block [`LOG_START`].
 #![tactic(auto)]
 
 mod choosing;

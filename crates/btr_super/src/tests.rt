@@ -1,4 +1,4 @@
-// Stores that are made on a device in memory, and the superblock that is chosen there.
+//! Stores that are made on a device in memory, and the superblock that is chosen there.
 ghost use Rattle.std.specs.Prelude.{◌≡◌, ◌*◌, ◌%◌, ◌≤◌, IfOk, length};
 
 use super::*;
@@ -11,7 +11,7 @@ const CAPACITY: Capacity = Capacity {
     blocks: 16,
 };
 
-// The superblock of a store of eight blocks that has no entry.
+/// The superblock of a store of eight blocks that has no entry.
 const FIRST: Super = Super {
     seq: 1,
     side: 0,
@@ -21,7 +21,7 @@ const FIRST: Super = Super {
     format: 1,
 };
 
-// A device whose bytes are all this one.
+/// The bytes of `blocks` blocks, all of this value.
 fn filled(alloc: Global, blocks: usize, value: u8) -> Result<Vec<u8>, AllocError>
     requires { blocks ≤ 16 }
     ensures { IfOk result (λ bytes. length bytes.items ≡ 4096 * blocks) }
@@ -29,7 +29,7 @@ fn filled(alloc: Global, blocks: usize, value: u8) -> Result<Vec<u8>, AllocError
     vec![in alloc; value; 4096 * blocks]
 }
 
-// The bytes of a device of eight blocks of aa after a store was made on it.
+/// The bytes of a device of eight blocks of aa after a store was made on it.
 fn formatted(alloc: Global) -> Result<Vec<u8>, AllocError>
     ensures { IfOk result (λ bytes. length bytes.items ≡ 32768) }
 {
@@ -39,7 +39,7 @@ fn formatted(alloc: Global) -> Result<Vec<u8>, AllocError>
     Ok(disk.into_bytes())
 }
 
-// These bytes, but for a piece from `at` on, where it has room.
+/// These bytes, but for a piece from `at` on, if it has room there.
 fn with_piece(mut bytes: Vec<u8>, at: usize, piece: &[u8]) -> Vec<u8>
     ensures { length result.items ≡ length bytes.items }
 {
@@ -49,7 +49,7 @@ fn with_piece(mut bytes: Vec<u8>, at: usize, piece: &[u8]) -> Vec<u8>
     bytes
 }
 
-// A device that has the same superblock on both sides.
+/// The bytes of a device that has the same superblock on both sides.
 fn twice(alloc: Global) -> Result<Vec<u8>, AllocError>
     ensures { IfOk result (λ bytes. length bytes.items ≡ 32768) }
 {
@@ -58,7 +58,7 @@ fn twice(alloc: Global) -> Result<Vec<u8>, AllocError>
     Ok(with_piece(formatted(alloc)?, 8192, &side))
 }
 
-// What is chosen on a device of these bytes.
+/// What is chosen on a device of these bytes.
 fn chosen(alloc: Global, bytes: Vec<u8>) -> Result<Result<Super, ChooseFault>, AllocError>
     requires { length bytes.items % 4096 ≡ 0 }
 {
@@ -101,8 +101,8 @@ fn a_device_that_is_too_small_is_not_called(rt: HostRuntime) -> Result<(), Fail>
     Ok(())
 }
 
-// The pieces of a new store, on a device of zeros: its gate, and in the block behind it the mark,
-// the format, the number, the blocks and the tail.
+/// The pieces of a new store, on a device of zeros: its gate, and in the block after it the mark, the format,
+/// the number, the blocks and the tail.
 const PIECES: [(usize, [u8; 8]); 6] = [
     (0, *b"BTR-GATE"),
     (4096, *b"BTR-SUPR"),
@@ -125,7 +125,7 @@ fn the_bytes_of_a_new_store(rt: HostRuntime) -> Result<(), Fail> {
     Ok(())
 }
 
-// A byte of the body, and a value with which the body breaks the table.
+/// A byte of the body, and a value with which the body breaks the table.
 const BREAKS: [(u16, u8); 21] = [
     (0, b'X'),
     (7, b'X'),
@@ -174,7 +174,7 @@ const SECOND: Super = Super {
     format: 1,
 };
 
-// A byte of a device that has the same superblock on both sides, and what is chosen where it is 0.
+/// A byte of a device that has the same superblock on both sides, and what is chosen if it is 0.
 const SIDES: [(usize, Result<Super, ChooseFault>); 7] = [
     (0, Ok(SECOND)),
     (7, Ok(SECOND)),
@@ -195,7 +195,7 @@ fn the_sides_of_a_device(rt: HostRuntime) -> Result<(), Fail> {
     Ok(())
 }
 
-// The blocks of a device whose superblock is on the second side, and what is chosen there.
+/// The blocks of a device whose superblock is on the second side, and what is chosen there.
 const SIZES: [(u8, Result<Super, ChooseFault>); 5] = [
     (0, Err(ChooseFault::NotAStore)),
     (2, Err(ChooseFault::NotAStore)),
@@ -240,7 +240,7 @@ fn each_call_may_fail(rt: HostRuntime) -> Result<(), Fail> {
             "call {call}"
         );
         assert_eq!(rt; disk.calls(), call + 1, "call {call}");
-        // what is read is a store only where the last write was made
+        // There is a store only if the last write was made.
         let want = if call < 7 {
             Err(ChooseFault::NotAStore)
         } else {
@@ -252,7 +252,7 @@ fn each_call_may_fail(rt: HostRuntime) -> Result<(), Fail> {
 }
 
 #[test]
-fn a_fault_is_told(rt: HostRuntime) -> Result<(), Fail> {
+fn a_failed_read_is_a_fault(rt: HostRuntime) -> Result<(), Fail> {
     let alloc = rt.alloc();
     let mut disk = MemDisk::new(alloc, 8, CAPACITY, vec![in alloc; 0]?)?;
     assert_eq!(rt; choose(&mut disk), Err(ChooseFault::Fault));
