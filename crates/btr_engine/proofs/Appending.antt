@@ -1,4 +1,4 @@
--- What a step makes of the answer of its append: why it fails, and what then stands on the device, and at each moment before.
+-- What a step makes of the result of its append: why it fails, and what the device holds then and at each moment before.
 use Rattle.std.specs.Prelude.{◌≡◌, ℕ, ◌+◌, ◌*◌, ◌<◌, ◌≤◌, List, [], ◌∷◌, ◌++◌, length, Result, Err, None, IsFalse}
 use Rattle.std.proofs.Common.{refl, sym, ◌∙◌, ap, subst, ⊎_elim, arith, length-append}
 use Rattle.std.proofs.lemmas.Bool.{cases_lt}
@@ -23,70 +23,70 @@ use Rattle.btr_engine.specs.declared.step.Receipt.{Receipt}
 use Rattle.btr_engine.specs.declared.step.StepFault.{StepFault}
 use Rattle.btr_engine.specs.declared.step.StepFault.TheVariants.{DeviceFull, DeviceFault}
 use Rattle.btr_engine.specs.Body.{body_of, need_of, bodies}
-use Rattle.btr_engine.specs.Stands.{StandsTo}
+use Rattle.btr_engine.specs.Holds.{HoldsHistoryTo}
 use Rattle.btr_engine.specs.Engine.{device, history_of, blocks_of, tail_of, room_of, is_stopped, IsAtRest}
 use Rattle.btr_engine.specs.Step.{IsBeforeOrAfter, IsReceipt, IsStepped, StepCause}
-use Rattle.btr_engine.proofs.Standing.{stands_with, before_or_after}
+use Rattle.btr_engine.proofs.HoldsLemmas.{holds_with, before_or_after}
 use Rattle.btr_engine.proofs.Stepping.{number_of_receipt, same_engine, no_moment, brings, needs}
 
--- what an append answers
+-- The result of an append.
 abbrev pub Answer : Type 0
 Answer = Result (Unit {0}) AppendFault
 
--- the run is that of the entry, which may follow the history, as the next one of it
-pub record IsRunOf (h : List Entry) (e : Entry) (run : List ℕ) : Type 0 where
+-- The run is the extent of the entry, which may follow the history as the next one.
+pub record IsExtentOf (h : List Entry) (e : Entry) (run : List ℕ) : Type 0 where
   pub allowed : rejection h e ≡ None
   pub spelled : IsSpelled e
   pub bytes : run ≡ body_of (length h + 1) e ++ zeros 4096
 
--- a copy of the entry was added to the history, and the run was made with the number of its receipt
-pub run_of_entry : (h : List Entry) (e copy : Entry) (number : ℕ) (made run : List ℕ) → copy ≡ e → rejection h copy ≡ None → number ≡ (machine.receipt h e).number → IsSpelled e → made ≡ body_of number e ++ zeros 4096 → run ≡ made → IsRunOf h e run
-run_of_entry h e copy number made run copied allowed numbered spelled made_is run_is = record {
-  allowed = subst (λ c. rejection h c ≡ None) copied allowed;
+-- The entry was added to the history, and its extent was made with the number of its receipt.
+pub extent_of_entry : (h : List Entry) (e : Entry) (number : ℕ) (made run : List ℕ) → rejection h e ≡ None → number ≡ (machine.receipt h e).number → IsSpelled e → made ≡ body_of number e ++ zeros 4096 → run ≡ made → IsExtentOf h e run
+extent_of_entry h e number made run allowed numbered spelled made_is run_is = record {
+  allowed = allowed;
   spelled = spelled;
   bytes = run_is ∙ made_is ∙ ap (λ n. body_of n e ++ zeros 4096) (numbered ∙ number_of_receipt h e);
 }
 
-module _ {D : Type 0} {disk : Ghosts D} (old : Engine D disk) (e : Entry) (run : List ℕ) (is : IsRunOf (history_of old) e run) where
-  -- the answer of an append of the run to a log that is too short for it
+module _ {D : Type 0} {disk : Ghosts D} (old : Engine D disk) (e : Entry) (run : List ℕ) (is : IsExtentOf (history_of old) e run) where
+  -- The result of an append of the run to a log that has too little room for it.
   abbrev pub full : Answer
   full = Err (Full (need (append.body_in_run run)) (room_of old))
 
-  -- such a log always answers so
-  abbrev pub TellsFull : Answer → Type 0
-  TellsFull answer = IsFalse (is_stopped old) → append.IsTooLong old.log run → answer ≡ full
+  -- Such a log always returns this.
+  abbrev pub AnswersFull : Answer → Type 0
+  AnswersFull answer = IsFalse (is_stopped old) → append.IsTooLong old.log run → answer ≡ full
 
   needed : need (append.body_in_run run) ≡ need_of e
   needed = needs (length (history_of old) + 1) e run is.bytes
 
-  -- an append that answers otherwise found room
-  pub fits_unless_full : (answer : Answer) → IsFalse (is_stopped old) → TellsFull answer → (answer ≡ full → ⊥) → need_of e ≤ room_of old
-  fits_unless_full answer runs tells_full other =
+  -- An append with another result had room.
+  pub fits_unless_full : (answer : Answer) → IsFalse (is_stopped old) → AnswersFull answer → (answer ≡ full → ⊥) → need_of e ≤ room_of old
+  fits_unless_full answer runs answers_full other =
       let size : need (append.body_in_run run) ≡ need_of e = needed in
-      ⊎_elim (λ short. absurd (other (tells_full runs (omega arith)))) (λ le. le) (cases_lt (room_of old) (need_of e))
+      ⊎_elim (λ short. absurd (other (answers_full runs (omega arith)))) (λ le. le) (cases_lt (room_of old) (need_of e))
 
-  -- ---- where it fails
+  -- ---- an append that fails
 
-  pub refused : (new : Engine D disk) (fault : AppendFault) (answer : StepFault) → IsFalse (is_stopped old) → TellsFull (Err fault) → append.AppendCause old.log new.log run fault → history_of new ≡ history_of old → new.opened_with ≡ old.opened_with → new.synced ≡ old.synced → ((n left : ℕ) → fault ≡ Full n left → answer ≡ DeviceFull n left) → (fault ≡ Fault → answer ≡ DeviceFault) → StepCause old new e answer
-  refused new (Full n room) answer runs tells_full cause same began synced is_full is_fault =
+  pub refused : (new : Engine D disk) (fault : AppendFault) (answer : StepFault) → IsFalse (is_stopped old) → AnswersFull (Err fault) → append.AppendCause old.log new.log run fault → history_of new ≡ history_of old → new.opened_with ≡ old.opened_with → new.synced ≡ old.synced → ((n left : ℕ) → fault ≡ Full n left → answer ≡ DeviceFull n left) → (fault ≡ Fault → answer ≡ DeviceFault) → StepCause old new e answer
+  refused new (Full n room) answer runs answers_full cause same began synced is_full is_fault =
       let short : room < n = omega (arith, cause.1, cause.2, cause.3) in
       subst (StepCause old new e) (sym (is_full n room refl)) (runs, is.allowed, cause.2 ∙ needed, cause.3, short, same_engine new old cause.4 same began synced)
-  refused new Fault answer runs tells_full cause same began synced is_full is_fault =
-      let fits = fits_unless_full (Err Fault) runs tells_full (λ no. absurd (cc)) in
+  refused new Fault answer runs answers_full cause same began synced is_full is_fault =
+      let fits = fits_unless_full (Err Fault) runs answers_full (λ no. absurd (cc)) in
       subst (StepCause old new e) (sym (is_fault refl)) (
         record { runs = runs; allowed = is.allowed; fits = fits },
-        record { rose = cause.1.rose; stopped = cause.1.stopped; history = same; tail = cause.1.tail },
+        record { called = cause.1.called; at_most = cause.1.at_most; rose = cause.1.rose; stopped = cause.1.stopped; history = same; tail = cause.1.tail },
       )
-  refused new (AlreadyStopped n) answer runs tells_full cause same began synced is_full is_fault =
+  refused new (AlreadyStopped n) answer runs answers_full cause same began synced is_full is_fault =
       let stopped = cause.0 in absurd (cc)
 
-  -- ---- at each moment of it
+  -- ---- each moment of an append
 
-  -- the body that it brings is the entry's
+  -- The body of the run is the entry's.
   its_body : append.body_in_run run ≡ body_of (length (history_of old) + 1) e
   its_body = brings (length (history_of old) + 1) e run is.bytes
 
-  -- there is a block behind it for the next gate
+  -- A block is left after it for the next gate.
   inside : need_of e ≤ room_of old → tail_of old + need_of e < blocks_of old
   inside fits =
       let below : tail_of old < blocks_of old = old.log.tail_inside in
@@ -97,19 +97,19 @@ module _ {D : Type 0} {disk : Ghosts D} (old : Engine D disk) (e : Entry) (run :
       let h = history_of old in
       let contents = disk.contents (device old) in
       weakens disk.calls disk.images_since (device old) (log.device after) (append.IsMoment contents (tail_of old) (bodies h) (append.body_in_run run)) (IsBeforeOrAfter (disk.size (device old)) h e)
-      (before_or_after (disk.size (device old)) contents (blocks_of old) (tail_of old) h rest.stands e is.spelled is.allowed (inside fits) (append.body_in_run run) its_body)
+      (before_or_after (disk.size (device old)) contents (blocks_of old) (tail_of old) h rest.holds e is.spelled is.allowed (inside fits) (append.body_in_run run) its_body)
       leaves
 
-  -- where it fails: without a call of the device, or by the device
-  pub moments_of_fault : (after : Log D disk) (fault : AppendFault) → IsFalse (is_stopped old) → TellsFull (Err fault) → append.AppendCause old.log after run fault → ((c : Image) → disk.images_since (device old) (disk.calls (device old)) c → disk.images_now (device old) c) → IsAtRest old → log.LogLeaves old.log after (append.IsMoment (disk.contents (device old)) (tail_of old) (bodies (history_of old)) (append.body_in_run run)) → log.LogLeaves old.log after (IsBeforeOrAfter (disk.size (device old)) (history_of old) e)
-  moments_of_fault after (Full n room) runs tells_full cause only_now rest leaves =
+  -- An append that fails made no call of the device, or the device failed.
+  pub moments_of_fault : (after : Log D disk) (fault : AppendFault) → IsFalse (is_stopped old) → AnswersFull (Err fault) → append.AppendCause old.log after run fault → ((c : Image) → disk.images_since (device old) (disk.calls (device old)) c → disk.images_now (device old) c) → IsAtRest old → log.LogLeaves old.log after (append.IsMoment (disk.contents (device old)) (tail_of old) (bodies (history_of old)) (append.body_in_run run)) → log.LogLeaves old.log after (IsBeforeOrAfter (disk.size (device old)) (history_of old) e)
+  moments_of_fault after (Full n room) runs answers_full cause only_now rest leaves =
       subst (λ l. log.LogLeaves old.log l (IsBeforeOrAfter (disk.size (device old)) (history_of old) e)) (sym cause.4) (no_moment old e only_now rest)
-  moments_of_fault after Fault runs tells_full cause only_now rest leaves =
-      moments after (fits_unless_full (Err Fault) runs tells_full (λ no. absurd (cc))) rest leaves
-  moments_of_fault after (AlreadyStopped n) runs tells_full cause only_now rest leaves =
+  moments_of_fault after Fault runs answers_full cause only_now rest leaves =
+      moments after (fits_unless_full (Err Fault) runs answers_full (λ no. absurd (cc))) rest leaves
+  moments_of_fault after (AlreadyStopped n) runs answers_full cause only_now rest leaves =
       let stopped = cause.0 in absurd (cc)
 
-  -- ---- where it succeeds
+  -- ---- an append that succeeds
 
   module _ (new : Engine D disk) (history : history_of new ≡ history_of old ++ e ∷ []) (appended : append.IsAppended old.log new.log run) where
     tail_after : tail_of new ≡ tail_of old + need_of e
@@ -121,6 +121,7 @@ module _ {D : Type 0} {disk : Ghosts D} (old : Engine D disk) (e : Entry) (run :
       history = history;
       tail = tail_after;
       runs = appended.runs;
+      called = appended.calls;
       is_receipt = is_receipt;
     }
 
@@ -131,13 +132,13 @@ module _ {D : Type 0} {disk : Ghosts D} (old : Engine D disk) (e : Entry) (run :
         let now = disk.contents (device new) in
         let below : (k : ℕ) → k < 4096 * tail_of old → now k ≡ disk.contents (device old) k = λ k lt. written.elsewhere k (λ le. absurd (omega arith)) (λ le. absurd (omega arith)) in
         let its_log = AtRest-IsLog now (disk.images_now (device new)) (tail_of new) (bodies h ++ append.body_in_run run ∷ []) log_rests in
-        let stands : StandsTo size now (blocks_of old) (tail_of old + need_of e) (h ++ e ∷ []) = stands_with size (disk.contents (device old)) (blocks_of old) (tail_of old) h rest.stands e is.spelled is.allowed (inside fits) now below (subst (λ b. IsLog now first_gate (bodies h ++ b ∷ [])) its_body its_log) in
-        let sized = subst (λ n. StandsTo n now (blocks_of old) (tail_of old + need_of e) (h ++ e ∷ [])) (sym kept.device_kept.same_size) stands in
-        let blocked = subst (λ n. StandsTo (disk.size (device new)) now n (tail_of old + need_of e) (h ++ e ∷ [])) (sym kept.blocks) sized in
-        let tailed = subst (λ n. StandsTo (disk.size (device new)) now (blocks_of new) n (h ++ e ∷ [])) (sym tail_after) blocked in
-        record { stands = subst (StandsTo (disk.size (device new)) now (blocks_of new) (tail_of new)) (sym history) tailed; only = log_rests.only }
+        let holds : HoldsHistoryTo size now (blocks_of old) (tail_of old + need_of e) (h ++ e ∷ []) = holds_with size (disk.contents (device old)) (blocks_of old) (tail_of old) h rest.holds e is.spelled is.allowed (inside fits) now below (subst (λ b. IsLog now first_gate (bodies h ++ b ∷ [])) its_body its_log) in
+        let sized = subst (λ n. HoldsHistoryTo n now (blocks_of old) (tail_of old + need_of e) (h ++ e ∷ [])) (sym kept.device_kept.same_size) holds in
+        let blocked = subst (λ n. HoldsHistoryTo (disk.size (device new)) now n (tail_of old + need_of e) (h ++ e ∷ [])) (sym kept.blocks) sized in
+        let tailed = subst (λ n. HoldsHistoryTo (disk.size (device new)) now (blocks_of new) n (h ++ e ∷ [])) (sym tail_after) blocked in
+        record { holds = subst (HoldsHistoryTo (disk.size (device new)) now (blocks_of new) (tail_of new)) (sym history) tailed; only = log_rests.only }
 
-  -- the ghost fields of the engine, which has the new log and the new history
+  -- The ghost fields of the engine with the new log and the new history.
   pub counted_after : (after : Log D disk) (h : List Entry) → h ≡ history_of old ++ e ∷ [] → append.IsAppended old.log after run → log.extents_of after ≡ length h
   counted_after after h history appended =
       omega (arith, ap (length {A = Entry}) history, length-append (history_of old) (e ∷ []), appended.extents, old.counted)

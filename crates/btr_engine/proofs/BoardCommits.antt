@@ -1,15 +1,15 @@
--- Why a commit of a stream is rejected, by what the tree of the stream's latest version says of it.
+-- Why a commit of a stream is rejected, as the tree of the stream's latest version finds it.
 use Rattle.std.specs.Prelude.{◌≡◌, ℕ, ◌+◌, ◌-◌, ◌<◌, ℤ, nat_le, Bool, List, [], ◌∷◌, ◌++◌, length, slice_index_or, Option, Some, None}
 use Rattle.std.proofs.Common.{refl, sym, ap, ◌∙◌, arith, subst}
 use Rattle.std.proofs.lemmas.Bool.{lt-leb}
 use Rattle.btr_base.specs.declared.limits.TheConstants.{FIRST, END}
 use Rattle.btr_base.specs.declared.point.Point.{Point}
-use Rattle.btr_base.specs.Point.{InDomain}
+use Rattle.btr_base.specs.Point.{InDomain, AreInDomain}
 use Rattle.btr_base.specs.Range.{RangeValue}
 use Rattle.btr_base.specs.Bag.{sort, outside}
 use Rattle.btr_tree.specs.History as tree
-use Rattle.btr_tree.specs.Crowd.{HasRoom}
-use Rattle.btr_tree.specs.Root.{TreeValue, IsTree, AreInDomain}
+use Rattle.btr_tree.specs.Crowd.{HasNoCrowdedSpan}
+use Rattle.btr_tree.specs.Root.{TreeValue, IsTree}
 use Rattle.btr_hist.specs.declared.entry.Entry.{Entry}
 use Rattle.btr_hist.specs.declared.rejection.Rejection.{Rejection}
 use Rattle.btr_hist.specs.declared.rejection.Rejection.TheVariants.{NoStream, VersionLimit, OutOfDomain}
@@ -31,7 +31,7 @@ last_some : {A : Type 0} (o : Option A) → first_some (o ∷ []) ≡ o
 last_some None = refl
 last_some (Some a) = refl
 
--- a commit of a stream that may have a version more is rejected for the points that it leaves alone
+-- If a stream may have one version more, a commit that passes the other tests is rejected only for the points that it leaves.
 pub rejection-points : (h : List Entry) (stream : ℕ) (c : Change) → stream < length (ids h) → change_rejection c ≡ None → latest h stream < MAX_VERSIONS → commit_rejection h stream c ≡ points_rejection (next_bag h stream c)
 rejection-points h stream c is_there change few =
     let points = points_rejection (next_bag h stream c) in
@@ -41,11 +41,11 @@ rejection-points h stream c is_there change few =
     ∙ ap (λ t. first_some (when t VersionLimit ∷ points ∷ [])) (lt-leb MAX_VERSIONS (latest h stream) few)
     ∙ last_some points
 
--- the points of a commit that is not rejected whatever the stream holds
+-- The points of a commit that passes the tests of its change lie in the domain.
 pub change-times : (c : Change) → change_rejection c ≡ None → AreInDomain c.added
 change-times c h = none_out_of_domain c.added (map_none (λ (p : Point). OutOfDomain p.time) (first_out_of_domain c.added) (first_none _ _ h))
 
--- what is said of a commit is said of an equal one
+-- What holds of a commit holds of an equal one.
 pub change-passes : (cut ranges : List RangeValue) (added points : List Point) (found : Option Rejection) → ranges ≡ cut → points ≡ added → found ≡ change_rejection (record { cut = ranges; added = points }) → found ≡ None → change_rejection (record { cut = cut; added = added }) ≡ None
 change-passes cut ranges added points found same_cut same_points is none =
     ap (λ (l : List RangeValue). change_rejection (record { cut = l; added = added })) (sym same_cut)
@@ -58,7 +58,7 @@ module _ (h : List Entry) (stream : ℕ) (trees : List TreeValue) (kept : HasTre
   pub latest-is : length trees - 1 ≡ latest h stream
   latest-is = let counted = kept.counted in omega arith
 
-  -- the last tree
+  -- The last tree is that of the latest version.
   pub last-tree : (t : TreeValue) → t ≡ slice_index_or trees (length trees - 1) t → IsTree (commits_to h stream (latest h stream)) t
   last-tree t is =
       let version = latest h stream in
@@ -80,7 +80,7 @@ module _ (h : List Entry) (stream : ℕ) (trees : List TreeValue) (kept : HasTre
       by_points : commit_rejection h stream c ≡ points_rejection (next_bag h stream c)
       by_points = rejection-points h stream c is_there change (subst (λ n. n < MAX_VERSIONS) latest-is few)
 
-      pub next-allowed : (t : TreeValue) (version : ℕ) → IsTree (next version) t → HasRoom FIRST END (tree.bag (next version)) → commit_rejection h stream c ≡ None
+      pub next-allowed : (t : TreeValue) (version : ℕ) → IsTree (next version) t → HasNoCrowdedSpan FIRST END (tree.bag (next version)) → commit_rejection h stream c ≡ None
       next-allowed t version k room =
           by_points ∙ ap points_rejection (sym (next-bag version)) ∙ room-allowed (tree.bag (next version)) k.times room k.few
 

@@ -1,4 +1,4 @@
--- What a board keeps is that of its history, as an entry comes to it or goes from it.
+-- The index of a board stays that of its history when an entry is added or removed.
 use Rattle.std.specs.Prelude.{◌≡◌, ℕ, ◌+◌, ◌-◌, ◌<◌, ◌≤◌, true, false, List, [], ◌∷◌, ◌++◌, length, take, cond, slice_get, slice_index_or, nat_le, Option, Some, None, IfSome, IsNone, Result, Ok, Err, OnOk, OnErr, is_err, refl}
 use Rattle.std.specs.BTreeMap.{BTreeMap}
 use Rattle.std.proofs.Common.{suc, sym, ap, ◌∙◌, arith, subst, inl, inr, append_assoc, length-append}
@@ -16,11 +16,12 @@ use Rattle.btr_base.specs.declared.limits.TheConstants.{MAX_VERSIONS}
 use Rattle.btr_base.specs.Commit.{Change}
 use Rattle.btr_hist.specs.History.{ids, commits, latest}
 use Rattle.btr_hist.specs.Legal.{when, rejection, change_rejection, commit_rejection, points_rejection, next_bag, Legal}
-use Rattle.btr_hist.proofs.HistoryLemmas.{commits-append, ids-append, legal-push, legal-prefix, get-append, get_back, get_last}
+use Rattle.btr_base.proofs.ListLemmas.{get-append, get_back, get_last}
+use Rattle.btr_hist.proofs.HistoryLemmas.{commits-append, ids-append, legal-push, legal-prefix}
+use Rattle.btr_hist.proofs.RejectionLemmas.{first_none, when_none}
 use Rattle.btr_engine.specs.declared.board.Stream.{Stream}
-use Rattle.btr_engine.specs.Board.{AreNumbers, newest_first, commits_to, HasTrees, IsIndexed}
-use Rattle.btr_engine.specs.Push.{IsNext, SameTrees, HasKept, HasForgotten}
-use Rattle.btr_engine.proofs.Allowed.{first_none, when_none}
+use Rattle.btr_engine.specs.Board.{IsIdIndex, newest_first, commits_to, HasTrees, IsIndexed}
+use Rattle.btr_engine.specs.Push.{IsNext, SameTrees, HasPushedTree, HasPoppedTree}
 use Rattle.btr_engine.proofs.BoardNumbers.{ids-create, ids-commit, stream-commit}
 use Rattle.btr_engine.proofs.BoardTrees.{made_by, newest_first-push}
 
@@ -38,13 +39,13 @@ module _ (h : List Entry) (s : ℕ) (cut : List RangeValue) (added : List Point)
   commits-same =
       commits-append h (Commit s cut added ∷ []) s ∙ ap (λ t. commits h s ++ cond t (record { cut = cut; added = added } ∷ []) []) (eq-eqb s s refl)
 
--- a commit that may follow is of a stream that is there
+-- A commit that may follow is of a stream that the history has.
 pub known : (h : List Entry) (s : ℕ) (c : Change) → commit_rejection h s c ≡ None → s < length (ids h)
 known h s c allowed =
     let test : nat_le (length (ids h)) s ≡ false = when_none (nat_le (length (ids h)) s) NoStream (first_none (when (nat_le (length (ids h)) s) NoStream) (change_rejection c ∷ when (nat_le MAX_VERSIONS (latest h s)) VersionLimit ∷ points_rejection (next_bag h s c) ∷ []) allowed) in
     grind (arith, nat_tests)
 
--- entries that may follow each other, behind others, have no commit of a stream that is not there
+-- Entries that are allowed one after the other have no commit of a stream that they do not create.
 none_of : (before rest : List Entry) (s : ℕ) → ((n : ℕ) (e : Entry) → slice_get rest n ≡ Some e → rejection (before ++ take n rest) e ≡ None) → length (ids (before ++ rest)) ≤ s → commits rest s ≡ []
 none_of before [] s legal low = refl
 none_of before (Create id ∷ rest) s legal low =
@@ -77,7 +78,7 @@ module _ (g h : List Entry) (s : ℕ) where
     long : latest g s ≡ latest h s + 1
     long = ap (length {A = Change}) one_more ∙ length-append (commits h s) (c ∷ [])
 
-    -- the versions before are as they were
+    -- The earlier versions are the same.
     old : (v : ℕ) → v ≤ latest h s → commits_to g s v ≡ commits_to h s v
     old v le = ap (λ cs. newest_first 0 [] (take v cs)) one_more ∙ ap (newest_first 0 []) (take-append-le v (commits h s) (c ∷ []) le)
 
@@ -120,7 +121,7 @@ module _ (g h : List Entry) (s : ℕ) where
 
 module _ (h g : List Entry) (streams after : List Stream) (numbers : BTreeMap ℕ ℕ) where
   module _ (id : ℕ) (is : g ≡ h ++ Create id ∷ []) where
-    pub push-create : (first : Stream) (given : BTreeMap ℕ ℕ) (t : TreeValue) → first.id ≡ id → IsTree [] t → first.trees.items ≡ t ∷ [] → after ≡ streams ++ first ∷ [] → rejection h (Create id) ≡ None → IsIndexed h streams numbers → AreNumbers (h ++ Create id ∷ []) given → IsIndexed g after given
+    pub push-create : (first : Stream) (given : BTreeMap ℕ ℕ) (t : TreeValue) → first.id ≡ id → IsTree [] t → first.trees.items ≡ t ∷ [] → after ≡ streams ++ first ∷ [] → rejection h (Create id) ≡ None → IsIndexed h streams numbers → IsIdIndex (h ++ Create id ∷ []) given → IsIndexed g after given
     push-create first given t called empty one more allowed was now =
         let size = ids-create h id in
         let counted : length after ≡ length streams + 1 = ap (length {A = Stream}) more ∙ length-append streams (first ∷ []) in
@@ -157,7 +158,7 @@ module _ (h g : List Entry) (streams after : List Stream) (numbers : BTreeMap �
           legal = legal;
         })
 
-    pub pop-create : (left : BTreeMap ℕ ℕ) → after ≡ take (length streams - 1) streams → IsIndexed g streams numbers → AreNumbers h left → IsIndexed h after left
+    pub pop-create : (left : BTreeMap ℕ ℕ) → after ≡ take (length streams - 1) streams → IsIndexed g streams numbers → IsIdIndex h left → IsIndexed h after left
     pop-create left fewer was now =
         let all : IsIndexed (h ++ Create id ∷ []) streams numbers = subst (λ (l : List Entry). IsIndexed l streams numbers) is was in
         let size = ids-create h id in
@@ -176,11 +177,11 @@ module _ (h g : List Entry) (streams after : List Stream) (numbers : BTreeMap �
     pub pop-long : IsIndexed g streams numbers → length streams ≡ length (ids h) + 1
     pop-long was = was.counted ∙ ap (λ (l : List Entry). length (ids l)) is ∙ ids-create h id
 
-    pub pop-numbered : IsIndexed g streams numbers → AreNumbers (h ++ Create id ∷ []) numbers
-    pop-numbered was = subst (λ (l : List Entry). AreNumbers l numbers) is was.numbered
+    pub pop-numbered : IsIndexed g streams numbers → IsIdIndex (h ++ Create id ∷ []) numbers
+    pop-numbered was = subst (λ (l : List Entry). IsIdIndex l numbers) is was.numbered
 
   module _ (s : ℕ) (cut : List RangeValue) (added : List Point) (is : g ≡ h ++ Commit s cut added ∷ []) where
-    pub push-commit : (t : TreeValue) → commit_rejection h s (record { cut = cut; added = added }) ≡ None → IsNext h s (record { cut = cut; added = added }) t → HasKept streams s t after → IsIndexed h streams numbers → IsIndexed g after numbers
+    pub push-commit : (t : TreeValue) → commit_rejection h s (record { cut = cut; added = added }) ≡ None → IsNext h s (record { cut = cut; added = added }) t → HasPushedTree streams s t after → IsIndexed h streams numbers → IsIndexed g after numbers
     push-commit t allowed next keeps was =
         let c : Change = record { cut = cut; added = added } in
         let k = h ++ Commit s cut added ∷ [] in
@@ -200,7 +201,7 @@ module _ (h g : List Entry) (streams after : List Stream) (numbers : BTreeMap �
           legal = legal-push h (Commit s cut added) was.legal allowed;
         })
 
-    pub pop-commit : HasForgotten streams s after → IsIndexed g streams numbers → IsIndexed h after numbers
+    pub pop-commit : HasPoppedTree streams s after → IsIndexed g streams numbers → IsIndexed h after numbers
     pop-commit forgot was =
         let k = h ++ Commit s cut added ∷ [] in
         let c : Change = record { cut = cut; added = added } in
@@ -218,7 +219,7 @@ module _ (h g : List Entry) (streams after : List Stream) (numbers : BTreeMap �
           legal = legal-prefix h (Commit s cut added ∷ []) all.legal;
         }
 
-    -- the stream of the last commit is there
+    -- The history has the stream of its last commit.
     pub pop-known : IsIndexed g streams numbers → Legal g → s < length streams
     pop-known was legal =
         let k = h ++ Commit s cut added ∷ [] in
@@ -230,7 +231,7 @@ module _ (h g : List Entry) (streams after : List Stream) (numbers : BTreeMap �
               absurd (omega arith)
         ]
 
--- the trees are as they were
+-- The trees are the same.
 pub same_trees : (h : List Entry) (streams after : List Stream) (numbers : BTreeMap ℕ ℕ) → SameTrees streams after → IsIndexed h streams numbers → IsIndexed h after numbers
 same_trees h streams after numbers same was = record {
   counted = same.counted ∙ was.counted;
@@ -240,7 +241,7 @@ same_trees h streams after numbers same was = record {
   legal = was.legal;
 }
 
--- ---- what a call ensures, where it did not fail and where it did
+-- ---- what a call ensures if it succeeds and if it fails
 
 pub done : {A E : Type 0} (r : Result A E) (P : Type 0) → OnOk r P → is_err r ≡ false → P
 done (Ok a) P h ok = h
@@ -254,12 +255,12 @@ pub done_or : {A E : Type 0} (r : Result A E) (P Q : Type 0) → OnOk r P → On
 done_or (Ok a) P Q h k not = h
 done_or (Err e) P Q h k not = absurd (not k)
 
--- what is not some is none
+-- What is not `Some` is `None`.
 pub none_from : {A : Type 0} (o : Option A) → ((x : A) → o ≡ Some x → ⊥) → o ≡ None
 none_from None other = refl
 none_from (Some x) other = absurd (other x refl)
 
--- ---- an entry that came and went
+-- ---- an entry that is added and removed again
 
 append-last : (xs ys : List Entry) (x y : Entry) → xs ++ x ∷ [] ≡ ys ++ y ∷ [] → xs ≡ ys
 append-last [] [] x y e = refl

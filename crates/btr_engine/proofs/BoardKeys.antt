@@ -1,4 +1,4 @@
--- A map as a function of its keys, with something put at a key.
+-- A map as a function of its keys, after one key is mapped to something else.
 use Rattle.std.specs.Prelude.{◌≡◌, ℕ, ◌==◌, true, false, cond, nat_lt, Option}
 use Rattle.std.specs.Ordering.{nat_cmp, is_eq}
 use Rattle.std.specs.declared.cmp.Ordering.TheVariants.{Less, Equal, Greater}
@@ -18,7 +18,7 @@ other_key k q other =
       | false ↦ ap (λ t. is_eq (cond t Equal Greater)) (ne_eqb k q other)
     ]
 
--- g has w at k, and at each other key what f has
+-- g has w at the key k and agrees with f at all others.
 module _ {X : Type 0} (f g : ℕ → Option X) (k : ℕ) (w : Option X) (put : (q : ℕ) → g q ≡ cond (is_eq (nat_cmp k q)) w (f q)) where
   pub put-same : (q : ℕ) → k ≡ q → g q ≡ w
   put-same q same = put q ∙ ap (λ t. cond t w (f q)) (same_key k q same)

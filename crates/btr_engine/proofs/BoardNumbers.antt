@@ -1,4 +1,4 @@
--- The numbers that a board gives to ids, as a stream comes to its history or goes from it.
+-- The index of ids stays that of the history when a stream is added or removed.
 use Rattle.std.specs.Prelude.{◌≡◌, ℕ, ◌+◌, ◌<◌, Bool, true, false, cond, ◌||◌, nat_eq, nat_le, List, [], ◌∷◌, ◌++◌, length, Option, Some, None, is_some}
 use Rattle.std.specs.List.{list_any, position_from}
 use Rattle.std.specs.Ordering.{nat_cmp, is_eq}
@@ -16,7 +16,7 @@ use Rattle.btr_hist.specs.declared.rejection.Rejection.TheVariants.{StreamExists
 use Rattle.btr_hist.proofs.HistoryLemmas.{ids-append}
 use Rattle.btr_engine.proofs.BoardKeys.{put-same, put-other}
 
--- ---- the place of a number in a list
+-- ---- the position of a number in a list
 
 abbrev pub first_of : Option ℕ → Option ℕ → Option ℕ
 first_of None o = o
@@ -88,7 +88,7 @@ module _ (h : List Entry) (id : ℕ) where
       stream-push q ∙ ap (λ t. first_of (stream_of h q) (cond t (Some (length (ids h))) None)) (ne_eqb q id (λ e. other (sym e))) ∙ none
 
   module _ (f : ℕ → Option ℕ) where
-    -- the id has a number already
+    -- The id is mapped already.
     pub numbers-kept : ((q : ℕ) → f q ≡ stream_of h q) → is_some (f id) ≡ true → (q : ℕ) → f q ≡ stream_of (h ++ Create id ∷ []) q
     numbers-kept are has q =
         let here : (o : Option ℕ) → stream_of h id ≡ o → is_some o ≡ true → o ≡ stream_of (h ++ Create id ∷ []) id =
@@ -101,7 +101,7 @@ module _ (h : List Entry) (id : ℕ) where
           | inr other ↦ are q ∙ sym (stream-other q other)
         ]
 
-    -- or is given one
+    -- The id is mapped now.
     pub numbers-given : (g : ℕ → Option ℕ) (n : ℕ) → n ≡ length (ids h) → ((q : ℕ) → f q ≡ stream_of h q) → is_some (f id) ≡ false → ((q : ℕ) → g q ≡ cond (is_eq (nat_cmp id q)) (Some n) (f q)) → (q : ℕ) → g q ≡ stream_of (h ++ Create id ∷ []) q
     numbers-given g n end are has put q =
         let none : (o : Option ℕ) → is_some o ≡ false → o ≡ None =
@@ -114,7 +114,7 @@ module _ (h : List Entry) (id : ℕ) where
         ]
 
     module _ (are : (q : ℕ) → f q ≡ stream_of (h ++ Create id ∷ []) q) where
-      -- with its entry an id has a number
+      -- An id with a stream is mapped.
       pub numbers-none : f id ≡ None → ⊥
       numbers-none none =
           let at : stream_of (h ++ Create id ∷ []) id ≡ None = sym (are id) ∙ none in
@@ -122,7 +122,7 @@ module _ (h : List Entry) (id : ℕ) where
           λ o. elim o as (λ p. stream_of h id ≡ p → ⊥) [ None ↦ (λ e. let new = stream-new e in cc) | Some n ↦ (λ e. let old = stream-old id n e in cc) ] in
           some (stream_of h id) refl
 
-      -- without the entry, an id whose number was that of the last stream has none
+      -- Without the last stream, an id that was mapped to it is not mapped.
       pub numbers-taken : (g : ℕ → Option ℕ) (n : ℕ) → n ≡ length (ids h) → f id ≡ Some n → ((q : ℕ) → g q ≡ cond (is_eq (nat_cmp id q)) None (f q)) → (q : ℕ) → g q ≡ stream_of h q
       numbers-taken g n end has put q =
           let at : stream_of (h ++ Create id ∷ []) id ≡ Some n = sym (are id) ∙ has in
@@ -136,7 +136,7 @@ module _ (h : List Entry) (id : ℕ) where
             | inr other ↦ put-other f g id None put q other ∙ are q ∙ stream-other q other
           ]
 
-      -- and one whose number was that of another has it still
+      -- An id that was mapped to an earlier stream still is.
       pub numbers-stay : (n : ℕ) → (n ≡ length (ids h) → ⊥) → f id ≡ Some n → (q : ℕ) → f q ≡ stream_of h q
       numbers-stay n apart has q =
           let at : stream_of (h ++ Create id ∷ []) id ≡ Some n = sym (are id) ∙ has in

@@ -12,7 +12,7 @@ use Rattle.btr_hist.specs.History.{replay}
 use Rattle.btr_hist.specs.History.{commits, latest, bag}
 use Rattle.btr_engine.specs.Board.{newest_first, commits_to}
 
--- the commit that made a version
+-- The commit that made a version.
 abbrev pub made_by : ℕ → Change → tree.Commit
 made_by version c = record { version = version; cut = c.cut; added = c.added }
 
@@ -65,7 +65,7 @@ up_to-all v (c ∷ h) k =
     let first : c.version < v + 1 = k.0 in
     ap (λ t. cond t (up_to v h) (c ∷ h)) (le-ltb v c.version (omega arith))
 
--- one version more is left out again
+-- The commits up to a version leave out those of later versions.
 up_to-push : (v w : ℕ) (cs : List Change) → v ≤ w → w < length cs → up_to v (newest_first 0 [] (take (w + 1) cs)) ≡ up_to v (newest_first 0 [] (take w cs))
 up_to-push v w cs le low =
     let none : Change = record { cut = []; added = [] } in
@@ -86,7 +86,7 @@ up_to-more h stream v (suc more) low =
     ∙ up_to-push v (v + more) (commits h stream) (omega arith) (omega arith)
     ∙ up_to-more h stream v more (omega arith)
 
--- the commits up to a version of those of a later one are those of the version
+-- The commits of a later version, up to an earlier one, are the commits of the earlier one.
 pub up_to-commits_to : (h : List Entry) (stream v w : ℕ) → v ≤ w → w ≤ latest h stream → up_to v (commits_to h stream w) ≡ commits_to h stream v
 up_to-commits_to h stream v w le low =
     let e : v + (w - v) ≡ w = omega arith in

@@ -1,13 +1,14 @@
 pub mod BodyLemmas
-mod Runs
+pub mod EngineLemmas
+mod ExtentBytes
 mod Streams
-mod Allowed
-mod Standing
+mod RejectionBounds
+mod HoldsLemmas
 mod Stepping
 mod Appending
 mod Durable
-mod Contents
-mod Reasons
+mod BodyParts
+mod OpenCauses
 mod Synced
 mod Reading
 mod Opened

@@ -1,4 +1,4 @@
--- What a question answers, by the version that is asked, by whether the question is a good one, and by the tree of the version.
+-- The answer to a question: by the version that is asked, by whether the question is good, and by the tree of the version.
 use Rattle.std.specs.Prelude.{◌≡◌, ℕ, ◌+◌, ◌-◌, ◌^◌, ◌<◌, ◌≤◌, ℤ, nat_le, nat_lt, Bool, true, false, List, [], ◌∷◌, ◌++◌, length, take, cond, slice_get, slice_index_or, Some}
 use Rattle.std.specs.BTreeMap.{BTreeMap}
 use Rattle.std.proofs.Common.{zero, suc, refl, sym, ap, ◌∙◌, arith, subst}
@@ -10,9 +10,7 @@ use Rattle.btr_base.specs.Range.{RangeValue, IsRange}
 use Rattle.btr_base.specs.Agg.{agg, agg_within}
 use Rattle.btr_base.proofs.WithinLemmas.{within-all}
 use Rattle.btr_tree.specs.History as tree
-use Rattle.btr_tree.specs.Nodes.{up_to}
-use Rattle.btr_tree.specs.Agree.{AgreeSince}
-use Rattle.btr_tree.specs.Root.{AreInDomain}
+use Rattle.btr_base.specs.Point.{AreInDomain}
 use Rattle.btr_hist.specs.declared.entry.Entry.{Entry}
 use Rattle.btr_hist.specs.declared.answer.Answer.TheVariants.{Found, Refused}
 use Rattle.btr_hist.specs.declared.answer.Refusal.TheVariants.{NoStream, NoVersion, BadRange}
@@ -21,36 +19,37 @@ use Rattle.btr_hist.specs.History.{ids, latest, bag}
 use Rattle.btr_hist.specs.Answer.{answer_at, is_range, is_power, is_width, rows_from}
 use Rattle.btr_engine.specs.declared.board.Stream.{Stream}
 use Rattle.btr_engine.specs.Board.{commits_to, IsIndexed}
-use Rattle.btr_engine.proofs.BoardTrees.{bag-commits_to, up_to-commits_to}
+use Rattle.btr_engine.specs.Answering.{IsVersion, IsAskedRange}
+use Rattle.btr_engine.proofs.BoardTrees.{bag-commits_to}
 
--- ---- a version that is there, of a stream that is there
+-- ---- a version that a stream has
 
-module _ (h : List Entry) (stream version asked : ℕ) (there : (stream < length (ids h)) × (version ≤ latest h stream) × (version ≡ asked)) where
-  -- what there is to say of it
+module _ (h : List Entry) (stream version asked : ℕ) (there : IsVersion h stream asked version) where
+  -- The answer for a good question, and for a bad one.
   pub good_or_bad : (good : Bool) (rows : List Point → Rows) → answer_at h stream asked good rows ≡ cond good (Found asked (rows (bag h stream asked))) (Refused BadRange)
   good_or_bad good rows =
-      let known = lt-leb (length (ids h)) stream there.0 in
-      let made = le-ltb (latest h stream) asked (omega (arith, there.1, there.2)) in
+      let known = lt-leb (length (ids h)) stream there.known in
+      let made = le-ltb (latest h stream) asked (omega (arith, there.made, there.same)) in
       let told = cond good (Found asked (rows (bag h stream asked))) (Refused BadRange) in
       ap (λ t. cond t (Refused NoStream) (cond (nat_lt (latest h stream) asked) (Refused (NoVersion asked (latest h stream))) told)) known
       ∙ ap (λ t. cond t (Refused (NoVersion asked (latest h stream))) told) made
 
-  -- a bad question
+  -- A bad question is refused.
   pub refused : (good : Bool) (rows : List Point → Rows) → good ≡ false → Refused BadRange ≡ answer_at h stream asked good rows
   refused good rows bad =
       sym (good_or_bad good rows ∙ ap (λ t. cond t (Found asked (rows (bag h stream asked))) (Refused BadRange)) bad)
 
-  -- a good question, whose rows are those of the version's tree
+  -- The rows of a good question are those of the version's tree.
   pub found : (good : Bool) (rows : List Point → Rows) (x : Rows) → good ≡ true → x ≡ rows (tree.bag (commits_to h stream version)) → Found version x ≡ answer_at h stream asked good rows
   found good rows x is_good is =
       let read : x ≡ rows (bag h stream version) = is ∙ ap rows (bag-commits_to h stream version) in
       ap (Found version) read
-      ∙ ap (λ v. Found v (rows (bag h stream v))) there.2
+      ∙ ap (λ v. Found v (rows (bag h stream v))) there.same
       ∙ sym (good_or_bad good rows ∙ ap (λ t. cond t (Found asked (rows (bag h stream asked))) (Refused BadRange)) is_good)
 
 -- ---- ranges
 
--- the bounds are those that were asked
+-- The bounds are those that were asked.
 module _ {a b : ℤ} (from to : ℤ) (begins : a ≡ from) (ends : b ≡ to) where
   pub range_is : (r : RangeValue) → r ≡ record { from = a; to = b } → r ≡ record { from = from; to = to }
   range_is r is = cc
@@ -66,6 +65,14 @@ module _ {a b : ℤ} (from to : ℤ) (begins : a ≡ from) (ends : b ≡ to) whe
   range_bad none =
       false_from_ne_true (is_range from to) (λ t. none (record { begins = grind (arith, ints); not_empty = grind (arith, ints); ends = grind (arith, ints) }))
 
+-- What holds of the bounds holds of equal ones.
+module _ {a b : ℤ} (from to : ℤ) (begins : a ≡ from) (ends : b ≡ to) where
+  pub asked_range : (r : RangeValue) → IsAskedRange a b r → IsAskedRange from to r
+  asked_range r is = subst (λ x. IsAskedRange x to r) begins (subst (λ y. IsAskedRange a y r) ends is)
+
+  pub bad_range : is_range a b ≡ false → is_range from to ≡ false
+  bad_range bad = subst (λ x. is_range x to ≡ false) begins (subst (λ y. is_range a y ≡ false) ends bad)
+
 -- ---- powers and widths
 
 pub power_good : (p : ℕ) → p ≤ 62 → is_power p ≡ true
@@ -79,20 +86,13 @@ width_good width some few = and_from (nat_le 1 width) (nat_le width (2 ^ 62)) (l
 pub within_domain : (b : List Point) → AreInDomain b → agg b ≡ agg_within FIRST END b
 within_domain b times = ap agg (sym (within-all FIRST END b times))
 
--- ---- two versions
-
--- what the newer tree has of the older version stands in both
-pub agree : (h : List Entry) (stream old new : ℕ) → old ≤ new → new ≤ latest h stream → ((k : List tree.Commit) (version : ℕ) → AgreeSince version (up_to version k) k) → AgreeSince old (commits_to h stream old) (commits_to h stream new)
-agree h stream old new le made equal =
-    subst (λ k. AgreeSince old k (commits_to h stream new)) (up_to-commits_to h stream old new le made) (equal (commits_to h stream new) old)
-
 -- ---- the rows of all streams
 
 pub length-rows : (h : List Entry) (n : ℕ) (l : List ℕ) → length (rows_from h n l) ≡ length l
 length-rows h n [] = refl
 length-rows h n (id ∷ l) = ap (λ (k : ℕ). suc k) (length-rows h (n + 1) l)
 
--- one row more
+-- One row more.
 pub rows-next : (h : List Entry) (n i id : ℕ) (l : List ℕ) → slice_get l i ≡ Some id → take (suc i) (rows_from h n l) ≡ take i (rows_from h n l) ++ record { id = id; latest = latest h (n + i) } ∷ []
 rows-next h n i id [] at = absurd (cc)
 rows-next h n zero id (x ∷ l) at =
@@ -104,7 +104,7 @@ rows-next h n (suc i) id (x ∷ l) at =
     ap (λ rows. record { id = x; latest = latest h n } ∷ rows) (rows-next h (n + 1) i id l at)
     ∙ ap (λ k. record { id = x; latest = latest h n } ∷ (take i (rows_from h (n + 1) l) ++ record { id = id; latest = latest h k } ∷ [])) place
 
--- that of a stream as the board keeps it
+-- The row of a stream of the board.
 pub row-kept : (h : List Entry) (streams : List Stream) (numbers : BTreeMap ℕ ℕ) (i : ℕ) (d : Stream) → IsIndexed h streams numbers → i < length (ids h) → d ≡ slice_index_or streams i d → take (i + 1) (rows_from h 0 (ids h)) ≡ take i (rows_from h 0 (ids h)) ++ record { id = d.id; latest = length d.trees.items - 1 } ∷ []
 row-kept h streams numbers i d board low is =
     let kept = slice_index_or streams i d in

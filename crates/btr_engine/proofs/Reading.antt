@@ -1,4 +1,4 @@
--- Reading a log: what holds so far, and one extent more.
+-- The reading of a log: what holds so far, and after one extent more.
 use Rattle.std.specs.Prelude.{◌≡◌, ℕ, ◌+◌, ◌*◌, ◌<◌, ◌≤◌, List, [], ◌∷◌, ◌++◌, length, None}
 use Rattle.std.specs.List.{AllByRecursion}
 use Rattle.std.proofs.Common.{refl, sym, ◌∙◌, ap, subst, arith, length-append}
@@ -6,10 +6,10 @@ use Rattle.btr_disk.specs.declared.disk.Disk.{Ghosts}
 use Rattle.btr_disk.specs.Bytes.{Image, Has}
 use Rattle.btr_disk.proofs.ByteLemmas.{Same-is}
 use Rattle.btr_disk.proofs.MomentLemmas.{none_written, nothing_composes}
-use Rattle.btr_disk.specs.Gate.{IsOpen}
+use Rattle.btr_disk.specs.Gate.{IsOpen, IsClosed}
 use Rattle.btr_log.specs.declared.head.Head.{Head}
 use Rattle.btr_log.specs.declared.log.Log.{Log}
-use Rattle.btr_log.specs.Log.{device, blocks_of, KeepsLog, KeepsDevice, LogWroteNothing}
+use Rattle.btr_log.specs.Log.{device, blocks_of, KeepsLog}
 use Rattle.btr_log.specs.Extents.{need, IsExtent, Extents, first_gate}
 use Rattle.btr_log.proofs.ExtentLemmas.{Extents-push}
 use Rattle.btr_log.specs.Found.{IsWholeExtent}
@@ -21,8 +21,9 @@ use Rattle.btr_entry.specs.Grammar.{IsSpelled}
 use Rattle.btr_engine.specs.declared.opening.OpenCause.{OpenCause}
 use Rattle.btr_engine.specs.Body.{body_of, need_of, bodies}
 use Rattle.btr_engine.proofs.BodyLemmas.{need-body_of, bodies-push}
-use Rattle.btr_engine.specs.Opening.{IsCause}
-use Rattle.btr_engine.proofs.Reasons.{IsStoreOf, IsReadTo, IsCause-along}
+use Rattle.btr_engine.specs.Reading.{IsStoreOf, IsReadTo, CauseBetween, LogCause, OnlyReads, ReadsLog, IsNextEntry, IsReadLog}
+use Rattle.btr_engine.proofs.OpenCauses.{OpenCauseHolds-along}
+use Rattle.btr_engine.proofs.Synced.{counts-trans}
 
 module _ (blocks gate : ℕ) (head : Head) (body : List ℕ) (next : ℕ) (whole : IsWholeExtent blocks gate head body next) (number : ℕ) (e : Entry) (same : body ≡ body_of number e) where
   pub gate_behind : next ≡ gate + need_of e
@@ -34,12 +35,12 @@ module _ (blocks gate : ℕ) (head : Head) (body : List ℕ) (next : ℕ) (whole
   extent_of image stands =
       subst (λ b. IsExtent image gate b head) same (IsExtent-found image blocks gate head body next whole stands)
 
--- one entry more that has a spelling
+-- One spelled entry more.
 pub spelled-push : (h : List Entry) (e : Entry) → AllByRecursion IsSpelled h → IsSpelled e → AllByRecursion IsSpelled (h ++ e ∷ [])
 spelled-push [] e all is = (is, tt)
 spelled-push (f ∷ h) e all is = (all.0, spelled-push h e all.1 is)
 
--- and that stands behind the others
+-- One extent more after the others.
 pub extents-push : (image : Image) (gate next : ℕ) (h : List Entry) (e : Entry) (head : Head) → Extents image first_gate (bodies h) gate → IsExtent image gate (body_of (length h + 1) e) head → next ≡ gate + need_of e → Extents image first_gate (bodies (h ++ e ∷ [])) next
 extents-push image gate next h e head so_far extent at =
     let body = body_of (length h + 1) e in
@@ -48,31 +49,28 @@ extents-push image gate next h e head so_far extent at =
     (subst (λ l. Extents image first_gate l (gate + need body)) (sym (bodies-push h e)) (Extents-push image first_gate (bodies h) gate body head so_far extent))
 
 module _ {D : Type 0} {disk : Ghosts D} where
-  -- one run of reads and then another
-  pub KeepsLog-trans : (old mid new : Log D disk) → KeepsLog old mid → KeepsLog mid new → KeepsLog old new
-  KeepsLog-trans old mid new first second = record {
-    tail = second.tail ∙ first.tail;
-    blocks = second.blocks ∙ first.blocks;
-    extents = second.extents ∙ first.extents;
-    stopped = second.stopped ∙ first.stopped;
-    faults = second.faults ∙ first.faults;
+  -- Calls that only read, followed by others that only read.
+  pub OnlyReads-trans : (old mid new : D) → OnlyReads disk old mid → OnlyReads disk mid new → OnlyReads disk old new
+  OnlyReads-trans old mid new first second = record {
+    counts = counts-trans disk old mid new first.counts second.counts;
+    nothing = λ told. nothing_composes disk.calls disk.images_since disk.contents disk.images_now old mid new (first.nothing told) (second.nothing told);
   }
 
-  pub KeepsDevice-trans : (old mid new : Log D disk) → KeepsDevice old mid → KeepsDevice mid new → KeepsDevice old new
-  KeepsDevice-trans old mid new first second = record {
-    same_size = second.same_size ∙ first.same_size;
-    more_calls = omega (arith, first.more_calls, second.more_calls);
-    more_faults = omega (arith, first.more_faults, second.more_faults);
+  pub ReadsLog-trans : (old mid new : Log D disk) → ReadsLog old mid → ReadsLog mid new → ReadsLog old new
+  ReadsLog-trans old mid new first second = record {
+    kept = record {
+      tail = second.kept.tail ∙ first.kept.tail;
+      blocks = second.kept.blocks ∙ first.kept.blocks;
+      extents = second.kept.extents ∙ first.kept.extents;
+      stopped = second.kept.stopped ∙ first.kept.stopped;
+      faults = second.kept.faults ∙ first.kept.faults;
+    };
+    reads = OnlyReads-trans (device old) (device mid) (device new) first.reads second.reads;
   }
 
-  pub nothing-trans : (old mid new : Log D disk) → LogWroteNothing old mid → LogWroteNothing mid new → LogWroteNothing old new
-  nothing-trans old mid new = nothing_composes disk.calls disk.images_since disk.contents disk.images_now (device old) (device mid) (device new)
-
-  -- these entries are read, in so many extents, from the first gate to this one
+  -- These entries were read, in this number of extents, from the first gate to this one.
   pub record IsRead (old new : Log D disk) (h : List Entry) (gate entries : ℕ) : Type 0 where
-    pub kept : KeepsLog old new
-    pub device_kept : KeepsDevice old new
-    pub unwritten : disk.is_observable → LogWroteNothing old new
+    pub reads : ReadsLog old new
     pub counted : entries ≡ length h
     pub ends : 2 * length h + 4 ≤ gate
     pub inside : gate < blocks_of old
@@ -80,76 +78,76 @@ module _ {D : Type 0} {disk : Ghosts D} where
     pub legal : Legal h
     pub extents : disk.is_observable → Extents (disk.contents (device old)) first_gate (bodies h) gate
 
-  -- none: `only_now` is the device's law
+  -- At first none was read. `only_now` is the device's law.
   pub none_read : (log : Log D disk) (h : List Entry) → (disk.is_observable → (c : Image) → disk.images_since (device log) (disk.calls (device log)) c → disk.images_now (device log) c) → h ≡ [] → 4 < blocks_of log → IsRead log log h 4 0
   none_read log h only_now none least = record {
-    kept = record { tail = refl; blocks = refl; extents = refl; stopped = refl; faults = refl };
-    device_kept = record { same_size = refl; more_calls = omega arith; more_faults = omega arith };
-    unwritten = λ is_observable. none_written disk.calls disk.images_since disk.contents disk.images_now (device log) (only_now is_observable);
+    reads = record {
+      kept = record { tail = refl; blocks = refl; extents = refl; stopped = refl; faults = refl };
+      reads = record {
+        counts = record { same_size = refl; more_calls = omega arith; more_faults = omega arith };
+        nothing = λ told. none_written disk.calls disk.images_since disk.contents disk.images_now (device log) (only_now told);
+      };
+    };
     counted = ap length (sym none);
     ends = let e : length h ≡ 0 = ap length none in omega arith;
     inside = least;
     spelled = subst (AllByRecursion IsSpelled) (sym none) tt;
     legal = subst Legal (sym none) legal-none;
-    extents = λ is_observable. subst (λ l. Extents (disk.contents (device log)) first_gate (bodies l) 4) (sym none) refl;
+    extents = λ told. subst (λ l. Extents (disk.contents (device log)) first_gate (bodies l) 4) (sym none) refl;
   }
 
   module _ (old mid : Log D disk) (h : List Entry) (gate entries : ℕ) (so_far : IsRead old mid h gate entries) where
-    pub blocks_so_far : blocks_of mid ≡ blocks_of old
-    blocks_so_far = so_far.kept.blocks
+    same_so_far : disk.is_observable → disk.contents (device mid) ≡ disk.contents (device old)
+    same_so_far told =
+        Same-is (disk.contents (device old)) (disk.contents (device mid)) (so_far.reads.reads.nothing told).same
 
-    pub same_so_far : disk.is_observable → disk.contents (device mid) ≡ disk.contents (device old)
-    same_so_far is_observable =
-        Same-is (disk.contents (device old)) (disk.contents (device mid)) (so_far.unwritten is_observable).same
+    -- One entry more was read.
+    pub read_more : (new : Log D disk) → ReadsLog mid new → (e : Entry) (more : List Entry) (next : ℕ) → more ≡ h ++ e ∷ [] → IsNextEntry mid gate h e next → IsRead old new more next (entries + 1)
+    read_more new reads e more next pushed found =
+        let long : length more ≡ length h + 1 = ap length pushed ∙ length-append h (e ∷ []) in
+        record {
+          reads = ReadsLog-trans old mid new so_far.reads reads;
+          counted = omega (arith, long, so_far.counted);
+          ends = omega (arith, long, found.after, so_far.ends);
+          inside = omega (arith, found.inside, so_far.reads.kept.blocks);
+          spelled = subst (AllByRecursion IsSpelled) (sym pushed) (spelled-push h e so_far.spelled found.spelled);
+          legal = subst Legal (sym pushed) (legal-push h e so_far.legal found.allowed);
+          extents = λ told.
+              let image = disk.contents (device old) in
+              let stands = found.extent told in
+              let here : IsExtent image gate (body_of (length h + 1) e) stands.0 = subst (λ i. IsExtent i gate (body_of (length h + 1) e) stands.0) (same_so_far told) stands.1 in
+              subst (λ l. Extents image first_gate (bodies l) next) (sym pushed) (extents-push image gate next h e stands.0 (so_far.extents told) here found.after);
+        }
 
-    -- a call more
-    pub read_on : (new : Log D disk) → KeepsLog mid new → KeepsDevice mid new → (disk.is_observable → LogWroteNothing mid new) → IsRead old new h gate entries
-    read_on new kept device_kept unwritten = record {
-      kept = KeepsLog-trans old mid new so_far.kept kept;
-      device_kept = KeepsDevice-trans old mid new so_far.device_kept device_kept;
-      unwritten = λ is_observable. nothing-trans old mid new (so_far.unwritten is_observable) (unwritten is_observable);
-      counted = so_far.counted;
-      ends = so_far.ends;
-      inside = so_far.inside;
-      spelled = so_far.spelled;
-      legal = so_far.legal;
-      extents = so_far.extents;
-    }
+    -- The gate at the end is closed: all were read.
+    pub read_all : (new : Log D disk) (more : List Entry) → more ≡ h → ReadsLog mid new → (disk.is_observable → IsClosed (disk.contents (device mid)) gate) → ReadsLog old new × IsReadLog old more gate entries
+    read_all new more same reads closed = (
+      ReadsLog-trans old mid new so_far.reads reads,
+      subst (λ l. IsReadLog old l gate entries) (sym same) (record {
+        counted = so_far.counted;
+        ends = so_far.ends;
+        inside = so_far.inside;
+        spelled = so_far.spelled;
+        legal = so_far.legal;
+        extents = so_far.extents;
+        closed = λ told. subst (λ i. IsClosed i gate) (same_so_far told) (closed told);
+      }),
+    )
 
-  -- an entry more
-  pub read_more : (old mid new : Log D disk) (h : List Entry) (gate entries : ℕ) → IsRead old mid h gate entries → KeepsLog mid new → KeepsDevice mid new → (disk.is_observable → LogWroteNothing mid new) → (e : Entry) (more : List Entry) (next : ℕ) → IsSpelled e → more ≡ h ++ e ∷ [] → rejection h e ≡ None → next ≡ gate + need_of e → next < blocks_of mid → (disk.is_observable → (head : Head) × IsExtent (disk.contents (device mid)) gate (body_of (entries + 1) e) head) → IsRead old new more next (entries + 1)
-  read_more old mid new h gate entries so_far kept device_kept unwritten e more next is pushed allowed at inside extent =
-      let on = read_on old mid h gate entries so_far new kept device_kept unwritten in
-      let long : length more ≡ length h + 1 = ap length pushed ∙ length-append h (e ∷ []) in
-      record {
-        kept = on.kept;
-        device_kept = on.device_kept;
-        unwritten = on.unwritten;
-        counted = omega (arith, long, so_far.counted);
-        ends = omega (arith, long, at, so_far.ends);
-        inside = omega (arith, inside, so_far.kept.blocks);
-        spelled = subst (AllByRecursion IsSpelled) (sym pushed) (spelled-push h e so_far.spelled is);
-        legal = subst Legal (sym pushed) (legal-push h e so_far.legal allowed);
-        extents = λ is_observable.
-            let image = disk.contents (device old) in
-            let stands = extent is_observable in
-            let here : IsExtent image gate (body_of (length h + 1) e) stands.0 = subst (λ n. IsExtent image gate (body_of n e) stands.0) (ap (λ n. n + 1) so_far.counted) (subst (λ i. IsExtent i gate (body_of (entries + 1) e) stands.0) (same_so_far old mid h gate entries so_far is_observable) stands.1) in
-            subst (λ l. Extents image first_gate (bodies l) next) (sym pushed) (extents-push image gate next h e stands.0 (so_far.extents is_observable) here at);
-      }
-
-  -- why the next one is not read
-  pub cause_so_far : (old mid new : Log D disk) (h : List Entry) (gate entries : ℕ) → IsRead old mid h gate entries → KeepsDevice mid new → (cause : OpenCause) → IsCause (IsReadTo disk.is_observable (disk.size (device mid)) (disk.contents (device mid)) (blocks_of mid) gate h) (disk.size (device mid)) (disk.contents (device mid)) (disk.faults (device mid)) (disk.faults (device new)) cause → IsCause (disk.is_observable × IsStoreOf (disk.size (device old)) (disk.contents (device old)) (blocks_of old)) (disk.size (device old)) (disk.contents (device old)) (disk.faults (device old)) (disk.faults (device new)) cause
-  cause_so_far old mid new h gate entries so_far device_kept cause is =
-      let d0 = device old in
-      let d1 = device mid in
-      let same = same_so_far old mid h gate entries so_far in
-      IsCause-along (IsReadTo disk.is_observable (disk.size d1) (disk.contents d1) (blocks_of mid) gate h) (disk.is_observable × IsStoreOf (disk.size d0) (disk.contents d0) (blocks_of old))
-      (disk.size d1) (disk.size d0) (disk.contents d1) (disk.contents d0) (disk.faults d0) (disk.faults d1) (disk.faults (device new)) (disk.faults (device new)) cause
-      (λ r. (
-        r.0,
-        so_far.spelled,
-        subst (λ i. Extents i first_gate (bodies h) gate) (sym (same r.0)) (so_far.extents r.0),
-        subst (λ n. IsStoreOf n (disk.contents d1) (blocks_of mid)) (sym so_far.device_kept.same_size)
-            (subst (λ i. IsStoreOf (disk.size d0) i (blocks_of mid)) (sym (same r.0)) (subst (IsStoreOf (disk.size d0) (disk.contents d0)) (sym so_far.kept.blocks) r.1)),
-      ))
-      (λ r. (so_far.device_kept.same_size, same r.0)) so_far.device_kept.more_faults (omega arith) is
+    -- Why the next one was not read.
+    pub cause_so_far : (new : Log D disk) → ReadsLog mid new → (cause : OpenCause) → CauseBetween disk (IsReadTo disk.is_observable (disk.size (device mid)) (disk.contents (device mid)) (blocks_of mid) gate h) (device mid) (device new) cause → LogCause disk (blocks_of old) (device old) (device new) cause
+    cause_so_far new reads cause is =
+        let d0 = device old in
+        let d1 = device mid in
+        let size : disk.size d1 ≡ disk.size d0 = so_far.reads.reads.counts.same_size in
+        OpenCauseHolds-along (IsReadTo disk.is_observable (disk.size d1) (disk.contents d1) (blocks_of mid) gate h) (disk.is_observable × IsStoreOf (disk.size d0) (disk.contents d0) (blocks_of old))
+        (disk.size d1) (disk.size d0) (disk.contents d1) (disk.contents d0) (disk.faults d0) (disk.faults d1) (disk.faults (device new)) (disk.faults (device new)) cause
+        (λ r. (
+          r.0,
+          so_far.spelled,
+          so_far.legal,
+          subst (λ i. Extents i first_gate (bodies h) gate) (sym (same_so_far r.0)) (so_far.extents r.0),
+          subst (λ n. IsStoreOf n (disk.contents d1) (blocks_of mid)) (sym size)
+              (subst (λ i. IsStoreOf (disk.size d0) i (blocks_of mid)) (sym (same_so_far r.0)) (subst (IsStoreOf (disk.size d0) (disk.contents d0)) (sym so_far.reads.kept.blocks) r.1)),
+        ))
+        (λ r. (size, same_so_far r.0)) so_far.reads.reads.counts.more_faults (omega arith) is

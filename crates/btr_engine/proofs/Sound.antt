@@ -1,4 +1,4 @@
--- At most one history stands on a device, and what stands is damaged nowhere.
+-- A device holds at most one history, and a device that holds one is damaged nowhere.
 use Rattle.std.specs.Prelude.{◌≡◌, ℕ, ◌+◌, ◌*◌, ◌<◌, ◌≤◌, ◌^◌, List, [], ◌∷◌, ◌++◌, length, None}
 use Rattle.std.specs.List.{AllByRecursion}
 use Rattle.std.proofs.Common.{suc, refl, sym, ◌∙◌, ap, subst, arith, ⊎_elim, length-append, append_assoc}
@@ -20,19 +20,19 @@ use Rattle.btr_hist.proofs.HistoryLemmas.{legal-prefix, legal-last}
 use Rattle.btr_entry.specs.Grammar.{IsSpelled}
 use Rattle.btr_engine.specs.Body.{body_of, need_of, bodies_from, bodies}
 use Rattle.btr_engine.proofs.BodyLemmas.{need-body_of, body_of-one}
-use Rattle.btr_engine.specs.Stands.{StandsTo, Stands}
+use Rattle.btr_engine.specs.Holds.{HoldsHistoryTo, HoldsHistory}
 use Rattle.btr_engine.specs.Damage.{IsRefusedExtent, IsDamagedEntry, IsDamagedLog, IsDamaged}
-use Rattle.btr_engine.specs.Laws.{OneHistoryStands, WhatStandsIsSound}
+use Rattle.btr_engine.specs.Laws.{OneHistoryIsHeld, HeldIsSound}
 
 -- ---- one history
 
--- each extent has two blocks at least
+-- Each extent has at least two blocks.
 extents-long : (image : Image) (gate number : ℕ) (h : List Entry) (tail : ℕ) → Extents image gate (bodies_from number h) tail → gate + 2 * length h ≤ tail
 extents-long image gate number [] tail same = omega arith
 extents-long image gate number (e ∷ h) tail is =
     omega (arith, need-body_of number e, extents-long image (gate + need (body_of number e)) (suc number) h tail is.1)
 
--- the bodies tell the entries
+-- Entries with the same bodies are the same.
 bodies-one : (number : ℕ) (h k : List Entry) → 1 ≤ number → number + length h < 2 ^ 64 → AllByRecursion IsSpelled h → AllByRecursion IsSpelled k → bodies_from number h ≡ bodies_from number k → h ≡ k
 bodies-one number [] [] some few all all_too same = refl
 bodies-one number [] (f ∷ k) some few all all_too same = cc
@@ -44,26 +44,26 @@ bodies-one number (e ∷ h) (f ∷ k) some few all all_too same =
     let rest : h ≡ k = bodies-one (suc number) h k (omega arith) (omega (arith, few)) all.1 all_too.1 tails in
     cc
 
--- the numbers of a history's entries are small
-short : (size : ℕ) (image : Image) (blocks tail : ℕ) (h : List Entry) → StandsTo size image blocks tail h → 1 + length h < 2 ^ 64
+-- The numbers of a history's entries fit eight bytes.
+short : (size : ℕ) (image : Image) (blocks tail : ℕ) (h : List Entry) → HoldsHistoryTo size image blocks tail h → 1 + length h < 2 ^ 64
 short size image blocks tail h st =
     omega (arith, extents-long image first_gate 1 h tail st.extents, st.inside, st.same_blocks, st.chosen.stored.spelled.keeps.blocks_to)
 
-pub one_history : OneHistoryStands
+pub one_history : OneHistoryIsHeld
 one_history size image h k first second =
-    let s = first.stands in
-    let t = second.stands in
+    let s = first.holds in
+    let t = second.holds in
     let same = (Extents-one image first_gate (bodies h) (bodies k) first.tail second.tail s.extents s.closed t.extents t.closed).0 in
     bodies-one 1 h k (omega arith) (short size image first.blocks first.tail h s) s.spelled t.spelled same
 
 -- ---- no damage
 
--- the gate of a damaged entry is open
+-- The gate of a damaged entry is open.
 damaged_open : (image : Image) (blocks gate : ℕ) (entries : List Entry) (block : ℕ) → IsDamagedEntry image blocks gate entries block → IsOpen image gate
 damaged_open image blocks gate entries block damage =
     ⊎_elim (λ d. d.is_open) (λ n. ⊎_elim (λ o. o.extent.is_open) (λ r. r.extent.is_open) n) damage
 
--- an extent that holds its entry, inside the blocks, is not damaged where the entry may follow those before it
+-- An extent inside the blocks that holds an entry which may follow those before it is not damaged.
 module _ (image : Image) (blocks gate block : ℕ) (before : List Entry) (e : Entry) (head : Head) (few : length before + 1 < 2 ^ 64) (spelled : IsSpelled e) (allowed : rejection before e ≡ None) (extent : IsExtent image gate (body_of (length before + 1) e) head) (inside : gate + need_of e < blocks) where
   abbrev body : List ℕ
   body = body_of (length before + 1) e
@@ -72,7 +72,7 @@ module _ (image : Image) (blocks gate block : ℕ) (before : List Entry) (e : En
   head_stands =
       subst (Has image (4096 * (gate + 1))) extent.is_body.spells.spelling (Has-take image (4096 * (gate + 1)) 64 body extent.stored)
 
-  -- the head there is the body's
+  -- The head in the image is the body's.
   one_head : (other : Head) → SpellsAt image (gate + 1) other → other ≡ head
   one_head other at =
       head_bytes-one other head at.is_head extent.is_body.spells.is_head
@@ -105,7 +105,7 @@ module _ (image : Image) (blocks gate block : ℕ) (before : List Entry) (e : En
       (λ n. ⊎_elim (λ o. o.no_entry e spelled (IsBody-one image (4096 * (gate + 1)) o.body body o.head head o.extent.is_body extent.is_body o.extent.stored extent.stored)) refusal_sound n)
       damage
 
--- two walks from one gate behind the same entries, of which one comes to a closed gate, and the other to a damaged entry
+-- From one gate, after the same entries, no walk leads to a closed gate while another leads to a damaged entry.
 walk_sound : (image : Image) (blocks block gate number : ℕ) (before h k : List Entry) (tail other : ℕ) → number ≡ length before + 1 → number + length h < 2 ^ 64 → AllByRecursion IsSpelled h → AllByRecursion IsSpelled k → Legal (before ++ h) → Extents image gate (bodies_from number h) tail → IsClosed image tail → tail < blocks → Extents image gate (bodies_from number k) other → IsDamagedEntry image blocks other (before ++ k) block → ⊥
 walk_sound image blocks block gate number before [] [] tail other at few all all_too legal x closed inside y damage =
     closed (subst (IsOpen image) (sym y ∙ x) (damaged_open image blocks other (before ++ []) block damage))
@@ -124,13 +124,13 @@ walk_sound image blocks block gate number before (e ∷ h) (f ∷ k) tail other 
     let behind = subst (λ l. IsDamagedEntry image blocks other l block) (sym (append_assoc before (e ∷ []) k)) (subst (λ g. IsDamagedEntry image blocks other (before ++ g ∷ k) block) (sym entry) damage) in
     walk_sound image blocks block (gate + need (body_of number e)) (suc number) (before ++ e ∷ []) h k tail other (omega (arith, at, length-append before (e ∷ []))) (omega (arith, few)) all.1 all_too.1 (subst Legal (sym (append_assoc before (e ∷ []) h)) legal) x.1 closed inside rest behind
 
-log_sound : (size block : ℕ) (image : Image) (blocks tail : ℕ) (h : List Entry) → StandsTo size image blocks tail h → IsDamagedLog image blocks block → ⊥
+log_sound : (size block : ℕ) (image : Image) (blocks tail : ℕ) (h : List Entry) → HoldsHistoryTo size image blocks tail h → IsDamagedLog image blocks block → ⊥
 log_sound size block image blocks tail h st log =
     walk_sound image blocks block first_gate 1 [] h log.entries tail log.gate refl (short size image blocks tail h st) st.spelled log.spelled st.legal st.extents st.closed st.inside log.extents log.damage
 
-damage_none : (size block : ℕ) (image : Image) (h : List Entry) → Stands size image h → IsDamaged size image block → ⊥
+damage_none : (size block : ℕ) (image : Image) (h : List Entry) → HoldsHistory size image h → IsDamaged size image block → ⊥
 damage_none size block image h first damaged =
-    let st = first.stands in
+    let st = first.holds in
     ⊎_elim
     (chosen_not_damaged size image st.super block st.chosen)
     (λ log.
@@ -138,6 +138,6 @@ damage_none size block image h first damaged =
     log_sound size block image first.blocks first.tail h st (subst (λ b. IsDamagedLog image b block) same log.2))
     damaged
 
-pub sound : WhatStandsIsSound
+pub sound : HeldIsSound
 sound size block image h first =
-    (chosen_not_none size image first.stands.super first.stands.chosen, damage_none size block image h first)
+    (chosen_not_none size image first.holds.super first.holds.chosen, damage_none size block image h first)

@@ -1,4 +1,4 @@
--- What a step leaves of an engine: at each moment, after a refusal, and after the entry was taken.
+-- What a step leaves of an engine: at each moment, and after a refusal.
 use Rattle.std.specs.Prelude.{◌≡◌, ℕ, ◌+◌, ◌*◌, ◌/◌, ◌<◌, ◌≤◌, ◌^◌, List, [], ◌∷◌, ◌++◌, length, Result, Ok, Err, Option, Some, None, IsFalse, IfSome, IsNone, IfErr, IsErr}
 use Rattle.std.specs.Result.{IsErrAnd}
 use Rattle.std.specs.Coded.{le_prop}
@@ -11,6 +11,7 @@ use Rattle.btr_disk.specs.Gate.{zeros}
 use Rattle.btr_disk.proofs.GateLemmas.{length-zeros}
 use Rattle.btr_disk.proofs.MomentLemmas.{begins}
 use Rattle.btr_log.specs.Extents.{need}
+use Rattle.btr_log.specs.Head.{entry_head}
 use Rattle.btr_log.specs.Append as append
 use Rattle.btr_log.proofs.AppendLemmas.{body_in_run-append, IsAppendRun-from}
 use Rattle.btr_log.specs.Log as log
@@ -25,18 +26,18 @@ use Rattle.btr_engine.specs.declared.step.StepFault.{StepFault}
 use Rattle.btr_engine.specs.declared.step.StepFault.TheVariants as step
 use Rattle.btr_engine.specs.declared.board.PushFault.{PushFault}
 use Rattle.btr_engine.specs.declared.board.PushFault.TheVariants.{Rejected, Want}
-use Rattle.btr_engine.specs.Body.{body_of, head_of, need_of, bodies}
+use Rattle.btr_engine.specs.Body.{body_of, need_of, bodies}
 use Rattle.btr_engine.proofs.BodyLemmas.{length-body_of, IsBody-body_of, need-body_of}
 use Rattle.btr_engine.specs.Engine.{device, history_of, blocks_of, tail_of, is_stopped, IsAtRest, EngineLeaves}
-use Rattle.btr_engine.specs.Push.{PushCause, step_fault}
-use Rattle.btr_engine.specs.Stands.{Stands}
+use Rattle.btr_engine.specs.Push.{PushCause, fault_of_push}
+use Rattle.btr_engine.specs.Holds.{HoldsHistory}
 use Rattle.btr_engine.specs.Step.{IsBeforeOrAfter, StepCause}
-use Rattle.btr_engine.proofs.Standing.{stands_still}
+use Rattle.btr_engine.proofs.EngineLemmas.{holds_in}
 
--- ---- the run of an entry
+-- ---- the extent of an entry
 
 module _ (number : ℕ) (e : Entry) (run : List ℕ) (is : run ≡ body_of number e ++ zeros 4096) where
-  -- the body that it brings
+  -- The body of the run is the entry's.
   pub brings : append.body_in_run run ≡ body_of number e
   brings = ap append.body_in_run is ∙ body_in_run-append (body_of number e)
 
@@ -45,21 +46,21 @@ module _ (number : ℕ) (e : Entry) (run : List ℕ) (is : run ≡ body_of numbe
 
   pub is_append_run : 1 ≤ number → number < 2 ^ 64 → IsSpelled e → append.IsAppendRun run
   is_append_run some few spelled =
-      subst append.IsAppendRun (sym is) (IsAppendRun-from (body_of number e) (head_of number (length (spelling e))) (IsBody-body_of number e some few spelled))
+      subst append.IsAppendRun (sym is) (IsAppendRun-from (body_of number e) (entry_head number (length (spelling e))) (IsBody-body_of number e some few spelled))
 
--- the blocks of a run are those that the entry needs
+-- The run has the blocks that the entry needs.
 pub blocks_of_run : (number : ℕ) (e : Entry) (n : ℕ) → n ≡ length (body_of number e ++ zeros 4096) → n / 4096 ≡ need_of e
 blocks_of_run number e n is =
     omega (arith, is, length-append (body_of number e) (zeros 4096), length-body_of number e, length-zeros 4096)
 
--- the number of a receipt
+-- The number of a receipt.
 pub number_of_receipt : (h : List Entry) (e : Entry) → (machine.receipt h e).number ≡ length h + 1
 number_of_receipt h (Create id) = refl
 number_of_receipt h (Commit s cut added) = refl
 
--- ---- histories that lose their last entry
+-- ---- histories without their last entry
 
--- what is pushed and popped again leaves the history
+-- An entry that is added and removed again leaves the history.
 pub push_pop : (h k : List Entry) (e f : Entry) → h ++ e ∷ [] ≡ k ++ f ∷ [] → k ≡ h
 push_pop [] [] e f same = refl
 push_pop [] (x ∷ []) e f same = absurd (cc)
@@ -72,7 +73,7 @@ push_pop (x ∷ h) (y ∷ k) e f same =
     let first : x ≡ y = cc in
     cc
 
--- what is pushed, and then popped
+-- What is added and then removed.
 pub popped : (taken : Option Entry) (h pushed k : List Entry) (e : Entry) → pushed ≡ h ++ e ∷ [] → IfSome taken (λ f. pushed ≡ k ++ f ∷ []) → (IsNone taken → (pushed ≡ []) × (k ≡ [])) → k ≡ h
 popped (Some f) h pushed k e grown last none = push_pop h k e f (sym grown ∙ last)
 popped None h pushed k e grown last none =
@@ -80,41 +81,34 @@ popped None h pushed k e grown last none =
     absurd (omega (arith, ap (length {A = Entry}) grown, ap (length {A = Entry}) empty, length-append h (e ∷ [])))
 
 module _ {D : Type 0} {disk : Ghosts D} where
-  -- ---- where nothing was done
+  -- ---- a step that changes nothing
 
-  pub same_engine : (a b : Engine D disk) → a.log ≡ b.log → a.history ≡ b.history → a.opened_with ≡ b.opened_with → a.synced ≡ b.synced → a ≡ b
-  same_engine a b logs histories began synced = λ i. record {
+  pub same_engine : (a b : Engine D disk) → a.log ≡ b.log → a.board ≡ b.board → a.opened_with ≡ b.opened_with → a.synced ≡ b.synced → a ≡ b
+  same_engine a b logs boards began synced = λ i. record {
     log = logs i;
-    history = histories i;
+    board = boards i;
     opened_with = began i;
     synced = synced i;
-    counted = is_prop→PathP (λ j. (logs j).extents ≡ length (histories j)) (λ j. ℕ_set (logs j).extents (length (histories j))) a.counted b.counted i;
-    ends = is_prop→PathP (λ j. 2 * length (histories j) + 4 ≤ (logs j).tail) (λ j. le_prop) a.ends b.ends i;
-    began = is_prop→PathP (λ j. began j ≤ length (histories j)) (λ j. le_prop) a.began b.began i;
+    counted = is_prop→PathP (λ j. (logs j).extents ≡ length (boards j)) (λ j. ℕ_set (logs j).extents (length (boards j))) a.counted b.counted i;
+    ends = is_prop→PathP (λ j. 2 * length (boards j) + 4 ≤ (logs j).tail) (λ j. le_prop) a.ends b.ends i;
+    began = is_prop→PathP (λ j. began j ≤ length (boards j)) (λ j. le_prop) a.began b.began i;
     called = is_prop→PathP (λ j. disk.calls (synced j).value ≤ disk.calls (log.device (logs j))) (λ j. le_prop) a.called b.called i;
+    failed = is_prop→PathP (λ j. disk.faults (synced j).value ≤ log.faults_at (logs j)) (λ j. le_prop) a.failed b.failed i;
   }
 
-  -- what stands on the device is the log of the bodies, at rest
+  -- The device has the log of the bodies, at rest.
   pub log_at_rest : (engine : Engine D disk) → IsAtRest engine → log.IsAtRest engine.log (bodies (history_of engine))
   log_at_rest engine rest =
-      record { extents = rest.stands.extents; closed = rest.stands.closed; only = rest.only }
+      record { extents = rest.holds.extents; closed = rest.holds.closed; only = rest.only }
 
-  -- the history stands in each image that is what a read gives
-  pub stands_in : (engine : Engine D disk) → IsAtRest engine → (c : Image) → Same (disk.contents (device engine)) c → Stands (disk.size (device engine)) c (history_of engine)
-  stands_in engine rest c same = record {
-    blocks = blocks_of engine;
-    tail = tail_of engine;
-    stands = stands_still (disk.size (device engine)) (disk.contents (device engine)) (blocks_of engine) (tail_of engine) (history_of engine) rest.stands c same;
-  }
-
-  -- no call of the device was made: `only_now` is its law
+  -- No call of the device was made. `only_now` is its law.
   pub no_moment : (engine : Engine D disk) (e : Entry) → ((c : Image) → disk.images_since (device engine) (disk.calls (device engine)) c → disk.images_now (device engine) c) → IsAtRest engine → EngineLeaves engine engine (IsBeforeOrAfter (disk.size (device engine)) (history_of engine) e)
   no_moment engine e only_now rest =
-      begins disk.calls disk.images_since (device engine) (IsBeforeOrAfter (disk.size (device engine)) (history_of engine) e) (λ c now. inl (stands_in engine rest c (rest.only.each c (only_now c now))))
+      begins disk.calls disk.images_since (device engine) (IsBeforeOrAfter (disk.size (device engine)) (history_of engine) e) (λ c now. inl (holds_in engine rest c (rest.only.each c (only_now c now))))
 
-  -- the entry was not added to the history
-  pub not_pushed : (old new : Engine D disk) (e copy : Entry) (fault : PushFault) (answer : Result Receipt StepFault) → IsErr answer × IsErrAnd answer (λ f. f ≡ step_fault fault) → IsFalse (is_stopped old) → copy ≡ e → PushCause (rejection (history_of old) copy) fault → new ≡ old → IfErr answer (StepCause old new e)
-  not_pushed old new e copy fault (Ok receipt) is runs copied cause same = absurd (cc)
-  not_pushed old new e copy Want (Err f) is runs copied cause same = subst (StepCause old new e) (sym is.1) (runs, same)
-  not_pushed old new e copy (Rejected why) (Err f) is runs copied cause same =
-      subst (StepCause old new e) (sym is.1) (runs, subst (λ c. rejection (history_of old) c ≡ Some why) copied cause, same)
+  -- The entry was not added to the history.
+  pub not_pushed : (old new : Engine D disk) (e : Entry) (fault : PushFault) (answer : Result Receipt StepFault) → IsErr answer × IsErrAnd answer (λ f. f ≡ fault_of_push fault) → IsFalse (is_stopped old) → PushCause (rejection (history_of old) e) fault → new ≡ old → IfErr answer (StepCause old new e)
+  not_pushed old new e fault (Ok receipt) is runs cause same = absurd (cc)
+  not_pushed old new e Want (Err f) is runs cause same = subst (StepCause old new e) (sym is.1) (runs, cause, same)
+  not_pushed old new e (Rejected why) (Err f) is runs cause same =
+      subst (StepCause old new e) (sym is.1) (runs, cause, same)

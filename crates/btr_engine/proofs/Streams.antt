@@ -1,4 +1,4 @@
--- How many streams and versions a history has, and where a stream stands among the others.
+-- Bounds on the streams and versions of a history, and on the number of a stream.
 use Rattle.std.specs.Prelude.{◌≡◌, ℕ, ◌+◌, ◌<◌, ◌≤◌, ◌==◌, nat_eq, Bool, true, false, List, [], ◌∷◌, length, cond, Some}
 use Rattle.std.specs.List.{position_from}
 use Rattle.std.proofs.Common.{arith}
@@ -7,13 +7,13 @@ use Rattle.btr_hist.specs.declared.entry.Entry.TheVariants.{Create, Commit}
 use Rattle.btr_base.specs.Commit.{Change}
 use Rattle.btr_hist.specs.History.{ids, stream_of, commits, latest}
 
--- no more streams than entries
+-- A history has no more streams than entries.
 pub few_streams : (h : List Entry) → length (ids h) ≤ length h
 few_streams [] = omega arith
 few_streams (Create id ∷ h) = omega (arith, few_streams h)
 few_streams (Commit s cut added ∷ h) = omega (arith, few_streams h)
 
--- no more versions of a stream than entries
+-- A stream has no more versions than the history has entries.
 pub few_versions : (h : List Entry) (stream : ℕ) → latest h stream ≤ length h
 few_versions [] stream = omega arith
 few_versions (Create id ∷ h) stream = omega (arith, few_versions h stream)
@@ -25,8 +25,8 @@ few_versions (Commit s cut added ∷ h) stream =
       | false ↦ omega arith
     ]
 
--- what is found from a place on stands behind it, and before the end
-found_below : (test : ℕ → Bool) (place : ℕ) (xs : List ℕ) (found : ℕ) → position_from test place xs ≡ Some found → found < place + length xs
+-- A position that is found lies inside the list.
+pub found_below : (test : ℕ → Bool) (place : ℕ) (xs : List ℕ) (found : ℕ) → position_from test place xs ≡ Some found → found < place + length xs
 found_below test place [] found is = absurd (cc)
 found_below test place (x ∷ xs) found is =
     elim (test x) as (λ t. cond t (Some place) (position_from test (place + 1) xs) ≡ Some found → found < place + length (x ∷ xs)) [
@@ -36,6 +36,6 @@ found_below test place (x ∷ xs) found is =
       | false ↦ λ later. omega (arith, found_below test (place + 1) xs found later)
     ] is
 
--- the place of a stream is below the number of entries
+-- The number of a stream is below the number of entries.
 pub stream_below : (h : List Entry) (id place : ℕ) → stream_of h id ≡ Some place → place < length h
 stream_below h id place is = omega (arith, found_below (nat_eq id) 0 (ids h) place is, few_streams h)

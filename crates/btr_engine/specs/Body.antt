@@ -2,41 +2,28 @@
 use Rattle.std.specs.Prelude.{ℕ, ◌+◌, ◌-◌, ◌*◌, List, [], ◌∷◌, ◌++◌, length}
 use Rattle.std.proofs.Common.{suc}
 use Rattle.btr_disk.specs.Gate.{zeros}
-use Rattle.btr_log.specs.declared.head.Head.{Head}
-use Rattle.btr_log.specs.Head.{content_blocks, head_bytes}
+use Rattle.btr_log.specs.Head.{content_blocks, head_bytes, entry_head}
 use Rattle.btr_hist.specs.declared.entry.Entry.{Entry}
 use Rattle.btr_entry.specs.Grammar.{spelling}
 
--- the head of the entry with this number, whose spelling has so many bytes
-abbrev pub head_of : ℕ → ℕ → Head
-head_of number length = record {
-  kind = 1;
-  format = 1;
-  number = number;
-  n = content_blocks length;
-  length = length;
-  nodes = 0;
-  root = 0;
-}
-
--- how many zeros stand behind a content of so many bytes, up to the end of its last block
+-- The number of zeros after a content of this length, up to the end of its last block.
 abbrev pub padding : ℕ → ℕ
 padding length = 4096 * content_blocks length - (64 + length)
 
--- the body of the entry with this number: its head, its spelling, and zeros up to the end of the last block
+-- The body of the entry with this number: its head, its spelling, and zeros up to the end of the last block.
 unfoldable pub body_of : ℕ → Entry → List ℕ
 body_of number e =
-    head_bytes (head_of number (length (spelling e))) ++ (spelling e ++ zeros (padding (length (spelling e))))
+    head_bytes (entry_head number (length (spelling e))) ++ (spelling e ++ zeros (padding (length (spelling e))))
 
--- the blocks that an entry needs: those of its body, and the gate behind it
+-- The blocks that an entry needs: those of its body, and the gate after it.
 abbrev pub need_of : Entry → ℕ
 need_of e = content_blocks (length (spelling e)) + 1
 
--- the bodies of entries, with their numbers from this one on
+-- The bodies of entries, with their numbers from this one on.
 abbrev pub bodies_from : ℕ → List Entry → List (List ℕ)
 bodies_from number [] = []
 bodies_from number (e ∷ h) = body_of number e ∷ bodies_from (suc number) h
 
--- the bodies of a history's entries, which have their numbers from 1 on
+-- The bodies of a history's entries, with their numbers from 1 on.
 abbrev pub bodies : List Entry → List (List ℕ)
 bodies h = bodies_from 1 h

@@ -1,14 +1,17 @@
 -- the bytes of an entry's extent
 pub mod Body
--- which history stands on a device, and what breaks its format
-pub mod Stands
+-- which history a device holds, and what breaks its format
+pub mod Holds
 pub mod Damage
--- a history with an index
+-- the index of a history that is kept in memory
 pub mod Board
-pub mod Push
 -- what contracts see of an engine, and what its calls do
 pub mod Engine
-pub mod Step
 pub mod Opening
+pub mod Step
 -- what holds of all devices
 pub mod Laws
+-- what the private functions promise
+pub mod Reading
+pub mod Push
+pub mod Answering

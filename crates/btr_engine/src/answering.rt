@@ -1,32 +1,24 @@
-// The answers to questions, read from the trees of a board.
-ghost use Rattle.std.specs.Prelude.{◌≡◌, ℕ, ◌<◌, ◌≤◌, Bool, List, length, IfOk, IfErr};
-ghost use Rattle.btr_base.specs.declared.point.Point.{Point};
+//! The answers to questions, which a board reads from the trees of its streams.
+ghost use Rattle.std.specs.Prelude.{◌≡◌, ◌<◌, ◌≤◌, length, IfOk, IfErr};
 ghost use Rattle.btr_tree.specs.Root.{IsTree};
-ghost use Rattle.btr_hist.specs.declared.answer.Rows.{Rows as ARow};
-ghost use Rattle.btr_hist.specs.declared.answer.Answer.TheVariants.{Refused};
 ghost use Rattle.btr_hist.specs.declared.query.Query.TheVariants as ask;
 ghost use Rattle.btr_hist.specs.History.{ids, latest};
-ghost use Rattle.btr_hist.specs.Answer.{answer, answer_at, version_of};
+ghost use Rattle.btr_hist.specs.Answer.{answer, version_of};
 ghost use Rattle.btr_engine.specs.Board.{commits_to};
+ghost use Rattle.btr_engine.specs.Answering.{IsVersion, IsAskedRange, RefusesVersion, RefusesRange};
 
 use crate::board::Board;
-use btr_base::{Range, Toward};
+use btr_base::{MAX_EXPONENT, MAX_WIDTH, Range, Toward};
 use btr_diff::changes;
 use btr_hist::{Answer, At, CellList, PointList, Query, Refusal, Rows, StreamList, StreamRow};
 use btr_scan::{nearest, range};
-use btr_tree::{Steps, Tree, equal_since_its_version};
+use btr_tree::{Steps, Tree};
 use btr_window::{aligned, windows};
 use std::alloc::{AllocError, Global};
 
-/// The greatest width of windows, in nanoseconds: that of the domain.
-const MOST_WIDTH: u64 = 4611686018427387904;
-
-/// The greatest power of two that is a width of windows.
-const MOST_POWER: u8 = 62;
-
 impl Board {
-    /// The answer to a question. It costs the nodes of the tree that the question needs, and its rows; all streams cost their
-    /// number. An `Err` is want of memory.
+    /// Answers a question. It costs the nodes of the tree that the question needs, and its rows. The list of all streams costs
+    /// their number. An `Err` means out of memory.
     pub fn answer(&self, alloc: Global, query: &Query) -> Result<Answer, AllocError>
         ensures { IfOk result (λ a. a ≡ answer self.now query.now) }
     {
@@ -68,7 +60,7 @@ impl Board {
         }
     }
 
-    /// The points of a range.
+    /// Answers with the points of a range.
     fn points(
         &self,
         alloc: Global,
@@ -79,12 +71,9 @@ impl Board {
     ) -> Result<Answer, AllocError>
         ensures { IfOk result (λ a. a ≡ answer self.now (ask.Points stream from to at)) }
     {
-        let version = match self.version_at(stream, at) {
-            Ok(version) => version,
+        let (version, between) = match self.asked(stream, from, to, at) {
+            Ok(asked) => asked,
             Err(refusal) => return Ok(Answer::Refused(refusal)),
-        };
-        let Some(between) = Range::new(from, to) else {
-            return Ok(Answer::Refused(Refusal::BadRange));
         };
         let found = range(alloc, self.tree(stream, version), between)?;
         Ok(Answer::Found {
@@ -93,7 +82,7 @@ impl Board {
         })
     }
 
-    /// The point nearest to a time.
+    /// Answers with the point nearest to a time.
     fn nearest(
         &self,
         alloc: Global,
@@ -108,7 +97,7 @@ impl Board {
             Ok(version) => version,
             Err(refusal) => return Ok(Answer::Refused(refusal)),
         };
-        let mut steps = Steps::new();
+        let mut steps = Steps::new(alloc);
         let mut found = Vec::new(alloc);
         if let Some(point) = nearest(self.tree(stream, version), time, toward, &mut steps) {
             found.push(point)?;
@@ -119,7 +108,7 @@ impl Board {
         })
     }
 
-    /// The aligned windows that meet a range.
+    /// Answers with the aligned windows that meet a range.
     fn aligned(
         &self,
         alloc: Global,
@@ -131,14 +120,11 @@ impl Board {
     ) -> Result<Answer, AllocError>
         ensures { IfOk result (λ a. a ≡ answer self.now (ask.Aligned stream from to p at)) }
     {
-        let version = match self.version_at(stream, at) {
-            Ok(version) => version,
+        let (version, between) = match self.asked(stream, from, to, at) {
+            Ok(asked) => asked,
             Err(refusal) => return Ok(Answer::Refused(refusal)),
         };
-        let Some(between) = Range::new(from, to) else {
-            return Ok(Answer::Refused(Refusal::BadRange));
-        };
-        if p > MOST_POWER {
+        if p > MAX_EXPONENT {
             return Ok(Answer::Refused(Refusal::BadRange));
         }
         let found = aligned(alloc, self.tree(stream, version), between, p)?;
@@ -148,7 +134,7 @@ impl Board {
         })
     }
 
-    /// The windows of a width from the begin of a range on.
+    /// Answers with the windows of a width, from the start of a range on.
     fn windows(
         &self,
         alloc: Global,
@@ -160,14 +146,11 @@ impl Board {
     ) -> Result<Answer, AllocError>
         ensures { IfOk result (λ a. a ≡ answer self.now (ask.Windows stream from to width at)) }
     {
-        let version = match self.version_at(stream, at) {
-            Ok(version) => version,
+        let (version, between) = match self.asked(stream, from, to, at) {
+            Ok(asked) => asked,
             Err(refusal) => return Ok(Answer::Refused(refusal)),
         };
-        let Some(between) = Range::new(from, to) else {
-            return Ok(Answer::Refused(Refusal::BadRange));
-        };
-        if width == 0 || width > MOST_WIDTH {
+        if width == 0 || width > MAX_WIDTH {
             return Ok(Answer::Refused(Refusal::BadRange));
         }
         let found = windows(alloc, self.tree(stream, version), between, width)?;
@@ -177,7 +160,7 @@ impl Board {
         })
     }
 
-    /// The slots in which two versions differ.
+    /// Answers with the slots in which two versions differ.
     fn changes(
         &self,
         alloc: Global,
@@ -192,12 +175,10 @@ impl Board {
             Ok(version) => version,
             Err(refusal) => return Ok(Answer::Refused(refusal)),
         };
-        if old > new || p > MOST_POWER {
+        if old > new || p > MAX_EXPONENT {
             return Ok(Answer::Refused(Refusal::BadRange));
         }
-        // what the newer tree has of the older version stands in both
-        equal_since_its_version();
-        let mut steps = Steps::new();
+        let mut steps = Steps::new(alloc);
         let older = self.tree(stream, old);
         let newer = self.tree(stream, new);
         let found = changes(alloc, older, newer, old, p, &mut steps)?;
@@ -207,7 +188,7 @@ impl Board {
         })
     }
 
-    /// A version as a whole.
+    /// Answers with the aggregate of a whole version.
     fn info(&self, stream: u32, at: At) -> Answer
         ensures { result ≡ answer self.now (ask.Info stream at) }
     {
@@ -222,7 +203,7 @@ impl Board {
         }
     }
 
-    /// All streams, in order of creation.
+    /// Answers with all streams, in order of creation.
     fn all_streams(&self, alloc: Global) -> Result<Answer, AllocError>
         ensures { IfOk result (λ a. a ≡ answer self.now ask.Streams) }
     {
@@ -239,10 +220,26 @@ impl Board {
         })
     }
 
-    /// The number of a version that is asked, or why there is none.
+    /// Returns the version and the range that a question asks for, or why it is refused.
+    fn asked(&self, stream: u32, from: i64, to: i64, at: At) -> Result<(u64, Range), Refusal>
+        ensures there { IfOk result (λ r. IsVersion self.now stream (version_of self.now stream at) r.0) }
+        ensures range { IfOk result (λ r. IsAskedRange from to r.1) }
+        ensures refused { IfErr result (RefusesRange self.now stream from to at) }
+    {
+        let version = match self.version_at(stream, at) {
+            Ok(version) => version,
+            Err(refusal) => return Err(refusal),
+        };
+        match Range::new(from, to) {
+            Some(between) => Ok((version, between)),
+            None => Err(Refusal::BadRange),
+        }
+    }
+
+    /// Returns the number of the version that a question asks for, or why it is refused.
     fn version_at(&self, stream: u32, at: At) -> Result<u64, Refusal>
-        ensures there { IfOk result (λ v. (stream < length (ids self.now)) × (v ≤ latest self.now stream) × (v ≡ version_of self.now stream at)) }
-        ensures refused { IfErr result (λ r. (good : Bool) (rows : List Point → ARow) → Refused r ≡ answer_at self.now stream (version_of self.now stream at) good rows) }
+        ensures there { IfOk result (IsVersion self.now stream (version_of self.now stream at)) }
+        ensures refused { IfErr result (RefusesVersion self.now stream at) }
     {
         if stream as usize >= self.streams.len() {
             return Err(Refusal::NoStream);
@@ -258,7 +255,7 @@ impl Board {
         Ok(asked)
     }
 
-    /// The tree of a version.
+    /// Returns the tree of a version.
     fn tree(&self, stream: u32, version: u64) -> &Tree
         requires stream { stream < length (ids self.now) }
         requires version { version ≤ latest self.now stream }

@@ -1,30 +1,29 @@
-// The board: a history, and beside it what is asked of it most.
-ghost use Rattle.std.specs.Prelude.{◌≡◌, ℕ, ◌+◌, ◌<◌, ◌≤◌, List, [], ◌∷◌, ◌++◌, length, slice_index_or, IfOk, IfErr, IfSome, IsNone, OnOk, OnErr, None, Some};
-ghost use Rattle.btr_base.specs.declared.point.Point.{Point};
+//! The board: a history, and an index of it for the calls and questions of an engine.
+ghost use Rattle.std.specs.Prelude.{◌≡◌, ◌<◌, ◌≤◌, List, [], ◌∷◌, ◌++◌, length, IfOk, IfErr, IfSome, IsNone, OnOk, OnErr, None};
+ghost use Rattle.btr_base.specs.declared.point.Point.{Point as PointSpec};
 ghost use Rattle.btr_base.specs.Bag.{IsInOrder};
-ghost use Rattle.btr_tree.specs.Root.{TreeValue, IsTree, IsTreeFault, AreInDomain};
-ghost use Rattle.btr_hist.specs.declared.entry.Entry.{Entry as AnEntry};
-ghost use Rattle.btr_hist.specs.declared.entry.Entry.TheVariants.{Create as ACreate, Commit as ACommit};
+ghost use Rattle.btr_base.specs.Point.{AreInDomain};
+ghost use Rattle.btr_tree.specs.Root.{TreeValue, IsTree, IsTreeFault};
+ghost use Rattle.btr_hist.specs.declared.entry.Entry.TheVariants as entry;
 ghost use Rattle.btr_hist.specs.History.{ids, stream_of, latest};
-ghost use Rattle.btr_hist.specs.Legal.{rejection, commit_rejection, points_rejection, next_bag, Legal};
-ghost use Rattle.btr_engine.specs.Board.{AreNumbers, HasTrees, commits_to};
-ghost use Rattle.btr_engine.specs.Push.{PushCause, IsNext, SameTrees, HasKept, HasForgotten};
+ghost use Rattle.btr_hist.specs.Legal.{rejection, commit_rejection, points_rejection};
+ghost use Rattle.btr_engine.specs.Push.{PushCause, IsNext, change_of, OfEachStream, SameTrees, HasPushedTree, HasPoppedTree};
+ghost use Rattle.btr_engine.specs.Push.{IndexesStream, KeepsIndex, UnindexesStream};
 
-use btr_base::{Bag, Ranges};
-use btr_base::{MAX_STREAMS, MAX_VERSIONS};
+use btr_base::{Bag, MAX_STREAMS, MAX_VERSIONS, Ranges};
 use btr_hist::{Entry, History, Rejection, change_rejection};
 use btr_tree::{Steps, Tree, TreeFault};
 use std::alloc::{AllocError, Global};
 use std::collections::BTreeMap;
 use std::marker::Model;
 
-/// Why an entry was not added. The board is as it was.
+/// Why an entry was not added. The board is as before.
 #[derive(Clone, Copy, Debug, PartialEq, Eq)]
 pub enum PushFault {
     /// The entry may not follow the history.
     Rejected(Rejection),
 
-    /// There was no memory.
+    /// There was not enough memory.
     Want,
 }
 
@@ -35,8 +34,8 @@ pub(crate) struct Stream {
     pub(crate) trees: Vec<Tree>,
 }
 
-/// A history, each entry of which is allowed after those before it, with what is asked of it most: the number of each id, and
-/// the tree of each version of each stream. It answers as a [`History`] of the same entries does.
+/// A history, each entry of which is allowed after those before it. Beside the entries the board keeps an index: the number of
+/// the stream of each id, and the tree of each version of each stream. Its answers are those of a [`History`] of the entries.
 #[derive(Drop)]
 pub struct Board {
     pub(crate) history: History,
@@ -57,7 +56,7 @@ impl Model for Board {
 }
 
 impl Board {
-    /// No entries. It takes no memory.
+    /// Returns a board without entries. It takes no memory.
     pub fn empty(alloc: Global) -> Board
         ensures { result ≡ [] }
     {
@@ -68,33 +67,36 @@ impl Board {
         }
     }
 
-    /// Adds an entry, if it may follow. After an `Err` the board is as before.
+    /// Adds an entry if it may follow. After an `Err` the board is as before.
     ///
-    /// A new stream costs logarithmic time. A commit costs the nodes of the stream's tree that it touches, and shares all
-    /// others with the versions before it.
-    pub fn push(&mut self, alloc: Global, entry: Entry) -> Result<(), PushFault>
-        ensures allowed { OnOk result (rejection self.old entry ≡ None) }
-        ensures ok { OnOk result (self.new ≡ self.old ++ entry ∷ []) }
-        ensures cause { IfErr result (PushCause (rejection self.old entry)) }
+    /// All tests come before memory is taken, except those of the points that the stream would have. A new stream costs
+    /// logarithmic time. A commit costs its bytes and the nodes of the stream's tree that it touches: all other nodes are
+    /// shared with the versions before.
+    pub fn push(&mut self, alloc: Global, entry: &Entry) -> Result<(), PushFault>
+        ensures allowed { OnOk result (rejection self.old entry.now ≡ None) }
+        ensures ok { OnOk result (self.new ≡ self.old ++ entry.now ∷ []) }
+        ensures cause { IfErr result (PushCause (rejection self.old entry.now)) }
         ensures err { OnErr result (self.new ≡ self.old) }
     {
         match entry {
-            Entry::Create { id } => self.push_stream(alloc, id),
+            Entry::Create { id } => self.push_stream(alloc, *id),
             Entry::Commit { stream, cut, added } => {
-                let tree = self.next_version(alloc, stream, &cut, &added)?;
-                Ok(self.push_version(stream, cut, added, tree)?)
+                let tree = self.next_version(alloc, *stream, cut, added)?;
+                let cut = cut.copy(alloc)?;
+                let added = added.copy(alloc)?;
+                Ok(self.push_version(*stream, cut, added, tree)?)
             }
         }
     }
 
-    /// Adds a new stream, if it may follow.
+    /// Adds a new stream if it may follow.
     fn push_stream(&mut self, alloc: Global, id: u128) -> Result<(), PushFault>
-        ensures allowed { OnOk result (rejection self.old (ACreate id) ≡ None) }
-        ensures ok { OnOk result (self.new ≡ self.old ++ ACreate id ∷ []) }
-        ensures cause { IfErr result (PushCause (rejection self.old (ACreate id))) }
+        ensures allowed { OnOk result (rejection self.old (entry.Create id) ≡ None) }
+        ensures ok { OnOk result (self.new ≡ self.old ++ entry.Create id ∷ []) }
+        ensures cause { IfErr result (PushCause (rejection self.old (entry.Create id))) }
         ensures err { OnErr result (self.new ≡ self.old) }
     {
-        if let Some(why) = self.creation(id) {
+        if let Some(why) = self.create_rejection(id) {
             return Err(PushFault::Rejected(why));
         }
         let first = first_version(alloc, id)?;
@@ -106,7 +108,7 @@ impl Board {
         Ok(())
     }
 
-    /// The tree of the next version of a stream, if the commit may follow.
+    /// Returns the tree of the next version of a stream, if the commit may follow.
     fn next_version(
         &self,
         alloc: Global,
@@ -114,9 +116,9 @@ impl Board {
         cut: &Ranges,
         added: &Bag,
     ) -> Result<Tree, PushFault>
-        ensures allowed { OnOk result (commit_rejection self.now stream (record { cut = cut.now; added = added.now }) ≡ None) }
-        ensures tree { IfOk result (IsNext self.now stream (record { cut = cut.now; added = added.now })) }
-        ensures cause { IfErr result (PushCause (commit_rejection self.now stream (record { cut = cut.now; added = added.now }))) }
+        ensures allowed { OnOk result (commit_rejection self.now stream (change_of cut.now added.now) ≡ None) }
+        ensures tree { IfOk result (IsNext self.now stream (change_of cut.now added.now)) }
+        ensures cause { IfErr result (PushCause (commit_rejection self.now stream (change_of cut.now added.now))) }
     {
         let Some(kept) = self.streams.get(stream as usize) else {
             return Err(PushFault::Rejected(Rejection::NoStream));
@@ -132,20 +134,20 @@ impl Board {
         added: Bag,
         tree: Tree,
     ) -> Result<(), AllocError>
-        requires allowed { commit_rejection self.old stream (record { cut = cut; added = added }) ≡ None }
-        requires tree { IsNext self.old stream (record { cut = cut; added = added }) tree }
-        ensures ok { OnOk result (self.new ≡ self.old ++ ACommit stream cut added ∷ []) }
+        requires allowed { commit_rejection self.old stream (change_of cut added) ≡ None }
+        requires tree { IsNext self.old stream (change_of cut added) tree }
+        ensures ok { OnOk result (self.new ≡ self.old ++ entry.Commit stream cut added ∷ []) }
         ensures err { OnErr result (self.new ≡ self.old) }
     {
         self.history.push(Entry::Commit { stream, cut, added })?;
-        if keep(&mut self.streams, stream as usize, tree).is_err() {
+        if push_tree(&mut self.streams, stream as usize, tree).is_err() {
             self.history.pop();
             return Err(AllocError);
         }
         Ok(())
     }
 
-    /// Takes the last entry away again, if there is one, and gives it back. It costs logarithmic time, and takes no memory.
+    /// Removes the last entry, if there is one, and returns it. It costs logarithmic time and takes no memory.
     pub fn pop(&mut self) -> Option<Entry>
         ensures last { IfSome result (λ e. self.old ≡ self.new ++ e ∷ []) }
         ensures none { IsNone result → (self.old ≡ []) × (self.new ≡ []) }
@@ -154,29 +156,29 @@ impl Board {
         match &entry {
             Entry::Create { id } => {
                 self.streams.pop();
-                take_number(&mut self.numbers, *id, self.streams.len());
+                remove_id(&mut self.numbers, *id, self.streams.len());
             }
-            Entry::Commit { stream, .. } => forget(&mut self.streams, *stream as usize),
+            Entry::Commit { stream, .. } => pop_tree(&mut self.streams, *stream as usize),
         }
         Some(entry)
     }
 
-    /// The number of the stream with this id, the first one in order of creation, if there is one. It costs logarithmic
-    /// time, and takes no memory.
+    /// Returns the number of the stream with this id, if there is one: the first in order of creation. It costs logarithmic
+    /// time and takes no memory.
     pub fn find(&self, id: u128) -> Option<usize>
         ensures { result ≡ stream_of self.now id }
     {
         self.numbers.get(&id).copied()
     }
 
-    /// How many streams there are, in constant time. It takes no memory.
+    /// Returns the number of streams, in constant time. It takes no memory.
     pub fn streams(&self) -> usize
         ensures { result ≡ length (ids self.now) }
     {
         self.streams.len()
     }
 
-    /// The latest version of a stream: the number of its commits, in constant time. It takes no memory.
+    /// Returns the latest version of a stream, which is the number of its commits, in constant time. It takes no memory.
     pub fn latest(&self, stream: u32) -> usize
         ensures { result ≡ latest self.now stream }
     {
@@ -187,16 +189,16 @@ impl Board {
         self.streams[stream].trees.len() - 1
     }
 
-    /// How many entries there are, in constant time. It takes no memory.
+    /// Returns the number of entries, in constant time. It takes no memory.
     pub fn entries(&self) -> u64
         ensures { result ≡ length self.now }
     {
         self.history.entries() as u64
     }
 
-    /// Why a stream with this id may not be created.
-    fn creation(&self, id: u128) -> Option<Rejection>
-        ensures { result ≡ rejection self.now (ACreate id) }
+    /// Returns why a stream with this id may not be created, or `None` if it may.
+    fn create_rejection(&self, id: u128) -> Option<Rejection>
+        ensures { result ≡ rejection self.now (entry.Create id) }
     {
         if self.numbers.contains_key(&id) {
             return Some(Rejection::StreamExists);
@@ -208,7 +210,7 @@ impl Board {
     }
 }
 
-/// A stream at version 0.
+/// Returns a stream at version 0.
 fn first_version(alloc: Global, id: u128) -> Result<Stream, AllocError>
     ensures { IfOk result (λ s. (s.id ≡ id) × ((t : TreeValue) × IsTree [] t × (s.trees.items ≡ t ∷ []))) }
 {
@@ -217,34 +219,34 @@ fn first_version(alloc: Global, id: u128) -> Result<Stream, AllocError>
     Ok(Stream { id, trees })
 }
 
-/// Gives a new stream the next number, and keeps its first version.
+/// Adds a new stream at its first version, and its id to the index.
 fn add_stream(
     numbers: &mut BTreeMap<u128, usize>,
     streams: &mut Vec<Stream>,
     id: u128,
     first: Stream,
 ) -> Result<(), AllocError>
-    ensures numbered { OnOk result ((h : List AnEntry) → length streams.old.items ≡ length (ids h) → AreNumbers h numbers.old → AreNumbers (h ++ ACreate id ∷ []) numbers.new) }
+    ensures numbered { OnOk result (IndexesStream (length streams.old.items) id numbers.old numbers.new) }
     ensures added { OnOk result (streams.new.items ≡ streams.old.items ++ first ∷ []) }
-    ensures err { OnErr result (((h : List AnEntry) → AreNumbers h numbers.old → AreNumbers h numbers.new) × (streams.new.items ≡ streams.old.items)) }
+    ensures err { OnErr result (KeepsIndex numbers.old numbers.new × (streams.new.items ≡ streams.old.items)) }
 {
     let number = streams.len();
     streams.push(first)?;
-    if give_number(numbers, id, number).is_err() {
+    if insert_id(numbers, id, number).is_err() {
         streams.pop();
         return Err(AllocError);
     }
     Ok(())
 }
 
-/// Gives an id the number of a new stream, unless it has one.
-fn give_number(
+/// Maps an id to the number of a new stream, unless the id has a stream.
+fn insert_id(
     numbers: &mut BTreeMap<u128, usize>,
     id: u128,
     streams: usize,
 ) -> Result<(), AllocError>
-    ensures ok { OnOk result ((h : List AnEntry) → streams ≡ length (ids h) → AreNumbers h numbers.old → AreNumbers (h ++ ACreate id ∷ []) numbers.new) }
-    ensures err { OnErr result ((h : List AnEntry) → AreNumbers h numbers.old → AreNumbers h numbers.new) }
+    ensures ok { OnOk result (IndexesStream streams id numbers.old numbers.new) }
+    ensures err { OnErr result (KeepsIndex numbers.old numbers.new) }
 {
     if numbers.contains_key(&id) {
         return Ok(());
@@ -253,9 +255,9 @@ fn give_number(
     Ok(())
 }
 
-/// Takes the number of the last stream away again from its id, unless an earlier stream has that id.
-fn take_number(numbers: &mut BTreeMap<u128, usize>, id: u128, streams: usize)
-    ensures { (h : List AnEntry) → streams ≡ length (ids h) → AreNumbers (h ++ ACreate id ∷ []) numbers.old → AreNumbers h numbers.new }
+/// Removes the id of the last stream, which has this number, unless an earlier stream has the id.
+fn remove_id(numbers: &mut BTreeMap<u128, usize>, id: u128, streams: usize)
+    ensures { UnindexesStream streams id numbers.old numbers.new }
 {
     let Some(number) = numbers.get(&id).copied() else {
         return;
@@ -265,12 +267,13 @@ fn take_number(numbers: &mut BTreeMap<u128, usize>, id: u128, streams: usize)
     }
 }
 
-/// The tree of a stream's next version, of whose versions these are the trees, if the commit may follow.
+/// Returns the tree of the next version of a stream with these trees, if the commit may follow.
 fn next_tree(alloc: Global, trees: &[Tree], cut: &Ranges, added: &Bag) -> Result<Tree, PushFault>
     requires { 1 ≤ length trees.now }
-    ensures allowed { OnOk result ((h : List AnEntry) (stream : ℕ) → stream < length (ids h) → HasTrees h stream trees.now → commit_rejection h stream (record { cut = cut.now; added = added.now }) ≡ None) }
-    ensures tree { IfOk result (λ t. (h : List AnEntry) (stream : ℕ) → HasTrees h stream trees.now → IsNext h stream (record { cut = cut.now; added = added.now }) t) }
-    ensures cause { IfErr result (λ f. (h : List AnEntry) (stream : ℕ) → stream < length (ids h) → HasTrees h stream trees.now → PushCause (commit_rejection h stream (record { cut = cut.now; added = added.now })) f) }
+    ensures allowed { OnOk result (OfEachStream trees.now (λ h stream. commit_rejection h stream (change_of cut.now added.now) ≡ None)) }
+    ensures tree { IfOk result (λ t. OfEachStream trees.now (λ h stream. IsNext h stream (change_of cut.now added.now) t)) }
+    ensures cause { IfErr result (λ f. OfEachStream trees.now
+        (λ h stream. PushCause (commit_rejection h stream (change_of cut.now added.now)) f)) }
 {
     if let Some(found) = change_rejection(cut.as_slice(), added.as_slice()) {
         return Err(PushFault::Rejected(found));
@@ -279,16 +282,16 @@ fn next_tree(alloc: Global, trees: &[Tree], cut: &Ranges, added: &Bag) -> Result
     if latest >= MAX_VERSIONS {
         return Err(PushFault::Rejected(Rejection::VersionLimit));
     }
-    let mut steps = Steps::new();
+    let mut steps = Steps::new(alloc);
     match trees[latest].apply(alloc, cut, added, latest as u64 + 1, &mut steps) {
         Ok(applied) => Ok(applied.tree),
-        Err(fault) => Err(fault_of(fault)),
+        Err(fault) => Err(push_fault(fault)),
     }
 }
 
-/// Why a commit is not added that was not applied.
-fn fault_of(fault: TreeFault) -> PushFault
-    ensures { (b : List Point) → IsTreeFault b fault → IsInOrder b → AreInDomain b → PushCause (points_rejection b) result }
+/// Converts a fault of the tree.
+fn push_fault(fault: TreeFault) -> PushFault
+    ensures { (b : List PointSpec) → IsTreeFault b fault → IsInOrder b → AreInDomain b → PushCause (points_rejection b) result }
 {
     match fault {
         TreeFault::Crowded { start } => PushFault::Rejected(Rejection::Crowded { start }),
@@ -299,19 +302,19 @@ fn fault_of(fault: TreeFault) -> PushFault
     }
 }
 
-/// Keeps the tree of a stream's next version.
-fn keep(streams: &mut Vec<Stream>, stream: usize, tree: Tree) -> Result<(), AllocError>
+/// Adds the tree of a stream's next version.
+fn push_tree(streams: &mut Vec<Stream>, stream: usize, tree: Tree) -> Result<(), AllocError>
     requires { stream < length streams.old.items }
-    ensures ok { OnOk result (HasKept streams.old.items stream tree streams.new.items) }
+    ensures ok { OnOk result (HasPushedTree streams.old.items stream tree streams.new.items) }
     ensures err { OnErr result (SameTrees streams.old.items streams.new.items) }
 {
     Ok(streams[stream].trees.push(tree)?)
 }
 
-/// Forgets the tree of a stream's latest version.
-fn forget(streams: &mut Vec<Stream>, stream: usize)
+/// Removes the tree of a stream's latest version.
+fn pop_tree(streams: &mut Vec<Stream>, stream: usize)
     requires { stream < length streams.old.items }
-    ensures { HasForgotten streams.old.items stream streams.new.items }
+    ensures { HasPoppedTree streams.old.items stream streams.new.items }
 {
     streams[stream].trees.pop();
 }

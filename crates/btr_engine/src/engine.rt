@@ -1,6 +1,6 @@
-// The engine: a history, and the log that holds its entries.
+//! The engine: the board of a history, and the log that holds its entries.
 ghost use Rattle.std.specs.Prelude.{◌≡◌, ◌+◌, ◌*◌, ◌≤◌, length};
-ghost use Rattle.btr_log.specs.Log.{device as device_of, tail_of, extents_of};
+ghost use Rattle.btr_log.specs.Log.{device as device_of, tail_of, extents_of, faults_at};
 
 use crate::board::Board;
 use btr_disk::Disk;
@@ -11,61 +11,64 @@ use std::snapshot::Snapshot;
 
 /// An open store: its history, and its device.
 ///
-/// An engine whose device failed in a step is stopped, and stays so: it takes no entry any more, and goes on answering.
-/// Whether the entry of that step is durable is known only after another opening.
+/// An engine is stopped if its device fails in a step, and stays stopped: it accepts no more entries, but still answers
+/// questions. Only the next opening shows if the entry of that step is durable.
 #[derive(Drop)]
 pub struct Engine<D: Disk> {
     pub(crate) log: Log<D>,
-    pub(crate) history: Board,
-    // the number of entries as the store was opened
+    pub(crate) board: Board,
+    /// The number of entries when the store was opened.
     pub(crate) opened_with: u64,
-    // the device as the first sync of the opening returned, for its number of calls; without bytes
+    /// The device after the first sync of the opening, for its counts. It has no bytes.
     pub(crate) synced: Snapshot<D>,
-    ghost counted: { extents_of log ≡ length history },
-    // the first gate is block 4, and each extent has two blocks or more
-    ghost ends: { 2 * length history + 4 ≤ tail_of log },
-    ghost began: { opened_with ≤ length history },
+    ghost counted: { extents_of log ≡ length board },
+    // The first gate is block 4, and each extent has at least two blocks.
+    ghost ends: { 2 * length board + 4 ≤ tail_of log },
+    ghost began: { opened_with ≤ length board },
     ghost called: { D.calls synced.value ≤ D.calls (device_of log) },
+    ghost failed: { D.faults synced.value ≤ faults_at log },
 }
 
 impl<D: Disk> Engine<D> {
-    ghost use Rattle.std.specs.Prelude.{◌≡◌, length, IfOk};
+    ghost use Rattle.std.specs.Prelude.{◌≡◌, length, IfOk, IsTrue};
+    ghost use Rattle.btr_disk.specs.Causes.{Rose};
     ghost use Rattle.btr_hist.specs.History.{stream_of};
     ghost use Rattle.btr_hist.specs.Answer.{answer};
-    ghost use Rattle.btr_engine.specs.Engine.{device, history_of, is_stopped};
+    ghost use Rattle.btr_engine.specs.Engine.{device, history_of, is_stopped, faults_at_open};
 
-    /// The answer to a question about the history, as far as it was acknowledged. It makes no call of the device, and costs the
-    /// nodes of the tree that the question needs, and its rows. An `Err` is want of memory.
+    /// Answers a question from the history, which has all acknowledged entries. It does not call the device. It costs the
+    /// nodes of the tree that the question needs, and its rows. An `Err` means out of memory.
     pub fn answer(&self, alloc: Global, query: &Query) -> Result<Answer, AllocError>
         ensures { IfOk result (λ a. a ≡ answer (history_of self.now) query.now) }
     {
-        self.history.answer(alloc, query)
+        self.board.answer(alloc, query)
     }
 
-    /// The number of the stream with this id, the first one in order of creation, if there is one. It takes logarithmic
+    /// Returns the number of the stream with this id, if there is one: the first in order of creation. It takes logarithmic
     /// time and no memory.
     pub fn find(&self, id: u128) -> Option<u32>
         ensures { result ≡ stream_of (history_of self.now) id }
     {
-        let stream = self.history.find(id)?;
+        let stream = self.board.find(id)?;
         Some(stream as u32)
     }
 
-    /// The number of entries.
+    /// Returns the number of entries.
     pub fn entries(&self) -> u64
         ensures { result ≡ length (history_of self.now) }
     {
         self.log.extents()
     }
 
-    /// Whether a step failed by the device.
-    pub fn is_stopped(&self) -> bool
-        ensures { result ≡ is_stopped self.now }
+    /// Returns whether the engine is stopped. Then its device has failed since the store was opened.
+    pub fn stopped(&self) -> bool
+        ensures answer { result ≡ is_stopped self.now }
+        ensures failed { IsTrue result → Rose (faults_at_open self.now) (D.faults (device self.now)) }
     {
         self.log.stopped()
     }
 
-    /// The device, as the engine's calls left it.
+    /// Returns the device, as the engine's calls left it.
     pub fn into_disk(self) -> D
         ensures { result ≡ device self }
     {

@@ -1,13 +1,13 @@
-// What follows from the definitions, each as the contract of a function without a body.
-ghost use Rattle.btr_engine.specs.Laws.{OneHistoryStands, WhatStandsIsSound};
+//! Theorems on the definitions. Each is the contract of a function with an empty body.
+ghost use Rattle.btr_engine.specs.Laws.{OneHistoryIsHeld, HeldIsSound};
 
-/// At most one history stands on a device, whatever its bytes are.
-pub fn one_history_stands()
-    ensures { OneHistoryStands }
+/// At most one history is held by a device, whatever its bytes are.
+pub fn one_history_is_held()
+    ensures { OneHistoryIsHeld }
 {}
 
-/// Where a history stands on a device there is a store, and no block breaks its format. So a device that tells what it
-/// holds, and on which a history stands, is refused for want of memory or for a fault of its own alone.
-pub fn what_stands_is_sound()
-    ensures { WhatStandsIsSound }
+/// A device that holds a history has a store, and no block of it breaks the format. So an observable device that holds a
+/// history is refused only if memory runs out or the device fails.
+pub fn held_is_sound()
+    ensures { HeldIsSound }
 {}

@@ -1,13 +1,11 @@
-//! The engine of a store: one history on a device, opened, asked and added to.
+//! The engine of a store: it opens the history on a device, answers questions about it, and adds entries to it.
 //!
-//! [`open_store`] reads the history that stands on a device, and a step ([`Engine::step`]) adds one entry: at every moment
-//! of a crash the history stands there as before, or with this entry. Which history stands on a device is said by
-//! `specs/Stands.antt`, what each of its bytes is.
+//! [`open_store`] reads the history that a device holds. A step ([`Engine::step`]) adds one entry: a crash at any moment of it
+//! leaves the history as before, or with this entry. `specs/Holds.antt` says which history a device holds, byte by byte.
 #![tactic(auto)]
 
-// the bytes of an entry, written and read
+// the bytes of an entry
 mod extent;
-mod run;
 // the history in memory
 mod answering;
 mod board;
@@ -19,7 +17,7 @@ mod step;
 mod laws;
 
 pub use engine::Engine;
-pub use laws::{one_history_stands, what_stands_is_sound};
+pub use laws::{held_is_sound, one_history_is_held};
 pub use opening::{OpenCause, OpenFault, open_store};
 pub use step::{Receipt, StepFault};
 

@@ -1,27 +1,20 @@
-// Opening: which history stands on a device.
-ghost use Rattle.std.specs.Prelude.{◌≡◌, ℕ, ◌+◌, ◌*◌, ◌<◌, ◌≤◌, ◌^◌, [], ◌∷◌, ◌++◌, length, false, None, IfErr, IfOk, IfSome, IfNone, OnOk};
-ghost use Rattle.std.specs.List.{AllByRecursion};
+//! The opening of a store: which history a device holds.
+ghost use Rattle.std.specs.Prelude.{◌≡◌, ℕ, ◌+◌, ◌<◌, ◌≤◌, ◌^◌, [], ◌∷◌, ◌++◌, length, IfErr, IfOk, IfSome, IfNone};
+ghost use Rattle.btr_disk.specs.Causes.{KeepsCounts};
 ghost use Rattle.btr_disk.specs.Gate.{IsClosed};
 ghost use Rattle.btr_disk.specs.Images.{Only};
-ghost use Rattle.btr_disk.specs.Moments.{WroteNothing};
-ghost use Rattle.btr_log.specs.declared.head.Head.{Head as AHead};
-ghost use Rattle.btr_disk.specs.Causes.{KeepsCounts};
-ghost use Rattle.btr_log.specs.Extents.{IsExtent, Extents, first_gate};
-ghost use Rattle.btr_log.specs.Log.{device as disk_of, blocks_of, KeepsLog, KeepsDevice, LogWroteNothing};
-ghost use Rattle.btr_super.specs.declared.superblock.Super.{Super as ASuper};
+ghost use Rattle.btr_log.specs.Log.{device as disk_of, blocks_of};
 ghost use Rattle.btr_super.specs.Super.{IsSuper};
 ghost use Rattle.btr_super.specs.Choose.{IsChosen};
-ghost use Rattle.btr_disk.specs.Moments.{IsUnwritten};
-ghost use Rattle.btr_hist.specs.declared.entry.Entry.{Entry as AnEntry};
-ghost use Rattle.btr_entry.specs.Grammar.{IsSpelled};
-ghost use Rattle.btr_engine.specs.Body.{body_of, need_of, bodies};
-ghost use Rattle.btr_hist.specs.Legal.{rejection, Legal};
-ghost use Rattle.btr_engine.specs.Engine.{device, history_of, is_stopped, entries_at, faults_at, calls_at, IsAtRest};
-ghost use Rattle.btr_engine.specs.Opening.{IsCause, IsFirst, SyncedFirst, IsOpened, IsNotOpened};
+ghost use Rattle.btr_hist.specs.declared.entry.Entry.{Entry as EntrySpec};
+ghost use Rattle.btr_engine.specs.Engine.{IsAtRest};
+ghost use Rattle.btr_engine.specs.Opening.{KeepsDisk, SyncsFirst, IsOpened, IsNotOpened};
+ghost use Rattle.btr_engine.specs.Reading.{IsStoreOf, IsReadTo, CauseBetween, LogCause, OnlyReads};
+ghost use Rattle.btr_engine.specs.Reading.{IsReadEngine, ReadsLog, IsNextEntry, IsReadLog};
 
 use crate::board::{Board, PushFault};
 use crate::engine::Engine;
-use crate::extent::entry_in;
+use crate::extent::decode_extent;
 use btr_disk::{Disk, Failed};
 use btr_log::{ExtentFault, Found, Log};
 use btr_super::{ChooseFault, LOG_START, Super, choose};
@@ -31,16 +24,16 @@ use std::snapshot::Snapshot;
 /// Why a device was not opened.
 #[derive(Clone, Copy, Debug, PartialEq, Eq)]
 pub enum OpenCause {
-    /// Neither superblock has an open gate: no store stands on the device.
+    /// Neither superblock has an open gate: the device holds no store.
     NotAStore,
 
-    /// This block breaks the format of a store.
+    /// This block breaks the format of a store. In a log it is the first block that does.
     Damaged { block: u64 },
 
     /// The device failed.
     Fault,
 
-    /// There was no memory.
+    /// There was not enough memory.
     Want,
 }
 
@@ -53,11 +46,14 @@ pub struct OpenFault<D> {
     pub disk: D,
 }
 
-/// The engine of the history that stands on a device. It syncs first, and writes nothing.
+/// Opens the store on a device: returns the engine of the history that the device holds.
 ///
-/// The superblock is chosen, and the extents are read from block 4 on to the first closed gate, each in one call of the
-/// device where its body is one block, else in two. Each entry is tested against those before it: one that may not follow
-/// damages the first block of its body. It takes time linear in the log.
+/// The first call is a sync. All later calls are reads, so nothing is written. After the sync a crash leaves exactly what a
+/// read returns: all that the engine answers from is durable.
+///
+/// The opening chooses the superblock and reads the extents from block 4 on, up to the first closed gate. An extent takes one
+/// read if its body is one block, else two. Each entry is tested against those before it. An entry that is not allowed damages
+/// the first block of its body. The time is linear in the log.
 pub fn open_store<D: Disk>(alloc: Global, disk: D) -> Result<Engine<D>, OpenFault<D>>
     ensures opened { IfOk result (IsOpened ⟦<D as Disk>⟧ disk) }
     ensures refused { IfErr result (IsNotOpened ⟦<D as Disk>⟧ disk) }
@@ -91,16 +87,13 @@ impl From<Failed> for OpenCause {
     }
 }
 
-/// The superblock of the store that stands on the device, which is synced before.
+/// Syncs the device and chooses its superblock. It returns the superblock, and the device as the sync left it.
 fn read_super<D: Disk>(disk: &mut D) -> Result<(Super, Snapshot<D>), OpenCause>
-    ensures counts { KeepsCounts D.size D.calls D.faults disk.old disk.new }
-    ensures unwritten { D.is_observable → IsUnwritten D.calls D.contents D.images_now D.images_since disk.old disk.new }
+    ensures kept { KeepsDisk ⟦<D as Disk>⟧ disk.old disk.new }
+    ensures synced { IfOk result (λ r. SyncsFirst ⟦<D as Disk>⟧ disk.old r.1.value disk.new) }
     ensures table { IfOk result (λ r. IsSuper (D.size disk.old) r.0) }
     ensures chosen { D.is_observable → IfOk result (λ r. IsChosen (D.size disk.old) (D.contents disk.old) r.0) }
-    ensures only { D.is_observable → OnOk result (Only (D.contents disk.new) (D.images_now disk.new)) }
-    ensures first { IfOk result (λ r. IsFirst ⟦<D as Disk>⟧ disk.old disk.new (D.calls r.1.value)) }
-    ensures moments { D.is_observable → IfOk result (λ r. SyncedFirst ⟦<D as Disk>⟧ disk.old disk.new (D.calls r.1.value)) }
-    ensures cause { IfErr result (IsCause D.is_observable (D.size disk.old) (D.contents disk.old) (D.faults disk.old) (D.faults disk.new)) }
+    ensures cause { IfErr result (CauseBetween ⟦<D as Disk>⟧ D.is_observable disk.old disk.new) }
 {
     disk.sync()?;
     let synced = Snapshot::of(&*disk);
@@ -110,7 +103,7 @@ fn read_super<D: Disk>(disk: &mut D) -> Result<(Super, Snapshot<D>), OpenCause>
     }
 }
 
-/// The cause that a fault of choosing is.
+/// Converts a fault of the choice of a superblock.
 fn cause_of_choice(fault: ChooseFault) -> OpenCause
     ensures none { fault ≡ ChooseFault.NotAStore → result ≡ OpenCause.NotAStore }
     ensures damaged { (block : ℕ) → fault ≡ ChooseFault.Damaged block → result ≡ OpenCause.Damaged block }
@@ -123,7 +116,7 @@ fn cause_of_choice(fault: ChooseFault) -> OpenCause
     }
 }
 
-/// The engine of the history in a log of so many blocks, on a device that is synced.
+/// Reads the log of a store with this number of blocks, on a device that was synced, and returns its engine.
 fn open_log<D: Disk>(
     alloc: Global,
     disk: D,
@@ -131,26 +124,21 @@ fn open_log<D: Disk>(
     blocks: u64,
 ) -> Result<Engine<D>, OpenFault<D>>
     requires least { 4 < blocks }
-    requires synced { D.calls synced.value ≤ D.calls disk }
     requires inside { blocks ≤ D.size disk }
     requires addressable { blocks ≤ 2 ^ 32 }
-    ensures counts { IfOk result (λ e. KeepsCounts D.size D.calls D.faults disk (device e)) }
-    ensures unwritten { D.is_observable → IfOk result (λ e. WroteNothing D.calls D.contents D.images_now D.images_since disk (device e)) }
-    ensures runs { IfOk result (λ e. (is_stopped e ≡ false) × (faults_at e ≤ D.faults (device e)) × (D.faults disk ≤ faults_at e)) }
-    ensures numbers { IfOk result (λ e. (entries_at e ≡ length (history_of e)) × (calls_at e ≡ D.calls synced.value)) }
-    ensures at_rest { D.is_observable → Only (D.contents disk) (D.images_now disk) → (s : ASuper) → IsChosen (D.size disk) (D.contents disk) s → s.blocks ≡ blocks
-        → IfOk result IsAtRest }
-    ensures refused { IfErr result (λ f. KeepsCounts D.size D.calls D.faults disk f.disk) }
-    ensures unwritten_too { D.is_observable → IfErr result (λ f. WroteNothing D.calls D.contents D.images_now D.images_since disk f.disk) }
-    ensures cause { IfErr result (λ f. IsCause (D.is_observable × ((s : ASuper) × IsChosen (D.size disk) (D.contents disk) s × (s.blocks ≡ blocks)))
-        (D.size disk) (D.contents disk) (D.faults disk) (D.faults f.disk) f.cause) }
+    requires synced { KeepsCounts D.size D.calls D.faults synced.value disk }
+    ensures read { IfOk result (IsReadEngine ⟦<D as Disk>⟧ disk synced.value) }
+    ensures at_rest { D.is_observable → Only (D.contents disk) (D.images_now disk)
+        → IsStoreOf (D.size disk) (D.contents disk) blocks → IfOk result IsAtRest }
+    ensures reads { IfErr result (λ f. OnlyReads ⟦<D as Disk>⟧ disk f.disk) }
+    ensures cause { IfErr result (λ f. LogCause ⟦<D as Disk>⟧ blocks disk f.disk f.cause) }
 {
     let mut log = Log::at(disk, LOG_START, blocks, 0);
-    let mut history = Board::empty(alloc);
-    match read_log(alloc, &mut log, &mut history) {
+    let mut board = Board::empty(alloc);
+    match read_log(alloc, &mut log, &mut board) {
         Ok(end) => Ok(Engine {
             log: Log::at(log.into_disk(), end.tail, blocks, end.entries),
-            history,
+            board,
             opened_with: end.entries,
             synced,
         }),
@@ -161,33 +149,24 @@ fn open_log<D: Disk>(
     }
 }
 
-/// Where a log ends: the closed gate behind its last extent, and how many there are.
+/// The end of a log: the closed gate after its last extent, and the number of extents.
 #[derive(Clone, Copy)]
 struct End {
     tail: u64,
     entries: u64,
 }
 
-/// Reads the entries of a log, from its first gate on to the first one that is closed, into a history that has none.
-fn read_log<D: Disk>(alloc: Global, log: &mut Log<D>, history: &mut Board) -> Result<End, OpenCause>
+/// Reads the entries of a log into an empty board, from the first gate on up to the first closed gate.
+fn read_log<D: Disk>(alloc: Global, log: &mut Log<D>, board: &mut Board) -> Result<End, OpenCause>
     requires least { 4 < blocks_of log.old }
-    requires empty { history.old ≡ [] }
-    ensures kept { KeepsLog log.old log.new }
-    ensures device { KeepsDevice log.old log.new }
-    ensures unwritten { D.is_observable → LogWroteNothing log.old log.new }
-    ensures counted { IfOk result (λ end. end.entries ≡ length history.new) }
-    ensures ends { IfOk result (λ end. (2 * length history.new + 4 ≤ end.tail) × (end.tail < blocks_of log.old)) }
-    ensures spelled { OnOk result (AllByRecursion IsSpelled history.new) }
-    ensures legal { OnOk result (Legal history.new) }
-    ensures stands { D.is_observable → IfOk result (λ end. Extents (D.contents (disk_of log.old)) first_gate (bodies history.new) end.tail
-        × IsClosed (D.contents (disk_of log.old)) end.tail) }
-    ensures cause { IfErr result (IsCause
-        (D.is_observable × ((s : ASuper) × IsChosen (D.size (disk_of log.old)) (D.contents (disk_of log.old)) s × (s.blocks ≡ blocks_of log.old)))
-        (D.size (disk_of log.old)) (D.contents (disk_of log.old)) (D.faults (disk_of log.old)) (D.faults (disk_of log.new))) }
+    requires empty { board.old ≡ [] }
+    ensures reads { ReadsLog log.old log.new }
+    ensures read { IfOk result (λ end. IsReadLog log.old board.new end.tail end.entries) }
+    ensures cause { IfErr result (LogCause ⟦<D as Disk>⟧ (blocks_of log.old) (disk_of log.old) (disk_of log.new)) }
 {
     let mut gate = LOG_START;
     let mut entries = 0;
-    while let Some(next) = read_next(alloc, log, history, gate, entries + 1)? {
+    while let Some(next) = read_next(alloc, log, board, gate, entries + 1)? {
         gate = next;
         entries += 1;
     }
@@ -197,29 +176,25 @@ fn read_log<D: Disk>(alloc: Global, log: &mut Log<D>, history: &mut Board) -> Re
     })
 }
 
-/// Reads the extent at this gate, which holds the entry with this number. It becomes the history's last, and the gate
-/// behind it is answered; `None` comes exactly where the gate is closed.
+/// Reads the extent at this gate, adds its entry, which has this number, to the board, and returns the gate after it. It
+/// returns `None` exactly if the gate is closed.
 fn read_next<D: Disk>(
     alloc: Global,
     log: &mut Log<D>,
-    history: &mut Board,
+    board: &mut Board,
     gate: u64,
     number: u64,
 ) -> Result<Option<u64>, OpenCause>
     requires inside { gate < blocks_of log.old }
-    requires number { number ≡ length history.old + 1 }
-    ensures kept { KeepsLog log.old log.new }
-    ensures device { KeepsDevice log.old log.new }
-    ensures unwritten { D.is_observable → LogWroteNothing log.old log.new }
-    ensures same { IfOk result (λ o. IfNone o (history.new ≡ history.old)) }
+    requires number { number ≡ length board.old + 1 }
+    ensures reads { ReadsLog log.old log.new }
+    ensures same { IfOk result (λ o. IfNone o (board.new ≡ board.old)) }
     ensures closed { D.is_observable → IfOk result (λ o. IfNone o (IsClosed (D.contents (disk_of log.old)) gate)) }
-    ensures next { IfOk result (λ o. IfSome o (λ next. (e : AnEntry) × IsSpelled e × (history.new ≡ history.old ++ e ∷ [])
-        × (rejection history.old e ≡ None) × (next ≡ gate + need_of e) × (next < blocks_of log.old)
-        × (D.is_observable → (h : AHead) × IsExtent (D.contents (disk_of log.old)) gate (body_of number e) h))) }
-    ensures cause { IfErr result (IsCause
-        (D.is_observable × AllByRecursion IsSpelled history.old × Extents (D.contents (disk_of log.old)) first_gate (bodies history.old) gate
-        × ((s : ASuper) × IsChosen (D.size (disk_of log.old)) (D.contents (disk_of log.old)) s × (s.blocks ≡ blocks_of log.old)))
-        (D.size (disk_of log.old)) (D.contents (disk_of log.old)) (D.faults (disk_of log.old)) (D.faults (disk_of log.new))) }
+    ensures next { IfOk result (λ o. IfSome o (λ next. (e : EntrySpec) × (board.new ≡ board.old ++ e ∷ [])
+        × IsNextEntry log.old gate board.old e next)) }
+    ensures cause { IfErr result (CauseBetween ⟦<D as Disk>⟧
+        (IsReadTo D.is_observable (D.size (disk_of log.old)) (D.contents (disk_of log.old)) (blocks_of log.old) gate board.old)
+        (disk_of log.old) (disk_of log.new)) }
 {
     let found = match log.read_extent(alloc, gate) {
         Ok(found) => found,
@@ -228,17 +203,17 @@ fn read_next<D: Disk>(
     let Found::Extent { head, body, next } = found else {
         return Ok(None);
     };
-    let Some(entry) = entry_in(alloc, &body, &head, number)? else {
+    let Some(entry) = decode_extent(alloc, &body, &head, number)? else {
         return Err(OpenCause::Damaged { block: gate + 1 });
     };
-    match history.push(alloc, entry) {
+    match board.push(alloc, &entry) {
         Ok(()) => Ok(Some(next)),
         Err(PushFault::Rejected(_)) => Err(OpenCause::Damaged { block: gate + 1 }),
         Err(PushFault::Want) => Err(OpenCause::Want),
     }
 }
 
-/// The cause that a fault of the log is.
+/// Converts a fault of the log.
 fn cause_of(fault: ExtentFault) -> OpenCause
     ensures damaged { (block : ℕ) → fault ≡ ExtentFault.Damaged block → result ≡ OpenCause.Damaged block }
     ensures fault { fault ≡ ExtentFault.Fault → result ≡ OpenCause.Fault }

@@ -1,9 +1,9 @@
-// The engine over a device in memory.
+//! Tests of the engine over a device in memory.
 ghost use Rattle.std.specs.Prelude.{◌≡◌, IfOk};
 
 use super::*;
 use btr_base::{Bag, END, FIRST, Point, Range, Ranges, Toward};
-use btr_disk::{Disk, MemDisk, Capacity};
+use btr_disk::{Capacity, Disk, MemDisk};
 use btr_hist::{Answer, At, Entry, History, Query, Rejection, Rows};
 use btr_super::format;
 use std::alloc::{AllocError, Global};
@@ -15,7 +15,7 @@ const CAPACITY: Capacity = Capacity {
     blocks: 128,
 };
 
-// A device of 64 blocks, on which a format made a store of 16 with the first eight calls. The calls in the list fail.
+/// Returns a device of 64 blocks with a store of 16, which the first eight calls made. The calls in the list fail.
 fn formatted(alloc: Global, failing: &[u64]) -> Result<MemDisk, Fail> {
     let mut disk = MemDisk::new(alloc, 64, CAPACITY, failing.to_vec(alloc)?)?;
     let made = format(&mut disk, 16);
@@ -25,7 +25,7 @@ fn formatted(alloc: Global, failing: &[u64]) -> Result<MemDisk, Fail> {
     Ok(disk)
 }
 
-// The engine of the history on a device.
+/// Opens the store on a device.
 fn opened(alloc: Global, disk: MemDisk) -> Result<Engine<MemDisk>, Fail> {
     match open_store(alloc, disk) {
         Ok(engine) => Ok(engine),
@@ -33,12 +33,12 @@ fn opened(alloc: Global, disk: MemDisk) -> Result<Engine<MemDisk>, Fail> {
     }
 }
 
-// A commit of so many points of stream 0, one every four nanoseconds.
+/// Returns a commit of `count` points to stream 0, one every four nanoseconds.
 fn insert(alloc: Global, count: u32) -> Result<Entry, AllocError> {
     let mut points = Vec::new(alloc);
-    for place in 0..count {
+    for index in 0..count {
         points.push(Point {
-            time: 4 * i64::from(place),
+            time: 4 * i64::from(index),
             value: 0,
         })?;
     }
@@ -49,7 +49,7 @@ fn insert(alloc: Global, count: u32) -> Result<Entry, AllocError> {
     })
 }
 
-// How many points stand in the latest version of stream 0, and which version it is.
+/// Returns the latest version of stream 0 and the number of its points.
 fn latest(rt: &impl Abort, alloc: Global, engine: &Engine<MemDisk>) -> Result<(u64, usize), Fail> {
     let query = Query::Points {
         stream: 0,
@@ -69,7 +69,7 @@ fn latest(rt: &impl Abort, alloc: Global, engine: &Engine<MemDisk>) -> Result<(u
 }
 
 #[test]
-fn what_is_acknowledged_is_there_again(rt: HostRuntime) -> Result<(), Fail> {
+fn acknowledged_entries_are_there_after_reopening(rt: HostRuntime) -> Result<(), Fail> {
     let alloc = rt.alloc();
     let mut engine = opened(alloc, formatted(alloc, &[])?)?;
     let create = Entry::Create { id: 7 };
@@ -108,7 +108,7 @@ fn what_is_acknowledged_is_there_again(rt: HostRuntime) -> Result<(), Fail> {
     assert_eq!(rt; engine.find(8), Some(1));
     assert_eq!(rt; engine.find(9), None);
     assert_eq!(rt; latest(&rt, alloc, &engine)?, (1, 3));
-    // of the sixteen blocks three are left behind the fourth entry
+    // three of the sixteen blocks are left after the fourth entry
     assert_eq!(rt;
         engine.step(alloc, &insert(alloc, 3)?),
         Ok(Receipt {
@@ -121,7 +121,7 @@ fn what_is_acknowledged_is_there_again(rt: HostRuntime) -> Result<(), Fail> {
         engine.step(alloc, &insert(alloc, 1000)?),
         Err(StepFault::DeviceFull { need: 5, left: 3 })
     );
-    assert!(rt; !engine.is_stopped());
+    assert!(rt; !engine.stopped());
     assert_eq!(rt; latest(&rt, alloc, &engine)?, (2, 6));
     Ok(())
 }
@@ -129,7 +129,7 @@ fn what_is_acknowledged_is_there_again(rt: HostRuntime) -> Result<(), Fail> {
 #[test]
 fn a_device_that_fails_stops_the_engine(rt: HostRuntime) -> Result<(), Fail> {
     let alloc = rt.alloc();
-    // behind the format three calls open the store, and four are made for each entry
+    // after the format three calls open the store, and each entry takes four
     for call in 15..19 {
         let mut engine = opened(alloc, formatted(alloc, &[call])?)?;
         assert!(rt; engine.step(alloc, &Entry::Create { id: 7 }).is_ok());
@@ -139,7 +139,7 @@ fn a_device_that_fails_stops_the_engine(rt: HostRuntime) -> Result<(), Fail> {
             engine.step(alloc, &entry),
             Err(StepFault::Stopped { entries: 1 })
         );
-        assert!(rt; engine.is_stopped());
+        assert!(rt; engine.stopped());
         assert_eq!(rt; latest(&rt, alloc, &engine)?, (0, 0));
         assert_eq!(rt; engine.into_disk().faults(), 1);
     }
@@ -147,7 +147,7 @@ fn a_device_that_fails_stops_the_engine(rt: HostRuntime) -> Result<(), Fail> {
 }
 
 #[test]
-fn what_is_not_opened_is_handed_back(rt: HostRuntime) -> Result<(), Fail> {
+fn a_device_that_is_not_opened_is_handed_back(rt: HostRuntime) -> Result<(), Fail> {
     let alloc = rt.alloc();
     let empty = MemDisk::new(alloc, 64, CAPACITY, Vec::new(alloc))?;
     match open_store(alloc, empty) {
@@ -163,12 +163,12 @@ fn what_is_not_opened_is_handed_back(rt: HostRuntime) -> Result<(), Fail> {
             Err(fault) => assert_eq!(rt; fault.cause, OpenCause::Fault),
         }
     }
-    one_history_stands();
-    what_stands_is_sound();
+    one_history_is_held();
+    held_is_sound();
     Ok(())
 }
 
-// A commit of these ranges and points.
+/// Returns a commit of these ranges and points.
 fn commit(
     alloc: Global,
     stream: u32,
@@ -186,7 +186,7 @@ fn commit(
     })
 }
 
-// Points with these times and values.
+/// Returns points with these times and values.
 fn points(alloc: Global, pairs: &[(i64, i64)]) -> Result<Vec<Point>, AllocError> {
     let mut points = Vec::new(alloc);
     for (time, value) in pairs {
@@ -198,22 +198,22 @@ fn points(alloc: Global, pairs: &[(i64, i64)]) -> Result<Vec<Point>, AllocError>
     Ok(points)
 }
 
-// So many points, one every seven nanoseconds from a time on, with the values from 0 on.
+/// Returns `count` points, one every seven nanoseconds from a time on, with the values from 0 on.
 fn points_from(alloc: Global, first: i64, count: u32) -> Result<Vec<Point>, AllocError> {
     let mut points = Vec::new(alloc);
-    for place in 0..count {
+    for index in 0..count {
         points.push(Point {
-            time: first.wrapping_add(7 * i64::from(place)),
-            value: i64::from(place),
+            time: first.wrapping_add(7 * i64::from(index)),
+            value: i64::from(index),
         })?;
     }
     Ok(points)
 }
 
-// The entries of two streams: one with more points than a leaf has, which are replaced and deleted in part, and one with a
-// point at each end of the domain.
-fn entry_at(alloc: Global, place: u32) -> Result<Entry, Fail> {
-    match place {
+/// Returns the entry at this index of a history with two streams. One has more points than a leaf, some of which are replaced
+/// and deleted. The other has a point at each end of the domain.
+fn entry_at(alloc: Global, index: u32) -> Result<Entry, Fail> {
+    match index {
         0 => Ok(Entry::Create { id: 7 }),
         1 => Ok(Entry::Create { id: 8 }),
         2 => commit(alloc, 0, &[], points_from(alloc, -700, 300)?),
@@ -228,7 +228,7 @@ fn entry_at(alloc: Global, place: u32) -> Result<Entry, Fail> {
     }
 }
 
-// Adds the questions about a version with a range.
+/// Adds the questions about a range of a version.
 fn ask_range(
     asked: &mut Vec<Query>,
     stream: u32,
@@ -263,7 +263,7 @@ fn ask_range(
     Ok(())
 }
 
-// Adds the questions about a version with a time, and about it as a whole.
+/// Adds the questions about the times of a version, and about all of it.
 fn ask_times(asked: &mut Vec<Query>, stream: u32, at: At) -> Result<(), AllocError> {
     asked.push(Query::Info { stream, at })?;
     for time in [i64::MIN, FIRST, -350, 3, 4, 2000, i64::MAX] {
@@ -279,7 +279,7 @@ fn ask_times(asked: &mut Vec<Query>, stream: u32, at: At) -> Result<(), AllocErr
     Ok(())
 }
 
-// Adds the questions about two versions.
+/// Adds the questions about two versions.
 fn ask_changes(asked: &mut Vec<Query>, stream: u32) -> Result<(), AllocError> {
     for (old, new) in [
         (0, 0),
@@ -303,7 +303,7 @@ fn ask_changes(asked: &mut Vec<Query>, stream: u32) -> Result<(), AllocError> {
     Ok(())
 }
 
-// Questions of all kinds about three streams, of which the last one is not there.
+/// Returns questions of all kinds about three streams. The last stream does not exist.
 fn questions(alloc: Global) -> Result<Vec<Query>, AllocError> {
     let mut asked = Vec::new(alloc);
     asked.push(Query::Streams)?;
@@ -333,7 +333,7 @@ fn questions(alloc: Global) -> Result<Vec<Query>, AllocError> {
     Ok(asked)
 }
 
-// Whether two answers have the same rows.
+/// Returns whether two answers have the same rows.
 fn are_same_rows(a: &Rows, b: &Rows) -> bool {
     match (a, b) {
         (Rows::Points(a), Rows::Points(b)) => a.as_slice() == b.as_slice(),
@@ -345,7 +345,7 @@ fn are_same_rows(a: &Rows, b: &Rows) -> bool {
     }
 }
 
-// Whether two answers are the same.
+/// Returns whether two answers are the same.
 fn are_same(a: &Answer, b: &Answer) -> bool {
     match (a, b) {
         (
@@ -371,11 +371,11 @@ fn the_engine_answers_as_the_history(rt: HostRuntime) -> Result<(), Fail> {
     assert!(rt; format(&mut disk, 64).is_ok());
     let mut engine = opened(alloc, disk)?;
     let mut history = History::empty(alloc);
-    for place in 0..6 {
-        history.push(entry_at(alloc, place)?)?;
+    for index in 0..6 {
+        history.push(entry_at(alloc, index)?)?;
         assert!(rt;
-            engine.step(alloc, &entry_at(alloc, place)?).is_ok(),
-            "entry {place}"
+            engine.step(alloc, &entry_at(alloc, index)?).is_ok(),
+            "entry {index}"
         );
     }
     for query in &questions(alloc)? {

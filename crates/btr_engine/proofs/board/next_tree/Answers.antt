@@ -1,4 +1,4 @@
--- The tree of the next version is that of the commit behind those of the last tree, and its faults are why the commit is rejected.
+-- The tree of the next version is that of the commits of the last tree and this one, and its faults are why the commit is rejected.
 use Rattle.std.proofs.Common.{◌≡◌, None, ◌+◌, ◌-◌, length, refl}
 use Rattle.btr_tree.specs.History.{bag}
 use Rattle.btr_tree.proofs.VersionLemmas.{bag-in_order}
@@ -23,7 +23,7 @@ returns-in-Ok-clause-allowed c h stream is_there kept =
     next-allowed h stream trees kept change is_there passes c.if-latest-ge-MAX_VERSIONS.false c.in-Ok.applied.tree (length trees - 1 + 1) (c.in-Ok.ensures.tree before last) (c.in-Ok.ensures.room before last)
 
 pub returns-in-Ok-clause-tree : goal.returns-in-Ok-clause-tree
-returns-in-Ok-clause-tree c h stream kept =
+returns-in-Ok-clause-tree c h stream is_there kept =
     let trees = c.args.trees.now in
     let change : Change = record { cut = c.args.cut.now; added = c.args.added.now } in
     let before = commits_to h stream (latest h stream) in
@@ -41,4 +41,4 @@ returns-in-Err-clause-cause c h stream is_there kept =
     let last = last-tree h stream trees kept root c.index-trees-latest.is in
     let commits = next h stream trees kept change version in
     let inside = next-times h stream trees kept change root version last (change-times change passes) in
-    next-cause h stream trees kept change is_there passes c.if-latest-ge-MAX_VERSIONS.false version c.fault_of.result (c.fault_of.ensures (bag commits) (c.in-Err.ensures.fault before last) (bag-in_order commits) inside)
+    next-cause h stream trees kept change is_there passes c.if-latest-ge-MAX_VERSIONS.false version c.push_fault.result (c.push_fault.ensures (bag commits) (c.in-Err.ensures.fault before last) (bag-in_order commits) inside)

@@ -1,6 +1,6 @@
-use Rattle.std.specs.Prelude.{◌≡◌, Some}
+use Rattle.std.specs.Prelude.{◌≡◌, ◌+◌, length, Some}
 use Rattle.std.specs.Option.{IfSome, IfNone}
-use Rattle.std.proofs.Common.{sym, ◌∙◌, subst, inl}
+use Rattle.std.proofs.Common.{sym, ◌∙◌, ap, subst, inl}
 use Rattle.btr_log.specs.Log.{device as disk_of}
 use Rattle.btr_log.specs.Log.{blocks_of}
 use Rattle.btr_log.specs.Found.{IsWhole, MatchesDevice}
@@ -10,7 +10,8 @@ use Rattle.btr_engine.specs.Body.{body_of}
 use Rattle.btr_engine.specs.Damage.{IsNoEntryBody}
 use Rattle.btr_engine.specs.Push.{PushCause}
 use Rattle.btr_engine.proofs.Reading.{gate_behind, extent_of}
-use Rattle.btr_engine.proofs.Reasons.{IsReadTo, damaged_next, no_entry_next, refused_next, cause_along}
+use Rattle.btr_engine.specs.Reading.{IsReadTo}
+use Rattle.btr_engine.proofs.OpenCauses.{damaged_next, no_entry_next, refused_next, cause_along}
 use Rattle.btr_engine.proofs.opening.read_next.Goals as goal
 
 pub returns-in-Err-clause-cause : goal.returns-in-Err-clause-cause
@@ -21,10 +22,10 @@ returns-in-Err-clause-cause g c =
     let size = disk.size d0 in
     let image = disk.contents d0 in
     let blocks = blocks_of c.args.log.now in
-    let h = c.args.history.now in
+    let h = c.args.board.now in
     cause_along disk.is_observable (IsReadTo disk.is_observable size image blocks c.args.gate h) size image blocks c.args.gate (disk.faults d0) (disk.faults d1)
     (λ r. r.0)
-    (λ r block damage. damaged_next size image blocks c.args.gate h block (inl damage) r.1 r.2 r.3)
+    (λ r block damage. damaged_next size image blocks c.args.gate h block (inl damage) r.1 r.2 r.3 r.4)
     c.in-Err.fault c.cause_of.result c.cause_of.ensures.damaged c.cause_of.ensures.fault c.cause_of.ensures.want c.in-Err.ensures.cause
 
 pub returns-in_default-2-clause-cause : goal.returns-in_default-2-clause-cause
@@ -34,7 +35,7 @@ returns-in_default-2-clause-cause g c r =
     let size = disk.size d0 in
     let image = disk.contents d0 in
     let blocks = blocks_of c.args.log.now in
-    let h = c.args.history.now in
+    let h = c.args.board.now in
     let x = c.in-Extent in
     let none : IsNoEntryBody c.args.number c.deref.result.now = subst (λ o. IfNone o (IsNoEntryBody c.args.number c.deref.result.now)) c.in_default-2.is c.in_ok-entry.ensures.none in
     damaged_next size image blocks c.args.gate h _
@@ -42,26 +43,27 @@ returns-in_default-2-clause-cause g c r =
     (subst (IsWhole blocks c.args.gate) x.is c.in-Ok.ensures.whole)
     (subst (MatchesDevice image c.args.gate) x.is (c.in-Ok.ensures.matches r.0))
     (subst (IsNoEntryBody c.args.number) c.deref.ensures.value none))
-    r.1 r.2 r.3
+    r.1 r.2 r.3 r.4
 
 pub returns-in-Ok-push-clause-next : goal.returns-in-Ok-push-clause-next
 returns-in-Ok-push-clause-next g c =
     let disk = g.D.Disk in
-    let d0 = disk_of c.args.log.now in
-    let image = disk.contents d0 in
+    let image = disk.contents (disk_of c.args.log.now) in
     let blocks = blocks_of c.args.log.now in
     let x = c.in-Extent in
     let e = c.in-Some.entry in
     let found = subst (λ o. IfSome o (λ f. IsSpelled f × (c.deref.result.now ≡ body_of c.args.number f))) c.in-Some.is c.in_ok-entry.ensures.found in
-    let same : x.body.items ≡ body_of c.args.number e = sym c.deref.ensures.value ∙ found.1 in
+    let same : x.body.items ≡ body_of (length c.args.board.now + 1) e = sym c.deref.ensures.value ∙ found.1 ∙ ap (λ n. body_of n e) c.requires.number in
     let whole = subst (IsWhole blocks c.args.gate) x.is c.in-Ok.ensures.whole in (
       e,
-      found.0,
       c.in-Ok-push.ensures.ok,
-      c.in-Ok-push.ensures.allowed,
-      gate_behind blocks c.args.gate x.head x.body.items x.next whole c.args.number e same,
-      whole.inside,
-      λ is_observable. (x.head, extent_of blocks c.args.gate x.head x.body.items x.next whole c.args.number e same image (subst (MatchesDevice image c.args.gate) x.is (c.in-Ok.ensures.matches is_observable))),
+      record {
+        spelled = found.0;
+        allowed = c.in-Ok-push.ensures.allowed;
+        after = gate_behind blocks c.args.gate x.head x.body.items x.next whole (length c.args.board.now + 1) e same;
+        inside = whole.inside;
+        extent = λ told. (x.head, extent_of blocks c.args.gate x.head x.body.items x.next whole (length c.args.board.now + 1) e same image (subst (MatchesDevice image c.args.gate) x.is (c.in-Ok.ensures.matches told)));
+      },
     )
 
 pub returns-in-Err-Rejected-clause-cause : goal.returns-in-Err-Rejected-clause-cause
@@ -71,7 +73,7 @@ returns-in-Err-Rejected-clause-cause g c r =
     let size = disk.size d0 in
     let image = disk.contents d0 in
     let blocks = blocks_of c.args.log.now in
-    let h = c.args.history.now in
+    let h = c.args.board.now in
     let x = c.in-Extent in
     let e = c.in-Some.entry in
     let why = c.in-Err-Rejected.field-0-0 in
@@ -82,4 +84,4 @@ returns-in-Err-Rejected-clause-cause g c r =
     (subst (IsWhole blocks c.args.gate) x.is c.in-Ok.ensures.whole)
     (subst (MatchesDevice image c.args.gate) x.is (c.in-Ok.ensures.matches r.0))
     e why found.0 (sym c.deref.ensures.value ∙ found.1) refused)
-    r.1 r.2 r.3
+    r.1 r.2 r.3 r.4

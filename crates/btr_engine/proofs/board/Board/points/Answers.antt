@@ -1,26 +1,22 @@
-use Rattle.std.proofs.Common.{refl, ap, ◌∙◌, w64}
-use Rattle.btr_tree.specs.History as tree
+use Rattle.std.proofs.Common.{ap, ◌∙◌, w64}
 use Rattle.std.proofs.lemmas.Int.{to_z-of_z}
+use Rattle.btr_tree.specs.History as tree
 use Rattle.btr_base.specs.Bag.{within}
 use Rattle.btr_hist.specs.declared.answer.Rows.TheVariants.{Points}
 use Rattle.btr_hist.specs.Answer.{version_of, is_range}
 use Rattle.btr_engine.specs.Board.{commits_to}
-use Rattle.btr_engine.proofs.Questions.{found, range_is, range_good}
+use Rattle.btr_engine.proofs.Questions.{asked_range, bad_range, found}
 use Rattle.btr_engine.proofs.board.Board.points.Goals as goal
 
 pub returns-in-Err : goal.returns-in-Err
 returns-in-Err c =
-    c.in-Err.ensures.refused (is_range c.args.from c.args.to) (λ b. Points (within c.args.from c.args.to b))
+    c.in-Err.ensures.refused (is_range c.args.from c.args.to) (λ b. Points (within c.args.from c.args.to b)) (bad_range c.args.from c.args.to (to_z-of_z w64 c.args.from c.ranges.from) (to_z-of_z w64 c.args.to c.ranges.to))
 
 pub returns : goal.returns
 returns c =
     let h = c.args.self.now in
     let s = c.args.stream in
-    let v = c.in-Ok.version in
-    let from = to_z-of_z w64 c.args.from c.ranges.from in
-    let to = to_z-of_z w64 c.args.to c.ranges.to in
-    let between = range_is c.args.from c.args.to from to c.in-Some.between c.in-Some.ensures.value in
-    let in_domain = range_good c.args.from c.args.to from to (c.in-Some.ensures.some.0 refl) in
-    let rows = c.in_ok-found.ensures (commits_to h s v) c.tree.ensures in
-    let asked = ap (λ r. within r.from r.to (tree.bag (commits_to h s v))) between in
-    found h s v (version_of h s c.args.at) c.in-Ok.ensures.there (is_range c.args.from c.args.to) (λ b. Points (within c.args.from c.args.to b)) (Points c.from_points.result) in_domain (ap Points (c.from_points.ensures ∙ rows ∙ asked))
+    let v = c.in-Ok.asked.0 in
+    let range = asked_range c.args.from c.args.to (to_z-of_z w64 c.args.from c.ranges.from) (to_z-of_z w64 c.args.to c.ranges.to) c.in-Ok.asked.1 c.in-Ok.ensures.range in
+    let rows = c.in_ok-found.ensures (commits_to h s v) c.tree.ensures ∙ ap (λ r. within r.from r.to (tree.bag (commits_to h s v))) range.is in
+    found h s v (version_of h s c.args.at) c.in-Ok.ensures.there (is_range c.args.from c.args.to) (λ b. Points (within c.args.from c.args.to b)) (Points c.from_points.result) range.good (ap Points (c.from_points.ensures ∙ rows))

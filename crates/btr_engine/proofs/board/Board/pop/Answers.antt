@@ -18,11 +18,11 @@ invariant_of-self-in-Create c =
     let left = c.pop-in-Create.new.self.items in
     let long = pop-long h was.history was.streams.items left was.numbers id is c.self.invariant in
     let few : length left ≡ length was.streams.items - 1 = ap (length {A = Stream}) fewer ∙ length-take-le (length was.streams.items - 1) was.streams.items (omega arith) in
-    let now = c.take_number.ensures h (omega (arith, long, few, c.pop-in-Create.new.self.ok.0)) (pop-numbered h was.history was.streams.items left was.numbers id is c.self.invariant) in
-    pop-create h was.history was.streams.items left was.numbers id is c.take_number.new.numbers fewer c.self.invariant now
+    let now = c.remove_id.ensures h (omega (arith, long, few, c.pop-in-Create.new.self.ok.0)) (pop-numbered h was.history was.streams.items left was.numbers id is c.self.invariant) in
+    pop-create h was.history was.streams.items left was.numbers id is c.remove_id.new.numbers fewer c.self.invariant now
 
-pub forget-requires : goal.forget-requires
-forget-requires c =
+pub pop_tree-requires : goal.pop_tree-requires
+pop_tree-requires c =
     let h = c.pop.new.self in
     let was = c.self.inside in
     let is : was.history ≡ h ++ Commit c.in-Commit.stream c.in-Commit.cut c.in-Commit.added ∷ [] = c.in_ok-entry.ensures.last ∙ ap (λ (e : Entry). h ++ e ∷ []) c.in-Commit.is in
@@ -33,4 +33,4 @@ invariant_of-self-in-Commit c =
     let h = c.pop.new.self in
     let was = c.self.inside in
     let is : was.history ≡ h ++ Commit c.in-Commit.stream c.in-Commit.cut c.in-Commit.added ∷ [] = c.in_ok-entry.ensures.last ∙ ap (λ (e : Entry). h ++ e ∷ []) c.in-Commit.is in
-    pop-commit h was.history was.streams.items c.forget.new.streams.items was.numbers c.in-Commit.stream c.in-Commit.cut c.in-Commit.added is c.forget.ensures c.self.invariant
+    pop-commit h was.history was.streams.items c.pop_tree.new.streams.items was.numbers c.in-Commit.stream c.in-Commit.cut c.in-Commit.added is c.pop_tree.ensures c.self.invariant

@@ -1,0 +1,67 @@
+-- What is true of every engine, and of one that is at rest.
+use Rattle.std.specs.Prelude.{◌≡◌, ℕ, ◌<◌, ◌≤◌, nat_eq, true, List, [], ◌++◌, length, take, Some}
+use Rattle.std.proofs.Common.{refl, sym, ◌∙◌, ap, subst, inl, arith}
+use Rattle.std.proofs.lemmas.List.{append-nil, take_all}
+use Rattle.btr_disk.specs.declared.disk.Disk.{Ghosts}
+use Rattle.btr_disk.specs.Bytes.{Image, Same}
+use Rattle.btr_disk.specs.Causes.{Rose}
+use Rattle.btr_log.proofs.LogLemmas.{holds_of_log}
+use Rattle.btr_base.specs.declared.limits.TheConstants.{MAX_VERSIONS}
+use Rattle.btr_hist.specs.declared.entry.Entry.{Entry}
+use Rattle.btr_hist.specs.History.{ids, stream_of, latest}
+use Rattle.btr_engine.specs.declared.engine.Engine.{Engine}
+use Rattle.btr_engine.specs.Holds.{HoldsHistory}
+use Rattle.btr_engine.specs.Engine.{device, history_of, blocks_of, tail_of, is_stopped, faults_at_open, IsAtRest, IsHeldSince, IsDurable}
+use Rattle.btr_engine.proofs.HoldsLemmas.{holds_still}
+use Rattle.btr_engine.proofs.Streams.{found_below, few_versions}
+
+-- The number of a stream is below the number of streams.
+pub known_below : (h : List Entry) (id stream : ℕ) → stream_of h id ≡ Some stream → stream < length (ids h)
+known_below h id stream is = omega (arith, found_below (nat_eq id) 0 (ids h) stream is)
+
+-- The whole history is a prefix of itself.
+take_whole : (h : List Entry) → take (length h) (h ++ []) ≡ h
+take_whole h = ap (take (length h)) (append-nil h) ∙ take_all (length h) h (omega arith)
+
+module _ {D : Type 0} {disk : Ghosts D} (e : Engine D disk) where
+  -- The device of a stopped engine has failed since the opening.
+  pub stopped_by_fault : is_stopped e ≡ true → Rose (faults_at_open e) (disk.faults (device e))
+  stopped_by_fault stopped =
+      let rose = (holds_of_log e.log).rose stopped in
+      omega (arith, rose, e.failed)
+
+  -- An image that is what a read gives holds the history of an engine at rest.
+  pub holds_in : IsAtRest e → (c : Image) → Same (disk.contents (device e)) c → HoldsHistory (disk.size (device e)) c (history_of e)
+  holds_in rest c same = record {
+    blocks = blocks_of e;
+    tail = tail_of e;
+    holds = holds_still (disk.size (device e)) (disk.contents (device e)) (blocks_of e) (tail_of e) (history_of e) rest.holds c same;
+  }
+
+  -- Every image since this moment holds it: `only_now` is the device's law.
+  pub held_now : ((c : Image) → disk.images_since (device e) (disk.calls (device e)) c → disk.images_now (device e) c) → IsAtRest e → IsHeldSince (disk.calls (device e)) e
+  held_now only_now rest = record {
+    since = λ c left. holds_in rest c (rest.only.each c (only_now c left));
+    now = λ c left. holds_in rest c (rest.only.each c left);
+  }
+
+  -- A history that every image holds is durable.
+  pub durable_held : (calls entries : ℕ) → calls ≤ disk.calls (device e) → entries ≤ length (history_of e) → IsHeldSince calls e → IsDurable calls entries e []
+  durable_held calls entries past longer held = record {
+    past = past;
+    longer = longer;
+    one = omega arith;
+    runs = λ _. refl;
+    since = λ c left. (length (history_of e), longer, subst (HoldsHistory (disk.size (device e)) c) (sym (take_whole (history_of e))) (held.since c left));
+    now = λ c left. inl (held.now c left);
+  }
+
+  -- The history of an engine at rest is durable from this moment on.
+  pub durable_from : ((c : Image) → disk.images_since (device e) (disk.calls (device e)) c → disk.images_now (device e) c) → IsAtRest e → IsDurable (disk.calls (device e)) (length (history_of e)) e []
+  durable_from only_now rest =
+      durable_held (disk.calls (device e)) (length (history_of e)) (omega arith) (omega arith) (held_now only_now rest)
+
+  -- A stream has fewer versions than it may have: the device has too few blocks for more.
+  pub few_versions_of : (stream : ℕ) → latest (history_of e) stream < MAX_VERSIONS
+  few_versions_of stream =
+      omega (arith, few_versions (history_of e) stream, e.ends, e.log.tail_inside, e.log.addressable)

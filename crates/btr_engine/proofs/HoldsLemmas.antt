@@ -1,0 +1,117 @@
+-- Which history is held: by images that agree, and after one entry more.
+use Rattle.std.specs.Prelude.{◌≡◌, ℕ, ◌+◌, ◌-◌, ◌*◌, ◌<◌, ◌≤◌, List, [], ◌∷◌, ◌++◌, length, None}
+use Rattle.std.proofs.Common.{sym, ◌∙◌, ap, subst, inl, inr, ⊎_elim, arith}
+use Rattle.btr_base.proofs.ListLemmas.{each-append}
+use Rattle.btr_disk.specs.Bytes.{Image, Same}
+use Rattle.btr_disk.specs.Gate.{IsClosed}
+use Rattle.btr_disk.proofs.ByteLemmas.{Has-along}
+use Rattle.btr_log.specs.Extents.{need, Extents, IsLog, first_gate}
+use Rattle.btr_log.proofs.ExtentLemmas.{IsOpen-along, Extents-le, IsLog-Same}
+use Rattle.btr_log.specs.Append.{IsMoment}
+use Rattle.btr_super.specs.declared.superblock.Super.{Super}
+use Rattle.btr_super.specs.Super.{super_bytes}
+use Rattle.btr_super.proofs.SuperLemmas.{length-super_bytes}
+use Rattle.btr_super.specs.Choose.{HasSuper, IsChosen}
+use Rattle.btr_hist.specs.declared.entry.Entry.{Entry}
+use Rattle.btr_hist.specs.Legal.{rejection}
+use Rattle.btr_hist.proofs.HistoryLemmas.{legal-push}
+use Rattle.btr_entry.specs.Grammar.{IsSpelled}
+use Rattle.btr_engine.specs.Body.{body_of, need_of, bodies}
+use Rattle.btr_engine.proofs.BodyLemmas.{bodies-push, need-body_of}
+use Rattle.btr_engine.specs.Holds.{HoldsHistoryTo}
+use Rattle.btr_engine.specs.Step.{IsBeforeOrAfter}
+
+-- ---- the superblocks, in the first four blocks
+
+-- Two images agree on the first four blocks.
+abbrev pub AgreeInPrefix : Image → Image → Type 0
+AgreeInPrefix old new = (k : ℕ) → k < 16384 → new k ≡ old k
+
+HasSuper-along : (size : ℕ) (old new : Image) (s : Super) → AgreeInPrefix old new → HasSuper size old s → HasSuper size new s
+HasSuper-along size old new s agree has =
+    let side : s.side ≤ 1 = has.spelled.keeps.has_side in
+    record {
+      opened = (has.opened.0, IsOpen-along old new (2 * s.side) (λ k low high. agree k (omega arith)) has.opened.1);
+      spelled = record {
+        has_block = has.spelled.has_block;
+        stored = Has-along old new (4096 * (2 * s.side + 1)) (super_bytes s) has.spelled.stored (λ k low high. agree k (omega (arith, length-super_bytes s)));
+        keeps = has.spelled.keeps;
+      };
+    }
+
+IsChosen-along : (size : ℕ) (old new : Image) (s : Super) → AgreeInPrefix old new → IsChosen size old s → IsChosen size new s
+IsChosen-along size old new s agree chosen = record {
+  stored = HasSuper-along size old new s agree chosen.stored;
+  newest = λ opened.
+      let back = chosen.newest (opened.0, IsOpen-along new old (2 * (1 - s.side)) (λ k low high. sym (agree k (omega arith))) opened.1) in
+      (back.0, HasSuper-along size old new back.0 agree back.1, back.2, back.3);
+}
+
+-- ---- the log
+
+-- The same bodies from the same gate end at the same gate.
+tails-one : (first second : Image) (gate : ℕ) (list : List (List ℕ)) (tail other : ℕ) → Extents first gate list tail → Extents second gate list other → tail ≡ other
+tails-one first second gate [] tail other x y = sym x ∙ y
+tails-one first second gate (body ∷ list) tail other x y =
+    tails-one first second (gate + need body) list tail other x.1 y.1
+
+-- With one body more they end after it.
+tails-push : (first second : Image) (gate : ℕ) (list : List (List ℕ)) (body : List ℕ) (tail other : ℕ) → Extents first gate list tail → Extents second gate (list ++ body ∷ []) other → other ≡ tail + need body
+tails-push first second gate [] body tail other x y = sym y.1 ∙ ap (λ g. g + need body) x
+tails-push first second gate (f ∷ list) body tail other x y =
+    tails-push first second (gate + need f) list body tail other x.1 y.1
+
+module _ (size : ℕ) (old : Image) (blocks tail : ℕ) (h : List Entry) (at : HoldsHistoryTo size old blocks tail h) where
+  behind_prefix : 4 ≤ tail
+  behind_prefix = Extents-le old first_gate (bodies h) tail at.extents
+
+  -- If all below the tail is the same and the log has the same entries, the image holds the same history.
+  holds_as_before : (new : Image) → ((k : ℕ) → k < 4096 * tail → new k ≡ old k) → IsLog new first_gate (bodies h) → HoldsHistoryTo size new blocks tail h
+  holds_as_before new below log =
+      let same : log.0 ≡ tail = tails-one new old first_gate (bodies h) log.0 tail log.1 at.extents in
+      let prefix : 4 ≤ tail = behind_prefix in
+      record {
+        super = at.super;
+        chosen = IsChosen-along size old new at.super (λ k lt. below k (omega arith)) at.chosen;
+        same_blocks = at.same_blocks;
+        spelled = at.spelled;
+        extents = subst (Extents new first_gate (bodies h)) same log.1;
+        closed = subst (IsClosed new) same log.2;
+        inside = at.inside;
+        legal = at.legal;
+      }
+
+  -- An image with the same bytes holds the same history.
+  pub holds_still : (new : Image) → Same old new → HoldsHistoryTo size new blocks tail h
+  holds_still new same =
+      holds_as_before new (λ k lt. same k) (IsLog-Same old new first_gate (bodies h) same (tail, at.extents, at.closed))
+
+  module _ (e : Entry) (spelled : IsSpelled e) (allowed : rejection h e ≡ None) (fits : tail + need_of e < blocks) where
+    -- If all below the tail is the same and the log has this entry too, the image holds the history with it.
+    pub holds_with : (new : Image) → ((k : ℕ) → k < 4096 * tail → new k ≡ old k) → IsLog new first_gate (bodies h ++ body_of (length h + 1) e ∷ []) → HoldsHistoryTo size new blocks (tail + need_of e) (h ++ e ∷ [])
+    holds_with new below log =
+        let body = body_of (length h + 1) e in
+        let end : log.0 ≡ tail + need_of e = tails-push old new first_gate (bodies h) body tail log.0 at.extents log.1 ∙ ap (λ n. tail + n) (need-body_of (length h + 1) e) in
+        let prefix : 4 ≤ tail = behind_prefix in
+        record {
+          super = at.super;
+          chosen = IsChosen-along size old new at.super (λ k lt. below k (omega arith)) at.chosen;
+          same_blocks = at.same_blocks;
+          spelled = each-append IsSpelled h (e ∷ []) at.spelled (spelled, tt);
+          extents = subst (λ list. Extents new first_gate list (tail + need_of e)) (sym (bodies-push h e)) (subst (Extents new first_gate (bodies h ++ body ∷ [])) end log.1);
+          closed = subst (IsClosed new) end log.2;
+          inside = fits;
+          legal = legal-push h e at.legal allowed;
+        }
+
+    -- An image at a moment of an append holds one of the two.
+    pub before_or_after : (body : List ℕ) → body ≡ body_of (length h + 1) e → (image : Image) → IsMoment old tail (bodies h) body image → IsBeforeOrAfter size h e image
+    before_or_after body is image moment =
+        ⊎_elim
+        (λ log. inl (record { blocks = blocks; tail = tail; holds = holds_as_before image moment.below log }))
+        (λ log. inr (record {
+          blocks = blocks;
+          tail = tail + need_of e;
+          holds = holds_with image moment.below (subst (λ b. IsLog image first_gate (bodies h ++ b ∷ [])) is log);
+        }))
+        moment.log

@@ -1,0 +1,31 @@
+-- Which history a device holds: what its bytes have to be.
+use Rattle.std.specs.Prelude.{◌≡◌, ℕ, ◌<◌, List}
+use Rattle.std.specs.List.{AllByRecursion}
+use Rattle.btr_disk.specs.Bytes.{Image}
+use Rattle.btr_disk.specs.Gate.{IsClosed}
+use Rattle.btr_log.specs.Extents.{Extents, first_gate}
+use Rattle.btr_super.specs.declared.superblock.Super.{Super}
+use Rattle.btr_super.specs.Choose.{IsChosen}
+use Rattle.btr_hist.specs.declared.entry.Entry.{Entry}
+use Rattle.btr_hist.specs.Legal.{Legal}
+use Rattle.btr_entry.specs.Grammar.{IsSpelled}
+use Rattle.btr_engine.specs.Body.{bodies}
+
+-- A device of `size` blocks with these bytes holds a store of `blocks` blocks with this history. A superblock is chosen that
+-- gives this number of blocks. From block 4 on the extents after open gates hold the history's entries, in order, with their
+-- numbers from 1 on. The gate after the last extent, at the tail, is closed. Each entry is allowed after those before it.
+pub record HoldsHistoryTo (size : ℕ) (image : Image) (blocks tail : ℕ) (h : List Entry) : Type 0 where
+  pub super : Super
+  pub chosen : IsChosen size image super
+  pub same_blocks : super.blocks ≡ blocks
+  pub spelled : AllByRecursion IsSpelled h
+  pub extents : Extents image first_gate (bodies h) tail
+  pub closed : IsClosed image tail
+  pub inside : tail < blocks
+  pub legal : Legal h
+
+-- The device holds the history, whatever its blocks and its tail are.
+pub record HoldsHistory (size : ℕ) (image : Image) (h : List Entry) : Type 0 where
+  pub blocks : ℕ
+  pub tail : ℕ
+  pub holds : HoldsHistoryTo size image blocks tail h
