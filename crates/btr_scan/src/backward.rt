@@ -3,10 +3,10 @@ ghost use Rattle.std.specs.Prelude.{◌≡◌, ◌+◌, ◌*◌, ◌≤◌, ℕ,
 ghost use Rattle.std.specs.List.{last_or};
 ghost use Rattle.btr_base.specs.Bag.{within};
 ghost use Rattle.btr_base.specs.declared.limits.TheConstants.{FIRST as FIRST_TIME};
-ghost use Rattle.btr_base.specs.declared.point.Point.{Point as APoint};
 ghost use Rattle.btr_tree.specs.History.{Commit, bag};
-ghost use Rattle.btr_tree.specs.Nodes.{points_of, above_root};
+ghost use Rattle.btr_tree.specs.Nodes.{above_root};
 ghost use Rattle.btr_tree.specs.Shape.{IsChild, HasSlots, HasChildren, slot_start};
+ghost use Rattle.btr_tree.specs.EachHistory.{AtEachHistory, AtEachInner, points_in};
 ghost use Rattle.btr_tree.specs.Change.{IsSomeChild, AreSomeSlots, end_of};
 ghost use Rattle.btr_base.specs.Point.{AreInDomain};
 
@@ -14,10 +14,11 @@ use crate::slots::previous_slot;
 use btr_base::{END, FAN_OUT, FIRST, Point, Span, parted};
 use btr_tree::{Child, Node, Slot, Steps, root_span, visit};
 
-/// The last point of the root's place before a time. It opens at most 21 nodes.
+/// Returns the last point of the tree before a time. It visits at most 21 nodes.
 pub(crate) fn previous_in_root(child: &Child, time: i64, steps: &mut Steps) -> Option<Point>
     requires { IsSomeChild 10 FIRST_TIME child.now 0 }
-    ensures point { (h : List Commit) → IsChild 10 FIRST_TIME above_root h child.now → AreInDomain (bag h) → result ≡ last_or None (filter (λ p. int_lt p.time time) (bag h)) }
+    ensures point { (h : List Commit) → IsChild 10 FIRST_TIME above_root h child.now → AreInDomain (bag h)
+        → result ≡ last_or None (filter (λ p. int_lt p.time time) (bag h)) }
     ensures bounded { steps.new ≤ steps.old + 21 }
     ensures never_falls { steps.old ≤ steps.new }
 {
@@ -30,14 +31,14 @@ pub(crate) fn previous_in_root(child: &Child, time: i64, steps: &mut Steps) -> O
     previous_in_child(root_span(), child, time, steps)
 }
 
-/// The last point of a place before a time, which lies behind its span's start and not behind its end. It opens at most two
-/// nodes a height, and at most one where it finds none.
+/// Returns the last point of a child before a time, which is above the span's start and at most its end. It visits at most
+/// two nodes a height, and at most one if it finds none.
 #[cycle(previous)]
 fn previous_in_child(span: Span, child: &Child, time: i64, steps: &mut Steps) -> Option<Point>
     requires some { IsSomeChild span.height span.start child.now 0 }
     requires begins { span.start <ℤ time }
     requires ends { time ≤ℤ end_of span }
-    ensures point { (above : List APoint → Bool) (h : List Commit) → IsChild span.height span.start above h child.now → result ≡ last_or None (within span.start time (bag h)) }
+    ensures point { AtEachHistory span child.now (λ h. result ≡ last_or None (within span.start time (bag h))) }
     ensures bounded { steps.new ≤ steps.old + 2 * span.height + 1 }
     ensures none { IsNone result → steps.new ≤ steps.old + span.height + 1 }
     ensures never_falls { steps.old ≤ steps.new }
@@ -55,7 +56,8 @@ fn previous_in_child(span: Span, child: &Child, time: i64, steps: &mut Steps) ->
     }
 }
 
-/// The same of an inner node's slots: of the last slot that begins before the time, else of those before it.
+/// Returns the last point of an inner node before a time: of the last slot that begins before the time, or else of the slots
+/// before that one.
 #[cycle(previous)]
 fn previous_in_slots(
     span: Span,
@@ -67,7 +69,7 @@ fn previous_in_slots(
     requires some { (below : ℕ) × (span.height ≡ suc below) × AreSomeSlots below span.start slots.now children.now 0 }
     requires begins { span.start <ℤ time }
     requires ends { time ≤ℤ end_of span }
-    ensures point { (below : ℕ) (h : List Commit) → span.height ≡ suc below → HasSlots below span.start h 64 slots.now children.now → HasChildren below span.start h 64 children.now → result ≡ last_or None (within span.start time (bag h)) }
+    ensures point { AtEachInner span slots.now children.now (λ h. result ≡ last_or None (within span.start time (bag h))) }
     ensures bounded { steps.new ≤ steps.old + 2 * span.height }
     ensures none { IsNone result → steps.new ≤ steps.old + span.height }
     ensures never_falls { steps.old ≤ steps.new }
@@ -79,11 +81,11 @@ fn previous_in_slots(
     }
 }
 
-/// The last point of a place. It opens at most one node a height.
+/// Returns the last point of a child. It visits at most one node a height.
 #[cycle(last)]
 fn last_in_child(span: Span, child: &Child, steps: &mut Steps) -> Option<Point>
     requires { IsSomeChild span.height span.start child.now 0 }
-    ensures point { (above : List APoint → Bool) (h : List Commit) → IsChild span.height span.start above h child.now → result ≡ last_or None (points_of span.height span.start (bag h)) }
+    ensures point { AtEachHistory span child.now (λ h. result ≡ last_or None (points_in span (bag h))) }
     ensures bounded { steps.new ≤ steps.old + span.height + 1 }
     ensures never_falls { steps.old ≤ steps.new }
 {
@@ -97,7 +99,7 @@ fn last_in_child(span: Span, child: &Child, steps: &mut Steps) -> Option<Point>
     }
 }
 
-/// The last point of an inner node's slots before a place. It opens nothing where it finds none.
+/// Returns the last point of the slots of an inner node with a number below `to`. It visits no node if it finds none.
 #[cycle(last)]
 fn last_in_slots(
     span: Span,
@@ -108,7 +110,9 @@ fn last_in_slots(
 ) -> Option<Point>
     requires some { (below : ℕ) × (span.height ≡ suc below) × AreSomeSlots below span.start slots.now children.now 0 }
     requires place { to ≤ 64 }
-    ensures point { (below : ℕ) (h : List Commit) → span.height ≡ suc below → HasSlots below span.start h 64 slots.now children.now → HasChildren below span.start h 64 children.now → result ≡ last_or None (within span.start (slot_start below span.start to) (bag h)) }
+    ensures point { (below : ℕ) (h : List Commit) → span.height ≡ suc below → HasSlots below span.start h 64 slots.now children.now
+        → HasChildren below span.start h 64 children.now
+        → result ≡ last_or None (within span.start (slot_start below span.start to) (bag h)) }
     ensures bounded { steps.new ≤ steps.old + span.height }
     ensures none { IsNone result → steps.new ≡ steps.old }
     ensures never_falls { steps.old ≤ steps.new }
@@ -117,7 +121,7 @@ fn last_in_slots(
     last_in_child(span.slot(i), &children[usize::from(i)], steps)
 }
 
-/// The last of points.
+/// Returns the last point of a list.
 fn last_of(points: &[Point]) -> Option<Point>
     ensures { result ≡ last_or None points.now }
 {

@@ -1,11 +1,11 @@
-//! The first point from a time on.
+//! The first point at or after a time.
 ghost use Rattle.std.specs.Prelude.{◌≡◌, ◌+◌, ◌*◌, ◌≤◌, ℕ, ℤ, suc, ◌≤ℤ◌, ◌<ℤ◌, int_le, Bool, List, slice_get, filter, IsNone};
 ghost use Rattle.btr_base.specs.Bag.{within};
 ghost use Rattle.btr_base.specs.declared.limits.TheConstants.{FIRST as FIRST_TIME};
-ghost use Rattle.btr_base.specs.declared.point.Point.{Point as APoint};
 ghost use Rattle.btr_tree.specs.History.{Commit, bag};
-ghost use Rattle.btr_tree.specs.Nodes.{points_of, above_root};
+ghost use Rattle.btr_tree.specs.Nodes.{above_root};
 ghost use Rattle.btr_tree.specs.Shape.{IsChild, HasSlots, HasChildren, slot_start};
+ghost use Rattle.btr_tree.specs.EachHistory.{AtEachHistory, AtEachInner, points_in};
 ghost use Rattle.btr_tree.specs.Change.{IsSomeChild, AreSomeSlots, end_of};
 ghost use Rattle.btr_base.specs.Point.{AreInDomain};
 
@@ -13,10 +13,11 @@ use crate::slots::next_slot;
 use btr_base::{END, FIRST, Point, Span, parted};
 use btr_tree::{Child, Node, Slot, Steps, root_span, visit};
 
-/// The first point of the root's place at or behind a time. It opens at most 21 nodes.
+/// Returns the first point of the tree at or after a time. It visits at most 21 nodes.
 pub(crate) fn next_in_root(child: &Child, time: i64, steps: &mut Steps) -> Option<Point>
     requires { IsSomeChild 10 FIRST_TIME child.now 0 }
-    ensures point { (h : List Commit) → IsChild 10 FIRST_TIME above_root h child.now → AreInDomain (bag h) → result ≡ slice_get (filter (λ p. int_le time p.time) (bag h)) 0 }
+    ensures point { (h : List Commit) → IsChild 10 FIRST_TIME above_root h child.now → AreInDomain (bag h)
+        → result ≡ slice_get (filter (λ p. int_le time p.time) (bag h)) 0 }
     ensures bounded { steps.new ≤ steps.old + 21 }
     ensures never_falls { steps.old ≤ steps.new }
 {
@@ -29,22 +30,22 @@ pub(crate) fn next_in_root(child: &Child, time: i64, steps: &mut Steps) -> Optio
     next_in_child(root_span(), child, time, steps)
 }
 
-/// The first point of a place at or behind a time of its span. It opens at most two nodes a height, and at most one where it
-/// finds none.
+/// Returns the first point of a child at or after a time of its span. It visits at most two nodes a height, and at most one
+/// if it finds none.
 #[cycle(next)]
 fn next_in_child(span: Span, child: &Child, time: i64, steps: &mut Steps) -> Option<Point>
     requires some { IsSomeChild span.height span.start child.now 0 }
     requires begins { span.start ≤ℤ time }
     requires ends { time <ℤ end_of span }
-    ensures point { (above : List APoint → Bool) (h : List Commit) → IsChild span.height span.start above h child.now → result ≡ slice_get (within time (end_of span) (bag h)) 0 }
+    ensures point { AtEachHistory span child.now (λ h. result ≡ slice_get (within time (end_of span) (bag h)) 0) }
     ensures bounded { steps.new ≤ steps.old + 2 * span.height + 1 }
     ensures none { IsNone result → steps.new ≤ steps.old + span.height + 1 }
     ensures never_falls { steps.old ≤ steps.new }
 {
     match visit(child, steps)? {
         Node::Leaf { points, .. } => {
-            let (_, behind) = parted(points, time);
-            first_of(behind)
+            let (_, after) = parted(points, time);
+            first_of(after)
         }
         Node::Inner {
             slots,
@@ -54,7 +55,8 @@ fn next_in_child(span: Span, child: &Child, time: i64, steps: &mut Steps) -> Opt
     }
 }
 
-/// The same of an inner node's slots: of the slot that the time lies in, else of those behind it.
+/// Returns the first point of an inner node at or after a time: of the slot that the time lies in, or else of the slots after
+/// that one.
 #[cycle(next)]
 fn next_in_slots(
     span: Span,
@@ -66,7 +68,7 @@ fn next_in_slots(
     requires some { (below : ℕ) × (span.height ≡ suc below) × AreSomeSlots below span.start slots.now children.now 0 }
     requires begins { span.start ≤ℤ time }
     requires ends { time <ℤ end_of span }
-    ensures point { (below : ℕ) (h : List Commit) → span.height ≡ suc below → HasSlots below span.start h 64 slots.now children.now → HasChildren below span.start h 64 children.now → result ≡ slice_get (within time (end_of span) (bag h)) 0 }
+    ensures point { AtEachInner span slots.now children.now (λ h. result ≡ slice_get (within time (end_of span) (bag h)) 0) }
     ensures bounded { steps.new ≤ steps.old + 2 * span.height }
     ensures none { IsNone result → steps.new ≤ steps.old + span.height }
     ensures never_falls { steps.old ≤ steps.new }
@@ -78,11 +80,11 @@ fn next_in_slots(
     }
 }
 
-/// The first point of a place. It opens at most one node a height.
+/// Returns the first point of a child. It visits at most one node a height.
 #[cycle(first)]
 fn first_in_child(span: Span, child: &Child, steps: &mut Steps) -> Option<Point>
     requires { IsSomeChild span.height span.start child.now 0 }
-    ensures point { (above : List APoint → Bool) (h : List Commit) → IsChild span.height span.start above h child.now → result ≡ slice_get (points_of span.height span.start (bag h)) 0 }
+    ensures point { AtEachHistory span child.now (λ h. result ≡ slice_get (points_in span (bag h)) 0) }
     ensures bounded { steps.new ≤ steps.old + span.height + 1 }
     ensures never_falls { steps.old ≤ steps.new }
 {
@@ -96,7 +98,8 @@ fn first_in_child(span: Span, child: &Child, steps: &mut Steps) -> Option<Point>
     }
 }
 
-/// The first point of an inner node's slots from a place on. It opens nothing where it finds none.
+/// Returns the first point of the slots of an inner node with a number of at least `from`. It visits no node if it finds
+/// none.
 #[cycle(first)]
 fn first_in_slots(
     span: Span,
@@ -107,7 +110,9 @@ fn first_in_slots(
 ) -> Option<Point>
     requires some { (below : ℕ) × (span.height ≡ suc below) × AreSomeSlots below span.start slots.now children.now 0 }
     requires place { from ≤ 64 }
-    ensures point { (below : ℕ) (h : List Commit) → span.height ≡ suc below → HasSlots below span.start h 64 slots.now children.now → HasChildren below span.start h 64 children.now → result ≡ slice_get (within (slot_start below span.start from) (end_of span) (bag h)) 0 }
+    ensures point { (below : ℕ) (h : List Commit) → span.height ≡ suc below → HasSlots below span.start h 64 slots.now children.now
+        → HasChildren below span.start h 64 children.now
+        → result ≡ slice_get (within (slot_start below span.start from) (end_of span) (bag h)) 0 }
     ensures bounded { steps.new ≤ steps.old + span.height }
     ensures none { IsNone result → steps.new ≡ steps.old }
     ensures never_falls { steps.old ≤ steps.new }
@@ -116,7 +121,7 @@ fn first_in_slots(
     first_in_child(span.slot(i), &children[usize::from(i)], steps)
 }
 
-/// The first of points.
+/// Returns the first point of a list.
 fn first_of(points: &[Point]) -> Option<Point>
     ensures { result ≡ slice_get points.now 0 }
 {

@@ -1,11 +1,10 @@
 //! Raw points of one version of a stream, read from its tree (BTrDB, FAST 2016).
 //!
-//! [`range`] gives the points of a range of time (BTrDB's GetRange), and [`nearest`] the one that is nearest to a time in one
-//! direction (BTrDB's GetNearestValue). Both go down the tree only where what is asked can be, and stop at a slot that has
-//! no point.
+//! [`range`] returns the points of a range of time (BTrDB's GetRange). [`nearest`] returns the point that is nearest to a time
+//! in one direction (BTrDB's GetNearestValue). Both visit only nodes whose spans can hold the answer, and no empty slot.
 #![tactic(auto)]
 
-// how a walk goes on over slots
+// slots with a point
 mod slots;
 // the points of a range
 mod range_walk;

@@ -1,21 +1,19 @@
 //! The points of a range.
 ghost use Rattle.std.specs.Prelude.{◌≡◌, ◌++◌, ℕ, ℤ, suc, ◌<ℤ◌, Bool, List, length, IfOk, OnOk};
 ghost use Rattle.btr_base.specs.Bag.{within};
-ghost use Rattle.btr_base.specs.declared.point.Point.{Point as APoint};
-ghost use Rattle.btr_tree.specs.History.{Commit, bag};
-ghost use Rattle.btr_tree.specs.Nodes.{points_of};
-ghost use Rattle.btr_tree.specs.Shape.{IsChild, HasSlots, HasChildren};
+ghost use Rattle.btr_tree.specs.History.{bag};
+ghost use Rattle.btr_tree.specs.EachHistory.{AtEachHistory, AtEachInner, points_in};
 ghost use Rattle.btr_tree.specs.Change.{IsSomeChild, AreSomeSlots, end_of};
-ghost use Rattle.btr_tree.specs.Root.{IsTree};
+ghost use Rattle.btr_tree.specs.Root.{AtEachTree};
 
 use btr_base::{END, FIRST, Point, Range, Span, points_between};
 use btr_tree::{Child, Node, Slot, Steps, Tree, root_span, visit};
 use std::alloc::{AllocError, Global};
 
-/// The points of a version with `from <= time < to`, by time and value, each equal one (BTrDB's GetRange). It costs its
-/// points, and the nodes on the way to the two ends of the range. An `Err` is out of memory.
+/// Returns the points of a version with `from <= time < to`, by time and value (BTrDB's GetRange). Equal points each count.
+/// The cost is its points, and the nodes on the way to the two ends of the range. An `Err` is out of memory.
 pub fn range(alloc: Global, tree: &Tree, range: Range) -> Result<Vec<Point>, AllocError>
-    ensures { IfOk result (λ v. (h : List Commit) → IsTree h tree.now → v.items ≡ within range.from range.to (bag h)) }
+    ensures { IfOk result (λ v. AtEachTree tree.now (λ h. v.items ≡ within range.from range.to (bag h))) }
 {
     let mut rows = Vec::new(alloc);
     let mut steps = Steps::new(alloc);
@@ -24,7 +22,7 @@ pub fn range(alloc: Global, tree: &Tree, range: Range) -> Result<Vec<Point>, All
     Ok(rows)
 }
 
-/// Appends the points of a place whose times are in a range, which has times of the span.
+/// Appends the points of a child whose times are in a range that meets the span.
 #[cycle(walk)]
 fn walk_child(
     span: Span,
@@ -36,7 +34,8 @@ fn walk_child(
     requires some { IsSomeChild span.height span.start child.now 0 }
     requires begins { range.from <ℤ end_of span }
     requires ends { span.start <ℤ range.to }
-    ensures { OnOk result ((above : List APoint → Bool) (h : List Commit) → IsChild span.height span.start above h child.now → rows.new.items ≡ rows.old.items ++ within range.from range.to (points_of span.height span.start (bag h))) }
+    ensures { OnOk result (AtEachHistory span child.now (λ h.
+        rows.new.items ≡ rows.old.items ++ within range.from range.to (points_in span (bag h)))) }
 {
     match visit(child, steps) {
         None => Ok(()),
@@ -53,7 +52,7 @@ fn walk_child(
     }
 }
 
-/// The same of an inner node's slots, of which it looks at those alone that have times of the range.
+/// Appends the points of an inner node whose times are in a range. It reads only the slots that meet the range.
 #[cycle(walk)]
 fn walk_slots(
     span: Span,
@@ -66,7 +65,8 @@ fn walk_slots(
     requires some { (below : ℕ) × (span.height ≡ suc below) × AreSomeSlots below span.start slots.now children.now 0 }
     requires begins { range.from <ℤ end_of span }
     requires ends { span.start <ℤ range.to }
-    ensures { OnOk result ((below : ℕ) (h : List Commit) → span.height ≡ suc below → HasSlots below span.start h 64 slots.now children.now → HasChildren below span.start h 64 children.now → rows.new.items ≡ rows.old.items ++ within range.from range.to (points_of span.height span.start (bag h))) }
+    ensures { OnOk result (AtEachInner span slots.now children.now (λ h.
+        rows.new.items ≡ rows.old.items ++ within range.from range.to (points_in span (bag h)))) }
 {
     let (first, last) = span.slots_between(range.from, range.to);
     for i in first..last + 1 {
@@ -78,7 +78,7 @@ fn walk_slots(
     Ok(())
 }
 
-/// The same of a slot with so many points, which it does not open where it has none.
+/// Appends the points of a slot whose times are in a range. The slot has `count` points, and is not visited if it has none.
 #[cycle(walk)]
 fn walk_slot(
     span: Span,
@@ -91,7 +91,8 @@ fn walk_slot(
     requires some { IsSomeChild span.height span.start child.now 0 }
     requires begins { range.from <ℤ end_of span }
     requires ends { span.start <ℤ range.to }
-    ensures { OnOk result ((above : List APoint → Bool) (h : List Commit) → IsChild span.height span.start above h child.now → count ≡ length (points_of span.height span.start (bag h)) → rows.new.items ≡ rows.old.items ++ within range.from range.to (points_of span.height span.start (bag h))) }
+    ensures { OnOk result (AtEachHistory span child.now (λ h.
+        count ≡ length (points_in span (bag h)) → rows.new.items ≡ rows.old.items ++ within range.from range.to (points_in span (bag h)))) }
 {
     if count == 0 {
         return Ok(());

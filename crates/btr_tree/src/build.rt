@@ -156,8 +156,7 @@ fn push_leaf(
             points: kept,
         },
     )?;
-    nodes.push(node)?;
-    steps.tick();
+    push_node(node, nodes, steps)?;
     Ok(Child { node: Some(data) })
 }
 
@@ -190,7 +189,16 @@ pub(crate) fn push_inner(
             children,
         },
     )?;
+    push_node(node, nodes, steps)?;
+    Ok(Child { node: Some(data) })
+}
+
+/// Appends a node to `nodes`, which is one step.
+fn push_node(node: NewNode, nodes: &mut Vec<NewNode>, steps: &mut Steps) -> Result<(), AllocError>
+    ensures nodes { OnOk result (nodes.new.items ≡ nodes.old.items ++ node ∷ []) }
+    ensures counted { OnOk result (CountsNodes steps.old steps.new nodes.old.items nodes.new.items) }
+{
     nodes.push(node)?;
     steps.tick();
-    Ok(Child { node: Some(data) })
+    Ok(())
 }

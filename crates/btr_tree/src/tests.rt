@@ -1,21 +1,24 @@
-//! Commits of one stream, each compared with the nodes that a plain program derives from the definitions.
+//! Commits of one stream. After each, the tree is compared with the nodes that a plain program derives from the definitions.
 //!
-//! The plain program keeps the commits and the points before each as lists, and shares no code with the tree.
+//! The plain program keeps the commits, and the points before each, as lists. It shares no code with the tree. Its functions
+//! mirror the definitions in `specs/`: `is_inner`, `is_node`, `touches`, `node_version` and `slot_version` those of `Nodes`,
+//! `slots_of`, `node_of` and `derive_nodes` those of `NewNodes`, `is_as_derived` `IsTree` of `Root`, and `summary_in` the
+//! aggregate in btr_base's `Agg`.
 ghost use Rattle.std.specs.Prelude.{◌≡◌, ◌-◌};
 
 use crate::fault::TreeFault;
-use crate::node::{Child, NewNode, Node, Slot};
-use crate::opening::visit;
-use crate::root::are_in_domain;
+use crate::link::visit;
+use crate::new_node::NewNode;
+use crate::node::{Child, Node, Slot};
 use crate::steps::Steps;
 use crate::tree::{Applied, Tree};
-use btr_base::{Bag, END, FIRST, Point, Range, Ranges};
+use btr_base::{Bag, END, FIRST, Point, Range, Ranges, are_in_domain};
 use std::alloc::{AllocError, Global};
 use std::test::Fail;
 use std::thread;
 
-/// How many points a leaf has at most.
-const FEW: usize = 252;
+/// The greatest number of points of a leaf.
+const MOST: usize = 252;
 
 /// The whole domain.
 const WHOLE: Part = Part {
@@ -24,13 +27,13 @@ const WHOLE: Part = Part {
     width: 4611686018427387904,
 };
 
-/// Where a slot of the root begins.
+/// The start of a slot of the root.
 const FAR: i64 = 1441151880758558720;
 
-/// Where the next one does.
+/// The start of the slot after it.
 const NEXT: i64 = 1513209474796486656;
 
-/// The 256th part of the width of such a slot.
+/// One 256th of the width of a slot of the root.
 const STRIDE: i64 = 281474976710656;
 
 /// The times of a span.
@@ -41,7 +44,7 @@ struct Part {
     width: i64,
 }
 
-/// What is said of the points of a part.
+/// The aggregate of the points of a part.
 #[derive(Clone, Copy, Debug, PartialEq, Eq)]
 struct Summary {
     count: u64,
@@ -122,7 +125,7 @@ fn count_in(points: &[Point], part: Part) -> usize {
     count
 }
 
-/// What is said of the points of a part.
+/// The aggregate of the points of a part.
 fn summary_in(points: &[Point], part: Part) -> Summary {
     let mut summary = Summary {
         count: 0,
@@ -137,7 +140,7 @@ fn summary_in(points: &[Point], part: Part) -> Summary {
     summary
 }
 
-/// The same with one point more.
+/// An aggregate with one point more.
 fn with_value(summary: Summary, value: i64) -> Summary {
     let ends = match summary.ends {
         Some((least, greatest)) => (least.min(value), greatest.max(value)),
@@ -152,16 +155,16 @@ fn with_value(summary: Summary, value: i64) -> Summary {
 
 /// Whether a part has more points than a leaf.
 fn is_inner(points: &[Point], part: Part) -> bool {
-    count_in(points, part) > FEW
+    count_in(points, part) > MOST
 }
 
 /// Whether a part is a node: it has a point, and it is the whole domain or the one above it is an inner node.
 fn is_node(points: &[Point], above: Option<Part>, part: Part) -> bool {
-    let stands = match above {
+    let is_part = match above {
         Some(above) => is_inner(points, above),
         None => true,
     };
-    stands && count_in(points, part) > 0
+    is_part && count_in(points, part) > 0
 }
 
 /// Whether a commit adds a point in a part, or its cut covers one that is there.
@@ -177,7 +180,7 @@ fn is_cut(cut: &Ranges, time: i64) -> bool {
         .any(|range| range.from <= time && time < range.to)
 }
 
-/// The version of the newest commit that touches a part, or before which it was no node.
+/// The version of the newest commit that touches a part, or before which the part was no node.
 fn node_version(commits: &[Commit], above: Option<Part>, part: Part) -> u64 {
     for commit in commits.iter().rev() {
         if touches(commit, part) || !is_node(commit.before.points.as_slice(), above, part) {
@@ -287,7 +290,7 @@ fn plain_node(alloc: Global, node: &NewNode) -> Result<PlainNode, AllocError> {
     })
 }
 
-/// Whether what was written are the nodes that carry a version, in their order.
+/// Whether the nodes that were written are those of a version, in their order.
 fn are_those_of(
     alloc: Global,
     written: &[NewNode],
@@ -309,20 +312,20 @@ fn are_those_of(
     Ok(i == written.len())
 }
 
-/// Appends the nodes that stand in a place, children before parents and in order of time.
+/// Appends the nodes of a link, children before parents and in order of time.
 fn walk(
     alloc: Global,
-    place: &Child,
+    child: &Child,
     part: Part,
     nodes: &mut Vec<PlainNode>,
 ) -> Result<(), AllocError> {
-    let mut steps = Steps::new();
-    let Some(node) = visit(place, &mut steps) else {
+    let mut steps = Steps::new(alloc);
+    let Some(node) = visit(child, &mut steps) else {
         return Ok(());
     };
     let (version, points, slots) = match node {
         Node::Leaf { version, points } => (
-            *version,
+            version,
             Vec::from_slice(alloc, points)?,
             Vec::new(alloc),
         ),
@@ -336,7 +339,7 @@ fn walk(
                     walk(alloc, child, slot_of(part, i), nodes)?;
                 }
             }
-            (*version, Vec::new(alloc), plain_slots(alloc, slots)?)
+            (version, Vec::new(alloc), plain_slots(alloc, slots)?)
         }
     };
     nodes.push(PlainNode {
@@ -349,14 +352,14 @@ fn walk(
     Ok(())
 }
 
-/// All nodes of a tree, as they are found.
+/// All nodes of a tree, in the order of a walk.
 fn nodes_in(alloc: Global, tree: &Tree) -> Result<Vec<PlainNode>, AllocError> {
     let mut nodes = Vec::new(alloc);
     walk(alloc, tree.root(), WHOLE, &mut nodes)?;
     Ok(nodes)
 }
 
-/// Whether a tree says of its points, and keeps in its nodes, what the plain program does.
+/// Whether a tree has the totals and the nodes that the plain program derives.
 fn is_as_derived(alloc: Global, version: &Version) -> Result<bool, AllocError> {
     let tree = &version.tree;
     let points = version.points.as_slice();
@@ -412,7 +415,7 @@ fn applied_to(
     if !are_in_domain(added.as_slice()) {
         return Err("a time outside the domain".into());
     }
-    let mut steps = Steps::new();
+    let mut steps = Steps::new(alloc);
     let applied = tree.apply(alloc, cut, added, version, &mut steps);
     if let Ok(applied) = &applied {
         if steps.count() != applied.nodes.len() as u64 {
@@ -425,7 +428,7 @@ fn applied_to(
 /// The numbers of points and of written nodes after a commit, or the start of the crowded span.
 type Outcome = Result<(u64, usize), i64>;
 
-/// A commit of the table: its version, what it adds, the bounds of its cut, and what comes of it, by hand.
+/// A commit of the table: its version, the points that it adds, the bounds of its cut, and its outcome, found by hand.
 #[derive(Clone, Copy)]
 struct Case<'a> {
     version: u64,
@@ -456,7 +459,7 @@ fn outcome_of(applied: &Result<Applied, TreeFault>) -> Option<Outcome> {
     }
 }
 
-/// The version after a commit, the last of the commits; none where it wrote other nodes than those that carry its version.
+/// The version after the last of the commits, or `None` if it wrote other nodes than those of its version.
 fn next_version(
     alloc: Global,
     commits: &[Commit],

@@ -49,7 +49,7 @@ last_in_slots-last_in_child-requires t c =
     let below = st.0 in
     let d = c.decreases in
     let i = c.in_ok-i.i in
-    let place : i < 64 = omega (arith, c.in_ok-i.ensures.place) in
+    let place : i < 64 = omega (arith, c.in_ok-i.ensures.number) in
     let at = child-at c.args.span below st.2.commits i c.from.result c.slot.result c.index-children-from.result c.args.children.now st.1 st.2.each place c.from.ensures c.slot.ensures c.index-children-from.is in
     let stands = child-stands below c.args.span.start st.2.commits i c.slot.result c.index-children-from.result at.is at.holds place st.2.few in
     let down : c.slot.result.height ≡ below = ap (λ u. u.height) at.is in
@@ -60,9 +60,9 @@ pub last_in_slots-returns-clause-point : goal.last_in_slots-returns-clause-point
 last_in_slots-returns-clause-point t c below h e slots each =
     let i = c.in_ok-i.i in
     let found = c.in_ok-i.ensures in
-    let place : i < 64 = omega (arith, c.in_ok-i.ensures.place) in
+    let place : i < 64 = omega (arith, c.in_ok-i.ensures.number) in
     let at = child-at c.args.span below h i c.from.result c.slot.result c.index-children-from.result c.args.children.now e each place c.from.ensures c.slot.ensures c.index-children-from.is in
-    last-before below c.args.span.start h c.args.slots.now c.args.children.now c.args.to i c.slot.result c.last_in_child.result slots found.place c.requires.place found.some found.passed at.is (c.last_in_child.ensures.point (is_inner (suc below) c.args.span.start) h at.holds)
+    last-before below c.args.span.start h c.args.slots.now c.args.children.now c.args.to i c.slot.result c.last_in_child.result slots found.number c.requires.place found.some found.passed at.is (c.last_in_child.ensures.point (is_inner (suc below) c.args.span.start) h at.holds)
 
 pub last_in_slots-returns-clause-none : goal.last_in_slots-returns-clause-none
 last_in_slots-returns-clause-none t c none =
@@ -71,7 +71,7 @@ last_in_slots-returns-clause-none t c none =
     let h = st.2.commits in
     let i = c.in_ok-i.i in
     let found = c.in_ok-i.ensures in
-    let place : i < 64 = omega (arith, c.in_ok-i.ensures.place) in
+    let place : i < 64 = omega (arith, c.in_ok-i.ensures.number) in
     let at = child-at c.args.span below h i c.from.result c.slot.result c.index-children-from.result c.args.children.now st.1 st.2.each place c.from.ensures c.slot.ensures c.index-children-from.is in
     let full = full-slot below c.args.span.start h c.args.slots.now c.args.children.now i c.slot.result st.2.holds place found.some at.is in
     absurd (last-any _ c.last_in_child.result full (c.last_in_child.ensures.point (is_inner (suc below) c.args.span.start) h at.holds) none)

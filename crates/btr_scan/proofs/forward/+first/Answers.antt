@@ -48,7 +48,7 @@ first_in_slots-first_in_child-requires t c =
     let below = st.0 in
     let d = c.decreases in
     let i = c.in_ok-i.i in
-    let place : i < 64 = c.in_ok-i.ensures.place.1 in
+    let place : i < 64 = c.in_ok-i.ensures.number.1 in
     let at = child-at c.args.span below st.2.commits i c.from.result c.slot.result c.index-children-from.result c.args.children.now st.1 st.2.each place c.from.ensures c.slot.ensures c.index-children-from.is in
     let stands = child-stands below c.args.span.start st.2.commits i c.slot.result c.index-children-from.result at.is at.holds place st.2.few in
     let down : c.slot.result.height ≡ below = ap (λ u. u.height) at.is in
@@ -59,8 +59,8 @@ pub first_in_slots-returns-clause-point : goal.first_in_slots-returns-clause-poi
 first_in_slots-returns-clause-point t c below h e slots each =
     let i = c.in_ok-i.i in
     let found = c.in_ok-i.ensures in
-    let at = child-at c.args.span below h i c.from.result c.slot.result c.index-children-from.result c.args.children.now e each found.place.1 c.from.ensures c.slot.ensures c.index-children-from.is in
-    first-behind c.args.span below h c.args.slots.now c.args.children.now c.args.from i c.slot.result c.first_in_child.result e slots found.place.0 found.place.1 found.some found.passed at.is (c.first_in_child.ensures.point (is_inner (suc below) c.args.span.start) h at.holds)
+    let at = child-at c.args.span below h i c.from.result c.slot.result c.index-children-from.result c.args.children.now e each found.number.1 c.from.ensures c.slot.ensures c.index-children-from.is in
+    first-behind c.args.span below h c.args.slots.now c.args.children.now c.args.from i c.slot.result c.first_in_child.result e slots found.number.0 found.number.1 found.some found.passed at.is (c.first_in_child.ensures.point (is_inner (suc below) c.args.span.start) h at.holds)
 
 pub first_in_slots-returns-clause-none : goal.first_in_slots-returns-clause-none
 first_in_slots-returns-clause-none t c none =
@@ -69,6 +69,6 @@ first_in_slots-returns-clause-none t c none =
     let h = st.2.commits in
     let i = c.in_ok-i.i in
     let found = c.in_ok-i.ensures in
-    let at = child-at c.args.span below h i c.from.result c.slot.result c.index-children-from.result c.args.children.now st.1 st.2.each found.place.1 c.from.ensures c.slot.ensures c.index-children-from.is in
-    let full = full-slot below c.args.span.start h c.args.slots.now c.args.children.now i c.slot.result st.2.holds found.place.1 found.some at.is in
+    let at = child-at c.args.span below h i c.from.result c.slot.result c.index-children-from.result c.args.children.now st.1 st.2.each found.number.1 c.from.ensures c.slot.ensures c.index-children-from.is in
+    let full = full-slot below c.args.span.start h c.args.slots.now c.args.children.now i c.slot.result st.2.holds found.number.1 found.some at.is in
     absurd (first-any _ c.first_in_child.result full (c.first_in_child.ensures.point (is_inner (suc below) c.args.span.start) h at.holds) none)
