@@ -1,4 +1,4 @@
--- Lemmas on the points from a time on and before it, where all lie in the domain.
+-- Lemmas on the points from a time on, and before it, if all lie in the domain.
 use Rattle.std.specs.Prelude.{◌≡◌, ℤ, true, false, int_le, int_lt, ◌≤ℤ◌, ◌<ℤ◌, List, []}
 use Rattle.std.specs.List.{filter}
 use Rattle.std.proofs.Common.{sym, ap, ◌∙◌, arith}

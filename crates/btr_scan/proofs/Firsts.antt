@@ -15,7 +15,7 @@ pub first-some : {X : Type 0} (a b : List X) → 0 < length a → slice_get (a +
 first-some [] b h = absurd (omega arith)
 first-some (y ∷ a) b h = refl
 
--- a list that is not empty has a first and a last
+-- A list that is not empty has a first and a last.
 pub first-any : {X : Type 0} (a : List X) (r : Option X) → 0 < length a → r ≡ slice_get a 0 → IsNone r → ⊥
 first-any [] r some e none = omega arith
 first-any (y ∷ a) r some e none = let n : IsNone (Some y) = subst IsNone e none in cc
@@ -49,7 +49,7 @@ last-behind : {X : Type 0} (x : X) (a : List X) → slice_get (x ∷ a) (length 
 last-behind x [] = refl
 last-behind x (y ∷ a) = last-behind y a
 
--- the last of a list, by its place
+-- The last of a list, by its index.
 pub last-place : {X : Type 0} (a : List X) → slice_get a (length a - 1) ≡ last_or None a
 last-place [] = refl
 last-place (x ∷ a) =

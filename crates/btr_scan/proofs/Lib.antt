@@ -1,6 +1,6 @@
--- of lists
+-- Lemmas on lists.
 pub mod Firsts
--- of trees
+-- Lemmas on trees.
 pub mod Places
 pub mod Parts
 pub mod Runs

@@ -54,7 +54,7 @@ slot-end_of span below i e =
     let down : span.height - 1 ≡ below = omega arith in
     ap (λ k. span.start +ℤ pos (i * width k) +ℤ pos (width k)) down ∙ sym (slot-next below span.start i)
 
--- the slots before the first that ends behind the begin of a range
+-- The slots before the first one that ends after the begin of a range.
 pub before-first : (span : SpanValue) (below : ℕ) (h : List Commit) (from to : ℤ) (first : ℕ) → span.height ≡ suc below → ((i : ℕ) → i < first → ((slot_of span i).start +ℤ pos (width (span.height - 1))) ≤ℤ from) → within from to (within span.start (slot_start below span.start first) (bag h)) ≡ []
 before-first span below h from to zero e before = ap (within from to) (prefix-none below span.start h)
 before-first span below h from to (suc k) e before =
@@ -64,7 +64,7 @@ before-first span below h from to (suc k) e before =
     ap (λ i. within from to (within span.start (slot_start below span.start i) (bag h))) next
     ∙ within-apart span.start (slot_start below span.start (k + 1)) from to (bag h) (omega (arith, ints))
 
--- the slots behind the last that begins before the end of a range
+-- The slots after the last one that begins before the end of a range.
 pub behind-last : (span : SpanValue) (below : ℕ) (h : List Commit) (from to : ℤ) (last : ℕ) → span.height ≡ suc below → last < 64 → ((i : ℕ) → last < i → i < 64 → to ≤ℤ (slot_of span i).start) → within from to (within span.start (slot_start below span.start (last + 1)) (bag h)) ≡ within from to (points_of span.height span.start (bag h))
 behind-last span below h from to last e place behind =
     let up : last + 1 ≤ 64 = omega arith in
@@ -78,7 +78,7 @@ behind-last span below h from to last e place behind =
           within-capped span.start (slot_start below span.start (last + 1)) (span.start +ℤ pos (width span.height)) from to (bag h) (omega (arith, ints)) high
     ]
 
--- the points of one more slot
+-- The points of one more slot.
 pub rows-more : (before here next : List Point) (from to : ℤ) (old mid new : List Point) → next ≡ before ++ here → mid ≡ old ++ within from to before → new ≡ mid ++ within from to here → new ≡ old ++ within from to next
 rows-more before here next from to old mid new e p q =
     q
@@ -86,7 +86,7 @@ rows-more before here next from to old mid new e p q =
     ∙ append_assoc old (within from to before) (within from to here)
     ∙ sym (ap (λ x. old ++ x) (ap (within from to) e ∙ within-append from to before here))
 
--- a slot from the first to the last of those that a range meets is met
+-- A slot from the first to the last of those that a range meets is met.
 pub slot-met : (span : SpanValue) (below : ℕ) (from to : ℤ) (first last i : ℕ) (part : SpanValue) → span.height ≡ suc below → part ≡ record { start = slot_start below span.start i; height = below } → first ≤ i → i ≤ last → from <ℤ ((slot_of span first).start +ℤ pos (width (span.height - 1))) → (slot_of span last).start <ℤ to → (from <ℤ (part.start +ℤ pos (width part.height))) × (part.start <ℤ to)
 slot-met span below from to first last i part e is low high begins ends =
     let one = slot-end_of span below first e in
@@ -96,7 +96,7 @@ slot-met span below from to first last i part e is low high begins ends =
     let next = slot-next below span.start i in
     subst (λ (u : SpanValue). (from <ℤ (u.start +ℤ pos (width u.height))) × (u.start <ℤ to)) (sym is) (omega (arith, ints), omega (arith, ints))
 
--- a range that ends in the span ends in the last slot that it meets, or at that slot's end
+-- A range that ends in the span ends in the last slot that it meets, or at that slot's end.
 pub last-reaches : (span : SpanValue) (below : ℕ) (to : ℤ) (last : ℕ) (part : SpanValue) → span.height ≡ suc below → last < 64 → to ≤ℤ (span.start +ℤ pos (width span.height)) → ((i : ℕ) → last < i → i < 64 → to ≤ℤ (slot_of span i).start) → part ≡ slot_of span last → to ≤ℤ (part.start +ℤ pos (width part.height))
 last-reaches span below to last part e place high behind is =
     let up : last + 1 ≤ 64 = omega arith in

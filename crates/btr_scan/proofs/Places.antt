@@ -1,4 +1,4 @@
--- Lemmas on what a walk finds in a place: the points of a leaf, the slots of an inner node, and a slot's child.
+-- Lemmas on what a walk finds in a node: the points of a leaf, the slots of an inner node, and a slot's child.
 use Rattle.std.specs.Prelude.{◌≡◌, ℕ, suc, ◌+◌, ◌<◌, ◌^◌, ℤ, pos, ◌+ℤ◌, ◌≤ℤ◌, Bool, not, int_le, int_lt, List, [], length, slice_index_or, Result, Ok, Err, OnOk, if◌then◌else◌}
 use Rattle.std.specs.Result.{is_ok}
 use Rattle.std.proofs.Common.{Bor, sym, ap, ◌∙◌, arith, subst}
@@ -20,7 +20,7 @@ use Rattle.btr_tree.proofs.NodeLemmas.{leaf-is, inner-is, slot-part, slot-few}
 use Rattle.btr_tree.specs.Change.{IsSomeChild, AreSomeSlots}
 use Rattle.btr_tree.proofs.VersionLemmas.{points-in_order}
 
--- what a list is after a call that leaves it as it was where it fails
+-- What a list is after a call that leaves it as it was if the call fails.
 pub where_ok : {E : Type 0} (r : Result (Unit {0}) E) (new all old : List Point) → new ≡ (if is_ok r then all else old) → OnOk r (new ≡ all)
 where_ok (Ok x) new all old e = e
 where_ok (Err x) new all old e = tt
@@ -28,7 +28,7 @@ where_ok (Err x) new all old e = tt
 not_before : (time t : ℤ) → not (int_lt t time) ≡ int_le time t
 not_before time t = grind (arith, ints)
 
--- the points of a leaf are those of its span
+-- The points of a leaf are those of its span.
 pub leaf-points : (k : ℕ) (s : ℤ) (above : List Point → Bool) (h : List Commit) (n : Node) (v : ℕ) (ps : Bor (List Point)) → n ≡ Leaf v ps → IsNode k s above h n → ps.now ≡ points_of k s (bag h)
 leaf-points k s above h n v ps e holds = (leaf-is k s above h n v ps e holds).same
 
@@ -36,7 +36,7 @@ pub leaf-in_order : (k : ℕ) (s : ℤ) (above : List Point → Bool) (h : List 
 leaf-in_order k s above h n v ps e holds =
     subst IsInOrder (sym (leaf-points k s above h n v ps e holds)) (points-in_order k s h)
 
--- those of them from a time on, and before it
+-- The points of a leaf from a time on, and before it.
 pub leaf-from : (k : ℕ) (s : ℤ) (b : List Point) (points behind : List Point) (time at : ℤ) → at ≡ time → s ≤ℤ time → points ≡ points_of k s b → behind ≡ filter (λ p. not (int_lt p.time at)) points → behind ≡ within time (s +ℤ pos (width k)) b
 leaf-from k s b points behind time at same low is e =
     e
@@ -50,7 +50,7 @@ leaf-before k s b points before time at same high is e =
     ∙ (λ i. filter (λ p. int_lt p.time (same i)) (is i))
     ∙ within-before s (s +ℤ pos (width k)) time b high
 
--- there are none of either in a span without points
+-- A span without points has none from a time on, and none before it.
 pub none-from : (k : ℕ) (s : ℤ) (b : List Point) (time : ℤ) → s ≤ℤ time → points_of k s b ≡ [] → within time (s +ℤ pos (width k)) b ≡ []
 none-from k s b time low none =
     sym (within-from s (s +ℤ pos (width k)) time b low) ∙ ap (filter (λ p. int_le time p.time)) none
@@ -59,7 +59,7 @@ pub none-until : (k : ℕ) (s : ℤ) (b : List Point) (time : ℤ) → time ≤�
 none-until k s b time high none =
     sym (within-before s (s +ℤ pos (width k)) time b high) ∙ ap (filter (λ p. int_lt p.time time)) none
 
--- the slots and children of an inner node
+-- The slots and children of an inner node.
 pub record HasInner (k : ℕ) (s : ℤ) (h : List Commit) (ss : List Slot) (cs : List Child) : Type 0 where
   pub below : ℕ
   pub height : k ≡ suc below
@@ -71,7 +71,7 @@ inner-parts k s above h n v ss cs e holds =
     let body = inner-is k s above h n v ss cs e holds in
     record { below = body.below; height = body.height; all = body.inner.all; each = body.each }
 
--- an inner node stands where its place did
+-- An inner node is of a history if its link was.
 pub inner-stands : (k : ℕ) (s : ℤ) (h : List Commit) (ss : List Slot) (cs : List Child) → HasInner k s h ss cs → length (points_of k s (bag h)) + 0 < 2 ^ 64 → (below : ℕ) × (k ≡ suc below) × AreSomeSlots below s ss cs 0
 inner-stands k s h ss cs body few = (
   body.below,
@@ -86,7 +86,7 @@ inner-stands k s h ss cs body few = (
 
 -- ---- a slot's child
 
--- it stands where its node does
+-- A slot's child is of a history if its inner node is.
 pub child-stands : (below : ℕ) (s : ℤ) (h : List Commit) (i : ℕ) (part : SpanValue) (child : Child) → part ≡ record { start = slot_start below s i; height = below } → IsChild part.height part.start (is_inner (suc below) s) h child → i < 64 → length (points_of (suc below) s (bag h)) + 0 < 2 ^ 64 → IsSomeChild part.height part.start child 0
 child-stands below s h i part child is holds place few =
     let fewer = slot-few below s h i part place is in

@@ -1,4 +1,4 @@
--- Lemmas on runs of slots without a point: what stands behind and before them.
+-- Lemmas on slots without a point that follow one another, and on the points before and after them.
 use Rattle.std.specs.Prelude.{◌≡◌, ℕ, ◌+◌, ◌-◌, ◌<◌, ◌≤◌, ℤ, pos, ◌+ℤ◌, ◌≤ℤ◌, List, [], ◌∷◌, ◌++◌, length, slice_index_or, Option, Some, None, slice_get}
 use Rattle.std.specs.List.{last_or}
 use Rattle.std.proofs.Common.{zero, suc, refl, sym, ap, ◌∙◌, arith, subst, append-nil}
@@ -31,7 +31,7 @@ none-counted : (b : List Point) → length b ≡ 0 → b ≡ []
 none-counted [] e = refl
 none-counted (p ∷ b) e = absurd (omega arith)
 
--- the slots from one up to, and without, another have no point
+-- The slots from one up to, and without, another have no point.
 abbrev pub IsBlockRange : ℕ → ℤ → List Commit → ℕ → ℕ → Type 0
 IsBlockRange below s h i j = (m : ℕ) → i ≤ m → m < j → points_of below (slot_start below s m) (bag h) ≡ []
 
@@ -45,12 +45,12 @@ full-of below s h ss cs i slots place some =
     let d : Slot = record { agg = record { count = 0; total = pos 0; ends = None }; version = 0; child = 0 } in
     omega (arith, slot-count below s h ss cs i d slots place, some d)
 
--- such a slot has a point
+-- A slot whose count is not 0 has a point.
 pub full-slot : (below : ℕ) (s : ℤ) (h : List Commit) (ss : List Slot) (cs : List Child) (i : ℕ) (part : SpanValue) → HasSlots below s h 64 ss cs → i < 64 → ((d : Slot) → 0 < (slice_index_or ss i d).agg.count) → part ≡ record { start = slot_start below s i; height = below } → 0 < length (points_of part.height part.start (bag h))
 full-slot below s h ss cs i part slots place some is =
     subst (λ (u : SpanValue). 0 < length (points_of u.height u.start (bag h))) (sym is) (full-of below s h ss cs i slots place some)
 
--- ---- behind a run
+-- ---- after slots without a point
 
 rest-skip : (n below : ℕ) (s : ℤ) (h : List Commit) (i j : ℕ) → n + i ≡ j → j ≤ 64 → IsBlockRange below s h i j → within (slot_start below s i) (s +ℤ pos (width (suc below))) (bag h) ≡ within (slot_start below s j) (s +ℤ pos (width (suc below))) (bag h)
 rest-skip zero below s h i j e up run =
@@ -65,7 +65,7 @@ rest-none : (below : ℕ) (s : ℤ) (h : List Commit) → within (slot_start bel
 rest-none below s h =
     ap (λ a. within a (s +ℤ pos (width (suc below))) (bag h)) (slot-end below s) ∙ within-empty (s +ℤ pos (width (suc below))) (bag h)
 
--- the first point from a slot on is that of the first slot there with a point
+-- The first point from a slot on is that of the first slot there with a point.
 pub first-behind : (span : SpanValue) (below : ℕ) (h : List Commit) (ss : List Slot) (cs : List Child) (from i : ℕ) (part : SpanValue) (r : Option Point) → span.height ≡ suc below → HasSlots below span.start h 64 ss cs → from ≤ i → i < 64 → ((d : Slot) → 0 < (slice_index_or ss i d).agg.count) → ((m : ℕ) (d : Slot) → from ≤ m → m < i → (slice_index_or ss m d).agg.count ≡ 0) → part ≡ record { start = slot_start below span.start i; height = below } → r ≡ slice_get (points_of part.height part.start (bag h)) 0 → r ≡ slice_get (within (slot_start below span.start from) (end_of span) (bag h)) 0
 first-behind span below h ss cs from i part r e slots low place some passed is found =
     let s = span.start in
@@ -78,7 +78,7 @@ first-behind span below h ss cs from i part r e slots low place some passed is f
     ∙ sym (ap (λ (x : List Point). slice_get x 0) (rest-skip gap.0 below s h from i gap.1 (omega arith) run ∙ rest-next below s i h place))
     ∙ ap (λ k. slice_get (within (slot_start below s from) (s +ℤ pos (width k)) (bag h)) 0) (sym e)
 
--- there is none where no slot there has a point
+-- There is no point if no slot there has one.
 pub none-behind : (span : SpanValue) (below : ℕ) (h : List Commit) (ss : List Slot) (cs : List Child) (from : ℕ) (r : Option Point) → span.height ≡ suc below → HasSlots below span.start h 64 ss cs → from ≤ 64 → ((m : ℕ) (d : Slot) → from ≤ m → m < 64 → (slice_index_or ss m d).agg.count ≡ 0) → r ≡ None → r ≡ slice_get (within (slot_start below span.start from) (end_of span) (bag h)) 0
 none-behind span below h ss cs from r e slots up none is =
     let s = span.start in
@@ -88,7 +88,7 @@ none-behind span below h ss cs from r e slots up none is =
     ∙ sym (ap (λ (x : List Point). slice_get x 0) (rest-skip gap.0 below s h from 64 gap.1 (omega arith) run ∙ rest-none below s h))
     ∙ ap (λ k. slice_get (within (slot_start below s from) (s +ℤ pos (width k)) (bag h)) 0) (sym e)
 
--- ---- before a run
+-- ---- before slots without a point
 
 prefix-skip : (n below : ℕ) (s : ℤ) (h : List Commit) (i j : ℕ) → n + i ≡ j → IsBlockRange below s h i j → within s (slot_start below s j) (bag h) ≡ within s (slot_start below s i) (bag h)
 prefix-skip zero below s h i j e run =
@@ -100,7 +100,7 @@ prefix-skip (suc n) below s h i j e run =
     ∙ ap (λ x. within s (slot_start below s i) (bag h) ++ x) (run i (omega arith) (omega arith))
     ∙ append-nil (within s (slot_start below s i) (bag h))
 
--- the last point before a slot is that of the last slot there with a point
+-- The last point before a slot is that of the last slot there with a point.
 pub last-before : (below : ℕ) (s : ℤ) (h : List Commit) (ss : List Slot) (cs : List Child) (to i : ℕ) (part : SpanValue) (r : Option Point) → HasSlots below s h 64 ss cs → i < to → to ≤ 64 → ((d : Slot) → 0 < (slice_index_or ss i d).agg.count) → ((m : ℕ) (d : Slot) → i < m → m < to → (slice_index_or ss m d).agg.count ≡ 0) → part ≡ record { start = slot_start below s i; height = below } → r ≡ last_or None (points_of part.height part.start (bag h)) → r ≡ last_or None (within s (slot_start below s to) (bag h))
 last-before below s h ss cs to i part r slots high place some passed is found =
     let run = run-of below s h ss cs (i + 1) to slots place (λ m d low up. passed m d (omega arith) up) in
@@ -119,7 +119,7 @@ none-before below s h ss cs to r slots place none is =
 
 -- ---- the slot that a time lies in
 
--- the points from a time on are those of its slot, and those of the slots behind it
+-- The points from a time on are those of its slot, and those of the slots after it.
 from-parts : (span : SpanValue) (below : ℕ) (h : List Commit) (time : ℤ) (i : ℕ) (part : SpanValue) → span.height ≡ suc below → i < 64 → part ≡ record { start = slot_start below span.start i; height = below } → time ≤ℤ end_of part → within time (end_of span) (bag h) ≡ within time (end_of part) (bag h) ++ within (slot_start below span.start (i + 1)) (end_of span) (bag h)
 from-parts span below h time i part e place is early =
     let s = span.start in
@@ -141,7 +141,7 @@ next-behind span below h time i part r e place is early none found =
     ∙ sym (first-missed (within time (end_of part) (bag h)) (within (slot_start below span.start (i + 1)) (end_of span) (bag h)) (sym none))
     ∙ sym (ap (λ (x : List Point). slice_get x 0) (from-parts span below h time i part e place is early))
 
--- the points before a time are those of the slots before its slot, and those of the slot
+-- The points before a time are those of the slots before its slot, and those of the slot.
 before-parts : (below : ℕ) (s : ℤ) (h : List Commit) (time : ℤ) (i : ℕ) (part : SpanValue) → part ≡ record { start = slot_start below s i; height = below } → part.start ≤ℤ time → within s time (bag h) ≡ within s (slot_start below s i) (bag h) ++ within part.start time (bag h)
 before-parts below s h time i part is late =
     let begins : part.start ≡ slot_start below s i = ap (λ (u : SpanValue). u.start) is in

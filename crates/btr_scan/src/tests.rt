@@ -32,7 +32,7 @@ fn cut_of(alloc: Global, from: i64, to: i64) -> Result<Ranges, AllocError> {
     Ok(cut)
 }
 
-/// The version after a commit, if it then has so many points.
+/// The version after a commit, if it then has `count` points.
 fn after(
     alloc: Global,
     old: &Version,
@@ -60,6 +60,52 @@ fn after(
     })
 }
 
+/// A commit of the table: the points that it adds, the bounds of its cut (none if they are equal), and the number of points
+/// that are there after it.
+#[derive(Clone, Copy)]
+struct Case {
+    version: u64,
+    first: i64,
+    step: i64,
+    added: i64,
+    from: i64,
+    to: i64,
+    points: usize,
+}
+
+/// A commit that does nothing.
+fn commit(version: u64) -> Case {
+    Case {
+        version,
+        first: 0,
+        step: 0,
+        added: 0,
+        from: 0,
+        to: 0,
+        points: 0,
+    }
+}
+
+impl Case {
+    /// Adds `added` points, `step` apart, from `first` on.
+    fn adds(self, first: i64, step: i64, added: i64) -> Case {
+        Case {
+            first,
+            step,
+            added,
+            ..self
+        }
+    }
+
+    fn cuts(self, from: i64, to: i64) -> Case {
+        Case { from, to, ..self }
+    }
+
+    fn leaves(self, points: usize) -> Case {
+        Case { points, ..self }
+    }
+}
+
 /// Versions of one stream, with a tree of each shape.
 fn versions(alloc: Global) -> Result<Vec<Version>, Fail> {
     let mut all = Vec::new(alloc);
@@ -67,31 +113,33 @@ fn versions(alloc: Global) -> Result<Vec<Version>, Fail> {
         tree: Tree::empty(),
         kept: Bag::from_points(Vec::new(alloc)),
     };
-    // first time, step and number of the added points; bounds of the cut (none if equal); then points
-    for (version, first, step, added, from, to, count) in [
-        (1, 0, 1, 1, 0, 0, 1),
+    for case in [
+        commit(1).adds(0, 1, 1).leaves(1),
         // a full leaf, and nodes of all heights for one point more
-        (2, 1, 1, 251, 0, 0, 252),
-        (3, 252, 1, 1, 0, 0, 253),
-        // nodes of all heights in the next slot of the root too, which begins 2^56 behind 0
-        (4, 72057594037927937, 1, 253, 0, 0, 506),
+        commit(2).adds(1, 1, 251).leaves(252),
+        commit(3).adds(252, 1, 1).leaves(253),
+        // nodes of all heights in the next slot of the root too, which begins 2^56 after 0
+        commit(4).adds(72057594037927937, 1, 253).leaves(506),
         // a point twice
-        (5, 0, 1, 1, 0, 0, 507),
+        commit(5).adds(0, 1, 1).leaves(507),
         // the end of the one slot and the begin of the other removed, and then so many that a leaf is left
-        (6, 0, 1, 0, 100, 72057594037928037, 254),
-        (7, 0, 1, 0, 0, 50, 203),
+        commit(6).cuts(100, 72057594037928037).leaves(254),
+        commit(7).cuts(0, 50).leaves(203),
         // all
-        (8, 0, 1, 0, FIRST, END, 0),
+        commit(8).cuts(FIRST, END).leaves(0),
         // three levels: points 2^48 apart
-        (9, 0, 281474976710656, 300, 0, 0, 300),
+        commit(9).adds(0, 281474976710656, 300).leaves(300),
         // many points at one time, the last of the domain
-        (10, END - 1, 0, 252, 0, 0, 552),
+        commit(10).adds(END - 1, 0, 252).leaves(552),
         // the first times of the domain, and a gap from 2^54 on
-        (11, FIRST, 1, 3, 18014398509481984, 72057594037927937, 362),
+        commit(11)
+            .adds(FIRST, 1, 3)
+            .cuts(18014398509481984, 72057594037927937)
+            .leaves(362),
     ] {
-        let cut = cut_of(alloc, from, to)?;
-        let added = Bag::from_points(points_from(alloc, first, step, added)?);
-        let next = after(alloc, &last, &cut, &added, version, count)?;
+        let cut = cut_of(alloc, case.from, case.to)?;
+        let added = Bag::from_points(points_from(alloc, case.first, case.step, case.added)?);
+        let next = after(alloc, &last, &cut, &added, case.version, case.points)?;
         all.push(last)?;
         last = next;
     }
@@ -99,7 +147,7 @@ fn versions(alloc: Global) -> Result<Vec<Version>, Fail> {
     Ok(all)
 }
 
-/// Times at, before and behind the edges of spans, of cuts and of the domain.
+/// Times at, before and after the edges of spans, of cuts and of the domain.
 fn edges(alloc: Global) -> Result<Vec<i64>, AllocError> {
     let mut times = Vec::new(alloc);
     for time in [
@@ -124,7 +172,7 @@ fn edges(alloc: Global) -> Result<Vec<i64>, AllocError> {
     Ok(times)
 }
 
-/// The points of a list from a time up to, and without, another.
+/// The points of a list from a time up to, and without, another. It mirrors `within` of btr_base's `Bag`.
 fn plain_range(
     alloc: Global,
     points: &[Point],
@@ -140,7 +188,7 @@ fn plain_range(
     Ok(rows)
 }
 
-/// Of a list in order the first point at or behind a time, or the last one before it.
+/// The first point at or after a time of a list in order, or the last one before it. It mirrors btr_base's `Nearest`.
 fn plain_nearest(points: &[Point], time: i64, toward: Toward) -> Option<Point> {
     let mut before = None;
     for point in points {

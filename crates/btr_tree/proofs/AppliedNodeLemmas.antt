@@ -32,7 +32,7 @@ change-after k s h c cut added v ch =
     ∙ ap (λ x. sort (x ++ points_of k s c.added)) (outside-alike s (s +ℤ pos (width k)) (bag h) c.cut cut (λ t low high. sym (ch.times t low high)))
     ∙ ap (λ x. sort (outside (points_of k s (bag h)) cut ++ x)) (sym ch.points)
 
--- a commit of its own for what a span is given
+-- A commit of its own for what a span is given.
 abbrev pub own : ℕ → List RangeValue → List Point → Commit
 own version cut added = record { version = version; cut = cut; added = added }
 
@@ -116,7 +116,7 @@ parted-of span part below i b e place p aligned =
     let at = parted-at span part below i pts rest (filter (λ q. int_lt q.time (end_of part)) rest) behind (end_of part) e place p aligned refl refl refl refl in
     subst (λ x. IsPartedAt span part below i pts x behind) (at.has ∙ points-part below span.start i b part place at.is) at
 
--- what the walk knows of a slot
+-- What the walk knows of a slot.
 pub record IsStep (span part : SpanValue) (below i : ℕ) (h : List Commit) (c : Commit) (slot : Slot) (child : Child) (cut : List RangeValue) (here : List Point) (v : ℕ) : Type 0 where
   pub was : is_inner (suc below) span.start (bag h) ≡ true
   pub holds : IsChild part.height part.start (is_inner (suc below) span.start) h child

@@ -18,17 +18,17 @@ use Rattle.btr_tree.specs.Shape.{node_of, ByKind, slot_start, slot_of_points, Is
 use Rattle.btr_tree.proofs.NodeLemmas.{slot-fewer}
 use Rattle.btr_tree.specs.Change.{IsFresh, IsLeafOf, IsInnerOf}
 
--- what holds of a kind holds in a weaker form
+-- What holds of a kind holds in a weaker form.
 pub by_kind-weaker : (P R : ℕ → List Point → Type 0) (Q S : ℕ → List Slot → List Child → Type 0) (n : NodeData-F NodeData Child) → ((v : ℕ) (ps : List Point) → P v ps → R v ps) → ((v : ℕ) (ss : List Slot) (cs : List Child) → Q v ss cs → S v ss cs) → ByKind P Q n → ByKind R S n
 by_kind-weaker P R Q S (NodeData-F.Leaf version points) f g h = f version points.items h
 by_kind-weaker P R Q S (NodeData-F.Inner version slots children) f g h = g version slots.items children.items h
 
--- what follows from a fact of either kind
+-- What follows from a fact of either kind.
 pub by_kind-gives : (P : ℕ → List Point → Type 0) (Q : ℕ → List Slot → List Child → Type 0) (R : Type 0) (n : NodeData-F NodeData Child) → ((v : ℕ) (ps : List Point) → P v ps → R) → ((v : ℕ) (ss : List Slot) (cs : List Child) → Q v ss cs → R) → ByKind P Q n → R
 by_kind-gives P Q R (NodeData-F.Leaf version points) f g h = f version points.items h
 by_kind-gives P Q R (NodeData-F.Inner version slots children) f g h = g version slots.items children.items h
 
--- a node that a commit touches or makes carries its version
+-- A node that a commit touches or makes has its version.
 pub version-fresh : (k : ℕ) (s : ℤ) (above : List Point → Bool) (h : List Commit) (c : Commit) (v : ℕ) → v ≡ c.version → (touches c k s (bag h) || not (is_node above k s (bag h))) ≡ true → v ≡ node_version above k s (c ∷ h)
 version-fresh k s above h c v e fresh =
     e ∙ sym (ap (λ t. cond t c.version (last_change (is_node above k s) k s h)) fresh)
@@ -69,7 +69,7 @@ inner-of_node below s above h c v ss cs (Some n) number fresh many slots each is
       subst (HasChildren below s (c ∷ h) 64) (sym e.2) each,
     )) is
 
--- an inner node of slots, if the commit touches it or makes it
+-- An inner node of slots, if the commit touches it or makes it.
 pub inner-child : (below : ℕ) (s : ℤ) (above : List Point → Bool) (h : List Commit) (c : Commit) (v : ℕ) (ss : List Slot) (cs : List Child) (p : Child) → v ≡ c.version → (touches c (suc below) s (bag h) || not (is_node above (suc below) s (bag h))) ≡ true → LEAF_POINTS < length (points_of (suc below) s (bag (c ∷ h))) → HasSlots below s (c ∷ h) 64 ss cs → HasChildren below s (c ∷ h) 64 cs → IsInnerOf v ss cs p → IsChild (suc below) s above (c ∷ h) p
 inner-child below s above h c v ss cs p number fresh many slots each is =
     inner-of_node below s above h c v ss cs (node_of p) number fresh many slots each is
@@ -89,7 +89,7 @@ made t u w e = grind arith
 new : (t u : Bool) → u ≡ false → (t || not u) ≡ true
 new t u e = grind arith
 
--- a slot of a span that was no inner node
+-- A slot of a span that was no inner node.
 pub slot-fresh : (below : ℕ) (s : ℤ) (i : ℕ) (h : List Commit) (c : Commit) (v : ℕ) (points : List Point) → i < 64 → v ≡ c.version → points ≡ points_of below (slot_start below s i) (bag (c ∷ h)) → length (points_of (suc below) s (bag h)) ≤ LEAF_POINTS → IsFresh below (slot_start below s i) (is_inner (suc below) s) h c v points
 slot-fresh below s i h c v points place number same few =
     let no = few-not_inner (suc below) s (bag h) few in

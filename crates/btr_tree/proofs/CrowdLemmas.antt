@@ -27,7 +27,7 @@ room-join a m b xs h k j low high = by_lt_z (bottom j) m (λ lt. h j low lt) (λ
 pub room-to : (a m b : ℤ) (xs : List Point) → m ≤ℤ b → HasNoCrowdedSpan a b xs → HasNoCrowdedSpan a m xs
 room-to a m b xs le h j low high = h j low (omega (arith, ints))
 
--- each bottom span that starts before the end ends by it
+-- Each bottom span that starts before the end ends by it.
 abbrev pub Whole : ℤ → Type 0
 Whole b = (j : ℕ) → bottom j <ℤ b → (bottom j +ℤ pos (width 0)) ≤ℤ b
 
@@ -55,7 +55,7 @@ pub room-of : (a b : ℤ) (xs : List Point) → Whole b → HasNoCrowdedSpan a b
 room-of a b xs whole h j low high =
     subst (λ ps. length ps ≤ LEAF_POINTS) (sym (bottom-same a b xs j whole low high)) (h j low high)
 
--- a part's first crowded span is the whole's, where there is none before the part
+-- The first crowded span of a part is that of the whole if there is none before the part.
 pub crowd-part : (a b c d : ℤ) (xs : List Point) (start : ℤ) (j : ℕ) → Whole d → a ≤ℤ c → d ≤ℤ b → HasNoCrowdedSpan a c xs → IsFirstCrowd c d (within c d xs) start j → IsFirstCrowd a b xs start j
 crowd-part a b c d xs start j whole low high room h =
     let is = h.is in

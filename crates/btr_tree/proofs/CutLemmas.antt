@@ -19,7 +19,7 @@ within-each a b xs =
 pub outside-append : (a b : List Point) (rs : List RangeValue) → outside (a ++ b) rs ≡ outside a rs ++ outside b rs
 outside-append a b rs = filter-append (λ p. not (covered rs p.time)) a b
 
--- cuts that cover alike between two times leave the same there
+-- Cuts that cover alike between two times leave the same there.
 pub outside-alike : (a b : ℤ) (xs : List Point) (rs us : List RangeValue) → ((t : ℤ) → a ≤ℤ t → t <ℤ b → covered rs t ≡ covered us t) → outside (within a b xs) rs ≡ outside (within a b xs) us
 outside-alike a b xs rs us h =
     outside-same (within a b xs) rs us (each-weaker (λ p. (a ≤ℤ p.time) × (p.time <ℤ b)) (λ p. covered rs p.time ≡ covered us p.time) (λ p k. h p.time k.0 k.1) (within a b xs) (within-each a b xs))
@@ -35,6 +35,6 @@ outside-missed a b xs rs h =
 pub outside-length : (xs : List Point) (rs : List RangeValue) → length (outside xs rs) ≤ length xs
 outside-length xs rs = length-filter (λ p. not (covered rs p.time)) xs
 
--- the ranges of a cut that end behind the first of two times, and of these those that begin before the second
+-- The ranges of a cut that end after the first of two times and begin before the second.
 pub here-alike : (a b : ℤ) (cut mid here : List RangeValue) → ((t : ℤ) → a ≤ℤ t → covered mid t ≡ covered cut t) → ((t : ℤ) → t <ℤ b → covered here t ≡ covered mid t) → (t : ℤ) → a ≤ℤ t → t <ℤ b → covered here t ≡ covered cut t
 here-alike a b cut mid here h k t low high = k t high ∙ h t low

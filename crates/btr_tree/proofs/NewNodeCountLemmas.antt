@@ -1,4 +1,4 @@
--- How many nodes a commit writes: at most eleven for each point that it adds, times 253, and for each end of a range of its cut.
+-- A commit writes at most 11 nodes for each end of a range of its cut, and 11 times 253 for each added point.
 use Rattle.std.specs.Prelude.{◌≡◌, ℕ, ◌+◌, ◌*◌, ◌<◌, ◌≤◌, ℤ, pos, ◌+ℤ◌, ◌≤ℤ◌, ◌<ℤ◌, int_lt, Bool, true, false, ◌&&◌, ◌||◌, cond, nat_lt, nat_eq, List, [], ◌∷◌, ◌++◌, length}
 use Rattle.std.specs.List.{filter, list_any}
 use Rattle.std.proofs.Common.{zero, suc, refl, sym, ap, ◌∙◌, arith, subst, length-append, mul-le-mul_left}
@@ -21,16 +21,16 @@ use Rattle.btr_tree.proofs.UntouchedNodeLemmas.{after-fewer}
 use Rattle.btr_tree.specs.NewNodes.{concat_first, new_node, own_node, new_nodes}
 use Rattle.btr_tree.proofs.NewNodeLemmas.{new_nodes-kept, new_nodes-none}
 
--- the bounds of ranges
+-- The bounds of ranges.
 abbrev pub bounds : List RangeValue → List ℤ
 bounds [] = []
 bounds (r ∷ rs) = r.from ∷ r.to ∷ bounds rs
 
--- the bound lies between two times
+-- The bound lies between two times.
 abbrev pub is_between : ℤ → ℤ → ℤ → Bool
 is_between a b t = int_lt a t && int_lt t b
 
--- how many bounds lie strictly between two times
+-- How many bounds lie strictly between two times.
 abbrev pub between : ℤ → ℤ → List ℤ → ℕ
 between a b ts = length (filter (is_between a b) ts)
 
@@ -50,7 +50,7 @@ between-parts a m b [] h k = omega arith
 between-parts a m b (t ∷ ts) h k =
     omega (arith, one-between a m b t h k, between-parts a m b ts h k, length-cond (is_between a m t) t (filter (is_between a m) ts), length-cond (is_between m b t) t (filter (is_between m b) ts), length-cond (is_between a b t) t (filter (is_between a b) ts))
 
--- a cut without a bound inside covers all of a span or none of it
+-- A cut without a bound inside covers all of a span or none of it.
 none-between : (a b t : ℤ) (ts : List ℤ) → between a b (t ∷ ts) ≡ 0 → (is_between a b t ≡ false) × (between a b ts ≡ 0)
 none-between a b t ts e =
     let long = length-cond (is_between a b t) t (filter (is_between a b) ts) in
@@ -88,7 +88,7 @@ within-parts a m b (p ∷ xs) h k =
 within-time : (a b : ℤ) (p : Point) → is_within a b p ≡ true → (a ≤ℤ p.time) × (p.time <ℤ b)
 within-time a b p h = (grind (arith, ints), grind (arith, ints))
 
--- a covered point gives a covered time
+-- A covered point gives a covered time.
 any-time : (a b : ℤ) (xs : List Point) (rs : List RangeValue) (R : Type 0) → list_any (λ p. covered rs p.time) (within a b xs) ≡ true → ((t : ℤ) → a ≤ℤ t → t <ℤ b → covered rs t ≡ true → R) → R
 any-time a b [] rs R e f = cc
 any-time a b (p ∷ xs) rs R e f =
@@ -103,7 +103,7 @@ any-time a b (p ∷ xs) rs R e f =
 
 -- ---- what a commit costs in a span
 
--- 253 for each point that is added there, and one for each end of a range inside
+-- 253 for each point that is added there, and one for each end of a range inside.
 abbrev pub weight : ℕ → ℤ → Commit → ℕ
 weight k s c =
     253 * length (points_of k s c.added) + between s (s +ℤ pos (width k)) (bounds c.cut)
@@ -116,7 +116,7 @@ by-length : {X : Type 0} (b : List X) (P : Type 0) → (length b ≡ 0 → b ≡
 by-length [] P f g = f refl refl
 by-length (x ∷ b) P f g = g (omega arith)
 
--- a span that the commit touches, and that has points then, has some weight
+-- A span that the commit touches, and that has points then, has some weight.
 pub weight-some : (k : ℕ) (s : ℤ) (h : List Commit) (c : Commit) → touches c k s (bag h) ≡ true → 0 < length (points_of k s (bag (c ∷ h))) → 1 ≤ weight k s c
 weight-some k s h c touched some =
     let e = s +ℤ pos (width k) in
@@ -157,7 +157,7 @@ new_nodes-points (suc k) s above h v =
     let twice : suc (suc k) * length b ≡ suc k * length b + length b = omega arith in
     omega (arith, length-append (cond (is_inner (suc k) s (bag h)) (concat_first 64 f) []) (own_node (suc k) s above h v)))
 
--- ---- nodes that carry the commit's version
+-- ---- nodes of the commit's version
 
 prefix-weight : ℕ → ℤ → Commit → ℕ → ℕ
 prefix-weight k s c n = 253 * length (within s (slot_start k s n) c.added) + between s (slot_start k s n) (bounds c.cut)
@@ -188,7 +188,7 @@ not-inner n e = grind (arith, nat_tests)
 is-inner : (n : ℕ) → nat_lt LEAF_POINTS n ≡ true → LEAF_POINTS < n
 is-inner n e = grind (arith, nat_tests)
 
--- a span that was no inner node and is one after the commit
+-- A span that was no inner node and is one after the commit.
 fresh-few : (k : ℕ) (s : ℤ) (above : List Point → Bool) (h : List Commit) (c : Commit) (v : ℕ) → is_inner k s (bag h) ≡ false → LEAF_POINTS < length (points_of k s (bag (c ∷ h))) → length (new_nodes k s above (c ∷ h) v) ≤ suc k * weight k s c
 fresh-few k s above h c v leaf many =
     let few : length (points_of k s (bag h)) ≤ LEAF_POINTS = not-inner (length (points_of k s (bag h))) leaf in
@@ -237,7 +237,7 @@ new_nodes-few (suc k) s above h c v w some before =
 filter-length : {X : Type 0} (f : X → Bool) (xs : List X) → length (filter f xs) ≤ length xs
 filter-length f xs = length-filter f xs
 
--- the whole of a commit, and the root's height
+-- The whole of a commit, and the root's height.
 pub new_nodes-bound : (s : ℤ) (above : List Point → Bool) (h : List Commit) (c : Commit) (v : ℕ) → above (bag h) ≡ true → 0 < v → IsBefore v h → length (new_nodes 10 s above (c ∷ h) v) ≤ 11 * (253 * length c.added + 2 * length c.cut)
 new_nodes-bound s above h c v w some before =
     let few = new_nodes-few 10 s above h c v w some before in

@@ -1,4 +1,4 @@
--- Lemmas on the nodes that carry a commit's version.
+-- Lemmas on the nodes that have the version of a commit: those that it writes.
 use Rattle.std.specs.Prelude.{◌≡◌, ℕ, ◌+◌, ◌-◌, ◌<◌, ◌≤◌, min, ℤ, Bool, true, false, not, ◌&&◌, ◌||◌, cond, nat_lt, nat_eq, List, [], ◌∷◌, ◌++◌, length, slice_index_or}
 use Rattle.std.proofs.Common.{zero, suc, refl, sym, ap, ◌∙◌, arith, subst, append-nil, append_assoc, inl, inr}
 use Rattle.std.proofs.lemmas.Bool.Decides.{nat_tests}
@@ -92,7 +92,7 @@ new_nodes-none (suc k) s above h v e =
 new_node-by : (span : SpanValue) (v w : ℕ) (ps qs : List Point) (ss ts : List Slot) → v ≡ w → ps ≡ qs → ss ≡ ts → (let p : NewNodeValue = record { span = span; version = v; points = ps; slots = ss } in p) ≡ record { span = span; version = w; points = qs; slots = ts }
 new_node-by span v w ps qs ss ts p q r = cc
 
--- a leaf that carries the version
+-- A leaf of the version.
 pub new_nodes-leaf : (k : ℕ) (s : ℤ) (above : List Point → Bool) (h : List Commit) (v : ℕ) (points : List Point) → above (bag h) ≡ true → v ≡ node_version above k s h → points ≡ points_of k s (bag h) → 0 < length points → length points ≤ LEAF_POINTS → new_nodes k s above h v ≡ record { span = record { start = s; height = k }; version = v; points = points; slots = [] } ∷ []
 new_nodes-leaf zero s above h v points w e same some few =
     own-here zero s above h v w (subst (λ x. 0 < length x) same some) e
@@ -103,7 +103,7 @@ new_nodes-leaf (suc k) s above h v points w e same some few =
     ∙ own-here (suc k) s above h v w (subst (λ x. 0 < length x) same some) e
     ∙ ap (λ p. p ∷ []) (new_node-by _ _ _ _ _ _ _ (sym e) (ap (λ t. cond t [] (points_of (suc k) s (bag h))) no ∙ sym same) (ap (λ t. cond t (slots_of k s h) []) no))
 
--- an inner node that carries the version
+-- An inner node of the version.
 pub new_nodes-inner : (below : ℕ) (s : ℤ) (above : List Point → Bool) (h : List Commit) (v : ℕ) (ss : List Slot) (cs : List Child) → above (bag h) ≡ true → v ≡ node_version above (suc below) s h → LEAF_POINTS < length (points_of (suc below) s (bag h)) → HasSlots below s h 64 ss cs → new_nodes (suc below) s above h v ≡ concat_first 64 (λ i. new_nodes below (slot_start below s i) (is_inner (suc below) s) h v) ++ record { span = record { start = s; height = suc below }; version = v; points = []; slots = ss } ∷ []
 new_nodes-inner below s above h v ss cs w e many holds =
     let yes = many-inner (suc below) s (bag h) many in
@@ -114,7 +114,7 @@ pub new_nodes-inner_at : (k below : ℕ) (s : ℤ) (above : List Point → Bool)
 new_nodes-inner_at k below s above h v ss cs high w e many holds =
     subst (λ j. new_nodes j s above h v ≡ concat_first 64 (λ i. new_nodes below (slot_start below s i) (is_inner (suc below) s) h v) ++ record { span = record { start = s; height = j }; version = v; points = []; slots = ss } ∷ []) (sym high) (new_nodes-inner below s above h v ss cs w (subst (λ j. v ≡ node_version above j s h) high e) (subst (λ j. LEAF_POINTS < length (points_of j s (bag h))) high many) holds)
 
--- ---- what a commit does not touch carries no version of its own
+-- ---- what a commit does not touch is not of its version
 
 has-cases : (b : List Point) (P : Type 0) → (b ≡ [] → P) → (0 < length b → P) → P
 has-cases [] P f g = f refl
@@ -149,7 +149,7 @@ told-more old mid new before here next p q r =
 
 -- ---- how many there are
 
--- a counter that stops at the greatest number counts one list and another as both together
+-- A counter that stops at the greatest number counts two lists one after the other as both together.
 stop-more : (a x y m : ℕ) → min (min (a + x) m + y) m ≡ min (a + x + y) m
 stop-more a x y m = omega arith
 

@@ -37,7 +37,7 @@ out-inner : (v : ℕ) (ss : Vec Slot Global) (cs : Vec Child Global) → out-Nod
 out-inner v ss cs =
     ap out-NodeData (sym (rolls-Inner v ss cs)) ∙ out-roll-NodeData (NodeData-F.Inner v ss cs)
 
--- what holds of the kind of a node, at its parts
+-- What holds of the kind of a node, at its parts.
 pub by_leaf : (P : ℕ → List Point → Type 0) (Q : ℕ → List Slot → List Child → Type 0) (n : NodeData) (v : ℕ) (ps : Vec Point Global) → n ≡ Leaf v ps → ByKind P Q (out-NodeData n) → P v ps.items
 by_leaf P Q n v ps e h = subst (ByKind P Q) (ap out-NodeData e ∙ out-leaf v ps) h
 
@@ -48,7 +48,7 @@ pub leaf_data-is : (k : ℕ) (s : ℤ) (above : List Point → Bool) (h : List C
 leaf_data-is zero s above h n v ps e holds = by_leaf _ _ n v ps e holds
 leaf_data-is (suc k) s above h n v ps e holds = by_leaf _ _ n v ps e holds
 
--- the height below an inner node, and what its slots are
+-- The height below an inner node, and what its slots are.
 pub record IsBody (k : ℕ) (s : ℤ) (above : List Point → Bool) (h : List Commit) (v : ℕ) (ss : List Slot) (cs : List Child) : Type 0 where
   pub below : ℕ
   pub height : k ≡ suc below
@@ -116,7 +116,7 @@ slot-part span below i e =
     let down : span.height - 1 ≡ below = omega arith in
     part-by _ _ _ _ (ap (λ k. span.start +ℤ pos (i * width k)) down) down
 
--- the points before a slot, with those of the slot, are those before the next
+-- The points before a slot, with those of the slot, are those before the next.
 pub prefix-next : (below : ℕ) (s : ℤ) (i : ℕ) (h : List Commit) → within s (slot_start below s (i + 1)) (bag h) ≡ within s (slot_start below s i) (bag h) ++ points_of below (slot_start below s i) (bag h)
 prefix-next below s i h =
     let next = slot-next below s i in
@@ -129,7 +129,7 @@ prefix-none below s h = ap (λ e. within s e (bag h)) (slot-first below s) ∙ w
 pub prefix-all : (below : ℕ) (s : ℤ) (h : List Commit) → within s (slot_start below s 64) (bag h) ≡ points_of (suc below) s (bag h)
 prefix-all below s h = ap (λ e. within s e (bag h)) (slot-end below s)
 
--- the points from a slot on are those of the slot, and those from the next one on
+-- The points from a slot on are those of the slot, and those from the next one on.
 pub rest-next : (below : ℕ) (s : ℤ) (i : ℕ) (h : List Commit) → i < 64 → within (slot_start below s i) (s +ℤ pos (width (suc below))) (bag h) ≡ points_of below (slot_start below s i) (bag h) ++ within (slot_start below s (i + 1)) (s +ℤ pos (width (suc below))) (bag h)
 rest-next below s i h place =
     let next = slot-next below s i in
@@ -183,7 +183,7 @@ pub slot-fewer : (below : ℕ) (s : ℤ) (i : ℕ) (b : List Point) → i < 64 �
 slot-fewer below s i b place =
     subst (λ x. length x ≤ length (points_of (suc below) s b)) (points-slot below s i b place) (length-filter (is_within (slot_start below s i) (slot_start below s i +ℤ pos (width below))) (points_of (suc below) s b))
 
--- what is known of a slot's child and aggregate
+-- What a walk knows of a slot and its child.
 pub record IsSlotAt (below : ℕ) (s : ℤ) (h : List Commit) (i : ℕ) (part : SpanValue) (slot : Slot) (child : Child) : Type 0 where
   pub is : part ≡ record { start = slot_start below s i; height = below }
   pub holds : IsChild part.height part.start (is_inner (suc below) s) h child
@@ -200,7 +200,7 @@ slot-at span below h i j part slot child ss cs e slots each place same p q r =
       counted = subst (λ (u : SpanValue). slot.agg ≡ agg (points_of u.height u.start (bag h))) (sym is) counted;
     }
 
--- what is known of a slot's child
+-- What a walk knows of a slot's child.
 pub record IsChildAt (below : ℕ) (s : ℤ) (h : List Commit) (i : ℕ) (part : SpanValue) (child : Child) : Type 0 where
   pub is : part ≡ record { start = slot_start below s i; height = below }
   pub holds : IsChild part.height part.start (is_inner (suc below) s) h child
@@ -214,12 +214,12 @@ child-at span below h i j part child cs e each place same p r =
       holds = subst (λ u. IsChild u.height u.start (is_inner (suc below) span.start) h child) (sym is) holds;
     }
 
--- the length of what the commits leave in a slot
+-- The length of what the commits leave in a slot.
 pub slot-few : (below : ℕ) (s : ℤ) (h : List Commit) (i : ℕ) (part : SpanValue) → i < 64 → part ≡ record { start = slot_start below s i; height = below } → length (points_of part.height part.start (bag h)) ≤ length (points_of (suc below) s (bag h))
 slot-few below s h i part place is =
     subst (λ (u : SpanValue). length (points_of u.height u.start (bag h)) ≤ length (points_of (suc below) s (bag h))) (sym is) (slot-fewer below s i (bag h) place)
 
--- the points up to a slot's end
+-- The points up to a slot's end.
 pub prefix-part : (below : ℕ) (s : ℤ) (i : ℕ) (h : List Commit) (part : SpanValue) → part ≡ record { start = slot_start below s i; height = below } → within s (slot_start below s (i + 1)) (bag h) ≡ within s (slot_start below s i) (bag h) ++ points_of part.height part.start (bag h)
 prefix-part below s i h part is =
     prefix-next below s i h ∙ ap (λ (u : SpanValue). within s (slot_start below s i) (bag h) ++ points_of u.height u.start (bag h)) (sym is)
@@ -230,7 +230,7 @@ prefix-fewer below s i b place =
     let inside : i * width below ≤ 64 * width below = mul-le-mul_right (width below) place in
     subst (λ x. length x ≤ length (points_of (suc below) s b)) (within-nested s (s +ℤ pos (width (suc below))) s (slot_start below s i) b (omega (arith, ints)) (omega (arith, ints))) (length-filter (is_within s (slot_start below s i)) (points_of (suc below) s b))
 
--- the points up to the last slot's end
+-- The points up to the last slot's end.
 pub prefix-done : (k below : ℕ) (s : ℤ) (i : ℕ) (h : List Commit) → i ≡ 64 → k ≡ suc below → within s (slot_start below s i) (bag h) ≡ points_of k s (bag h)
 prefix-done k below s i h e height =
     ap (λ j. within s (slot_start below s j) (bag h)) e ∙ prefix-all below s h ∙ ap (λ j. points_of j s (bag h)) (sym height)

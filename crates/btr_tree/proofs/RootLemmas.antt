@@ -29,7 +29,7 @@ use Rattle.btr_tree.specs.Root.{TreeValue, IsTree, IsTreeFault}
 pub end-root : FIRST +ℤ pos (width 10) ≡ END
 end-root = ap (λ w. FIRST +ℤ pos w) width-root
 
--- the span of the root
+-- The span of the root.
 abbrev pub root_part : SpanValue
 root_part = record { start = FIRST; height = 10 }
 
@@ -43,7 +43,7 @@ root-aligned = (
   },
 )
 
--- the points of the root's span are all points
+-- The points of the root's span are all points.
 pub root-points : (b : List Point) → AreInDomain b → points_of 10 FIRST b ≡ b
 root-points b h = ap (λ e. within FIRST e b) end-root ∙ within-all FIRST END b h
 
@@ -54,7 +54,7 @@ domain-after h c old new =
 pub tree-count : (h : List Commit) (t : TreeValue) → IsTree h t → t.total.count ≡ length (bag h)
 tree-count h t x = ap (λ u. u.count) x.total ∙ agg-count (bag h)
 
--- the tree after a commit
+-- The tree after a commit.
 pub tree-of : (h : List Commit) (p : Child) (total : AggValue) → AreInDomain (bag h) → IsChild 10 FIRST above_root h p → total ≡ agg (points_of 10 FIRST (bag h)) → total.count ≤ MAX_POINTS → IsTree h (record { node = node_of p; total = total })
 tree-of h p total times holds counted few =
     let all = root-points (bag h) times in
@@ -66,23 +66,23 @@ tree-of h p total times holds counted few =
       few = let count : total.count ≡ length (bag h) = ap (λ u. u.count) is ∙ agg-count (bag h) in omega arith;
     }
 
--- no bottom span is crowded
+-- No bottom span is crowded.
 pub tree-room : (h : List Commit) (p : Child) → AreInDomain (bag h) → IsChild 10 FIRST above_root h p → HasNoCrowdedSpan FIRST END (bag h)
 tree-room h p times holds =
     subst (λ e. HasNoCrowdedSpan FIRST e (bag h)) end-root (subst (HasNoCrowdedSpan FIRST (FIRST +ℤ pos (width 10))) (root-points (bag h) times) (child-room 10 FIRST above_root h p root-aligned holds))
 
--- what is crowded in the root's span is crowded
+-- What is crowded in the root's span is crowded.
 pub root-fault : (h : List Commit) (e : TreeFault) → AreInDomain (bag h) → IsCrowdedFault FIRST (end_of root_part) (points_of 10 FIRST (bag h)) e → IsTreeFault (bag h) e
 root-fault h (Crowded start) times x =
     subst (λ y. IsCrowdedFault FIRST y (bag h) (Crowded start)) end-root (subst (λ b. IsCrowdedFault FIRST (end_of root_part) b (Crowded start)) (root-points (bag h) times) x)
 root-fault h (TooManyPoints count) times x = absurd x
 root-fault h Want times x = tt
 
--- the whole of a commit
+-- The whole of a commit.
 pub root-change : (c : Commit) → AreInDomain c.added → IsChange 10 FIRST c c.cut c.added c.version
 root-change c times = record { number = refl; points = sym (root-points c.added times); times = λ t low high. refl }
 
--- what is known of the whole of a commit where the walk begins
+-- What the walk knows at the root.
 pub record IsRootStep (span : SpanValue) (h : List Commit) (c : Commit) (p : Child) (total : AggValue) (cut : List RangeValue) (given : List Point) : Type 0 where
   pub holds : IsChild span.height span.start above_root h p
   pub counted : total ≡ agg (points_of span.height span.start (bag h))

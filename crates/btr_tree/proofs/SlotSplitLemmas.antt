@@ -18,7 +18,7 @@ use Rattle.btr_tree.specs.Change.{end_of}
 use Rattle.btr_tree.specs.Crowd.{HasNoCrowdedSpan, IsFirstCrowd, IsCrowdedFault}
 use Rattle.btr_tree.proofs.CrowdLemmas.{Whole, span-whole, room-join, room-part, crowd-part}
 
--- the points of a slot, and those behind it, of the points of a span
+-- The points of a slot, and those after it, of the points of a span.
 pub record IsPartedAt (span part : SpanValue) (below i : ℕ) (points here behind : List Point) : Type 0 where
   pub is : part ≡ record { start = slot_start below span.start i; height = below }
   pub has : here ≡ within part.start (end_of part) points
@@ -62,7 +62,7 @@ pub parted-inside : (a b : ℤ) (points here : List Point) → here ≡ within a
 parted-inside a b points here e =
     ap (within a b) e ∙ within-nested a b a b points (omega (arith, ints)) (omega (arith, ints)) ∙ sym e
 
--- the points of a slot are those that the commits leave there
+-- The points of a slot are those that the commits leave there.
 pub parted-same : (span part : SpanValue) (below i : ℕ) (points here behind : List Point) (h : List Commit) → IsPartedAt span part below i points here behind → i < 64 → points ≡ points_of (suc below) span.start (bag h) → here ≡ points_of below (slot_start below span.start i) (bag h)
 parted-same span part below i points here behind h at place same =
     at.has
@@ -70,7 +70,7 @@ parted-same span part below i points here behind h at place same =
     ∙ ap (λ x. points_of below (slot_start below span.start i) x) same
     ∙ points-slot below span.start i (bag h) place
 
--- what is crowded in a slot is the first crowded, where there is none before
+-- The first crowded span of a slot is that of the span if there is none before the slot.
 pub crowding-part : (span part : SpanValue) (below i : ℕ) (points here behind : List Point) (fault : TreeFault) → IsPartedAt span part below i points here behind → HasNoCrowdedSpan span.start (slot_start below span.start i) points → IsCrowdedFault part.start (end_of part) here fault → IsCrowdedFault span.start (end_of span) points fault
 crowding-part span part below i points here behind (Crowded start) at room f =
     let crowd : IsFirstCrowd part.start (end_of part) (within part.start (end_of part) points) start f.0 = subst (λ x. IsFirstCrowd part.start (end_of part) x start f.0) at.has f.1 in

@@ -66,7 +66,7 @@ touches-slot below s i c b place e =
     let kept_slot : list_any (λ p. covered c.cut p.time) (points_of below j b) ≡ false = subst (λ x. list_any (λ p. covered c.cut p.time) x ≡ false) (points-slot below s i b place) (any-filter (λ p. covered c.cut p.time) (is_within j (j +ℤ pos (width below))) (points_of (suc below) s b) kept) in
     ap (λ x. has_points x || list_any (λ p. covered c.cut p.time) (points_of below j b)) added_slot ∙ kept_slot
 
--- a version stays where the commit does not touch the span, and it was what is asked
+-- A version stays if the commit does not touch the span and the version already counted.
 pub last_change-kept : (was : List Point → Bool) (k : ℕ) (s : ℤ) (h : List Commit) (c : Commit) → touches c k s (bag h) ≡ false → was (bag h) ≡ true → last_change was k s (c ∷ h) ≡ last_change was k s h
 last_change-kept was k s h c e w =
     ap (λ t. cond (t || not (was (bag h))) c.version (last_change was k s h)) e ∙ ap (λ t. cond (not t) c.version (last_change was k s h)) w
@@ -123,20 +123,20 @@ child-kept k s above h c p w e x =
 
 -- ---- what a node shows
 
--- the aggregates of its slots can be joined
+-- The aggregates of its slots can be joined.
 pub child-counted : (k : ℕ) (s : ℤ) (above : List Point → Bool) (h : List Commit) (p : Child) → length (points_of k s (bag h)) < 2 ^ 64 → IsChild k s above h p → IsCounted p
 child-counted zero s above h p few x =
     match-weaker (node_of p) _ _ _ _ (λ _. tt) (λ n y. by_kind-weaker _ _ _ _ (out-NodeData n) (λ _ _ _. tt) (λ _ _ _ z. absurd z) y) x
 child-counted (suc k) s above h p few x =
     match-weaker (node_of p) _ _ _ _ (λ _. tt) (λ n y. by_kind-weaker _ _ _ _ (out-NodeData n) (λ _ _ _. tt) (λ v ss cs z. omega (arith, ap (λ u. u.count) (total-of k s h ss cs z.0.all), agg-count (points_of (suc k) s (bag h)))) y) x
 
--- the points of a span after a commit are at most those before and those added
+-- The points of a span after a commit are at most those before and those added.
 pub after-fewer : (k : ℕ) (s : ℤ) (h : List Commit) (c : Commit) → length (points_of k s (bag (c ∷ h))) ≤ length (points_of k s (bag h)) + length (points_of k s c.added)
 after-fewer k s h c =
     let kept = outside-length (points_of k s (bag h)) c.cut in
     omega (arith, ap length (points-after k s c (bag h)), length-sort (outside (points_of k s (bag h)) c.cut ++ points_of k s c.added), length-append (outside (points_of k s (bag h)) c.cut) (points_of k s c.added))
 
--- no bottom span is crowded
+-- No bottom span is crowded.
 room-nothing : (a b : ℤ) (xs : List Point) → xs ≡ [] → HasNoCrowdedSpan a b xs
 room-nothing a b xs e =
     let few : length xs ≡ 0 = ap (length {A = Point}) e in room-few a b xs (omega arith)

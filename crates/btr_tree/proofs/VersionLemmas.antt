@@ -1,4 +1,4 @@
--- Lemmas on the versions that spans carry: what a commit does not touch stays.
+-- Lemmas on the versions of spans: what a commit does not touch stays as it is.
 use Rattle.std.specs.Prelude.{◌≡◌, ℕ, ◌<◌, ◌≤◌, ℤ, pos, ◌+ℤ◌, Bool, true, false, not, ◌||◌, nat_lt, List, [], ◌∷◌, ◌++◌, cond}
 use Rattle.std.specs.List.{list_any}
 use Rattle.std.proofs.Common.{refl, sym, ap, ◌∙◌, arith, append-nil}
@@ -19,7 +19,7 @@ bag-in_order (c ∷ h) = sort-in_order (outside (bag h) c.cut ++ c.added)
 pub points-in_order : (k : ℕ) (s : ℤ) (h : List Commit) → IsInOrder (points_of k s (bag h))
 points-in_order k s h = within-in_order s (s +ℤ pos (width k)) (bag h) (bag-in_order h)
 
--- the points of a span after a commit
+-- The points of a span after a commit.
 pub points-after : (k : ℕ) (s : ℤ) (c : Commit) (b : List Point) → points_of k s (after c b) ≡ sort (outside (points_of k s b) c.cut ++ points_of k s c.added)
 points-after k s c b = within-after s (s +ℤ pos (width k)) b c.cut c.added
 
@@ -34,7 +34,7 @@ outside-uncovered (p ∷ b) rs h =
     let rest : list_any (λ q. covered rs q.time) b ≡ false = grind arith in
     ap (λ t. cond (not t) (p ∷ outside b rs) (outside b rs)) here ∙ ap (λ c. p ∷ c) (outside-uncovered b rs rest)
 
--- what a commit does not touch stays
+-- What a commit does not touch stays.
 pub points-untouched : (k : ℕ) (s : ℤ) (c : Commit) (h : List Commit) → touches c k s (bag h) ≡ false → points_of k s (bag (c ∷ h)) ≡ points_of k s (bag h)
 points-untouched k s c h e =
     let added : has_points (points_of k s c.added) ≡ false = grind arith in
@@ -51,7 +51,7 @@ less-from_test a b h = grind (arith, nat_tests)
 first-false : (a b : Bool) → (a || b) ≡ false → a ≡ false
 first-false a b h = grind arith
 
--- a span has the same points in each version from the one that it carries to the latest
+-- A span has the same points in each version from its own to the latest.
 pub points-since : (was : List Point → Bool) (k : ℕ) (s : ℤ) (h : List Commit) (w : ℕ) → last_change was k s h ≤ w → points_of k s (bag (up_to w h)) ≡ points_of k s (bag h)
 points-since was k s [] w le = refl
 points-since was k s (c ∷ h) w le =

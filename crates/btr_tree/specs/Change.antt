@@ -1,4 +1,4 @@
--- What the parts of the walk that applies a commit have to do with the commit.
+-- What the private functions that apply a commit promise, and the premises that their clauses share.
 use Rattle.std.specs.Prelude.{◌≡◌, ℕ, suc, ◌+◌, ◌<◌, ◌≤◌, ◌^◌, ℤ, pos, ◌+ℤ◌, ◌≤ℤ◌, ◌<ℤ◌, Bool, true, not, ◌||◌, List, ◌∷◌, ◌++◌, length, MatchOption, [], min, ◌-◌}
 use Rattle.btr_base.specs.declared.point.Point.{Point}
 use Rattle.btr_base.specs.Range.{RangeValue, covered}
@@ -14,70 +14,71 @@ use Rattle.btr_tree.specs.NewNodes.{NewNodeValue, concat_first, new_nodes}
 use Rattle.btr_tree.specs.EachHistory.{points_in}
 use Rattle.btr_tree.specs.Shape.{slot_start, node_of, ByKind, IsChild, HasSlots, HasChildren}
 
--- the end of a span
+-- The end of a span.
 abbrev pub end_of : SpanValue → ℤ
 end_of s = s.start +ℤ pos (width s.height)
 
--- the aggregates of slots, joined
+-- The aggregates of slots, joined.
 abbrev pub joined_all : List Slot → AggValue
 joined_all [] = no_points
 joined_all (s ∷ ss) = joined s.agg (joined_all ss)
 
--- the aggregates of a node's slots can be joined
+-- The aggregates of a node's slots can be joined.
 abbrev pub IsCounted : Child → Type 0
 IsCounted child =
     MatchOption (node_of child) (Unit {0}) (λ n. ByKind (λ v ps. Unit {0}) (λ v ss cs. (joined_all ss).count < 2 ^ 64) (out-NodeData n))
 
--- some history is of this place, and its points can be counted with so many more
+-- Some history has this child, and its points in the span can be counted together with `more` others.
 pub record IsSomeChild (height : ℕ) (start : ℤ) (child : Child) (more : ℕ) : Type 0 where
   pub above : List Point → Bool
   pub commits : List Commit
   pub holds : IsChild height start above commits child
   pub few : length (points_of height start (bag commits)) + more < 2 ^ 64
 
--- the same of the slots of an inner node
+-- Some history has these slots and children, and its points in the span can be counted together with `more` others.
 pub record AreSomeSlots (below : ℕ) (start : ℤ) (slots : List Slot) (children : List Child) (more : ℕ) : Type 0 where
   pub commits : List Commit
   pub holds : HasSlots below start commits 64 slots children
   pub each : HasChildren below start commits 64 children
   pub few : length (points_of (suc below) start (bag commits)) + more < 2 ^ 64
 
--- a node of new points in a span: the commit gives them, makes the node, and finds no inner node there if they are many
+-- The points of a span after a commit that makes its node. If they are more than a leaf holds, there was no inner node.
 pub record IsFresh (height : ℕ) (start : ℤ) (above : List Point → Bool) (h : List Commit) (c : Commit) (version : ℕ) (points : List Point) : Type 0 where
   pub number : version ≡ c.version
   pub same : points ≡ points_of height start (bag (c ∷ h))
   pub fresh : (touches c height start (bag h) || not (is_node above height start (bag h))) ≡ true
   pub small : LEAF_POINTS < length points → length (points_of height start (bag h)) ≤ LEAF_POINTS
 
--- the part of a commit that is in a span
+-- The part of a commit that is in a span.
 pub record IsChange (height : ℕ) (start : ℤ) (c : Commit) (cut : List RangeValue) (added : List Point) (version : ℕ) : Type 0 where
   pub number : version ≡ c.version
   pub points : added ≡ points_of height start c.added
   pub times : (t : ℤ) → start ≤ℤ t → t <ℤ (start +ℤ pos (width height)) → covered cut t ≡ covered c.cut t
 
--- a leaf with these points, an inner node with these slots
+-- The child is a leaf of this version with these points.
 abbrev pub IsLeafOf : ℕ → List Point → Child → Type 0
 IsLeafOf version points child =
     MatchOption (node_of child) ⊥ (λ n. ByKind (λ v ps. (v ≡ version) × (ps ≡ points)) (λ v ss cs. ⊥) (out-NodeData n))
 
+-- The child is an inner node of this version with these slots and children.
 abbrev pub IsInnerOf : ℕ → List Slot → List Child → Child → Type 0
 IsInnerOf version slots children child =
     MatchOption (node_of child) ⊥ (λ n. ByKind (λ v ps. ⊥) (λ v ss cs. (v ≡ version) × (ss ≡ slots) × (cs ≡ children)) (out-NodeData n))
 
--- the counter rose by the number of nodes that were appended, up to the end of its type
+-- The counter rose by the number of nodes that were appended, up to the end of its type.
 pub record CountsNodes (before after : ℕ) (old new : List NewNodeValue) : Type 0 where
   pub grows : length old ≤ length new
   pub none : length new ≡ length old → after ≡ before
   pub some : length old < length new → after ≡ min (before + (length new - length old)) 18446744073709551615
 
--- the points of a span, of which a commit makes an inner node
+-- The points of a span that was no inner node before a commit and is one after it.
 pub record IsSplit (below : ℕ) (span : SpanValue) (h : List Commit) (c : Commit) (version : ℕ) (points : List Point) : Type 0 where
   pub height : span.height ≡ suc below
   pub number : version ≡ c.version
   pub same : points ≡ points_of (suc below) span.start (bag (c ∷ h))
   pub few : length (points_of (suc below) span.start (bag h)) ≤ LEAF_POINTS
 
--- some history is of this place and this slot, and the points can be counted with so many more
+-- Some history has this slot and child, and its points in the span can be counted together with `more` others.
 pub record IsSomeSlot (height : ℕ) (start : ℤ) (slot : Slot) (child : Child) (more : ℕ) : Type 0 where
   pub above : List Point → Bool
   pub commits : List Commit
@@ -85,12 +86,12 @@ pub record IsSomeSlot (height : ℕ) (start : ℤ) (slot : Slot) (child : Child)
   pub counted : slot.agg ≡ agg (points_of height start (bag commits))
   pub few : length (points_of height start (bag commits)) + more < 2 ^ 64
 
--- a slot of a span as commits leave it, by what its version asks of the span above
+-- The slot of a span after commits. Its version counts from the commit that made the span above an inner node.
 abbrev pub slot_at : (List Point → Bool) → ℕ → ℤ → List Commit → Slot
 slot_at was height start h =
     record { agg = agg (points_of height start (bag h)); version = last_change was height start h; child = 0 }
 
--- the span of an inner node, and the part of a commit that is in it
+-- An inner node of a history, and the part of a commit that is in its span.
 pub record IsApplied (below : ℕ) (span : SpanValue) (h : List Commit) (c : Commit) (cut : List RangeValue) (added : List Point) (version : ℕ) (slots : List Slot) (children : List Child) : Type 0 where
   pub height : span.height ≡ suc below
   pub many : LEAF_POINTS < length (points_of (suc below) span.start (bag h))
@@ -100,28 +101,30 @@ pub record IsApplied (below : ℕ) (span : SpanValue) (h : List Commit) (c : Com
 
 -- ---- premises that the clauses of the walk share
 
--- P holds for each history and commit after which the span has these points
+-- P holds for each history and commit after which the span has these points.
 abbrev pub AtEachFresh : SpanValue → ℕ → List Point → ((List Point → Bool) → List Commit → Commit → Type 0) → Type 0
 AtEachFresh span version points P =
     (above : List Point → Bool) (h : List Commit) (c : Commit)
     → IsFresh span.height span.start above h c version points
     → P above h c
 
--- P holds for each history and commit that makes the span an inner node of these points
+-- P holds for each history and commit that makes the span an inner node of these points.
 abbrev pub AtEachSplit : SpanValue → ℕ → List Point → (ℕ → List Commit → Commit → Type 0) → Type 0
 AtEachSplit span version points P =
     (below : ℕ) (h : List Commit) (c : Commit) → IsSplit below span h c version points → P below h c
 
--- P holds for each history that the child belongs to, and each commit with this part in the span
-abbrev pub AtEachCommit : SpanValue → Child → List RangeValue → List Point → ℕ → ((List Point → Bool) → List Commit → Commit → Type 0) → Type 0
+-- P holds for each history that the child belongs to, and each commit with this part in the span.
+abbrev pub AtEachCommit : SpanValue → Child → List RangeValue → List Point → ℕ
+    → ((List Point → Bool) → List Commit → Commit → Type 0) → Type 0
 AtEachCommit span child cut added version P =
     (above : List Point → Bool) (h : List Commit) (c : Commit)
     → IsChild span.height span.start above h child
     → IsChange span.height span.start c cut added version
     → P above h c
 
--- P holds for each history that the slot belongs to, below an inner node, and each commit with this part in the span
-abbrev pub AtEachSlotCommit : SpanValue → Slot → Child → List RangeValue → List Point → ℕ → ((List Point → Bool) → List Commit → Commit → Type 0) → Type 0
+-- P holds for each history that the slot belongs to, below an inner node, and each commit with this part in the span.
+abbrev pub AtEachSlotCommit : SpanValue → Slot → Child → List RangeValue → List Point → ℕ
+    → ((List Point → Bool) → List Commit → Commit → Type 0) → Type 0
 AtEachSlotCommit span slot child cut added version P =
     (above : List Point → Bool) (h : List Commit) (c : Commit)
     → above (bag h) ≡ true
@@ -130,14 +133,15 @@ AtEachSlotCommit span slot child cut added version P =
     → IsChange span.height span.start c cut added version
     → P above h c
 
--- P holds for each history that the inner node belongs to, and each commit with this part in the span
-abbrev pub AtEachInnerCommit : SpanValue → List Slot → List Child → List RangeValue → List Point → ℕ → (ℕ → List Commit → Commit → Type 0) → Type 0
+-- P holds for each history that the inner node belongs to, and each commit with this part in the span.
+abbrev pub AtEachInnerCommit : SpanValue → List Slot → List Child → List RangeValue → List Point → ℕ
+    → (ℕ → List Commit → Commit → Type 0) → Type 0
 AtEachInnerCommit span slots children cut added version P =
     (below : ℕ) (h : List Commit) (c : Commit)
     → IsApplied below span h c cut added version slots children
     → P below h c
 
--- the nodes that a commit writes below an inner node
+-- The nodes that a commit writes below an inner node.
 abbrev pub new_below : ℕ → ℤ → List Commit → ℕ → List NewNodeValue
 new_below below start h version =
     concat_first 64 (λ i. new_nodes below (slot_start below start i) (is_inner (suc below) start) h version)

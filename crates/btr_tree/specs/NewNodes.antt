@@ -1,4 +1,4 @@
--- The nodes of a tree that carry a version, children before parents.
+-- The nodes of a tree that have a version, children before parents: those that a commit writes.
 use Rattle.std.specs.Prelude.{ℕ, zero, suc, ℤ, Bool, ◌&&◌, nat_eq, List, [], ◌∷◌, ◌++◌, if◌then◌else◌}
 use Rattle.btr_base.specs.declared.point.Point.{Point}
 use Rattle.btr_tree.specs.declared.node.Slot.{Slot}
@@ -7,26 +7,31 @@ use Rattle.btr_base.specs.Span.{SpanValue}
 use Rattle.btr_tree.specs.Nodes.{points_of, is_inner, is_node, node_version}
 use Rattle.btr_tree.specs.Shape.{slot_start, slot_of_points}
 
--- a node's span and version; a leaf's points; an inner node's slots
+-- A node: its span and version, the points of a leaf, the slots of an inner node.
 pub record NewNodeValue : Type 0 where
   pub span : SpanValue
   pub version : ℕ
   pub points : List Point
   pub slots : List Slot
 
--- the first lists of a sequence, so many, one after the other
+-- The first n lists of a sequence, one after the other.
 abbrev pub concat_first : {X : Type 0} → ℕ → (ℕ → List X) → List X
 concat_first zero f = []
 concat_first (suc n) f = concat_first n f ++ f n
 
--- the 64 slots of a span
+-- The 64 slots of a span.
 abbrev pub slots_of : ℕ → ℤ → List Commit → List Slot
 slots_of below start h = concat_first 64 (λ i. slot_of_points (suc below) start below (slot_start below start i) h ∷ [])
 
--- a leaf has its points, and an inner node its slots
+-- The node of a span: a leaf has its points, and an inner node its slots.
 abbrev pub new_node : ℕ → ℤ → (List Point → Bool) → List Commit → NewNodeValue
 new_node zero start above h =
-    record { span = record { start = start; height = zero }; version = node_version above zero start h; points = points_of zero start (bag h); slots = [] }
+    record {
+      span = record { start = start; height = zero };
+      version = node_version above zero start h;
+      points = points_of zero start (bag h);
+      slots = [];
+    }
 new_node (suc below) start above h =
     record {
       span = record { start = start; height = suc below };
@@ -35,14 +40,16 @@ new_node (suc below) start above h =
       slots = if is_inner (suc below) start (bag h) then slots_of below start h else [];
     }
 
--- the span's own node, where it is one and carries the version
+-- The node of the span itself, if it is a node and has the version.
 abbrev pub own_node : ℕ → ℤ → (List Point → Bool) → List Commit → ℕ → List NewNodeValue
 own_node height start above h version =
-    if is_node above height start (bag h) && nat_eq (node_version above height start h) version then new_node height start above h ∷ [] else []
+    if is_node above height start (bag h) && nat_eq (node_version above height start h) version
+    then new_node height start above h ∷ [] else []
 
--- the nodes in a span that carry the version, children before parents and in order of time
+-- The nodes in a span that have the version, children before parents and in order of time.
 abbrev pub new_nodes : ℕ → ℤ → (List Point → Bool) → List Commit → ℕ → List NewNodeValue
 new_nodes zero start above h version = own_node zero start above h version
 new_nodes (suc below) start above h version =
-    (if is_inner (suc below) start (bag h) then concat_first 64 (λ i. new_nodes below (slot_start below start i) (is_inner (suc below) start) h version) else [])
+    (if is_inner (suc below) start (bag h)
+    then concat_first 64 (λ i. new_nodes below (slot_start below start i) (is_inner (suc below) start) h version) else [])
     ++ own_node (suc below) start above h version

@@ -1,4 +1,4 @@
--- Which spans are nodes of a version, and which versions they and their slots carry: over a stream's commits as plain lists.
+-- Which spans are nodes of a tree, and the versions of nodes and slots. All is said over the commits as plain lists.
 --
 -- A span is given by its height and its first time.
 use Rattle.std.specs.Prelude.{ℕ, ℤ, pos, ◌+ℤ◌, Bool, true, false, not, ◌&&◌, ◌||◌, nat_lt, List, [], ◌∷◌, length, if◌then◌else◌}
@@ -10,48 +10,48 @@ use Rattle.btr_base.specs.Span.{width}
 use Rattle.btr_base.specs.declared.limits.TheConstants.{LEAF_POINTS}
 use Rattle.btr_tree.specs.History.{Commit, bag}
 
--- the points of a span
+-- The points of a span.
 abbrev pub points_of : ℕ → ℤ → List Point → List Point
 points_of height start b = within start (start +ℤ pos (width height)) b
 
--- there is a point
+-- There is a point.
 abbrev pub has_points : List Point → Bool
 has_points [] = false
 has_points (p ∷ ps) = true
 
--- the commit adds a point in the span, or its cut covers a point that is there
+-- The commit adds a point in the span, or its cut covers a point that is there.
 abbrev pub touches : Commit → ℕ → ℤ → List Point → Bool
 touches c height start b =
     has_points (points_of height start c.added) || list_any (λ p. covered c.cut p.time) (points_of height start b)
 
--- a span with more points than a leaf holds is an inner node
+-- A span with more points than a leaf holds is an inner node.
 abbrev pub is_inner : ℕ → ℤ → List Point → Bool
 is_inner height start b = nat_lt LEAF_POINTS (length (points_of height start b))
 
--- a span is a node where it has a point and the span above it is an inner node
+-- A span is a node if it has a point and the span above it is an inner node.
 abbrev pub is_node : (List Point → Bool) → ℕ → ℤ → List Point → Bool
 is_node above height start b = above b && has_points (points_of height start b)
 
--- nothing is above the root
+-- No span is above the root.
 abbrev pub above_root : List Point → Bool
 above_root b = true
 
--- the version of the newest commit that touches the span, or before which `was` did not hold
+-- The version of the newest commit that touches the span, or before which `counts_from` did not hold.
 abbrev pub last_change : (List Point → Bool) → ℕ → ℤ → List Commit → ℕ
-last_change was height start [] = 0
-last_change was height start (c ∷ h) =
-    if touches c height start (bag h) || not (was (bag h)) then c.version else last_change was height start h
+last_change counts_from height start [] = 0
+last_change counts_from height start (c ∷ h) =
+    if touches c height start (bag h) || not (counts_from (bag h)) then c.version else last_change counts_from height start h
 
--- the version that a node carries: that of the newest commit that touches its span, or before which the span was no node
+-- The version of a node: that of the newest commit that touches its span, or before which the span was no node.
 abbrev pub node_version : (List Point → Bool) → ℕ → ℤ → List Commit → ℕ
 node_version above height start h = last_change (is_node above height start) height start h
 
--- the version that a slot carries: that of the newest commit that touches it, or before which the span above, of which it is a part, was no inner node
+-- The version of a slot: that of the newest commit that touches it, or before which the span above it was no inner node.
 abbrev pub slot_version : ℕ → ℤ → ℕ → ℤ → List Commit → ℕ
 slot_version above_height above_start height start h =
     last_change (is_inner above_height above_start) height start h
 
--- the commits up to a version
+-- The commits up to a version.
 abbrev pub up_to : ℕ → List Commit → List Commit
 up_to version [] = []
 up_to version (c ∷ h) = if nat_lt version c.version then up_to version h else c ∷ h

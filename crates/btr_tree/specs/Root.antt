@@ -1,4 +1,4 @@
--- Trees of a stream's commits, and why a commit is not applied.
+-- The tree of a stream's commits, and why a commit is not applied.
 use Rattle.std.specs.Prelude.{◌≡◌, ℕ, ◌<◌, ◌≤◌, List, [], length, Option, MatchOption}
 use Rattle.btr_base.specs.declared.point.Point.{Point}
 use Rattle.btr_base.specs.Point.{AreInDomain}
@@ -13,29 +13,29 @@ use Rattle.btr_tree.specs.Nodes.{points_of, above_root}
 use Rattle.btr_tree.specs.Shape.{IsNodeData}
 use Rattle.btr_tree.specs.Crowd.{HasNoCrowdedSpan, IsFirstCrowd}
 
--- a tree: the node of the whole domain, if there is a point, and what is said of all points
+-- A tree: the node of the whole domain, if there is a point, and the aggregate of all points.
 pub record TreeValue : Type 0 where
   pub node : Option NodeData
   pub total : AggValue
 
--- the tree is that of the points after the commits, at most as many as a version can have
+-- The tree is that of the points after the commits, and they are at most as many as a version can have.
 pub record IsTree (h : List Commit) (t : TreeValue) : Type 0 where
   pub node : MatchOption t.node (points_of ROOT_HEIGHT FIRST (bag h) ≡ []) (λ n. IsNodeData ROOT_HEIGHT FIRST above_root h n)
   pub total : t.total ≡ agg (bag h)
   pub times : AreInDomain (bag h)
   pub few : length (bag h) ≤ MAX_POINTS
 
--- why no version has these points: the first crowded bottom span, or where there is none, too many points; or want of memory
+-- Why no version has these points: the first crowded bottom span; or else too many points; or out of memory.
 abbrev pub IsTreeFault : List Point → TreeFault → Type 0
 IsTreeFault b (Crowded start) = (place : ℕ) × IsFirstCrowd FIRST END b start place
 IsTreeFault b (TooManyPoints count) = (count ≡ length b) × (MAX_POINTS < count) × HasNoCrowdedSpan FIRST END b
 IsTreeFault b Want = Unit {0}
 
--- P holds for each list of commits that the tree is of
+-- P holds for each list of commits whose tree this is.
 abbrev pub AtEachTree : TreeValue → (List Commit → Type 0) → Type 0
 AtEachTree t P = (h : List Commit) → IsTree h t → P h
 
--- P holds for each list of commits that the tree is of, and this commit after them
+-- P holds for each list of commits whose tree this is, and this commit after them.
 abbrev pub AfterCommit : TreeValue → ℕ → List RangeValue → List Point → (List Commit → Commit → Type 0) → Type 0
 AfterCommit t version cut added P =
     (h : List Commit) → IsTree h t → P h (record { version = version; cut = cut; added = added })

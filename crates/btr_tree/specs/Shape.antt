@@ -14,15 +14,15 @@ use Rattle.btr_tree.specs.declared.node.Slot.{Slot}
 use Rattle.btr_tree.specs.History.{Commit, bag}
 use Rattle.btr_tree.specs.Nodes.{points_of, is_inner, node_version, slot_version}
 
--- the node of a link, if there is one
+-- The node of a link, if there is one.
 abbrev pub node_of : Child → Option NodeData
 node_of child = option_map (λ a. a.value) (out-Child child).node
 
--- where a slot of this height begins
+-- The start of a slot of this height.
 abbrev pub slot_start : ℕ → ℤ → ℕ → ℤ
 slot_start height start i = start +ℤ pos (i * width height)
 
--- what a slot says of its span
+-- The slot of a span: its aggregate and its version.
 abbrev pub slot_of_points : ℕ → ℤ → ℕ → ℤ → List Commit → Slot
 slot_of_points above begin height start h =
     record {
@@ -31,60 +31,65 @@ slot_of_points above begin height start h =
       child = 0;
     }
 
--- a leaf has the span's points, at least one and few, and its version
+-- A leaf has the points of its span, which are at least one and at most 252, and its version.
 pub record IsLeaf (height : ℕ) (start : ℤ) (above : List Point → Bool) (h : List Commit) (carried : ℕ) (points : List Point) : Type 0 where
   pub same : points ≡ points_of height start (bag h)
   pub some : 0 < length points
   pub few : length points ≤ LEAF_POINTS
   pub version : carried ≡ node_version above height start h
 
--- the first of 64 slots, so many, each of which says what its span has
+-- The first n slots of a span, each of which is the slot of its own span.
 pub record HasSlots (below : ℕ) (start : ℤ) (h : List Commit) (n : ℕ) (slots : List Slot) (children : List Child) : Type 0 where
   pub slots_length : length slots ≡ n
   pub children_length : length children ≡ n
-  pub each : (i : ℕ) (d : Slot) → i < n → slice_index_or slots i d ≡ slot_of_points (suc below) start below (slot_start below start i) h
+  pub each : (i : ℕ) (d : Slot) → i < n
+      → slice_index_or slots i d ≡ slot_of_points (suc below) start below (slot_start below start i) h
 
--- the span of an inner node has many points, and 64 slots
+-- An inner node has more points than a leaf holds, 64 slots, and its version.
 pub record IsInner (below : ℕ) (start : ℤ) (above : List Point → Bool) (h : List Commit) (carried : ℕ) (slots : List Slot) (children : List Child) : Type 0 where
   pub many : LEAF_POINTS < length (points_of (suc below) start (bag h))
   pub version : carried ≡ node_version above (suc below) start h
   pub all : HasSlots below start h 64 slots children
 
--- a fact for a leaf's version and points, and one for an inner node's version, slots and children
+-- A fact on the version and points of a leaf, and one on the version, slots and children of an inner node.
 abbrev pub ByKind : (ℕ → List Point → Type 0) → (ℕ → List Slot → List Child → Type 0) → NodeData-F NodeData Child → Type 0
 ByKind leaf inner (NodeData-F.Leaf version points) = leaf version points.items
 ByKind leaf inner (NodeData-F.Inner version slots children) = inner version slots.items children.items
 
--- a node in memory is that of a span after commits, and so is each below it; a slot without a point has no child
+-- A node in memory is that of a span after commits, and so is each node below it. A slot without a point has no child.
 abbrev pub IsNodeData : ℕ → ℤ → (List Point → Bool) → List Commit → NodeData → Type 0
 IsNodeData zero start above h n =
     ByKind (λ v ps. IsLeaf zero start above h v ps) (λ v ss cs. ⊥) (out-NodeData n)
 IsNodeData (suc below) start above h n =
     ByKind (λ v ps. IsLeaf (suc below) start above h v ps) (λ v ss cs.
     IsInner below start above h v ss cs
-    × ((i : ℕ) (d : Child) → i < 64 → MatchOption (node_of (slice_index_or cs i d)) (points_of below (slot_start below start i) (bag h) ≡ []) (λ m. IsNodeData below (slot_start below start i) (is_inner (suc below) start) h m))) (out-NodeData n)
+    × ((i : ℕ) (d : Child) → i < 64 → MatchOption (node_of (slice_index_or cs i d))
+    (points_of below (slot_start below start i) (bag h) ≡ [])
+    (λ m. IsNodeData below (slot_start below start i) (is_inner (suc below) start) h m))) (out-NodeData n)
 
--- there is no node where the span has no point
+-- A link is that of a span after commits. There is no node if the span has no point.
 abbrev pub IsChild : ℕ → ℤ → (List Point → Bool) → List Commit → Child → Type 0
 IsChild height start above h child =
     MatchOption (node_of child) (points_of height start (bag h) ≡ []) (λ n. IsNodeData height start above h n)
 
--- the children of the first slots, so many
+-- The links of the first n slots of a span.
 abbrev pub HasChildren : ℕ → ℤ → List Commit → ℕ → List Child → Type 0
 HasChildren below start h n cs =
     (i : ℕ) (d : Child) → i < n → IsChild below (slot_start below start i) (is_inner (suc below) start) h (slice_index_or cs i d)
 
--- a node that was visited is that of a span after commits
+-- A node that was visited is that of a span after commits.
 abbrev pub IsNode : ℕ → ℤ → (List Point → Bool) → List Commit → Node → Type 0
 IsNode height start above h (Leaf version points) = IsLeaf height start above h version points.now
 IsNode zero start above h (Inner version slots children) = ⊥
 IsNode (suc below) start above h (Inner version slots children) =
     IsInner below start above h version slots.now children.now × HasChildren below start h 64 children.now
 
--- a visit of a link: the span's node, which is one step, or none if the span has no point
+-- A visit of a link returns the span's node and counts one step, or returns none and counts none if the span has no point.
 pub record IsVisit (child : Child) (result : Option Node) (before after : ℕ) : Type 0 where
-  pub none : IsNone result → (height : ℕ) (start : ℤ) (above : List Point → Bool) (h : List Commit) → IsChild height start above h child → points_of height start (bag h) ≡ []
-  pub node : IfSome result (λ n. (height : ℕ) (start : ℤ) (above : List Point → Bool) (h : List Commit) → IsChild height start above h child → IsNode height start above h n)
+  pub none : IsNone result → (height : ℕ) (start : ℤ) (above : List Point → Bool) (h : List Commit)
+      → IsChild height start above h child → points_of height start (bag h) ≡ []
+  pub node : IfSome result (λ n. (height : ℕ) (start : ℤ) (above : List Point → Bool) (h : List Commit)
+      → IsChild height start above h child → IsNode height start above h n)
   pub free : IsNone result → after ≡ before
   pub counted : IsSome result → after ≡ min (before + 1) 18446744073709551615
   pub at_most : after ≤ before + 1

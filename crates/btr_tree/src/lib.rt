@@ -1,15 +1,16 @@
 //! The versioned tree over time of one stream (BTrDB, FAST 2016).
 //!
-//! A [`Tree`] has the points of one version, and [`Tree::apply`] makes the tree of the next from a cut and added points.
-//! A span of time with few points is a leaf, one with more is an inner node, which keeps of each of its 64 slots the
-//! aggregate, the version and the child. What a commit does not touch is shared between the versions, which stay
-//! readable from any thread.
+//! A [`Tree`] has the points of one version. [`Tree::apply`] makes the tree of the next version from a cut and added points.
+//! A span of time with at most 252 points is a leaf. A span with more is an inner node, which keeps the aggregate, the
+//! version and the child of each of its 64 slots. Versions share what a commit does not touch, and any thread can read them.
 //!
-//! Which spans are nodes of a version, and which versions they and their slots carry, is said over the commits as plain
-//! lists. It knows no bytes, no device and no other stream.
+//! Links to nodes are opaque: [`visit`] is the only way to a node, and it counts each node in a [`Steps`].
+//!
+//! The definitions say over the commits as plain lists which spans are nodes, and the versions of nodes and slots. The crate
+//! knows no bytes, no device and no other stream.
 #![tactic(auto)]
 
-// the shape
+// nodes and their counter
 mod new_node;
 mod node;
 mod root;
@@ -24,7 +25,7 @@ mod outside;
 mod apply;
 mod build;
 mod tree;
-// what the definitions entail
+// theorems on the definitions
 mod laws;
 
 pub use fault::TreeFault;

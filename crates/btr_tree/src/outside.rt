@@ -79,7 +79,8 @@ pub(crate) fn count_outside_slot(
 ) -> Result<u64, AllocError>
     requires some { IsSomeChild span.height span.start child.now 0 }
     requires cut { IsCut cut.now }
-    ensures { IfOk result (λ n. AtEachHistory span child.now (λ h. count ≡ length (points_in span (bag h)) → n ≡ length (outside (points_in span (bag h)) cut.now))) }
+    ensures { IfOk result (λ n. AtEachHistory span child.now (λ h.
+        count ≡ length (points_in span (bag h)) → n ≡ length (outside (points_in span (bag h)) cut.now))) }
 {
     let here = ranges_before(ranges_from(cut, span.start), span.end());
     if here.is_empty() {

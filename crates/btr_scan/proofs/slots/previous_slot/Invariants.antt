@@ -2,7 +2,7 @@ use Rattle.std.proofs.Common.{◌≡◌, ℕ, ◌<◌, ◌≤◌, get_or}
 use Rattle.btr_tree.specs.declared.node.Slot.{Slot}
 use Rattle.btr_scan.proofs.slots.previous_slot.Given as goal
 
--- no slot that was seen has a point
+-- No slot that was seen has a point.
 abbrev pub invariant-loop-i : goal.invariant-loop-i
 invariant-loop-i l = record {
   place : l.i ≤ l.to;

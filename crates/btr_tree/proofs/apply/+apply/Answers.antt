@@ -31,7 +31,7 @@ use Rattle.btr_tree.proofs.apply.+apply.Goals as goal
 err-weaker : {X Y : Type 0} (r : Result X Y) (P Q : Y → Type 0) → ((y : Y) → P y → Q y) → IfErr r P → IfErr r Q
 err-weaker r P Q f h = MatchResult-weaker r h (λ x y. y) f
 
--- what is made of the points of a span after a commit
+-- What is made of the points of a span after a commit.
 in-order : (points all : List Point) → all ≡ sort points → IsInOrder all
 in-order points all e = subst IsInOrder (sym e) (sort-in_order points)
 
@@ -91,7 +91,7 @@ apply_inner-returns-clause-child t c below h commit applied above touched =
     let made = c.in_ok-new_slots.ensures.slots below h commit applied in
     inner-child_on span.height below span.start above h commit c.args.version c.in_ok-new_slots.new_slots.items c.in_ok-new_slots.new_children.items c.in_ok-push_inner.field-0 applied.height change.number touched (omega arith) made.0 made.1 c.in_ok-push_inner.ensures.child
 
--- ---- a place
+-- ---- a child
 
 pub apply_child-changed-requires-clause-points : goal.apply_child-changed-requires-clause-points
 apply_child-changed-requires-clause-points t c =
@@ -347,7 +347,7 @@ apply_slots-loop-i-preserved t c =
           room-more span part below i (points_of (suc below) span.start (bag (commit ∷ h))) (points_of part.height part.start (bag (commit ∷ h))) _ after (c.loop-i.invariant.room below h commit applied) room;
     }
 
--- ---- the nodes that are told
+-- ---- the nodes that are written
 
 pub apply_slot-returns-then-branch-clause-nodes : goal.apply_slot-returns-then-branch-clause-nodes
 apply_slot-returns-then-branch-clause-nodes t c was h commit w holds counted change now some before =

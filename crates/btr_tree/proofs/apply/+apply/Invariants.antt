@@ -9,7 +9,7 @@ use Rattle.btr_tree.specs.NewNodes.{concat_first, new_nodes}
 use Rattle.btr_tree.specs.Crowd.{HasNoCrowdedSpan}
 use Rattle.btr_tree.proofs.apply.+apply.Given as goal
 
--- the slots so far are those after the commit, and no bottom span of theirs is crowded
+-- The slots so far are those after the commit, and no bottom span of theirs is crowded.
 abbrev pub invariant-apply_slots-loop-i : goal.invariant-apply_slots-loop-i
 invariant-apply_slots-loop-i l = record {
   rest : (below : ℕ) → l.span.height ≡ suc below → l.rest ≡ within (slot_start below l.span.start l.i) (end_of l.span) l.added;

@@ -9,7 +9,7 @@ use Rattle.btr_tree.specs.NewNodes.{concat_first, new_nodes}
 use Rattle.btr_tree.specs.Crowd.{HasNoCrowdedSpan}
 use Rattle.btr_tree.proofs.build.+build.Given as goal
 
--- the slots that were made are those of the points before the next one
+-- The slots that were made are those of the points before the next one.
 abbrev pub invariant-build_slots-loop-i : goal.invariant-build_slots-loop-i
 invariant-build_slots-loop-i l = record {
   rest : (below : ℕ) → l.span.height ≡ suc below → l.rest ≡ within (slot_start below l.span.start l.i) (end_of l.span) l.points;

@@ -4,7 +4,7 @@ use Rattle.btr_tree.specs.History.{Commit, bag}
 use Rattle.btr_tree.specs.Shape.{HasSlots, HasChildren, slot_start}
 use Rattle.btr_tree.proofs.outside.+count.Given as goal
 
--- how many points of the slots so far the cut leaves
+-- How many points of the slots so far the cut leaves.
 abbrev pub invariant-count_outside_slots-loop-i : goal.invariant-count_outside_slots-loop-i
 invariant-count_outside_slots-loop-i l = (below : ℕ) (h : List Commit) → l.span.height ≡ suc below → HasSlots below l.span.start h 64 l.slots l.children → HasChildren below l.span.start h 64 l.children → l.left ≡ length (outside (within l.span.start (slot_start below l.span.start l.i) (bag h)) l.cut)
 
