@@ -1,10 +1,9 @@
 #!/usr/bin/env bash
 # The commands of the documents, as they are printed.
 #
-# A fenced code block that begins with ```console holds commands and their output. A line that begins with `$ ` is a
-# command. Lines that follow it and begin with `> ` are more of it, as those of a here-document. All other lines are
-# what the command writes. The commands of one document run in order, in one shell and one folder, with `btr_run` on the
-# PATH.
+# A fenced block that begins with ```sh holds commands; the block that begins with ```text after it, with only blank lines
+# between, holds what they write. The pairs of one document run in order, in one folder, with `btr_run` on the PATH. A
+# block of commands without such output is not run.
 # shellcheck source=checks/common.sh
 . "$(dirname "$0")/common.sh"
 
@@ -12,44 +11,31 @@ mkdir bin
 ln -s "$program" bin/btr_run
 PATH=$folder/bin:$PATH
 
-# Cuts the blocks of a document into files: for command N its text in N.command and its output in N.wanted.
-cut_commands() {
+# Cuts the pairs of a document into files: for pair N its commands in N.command and its output in N.wanted.
+cut_pairs() {
     awk -v to="$2/" '
-        /^```console[ \t]*$/ { inside = 1; begun = 0; next }
-        /^```[ \t]*$/ { inside = 0; next }
-        !inside { next }
-        /^\$ / { n++; begun = 1; text = to n ".command"; wanted = to n ".wanted"
-                 print substr($0, 3) >text; printf "" >wanted; output = 0; next }
-        !begun { print "a block begins with no command: " $0 >(to "wrong"); next }
-        /^> / && !output { print substr($0, 3) >text; next }
-        /^>$/ && !output { print "" >text; next }
-        { output = 1; print >wanted }' "$1"
+        /^```sh[ \t]*$/ { kind = "sh"; held = ""; next }
+        /^```text[ \t]*$/ { kind = have ? "text" : "skip"; if (have) { n++; printf "%s", held >(to n ".command"); printf "" >(to n ".wanted") } next }
+        /^```[ \t]*$/ && kind != "" { have = (kind == "sh"); kind = ""; next }
+        kind == "sh" { held = held $0 "\n"; next }
+        kind == "text" { print >(to n ".wanted"); next }
+        kind == "" && !/^[ \t]*$/ { have = 0 }' "$1"
 }
 
-# Runs the commands of a document, and checks what each writes: PAGE NAME.
-run_commands() {
+# Runs the pairs of a document, and checks what each writes: PAGE NAME.
+run_pairs() {
     local cut=$folder/$2.cut n=1 title
     mkdir "$cut" "$folder/$2.run"
-    cut_commands "$1" "$cut"
-    if [ -s "$cut/wrong" ]; then
-        expect "$2" "$(cat "$cut/wrong")" ''
-    fi
-    (
-        cd "$folder/$2.run" || exit 1
-        while [ -f "$cut/$n.command" ]; do
-            title="$2: $(head -n 1 "$cut/$n.command" | cut -c 1-80)"
-            eval "$(cat "$cut/$n.command")" >"$cut/$n.found" 2>&1 </dev/null
-            expect "$title" "$(cat "$cut/$n.found")" "$(cat "$cut/$n.wanted")"
-            n=$((n + 1))
-        done
-    )
+    cut_pairs "$1" "$cut"
+    cd "$folder/$2.run" || exit 1
+    while [ -f "$cut/$n.command" ]; do
+        title="$2: $(head -n 1 "$cut/$n.command" | cut -c 1-80)"
+        sh "$cut/$n.command" >"$cut/$n.found" 2>&1 </dev/null
+        expect "$title" "$(cat "$cut/$n.found")" "$(cat "$cut/$n.wanted")"
+        n=$((n + 1))
+    done
+    cd "$folder" || exit 1
+    [ $n -gt 1 ] || skip "$2" 'it has no block of commands with their output'
 }
 
-for page in "$top"/README.md "$top"/docs/*.md; do
-    name=$(basename "$page")
-    if grep -q '^```console[[:space:]]*$' "$page"; then
-        run_commands "$page" "$name"
-    elif [ "$name" = README.md ]; then
-        skip 'README.md' 'it has no block of commands'
-    fi
-done
+run_pairs "$top/README.md" README.md
