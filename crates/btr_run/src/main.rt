@@ -4,8 +4,8 @@
 
 ghost use Rattle.std.specs.Prelude.{◌≡◌, ◌↔◌, map, string_bytes, Some};
 ghost use Rattle.btr_host.specs.declared.file_disk.Lock.TheVariants.{Shared};
-ghost use Rattle.btr_top.specs.Words.{command_of};
-ghost use Rattle.btr_top.specs.declared.words.Command.TheVariants.{Ask};
+ghost use Rattle.btr_top.specs.Command.{command_of};
+ghost use Rattle.btr_top.specs.declared.command.Command.TheVariants.{Ask};
 
 use btr_host::{FileDisk, Lock, NoDisk, StdSink, StdSource};
 use btr_top::{Command, read_words, run};

@@ -1,18 +1,19 @@
 -- why a format ends so
-mod Formats
--- what lines do to a store
-mod Replies
-mod Prefixes
-mod Leaving
-mod Lives
-mod Openings
+mod FormatCauses
+-- what lines do to a store, and to an engine
+mod StoppedStores
+mod KeptOpening
+mod ScriptLemmas
 mod Legality
--- why a script ends so
-mod Opened
-mod Asked
--- where nothing fails
-mod Room
-mod Mild
-mod Completes
-mod Answering
+-- what a crash leaves
+mod Prefixes
+mod Crashes
+-- why a command ends so
+mod OpenedStore
+mod AskedLines
+-- if nothing fails
+mod BlocksNeeded
+mod BenignStatuses
+mod LiveCompletes
+mod AskCompletes
 mod Meanings

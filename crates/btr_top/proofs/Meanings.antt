@@ -1,20 +1,35 @@
--- What lines mean: a delete of a stream that is there, and a question.
-use Rattle.std.specs.Prelude.{◌≡◌, ◌⊎◌, None, ℕ, ℤ, true, cond, List, [], ◌∷◌, Option, Some}
-use Rattle.std.proofs.Common.{refl, ap, ◌∙◌, arith, inl, inr, ⊎_elim}
+-- What lines mean: a delete of a stream that is there, and a question, which changes nothing.
+use Rattle.std.specs.Prelude.{◌≡◌, ◌⊎◌, ◌<◌, ℕ, ℤ, Bool, true, false, cond, nat_le, nat_lt, length, List, [], ◌∷◌, Option, None, Some}
+use Rattle.std.specs.Option.{option_map}
+use Rattle.std.proofs.Common.{refl, sym, ap, ◌∙◌, subst, arith, inl, inr, ⊎_elim}
+use Rattle.std.proofs.lemmas.Bool.{lt-leb}
 use Rattle.std.proofs.lemmas.Int.{ints}
-use Rattle.btr_base.specs.Range.{IsRange}
-use Rattle.btr_base.specs.declared.bag.Bag.{Bag}
+use Rattle.btr_base.specs.declared.point.Point.{Point}
+use Rattle.btr_base.specs.declared.limits.TheConstants.{MAX_VERSIONS, MAX_POINTS}
+use Rattle.btr_base.specs.Crowded.{crowded}
+use Rattle.btr_base.specs.Range.{RangeValue, IsRange}
+use Rattle.btr_disk.specs.declared.disk.Disk.{Ghosts}
 use Rattle.btr_hist.specs.declared.entry.Entry.{Entry}
 use Rattle.btr_hist.specs.declared.entry.Entry.TheVariants as entries
+use Rattle.btr_hist.specs.declared.query.StreamQuery.{StreamQuery}
+use Rattle.btr_hist.specs.Query.{of_stream}
+use Rattle.btr_hist.specs.declared.rejection.Rejection.TheVariants.{NoStream, VersionLimit, Crowded, TooManyPoints}
+use Rattle.btr_hist.specs.History.{ids, latest, stream_of}
+use Rattle.btr_hist.specs.Legal.{first_some, when, next_bag, rejection}
 use Rattle.btr_hist.specs.Answer.{is_range}
 use Rattle.btr_text.specs.declared.script.Line.{Line}
 use Rattle.btr_text.specs.declared.script.Line.TheVariants as lines
-use Rattle.btr_text.specs.declared.reply.Reason.TheVariants as reasons
-use Rattle.btr_hist.specs.History.{stream_of}
-use Rattle.btr_hist.specs.declared.query.Query.{Query}
 use Rattle.btr_text.specs.declared.reply.LineReply.{LineReply}
-use Rattle.btr_text.specs.declared.reply.LineReply.TheVariants.{No}
-use Rattle.btr_top.specs.Live.{Store, Meaning, Commits, Fails, on_stream, on_named, asks, query_of, named, question, delete, meaning, reply_to, after, Allows, Replies}
+use Rattle.btr_text.specs.declared.reply.Reason.TheVariants as reasons
+use Rattle.btr_engine.specs.declared.engine.Engine.{Engine}
+use Rattle.btr_engine.specs.Engine.{history_of}
+use Rattle.btr_engine.specs.Step.{MayLackMemory}
+use Rattle.btr_engine.proofs.EngineLemmas.{known_below, few_versions_of}
+use Rattle.btr_top.specs.Meaning.{Meaning, Commits, Asks, Refuses, on_stream, delete, meaning, question}
+use Rattle.btr_top.specs.Replies.{Store, Replies}
+use Rattle.btr_top.specs.Ask.{IsAnswerOrNoMemory}
+use Rattle.btr_top.specs.EngineScript.{store_of, Answers}
+use Rattle.btr_top.proofs.KeptOpening.{KeepsOpening-refl}
 
 -- ---- a delete
 
@@ -28,48 +43,62 @@ range-true from to h =
 pub delete-there : (found : Option ℕ) (stream : ℕ) (from to : ℤ) → found ≡ Some stream → IsRange (record { from = from; to = to }) → on_stream found (λ s. delete s from to) ≡ Commits (entries.Commit stream (record { from = from; to = to } ∷ []) [])
 delete-there found stream from to is range =
     ap (λ o. on_stream o (λ s. delete s from to)) is
-    ∙ ap (λ t. cond t (Commits (entries.Commit stream (record { from = from; to = to } ∷ []) [])) (Fails reasons.Range)) (range-true from to range)
+    ∙ ap (λ t. cond t (Commits (entries.Commit stream (record { from = from; to = to } ∷ []) [])) (Refuses reasons.Range)) (range-true from to range)
+
+tested : (t u crowded_too : Bool) (start : Option ℤ) (count : ℕ) → t ≡ false → u ≡ false → MayLackMemory (first_some (when t NoStream ∷ None ∷ when u VersionLimit ∷ first_some (option_map (λ s. Crowded s) start ∷ when crowded_too (TooManyPoints count) ∷ []) ∷ []))
+tested true u many start count e f = absurd (cc)
+tested false true many start count e f = absurd (cc)
+tested false false many (Some s) count e f = tt
+tested false false true None count e f = tt
+tested false false false None count e f = tt
+
+-- nothing that is tested before memory is taken refuses the removal of a range from a stream that is there
+pub delete-lacks : {D : Type 0} {disk : Ghosts D} (e : Engine D disk) (id stream : ℕ) (range : RangeValue) → stream_of (history_of e) id ≡ Some stream → MayLackMemory (rejection (history_of e) (entries.Commit stream (range ∷ []) []))
+delete-lacks e id stream range is =
+    let h = history_of e in
+    let points : List Point = next_bag h stream (record { cut = range ∷ []; added = [] }) in
+    tested (nat_le (length (ids h)) stream) (nat_le MAX_VERSIONS (latest h stream)) (nat_lt MAX_POINTS (length points)) (crowded points) (length points)
+    (lt-leb (length (ids h)) stream (known_below h id stream is))
+    (lt-leb MAX_VERSIONS (latest h stream) (few_versions_of e stream))
 
 -- ---- a question
 
--- a line that is no commit is a question
-pub asked : (h : List Entry) (line : Line) → ((id : ℕ) → line ≡ lines.Create id → ⊥) → ((id : ℕ) (added : Bag) → line ≡ lines.Insert id added → ⊥) → ((id : ℕ) (from to : ℤ) → line ≡ lines.Delete id from to → ⊥) → meaning h (Some line) ≡ question h line
-asked h (lines.Create id) other _ _ = absurd (other id refl)
-asked h (lines.Insert id added) _ other _ = absurd (other id added refl)
-asked h (lines.Delete id from to) _ _ other = absurd (other id from to refl)
-asked h (lines.Range id from to at) _ _ _ = refl
-asked h (lines.Nearest id time way at) _ _ _ = refl
-asked h (lines.Aligned id from to p at) _ _ _ = refl
-asked h (lines.Windows id from to width at) _ _ _ = refl
-asked h (lines.Changes id old new p) _ _ _ = refl
-asked h (lines.Info id at) _ _ _ = refl
-asked h lines.Streams _ _ _ = refl
+-- what is asked for is no commit
+abbrev pub IsQuestion : Meaning → Type 0
+IsQuestion (Commits e) = ⊥
+IsQuestion (Asks query) = Unit {0}
+IsQuestion (Refuses reason) = Unit {0}
 
--- ---- a question is always allowed, and changes nothing
+on_stream-question : (found : Option ℕ) (query : StreamQuery) → IsQuestion (on_stream found (λ s. Asks (of_stream query s)))
+on_stream-question None query = tt
+on_stream-question (Some stream) query = tt
 
-IsIdle : Store → Meaning → Type 0
-IsIdle s m = Allows s m × (s ≡ after s m)
+pub question-is : (h : List Entry) (line : Option Line) → IsQuestion (question h line)
+question-is h None = tt
+question-is h (Some (lines.Create id)) = tt
+question-is h (Some (lines.Insert id added)) = tt
+question-is h (Some (lines.Delete id from to)) = tt
+question-is h (Some (lines.Ask id query)) = on_stream-question _ query
+question-is h (Some lines.Streams) = tt
 
-idle-asks : (s : Store) (query : Option Query) → IsIdle s (asks query)
-unfolding IsIdle
-idle-asks s None = (tt, refl)
-idle-asks s (Some query) = (tt, refl)
-
-idle-stream : (s : Store) (found : Option ℕ) (line : Line) → IsIdle s (on_stream found (λ n. asks (query_of line n)))
-unfolding IsIdle
-idle-stream s None line = (tt, refl)
-idle-stream s (Some n) line = idle-asks s (query_of line n)
-
-idle-named : (s : Store) (id : Option ℕ) (line : Line) → IsIdle s (on_named s.history id (λ n. asks (query_of line n)))
-idle-named s None line = idle-asks s (query_of line 0)
-idle-named s (Some id) line = idle-stream s (stream_of s.history id) line
-
--- the reply to a question, or that there was no memory for it
-pub replies-question : (s : Store) (line : Line) (reply : LineReply) → (reply ≡ reply_to s.history (question s.history line)) ⊎ (reply ≡ No reasons.Memory) → Replies s (question s.history line) reply s
-unfolding IsIdle
-replies-question s line reply answered =
-    let idle = idle-named s (named line) line in
+replies_question : (s : Store) (m : Meaning) (reply : LineReply) → IsQuestion m → IsAnswerOrNoMemory s.history m reply → Replies s m reply s
+replies_question s (Commits e) reply is answered = absurd is
+replies_question s (Asks query) reply is answered =
     ⊎_elim
-    (λ e. inl (record { allowed = idle.0; replied = e; store = idle.1 }))
-    (λ e. inr (inr (record { replied = e; store = refl })))
+    (λ e. inl (record { allowed = tt; replied = e; store = refl }))
+    (λ e. inr (inr (record { needs = tt; replied = e; store = refl })))
     answered
+replies_question s (Refuses reason) reply is answered = inl (record { allowed = tt; replied = answered; store = refl })
+
+-- a question leaves the engine as it is
+pub answers_question : {D : Type 0} {disk : Ghosts D} (e : Engine D disk) (m : Meaning) (reply : LineReply) → IsQuestion m → IsAnswerOrNoMemory (history_of e) m reply → Answers e m reply e
+answers_question e m reply is answered = record {
+  replied = replies_question (store_of e) m reply is answered;
+  kept = KeepsOpening-refl e;
+  idle = λ stopped. refl;
+  leaves = λ told rest. inl refl;
+}
+
+-- the lines that are questions, and one that is none
+pub answers_ask : {D : Type 0} {disk : Ghosts D} (e : Engine D disk) (id : ℕ) (query : StreamQuery) (reply : LineReply) → IsAnswerOrNoMemory (history_of e) (on_stream (stream_of (history_of e) id) (λ stream. Asks (of_stream query stream))) reply → Answers e (meaning (history_of e) (Some (lines.Ask id query))) reply e
+answers_ask e id query reply answered = answers_question e _ reply (on_stream-question (stream_of (history_of e) id) query) answered

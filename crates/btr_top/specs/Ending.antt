@@ -1,33 +1,68 @@
 -- How a run ends: its status, and what it writes.
-use Rattle.std.specs.Prelude.{ℕ, List, [], ◌∷◌, codes, decimal}
+use Rattle.std.specs.Prelude.{◌≡◌, ◌⊎◌, ℕ, ◌≤◌, List, [], ◌∷◌, ◌++◌, length, take, codes, decimal}
+use Rattle.btr_io.specs.declared.sink.Sink.{Ghosts}
+use Rattle.btr_io.specs.Faults.{Rose}
 use Rattle.btr_text.specs.Text.{line_text}
 use Rattle.btr_top.specs.declared.ending.Ending.{Ending}
-use Rattle.btr_top.specs.declared.ending.Ending.TheVariants.{Usage, NoSource, TooLong, NoMemory, NoDevice, NoStore, Damaged, Occupied, TooSmall, Formatted, Played}
-use Rattle.btr_top.specs.declared.scripting.TheConstants.{MOST_INPUT}
+use Rattle.btr_top.specs.declared.ending.Ending.TheVariants.{Usage, NoSource, TooLong, OutOfMemory, NoDevice, NoStore}
+use Rattle.btr_top.specs.declared.ending.Ending.TheVariants.{Damaged, Occupied, TooSmall, Formatted, Replied}
+use Rattle.btr_top.specs.declared.script.TheConstants.{MAX_INPUT}
+use Rattle.btr_top.specs.Status.{code_of}
 
+-- The status of an ending whose text is written.
 abbrev pub status_of : Ending → ℕ
 status_of Usage = 2
 status_of NoSource = 3
 status_of TooLong = 10
-status_of NoMemory = 9
+status_of OutOfMemory = 9
 status_of NoDevice = 5
 status_of NoStore = 6
 status_of (Damaged block) = 7
 status_of Occupied = 6
 status_of (TooSmall asked blocks) = 8
 status_of (Formatted blocks) = 0
-status_of (Played status text) = status
+status_of (Replied transcript) = code_of transcript.status
 
--- what is written: one line, or the replies
+-- The text of an ending: one line, or the replies.
 abbrev pub text_of : Ending → List ℕ
 text_of Usage = line_text (codes "no" ∷ codes "usage" ∷ [])
 text_of NoSource = line_text (codes "no" ∷ codes "source" ∷ [])
-text_of TooLong = line_text (codes "no" ∷ codes "long" ∷ decimal MOST_INPUT ∷ [])
-text_of NoMemory = line_text (codes "no" ∷ codes "memory" ∷ [])
+text_of TooLong = line_text (codes "no" ∷ codes "long" ∷ decimal MAX_INPUT ∷ [])
+text_of OutOfMemory = line_text (codes "no" ∷ codes "memory" ∷ [])
 text_of NoDevice = line_text (codes "no" ∷ codes "device" ∷ [])
 text_of NoStore = line_text (codes "no" ∷ codes "store" ∷ [])
 text_of (Damaged block) = line_text (codes "no" ∷ codes "damaged" ∷ decimal block ∷ [])
 text_of Occupied = line_text (codes "no" ∷ codes "occupied" ∷ [])
 text_of (TooSmall asked blocks) = line_text (codes "no" ∷ codes "small" ∷ decimal asked ∷ decimal blocks ∷ [])
 text_of (Formatted blocks) = line_text (codes "formatted" ∷ decimal blocks ∷ [])
-text_of (Played status text) = text.items
+text_of (Replied transcript) = transcript.text.items
+
+-- The line of an ending is made for it, which takes memory. The replies of a script are there already.
+abbrev pub NeedsLine : Ending → Type 0
+NeedsLine (Replied transcript) = ⊥
+NeedsLine e = Unit {0}
+
+module _ {K : Type 0} (sink : Ghosts K) where
+  -- The sink took a prefix of the text, or all of it.
+  abbrev pub WrotePrefix : List ℕ → K → K → Type 0
+  WrotePrefix text old new = (n : ℕ) × (n ≤ length text) × (sink.written new ≡ sink.written old ++ take n text)
+
+  -- The sink took the whole text, and no call of it failed. The status is the one that goes with the text.
+  pub record WritesAll (text : List ℕ) (wanted : ℕ) (old new : K) (status : ℕ) : Type 0 where
+    pub same_status : status ≡ wanted
+    pub no_fault : sink.faults new ≡ sink.faults old
+    pub all : sink.is_observable → sink.written new ≡ sink.written old ++ text
+
+  -- A call of the sink failed, in the text or in the flush after it. The status is 4.
+  pub record FailsToWrite (text : List ℕ) (old new : K) (status : ℕ) : Type 0 where
+    pub same_status : status ≡ 4
+    pub rose : Rose (sink.faults old) (sink.faults new)
+    pub part : sink.is_observable → WrotePrefix text old new
+
+  abbrev pub Writes : List ℕ → ℕ → K → K → ℕ → Type 0
+  Writes text wanted old new status = WritesAll text wanted old new status ⊎ FailsToWrite text old new status
+
+  -- The text of the ending was written, or that there was no memory for its line.
+  abbrev pub Shows : Ending → K → K → ℕ → Type 0
+  Shows e old new status =
+      Writes (text_of e) (status_of e) old new status ⊎ (NeedsLine e × Writes (text_of OutOfMemory) 9 old new status)

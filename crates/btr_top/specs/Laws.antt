@@ -1,12 +1,20 @@
--- What holds of all scripts.
-use Rattle.std.specs.Prelude.{List}
+-- The laws: what holds of all scripts, and the limits as numerals.
+use Rattle.std.specs.Prelude.{◌≡◌, List}
+use Rattle.btr_super.specs.declared.superblock.TheConstants.{MIN_BLOCKS, MAX_BLOCKS}
 use Rattle.btr_hist.specs.Legal.{Legal}
 use Rattle.btr_text.specs.declared.script.ScriptLine.{ScriptLine}
 use Rattle.btr_text.specs.declared.reply.LineReply.{LineReply}
-use Rattle.btr_top.specs.Live.{Store, Lives}
+use Rattle.btr_top.specs.declared.script.TheConstants.{MAX_INPUT}
+use Rattle.btr_top.specs.Replies.{Store, RunsScript}
 
--- lines keep a history legal, whatever is replied to them
+-- Lines keep a history legal, whatever is replied to them.
 abbrev pub LinesKeepLegal : Type 0
 LinesKeepLegal =
-    (s t : Store) (lines : List ScriptLine) (replies : List LineReply) → Lives s lines replies t
+    (s t : Store) (lines : List ScriptLine) (replies : List LineReply) → RunsScript s lines replies t
     → Legal s.history → Legal t.history
+
+-- The limits of a run: the bytes of an input, and the blocks of a store.
+pub record RunLimits : Type 0 where
+  pub input_bytes : MAX_INPUT ≡ 268435456
+  pub least_blocks : MIN_BLOCKS ≡ 8
+  pub most_blocks : MAX_BLOCKS ≡ 4294967296

@@ -1,16 +1,19 @@
--- what is typed
-pub mod Words
--- what the lines of a script do
+-- what is typed, what a line asks for, and what it replies
+pub mod Command
+pub mod Meaning
+pub mod Replies
+pub mod Status
+-- what a crash leaves
+pub mod Crash
+-- the commands
+pub mod Script
 pub mod Live
-pub mod Crashes
-pub mod Leaving
-pub mod StoreOf
-pub mod Playing
-pub mod Asking
--- how a run ends, what it writes, and why
+pub mod Ask
+pub mod Format
+-- the whole run
 pub mod Ending
-pub mod Showing
 pub mod Run
-pub mod Scripting
 -- what holds of all scripts
 pub mod Laws
+-- what the private functions promise
+pub mod EngineScript

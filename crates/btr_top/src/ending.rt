@@ -1,10 +1,11 @@
-// How a run ends: its status, and what it writes.
-ghost use Rattle.std.specs.Prelude.{◌≡◌, [], ◌∷◌, map, codes, decimal, IfOk};
+//! How a run ends: its status, and the text that it writes.
+ghost use Rattle.std.specs.Prelude.{◌≡◌, ◌++◌, [], ◌∷◌, map, codes, decimal, IfOk, OnErr, OnOk};
+ghost use Rattle.btr_io.specs.Faults.{Rose};
 ghost use Rattle.btr_text.specs.Text.{line_text};
-ghost use Rattle.btr_top.specs.Ending.{status_of, text_of};
-ghost use Rattle.btr_top.specs.Showing.{NeedsLine};
+ghost use Rattle.btr_top.specs.Ending.{NeedsLine, Shows, WrotePrefix, Writes, status_of, text_of};
 
-use crate::scripting::MOST_INPUT;
+use crate::script::{MAX_INPUT, Transcript};
+use btr_io::{Failed, Sink, write_all};
 use btr_text::append_line;
 use itoa::Buffer;
 use std::alloc::{AllocError, Global};
@@ -21,10 +22,10 @@ pub enum Ending {
     /// The source gave more than may be read.
     TooLong,
 
-    /// There was no memory: for the input or its lines, or for the text of another ending.
-    NoMemory,
+    /// There was no memory: for the input or its lines, for an opening, or for the text of an ending.
+    OutOfMemory,
 
-    /// A device call failed.
+    /// A call of the device failed.
     NoDevice,
 
     /// The device has no store.
@@ -39,53 +40,97 @@ pub enum Ending {
     /// The device has fewer blocks than were asked for.
     TooSmall { asked: u64, blocks: u64 },
 
-    /// An empty store of so many blocks was made.
+    /// An empty store of this many blocks was made.
     Formatted { blocks: u64 },
 
-    /// A script was played to its end, with the status and the text of its replies.
-    Played { status: u8, text: Vec<u8> },
+    /// Each line of the input had its reply.
+    Replied(Transcript),
 }
 
-/// The status of an ending whose text is written whole.
-pub fn status_of(ending: &Ending) -> u8
+/// Writes the text of an ending, and returns the status of the run. It is 4 if the sink fails, 9 if there is no memory
+/// for the line (which is then that of [`Ending::OutOfMemory`]), and else that of the ending. The replies to a script
+/// are handed to the sink without a copy.
+pub(crate) fn show<K: Sink>(alloc: Global, sink: &mut K, ending: &Ending) -> u8
+    ensures { Shows ⟦<K as Sink>⟧ ending.now sink.old sink.new result }
+{
+    match ending {
+        Ending::Replied(Transcript { status, text }) => write_text(sink, text, status.code()),
+        _ => show_line(alloc, sink, ending),
+    }
+}
+
+/// Writes the line of an ending.
+fn show_line<K: Sink>(alloc: Global, sink: &mut K, ending: &Ending) -> u8
+    requires { NeedsLine ending.now }
+    ensures { Shows ⟦<K as Sink>⟧ ending.now sink.old sink.new result }
+{
+    match text_of(alloc, ending) {
+        Ok(text) => write_text(sink, &text, status_of(ending)),
+        Err(_) => write_text(sink, b"no memory\n", 9),
+    }
+}
+
+/// Writes all of a text, and returns the given status, or 4 if the sink fails.
+fn write_text<K: Sink>(sink: &mut K, text: &[u8], status: u8) -> u8
+    ensures { Writes ⟦<K as Sink>⟧ text.now status sink.old sink.new result }
+{
+    match write_and_flush(sink, text) {
+        Ok(()) => status,
+        Err(Failed) => 4,
+    }
+}
+
+/// Writes all of a text, and has the sink pass it on.
+fn write_and_flush<K: Sink>(sink: &mut K, text: &[u8]) -> Result<(), Failed>
+    ensures written { K.is_observable → OnOk result (K.written sink.new ≡ K.written sink.old ++ text.now) }
+    ensures part { K.is_observable → OnErr result (WrotePrefix ⟦<K as Sink>⟧ text.now sink.old sink.new) }
+    ensures no_fault { OnOk result (K.faults sink.new ≡ K.faults sink.old) }
+    ensures rose { OnErr result (Rose (K.faults sink.old) (K.faults sink.new)) }
+{
+    write_all(sink, text)?;
+    sink.flush()
+}
+
+/// Returns the status of an ending whose text is written.
+fn status_of(ending: &Ending) -> u8
     ensures { result ≡ status_of ending.now }
 {
     match ending {
         Ending::Usage => 2,
         Ending::NoSource => 3,
         Ending::TooLong => 10,
-        Ending::NoMemory => 9,
+        Ending::OutOfMemory => 9,
         Ending::NoDevice => 5,
         Ending::NoStore => 6,
         Ending::Damaged { .. } => 7,
         Ending::Occupied => 6,
         Ending::TooSmall { .. } => 8,
         Ending::Formatted { .. } => 0,
-        Ending::Played { status, .. } => *status,
+        Ending::Replied(transcript) => transcript.status.code(),
     }
 }
 
-/// The line that an ending says, but for a script that was played, which has its text already. An `Err` is want of memory.
-pub fn text_of(alloc: Global, ending: &Ending) -> Result<Vec<u8>, AllocError>
+/// Returns the line of an ending. An ending with replies has its text already. An `Err` is that there is no memory.
+fn text_of(alloc: Global, ending: &Ending) -> Result<Vec<u8>, AllocError>
     requires { NeedsLine ending.now }
     ensures { IfOk result (λ t. t.items ≡ text_of ending.now) }
 {
     match ending {
         Ending::Usage => line(alloc, b"no", &[b"usage"]),
         Ending::NoSource => line(alloc, b"no", &[b"source"]),
-        Ending::TooLong => numbered_text(alloc, b"long", MOST_INPUT),
-        Ending::NoMemory => line(alloc, b"no", &[b"memory"]),
+        Ending::TooLong => numbered_text(alloc, b"long", MAX_INPUT),
+        Ending::OutOfMemory => line(alloc, b"no", &[b"memory"]),
         Ending::NoDevice => line(alloc, b"no", &[b"device"]),
         Ending::NoStore => line(alloc, b"no", &[b"store"]),
         Ending::Damaged { block } => numbered_text(alloc, b"damaged", *block),
         Ending::Occupied => line(alloc, b"no", &[b"occupied"]),
         Ending::TooSmall { asked, blocks } => too_small_text(alloc, *asked, *blocks),
         Ending::Formatted { blocks } => formatted_text(alloc, *blocks),
-        Ending::Played { .. } => Ok(Vec::new(alloc)),
+        Ending::Replied(_) => Ok(Vec::new(alloc)),
     }
 }
 
-/// A refusal of this word, with a number.
+/// Returns the line of a refusal with one number.
 fn numbered_text(alloc: Global, word: &[u8], number: u64) -> Result<Vec<u8>, AllocError>
     ensures { IfOk result (λ t. t.items ≡ line_text (codes "no" ∷ word.now ∷ decimal number ∷ [])) }
 {
@@ -93,7 +138,7 @@ fn numbered_text(alloc: Global, word: &[u8], number: u64) -> Result<Vec<u8>, All
     line(alloc, b"no", &[word, text.format(number).as_bytes()])
 }
 
-/// That a device has fewer blocks than were asked for.
+/// Returns the line that a device has fewer blocks than were asked for.
 fn too_small_text(alloc: Global, asked: u64, blocks: u64) -> Result<Vec<u8>, AllocError>
     ensures { IfOk result (λ t. t.items ≡ line_text (codes "no" ∷ codes "small" ∷ decimal asked ∷ decimal blocks ∷ [])) }
 {
@@ -110,7 +155,7 @@ fn too_small_text(alloc: Global, asked: u64, blocks: u64) -> Result<Vec<u8>, All
     )
 }
 
-/// That an empty store was made.
+/// Returns the line that an empty store was made.
 fn formatted_text(alloc: Global, blocks: u64) -> Result<Vec<u8>, AllocError>
     ensures { IfOk result (λ t. t.items ≡ line_text (codes "formatted" ∷ decimal blocks ∷ [])) }
 {
@@ -118,7 +163,7 @@ fn formatted_text(alloc: Global, blocks: u64) -> Result<Vec<u8>, AllocError>
     line(alloc, b"formatted", &[text.format(blocks).as_bytes()])
 }
 
-/// A line of these words.
+/// Returns a line of these words.
 fn line(alloc: Global, first: &[u8], rest: &[&[u8]]) -> Result<Vec<u8>, AllocError>
     ensures { IfOk result (λ t. t.items ≡ line_text (first.now ∷ map (λ w. w.now) rest.now)) }
 {

@@ -1,30 +1,32 @@
-//! What the program does: words and a device in; a line and a status out.
+//! The commands of the program: words, an input and a device in; a text and a status out.
 //!
-//! [`run`] carries the promise: why each status comes, what is written, and what the device is then, at each moment of a
-//! crash too.
+//! [`run`] carries the promise: why each status comes, what is written, and what the device holds then, also after a
+//! crash at any moment of the run.
 #![tactic(auto)]
 
 // what is typed
-mod words;
+mod command;
 // the commands
-mod asking;
-mod formatting;
-mod lines;
-mod playing;
-mod scripting;
+mod ask;
+mod format_store;
+mod live;
+// what `live` and `ask` share
+mod line;
+mod script;
+mod status;
 // how a run ends, and what it writes
 mod ending;
-mod showing;
 // the whole
-mod running;
+mod run_command;
 // what holds of all scripts
 mod laws;
 
+pub use command::{Command, read_words};
 pub use ending::Ending;
-pub use laws::lines_keep_legal;
-pub use running::{Outcome, run};
-pub use scripting::MOST_INPUT;
-pub use words::{Command, read_words};
+pub use laws::{lines_keep_legal, run_limits_are_these};
+pub use run_command::{Outcome, run};
+pub use script::{MAX_INPUT, Transcript};
+pub use status::Status;
 
 #[cfg(test)]
 mod tests;

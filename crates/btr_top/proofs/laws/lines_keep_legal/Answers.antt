@@ -1,3 +1,4 @@
+-- The law is a lemma by induction over the lines.
 use Rattle.btr_top.proofs.Legality.{lines_legal}
 use Rattle.btr_top.proofs.laws.lines_keep_legal.Goals as goal
 

@@ -1,0 +1,44 @@
+-- If the device holds a store, and nothing fails, each line of `ask` has its reply.
+use Rattle.std.specs.Prelude.{List}
+use Rattle.std.proofs.Common.{refl, sym, subst, arith, inr, ⊎_elim}
+use Rattle.btr_io.specs.declared.source.Source.{Ghosts as SourceGhosts}
+use Rattle.btr_io.specs.Faults.{Rose as StreamRose}
+use Rattle.btr_disk.specs.declared.disk.Disk.{Ghosts}
+use Rattle.btr_disk.specs.Causes.{Rose}
+use Rattle.btr_text.specs.declared.script.ScriptLine.{ScriptLine}
+use Rattle.btr_engine.specs.Laws.{HeldIsSound}
+use Rattle.btr_top.specs.declared.ending.Ending.{Ending}
+use Rattle.btr_top.specs.declared.ending.Ending.TheVariants.{Usage, NoSource, TooLong, OutOfMemory, NoDevice, NoStore, Damaged, Occupied, TooSmall, Formatted, Replied}
+use Rattle.btr_top.specs.declared.status.Status.{Status}
+use Rattle.btr_top.specs.Ending.{status_of}
+use Rattle.btr_top.specs.Status.{code_of, status_of_replies}
+use Rattle.btr_top.specs.Script.{HasRead, ExceedsInputLimit}
+use Rattle.btr_top.specs.Ask.{QuestionsCause, AskCause, CanAsk}
+use Rattle.btr_top.proofs.BenignStatuses.{IsBenignStatus, benign_code, benign_answers}
+use Rattle.btr_top.proofs.LiveCompletes.{benign_input}
+
+module _ {S D : Type 0} (source : SourceGhosts S) (disk : Ghosts D) (given rest : S) (old new : D) (sound : HeldIsSound) (can : CanAsk source disk given old) (source_told : source.is_observable) (told : disk.is_observable) (source_works : StreamRose (source.faults given) (source.faults rest) → ⊥) (device_works : Rose (disk.faults old) (disk.faults new) → ⊥) where
+  not_too_long : ExceedsInputLimit source given rest → ⊥
+  not_too_long exceeds = omega (arith, exceeds source_told, can.within)
+
+  benign_cause : (lines : List ScriptLine) → (e : Ending) → QuestionsCause disk lines old new e → IsBenignStatus (status_of e)
+  benign_cause lines Usage why = absurd why.0
+  benign_cause lines NoSource why = absurd why.0
+  benign_cause lines TooLong why = absurd why.0
+  benign_cause lines OutOfMemory why = inr (inr refl)
+  benign_cause lines NoDevice why = absurd (device_works why.0)
+  benign_cause lines NoStore why = absurd ((sound (disk.size old) 0 (disk.contents old) can.history can.holds).0 (why.0 told))
+  benign_cause lines (Damaged block) why =
+      absurd ((sound (disk.size old) block (disk.contents old) can.history can.holds).1 (why.0 told))
+  benign_cause lines Occupied why = absurd why.0
+  benign_cause lines (TooSmall asked has) why = absurd why.0
+  benign_cause lines (Formatted blocks) why = absurd why.0
+  benign_cause lines (Replied transcript) why =
+      subst (λ (s : Status). IsBenignStatus (code_of s)) (sym why.is_transcript.same_status) (benign_code (status_of_replies why.replies) (benign_answers why.history lines why.replies why.answers))
+
+  pub benign_ask : (e : Ending) → AskCause source disk given rest old new e → IsBenignStatus (status_of e)
+  benign_ask e why =
+      ⊎_elim
+      (λ unread. benign_input source given rest source_works not_too_long e unread.0)
+      (λ (read : (lines : List ScriptLine) × HasRead source lines given rest × QuestionsCause disk lines old new e). benign_cause read.0 e read.2)
+      why

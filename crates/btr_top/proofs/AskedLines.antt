@@ -1,0 +1,68 @@
+-- Lines that were answered as questions, one line more, and the device that holds the history.
+use Rattle.std.specs.Prelude.{◌≡◌, ℕ, List, [], ◌∷◌, ◌++◌}
+use Rattle.std.proofs.Common.{sym, subst}
+use Rattle.btr_disk.specs.declared.disk.Disk.{Ghosts}
+use Rattle.btr_disk.specs.Bytes.{Image}
+use Rattle.btr_disk.proofs.ByteLemmas.{Same-is}
+use Rattle.btr_hist.specs.declared.entry.Entry.{Entry}
+use Rattle.btr_text.specs.declared.script.ScriptLine.{ScriptLine}
+use Rattle.btr_text.specs.declared.reply.LineReply.{LineReply}
+use Rattle.btr_engine.specs.declared.engine.Engine.{Engine}
+use Rattle.btr_engine.specs.Engine.{device, history_of, blocks_of, tail_of}
+use Rattle.btr_engine.specs.Opening.{IsOpened}
+use Rattle.btr_engine.specs.Holds.{HoldsHistory}
+use Rattle.btr_top.specs.declared.script.Transcript.{Transcript}
+use Rattle.btr_top.specs.declared.ending.Ending.{Ending}
+use Rattle.btr_top.specs.declared.ending.Ending.TheVariants.{OutOfMemory, Replied}
+use Rattle.btr_top.specs.Meaning.{question}
+use Rattle.btr_top.specs.Script.{IsTranscript}
+use Rattle.btr_top.specs.Ask.{IsAnswerOrNoMemory, AnswersEach, AnswersAll, QuestionsCause}
+use Rattle.btr_top.specs.EngineScript.{AddsReply, HasAnswered}
+use Rattle.btr_top.proofs.OpenedStore.{held_before}
+
+AnswersEach-push : (h : List Entry) (lines : List ScriptLine) (replies : List LineReply) (line : ScriptLine) (reply : LineReply) → AnswersEach h lines replies → IsAnswerOrNoMemory h (question h line.line) reply → AnswersEach h (lines ++ line ∷ []) (replies ++ reply ∷ [])
+AnswersEach-push h [] [] line reply answers one = (one, tt)
+AnswersEach-push h [] (r ∷ replies) line reply answers one = absurd answers
+AnswersEach-push h (l ∷ lines) [] line reply answers one = absurd answers
+AnswersEach-push h (l ∷ lines) (r ∷ replies) line reply answers one = (answers.0, AnswersEach-push h lines replies line reply answers.1 one)
+
+-- no line
+pub none_answered : (h : List Entry) (t : Transcript) → IsTranscript [] t → HasAnswered h [] t
+none_answered h t is = record { replies = []; answers = tt; is_transcript = is }
+
+-- one line more
+pub HasAnswered-push : (h : List Entry) (lines : List ScriptLine) (line : ScriptLine) (t u : Transcript) → HasAnswered h lines t → (reply : LineReply) × IsAnswerOrNoMemory h (question h line.line) reply × AddsReply reply t u → HasAnswered h (lines ++ line ∷ []) u
+HasAnswered-push h lines line t u has one = record {
+  replies = has.replies ++ one.0 ∷ [];
+  answers = AnswersEach-push h lines has.replies line one.0 has.answers one.1;
+  is_transcript = one.2 has.replies has.is_transcript;
+}
+
+module _ {D : Type 0} (disk : Ghosts D) (old : D) (engine : Engine D disk) (opened : IsOpened disk old engine) where
+  -- a crash from now on leaves the history
+  durable : disk.is_observable → (c : Image) → disk.images_now (device engine) c → HoldsHistory (disk.size (device engine)) c (history_of engine)
+  durable told c left =
+      let rest = opened.at_rest told in
+      let still : c ≡ disk.contents (device engine) = Same-is (disk.contents (device engine)) c (rest.only.each c left) in
+      subst (λ (i : Image). HoldsHistory (disk.size (device engine)) i (history_of engine)) (sym still) (record { blocks = blocks_of engine; tail = tail_of engine; holds = rest.holds })
+
+  answers_all : (lines : List ScriptLine) (transcript : Transcript) → HasAnswered (history_of engine) lines transcript → AnswersAll disk lines old (device engine) transcript
+  answers_all lines transcript has = record {
+    history = history_of engine;
+    replies = has.replies;
+    holds = λ told. record { blocks = blocks_of engine; tail = tail_of engine; holds = held_before disk old engine opened told };
+    answers = has.answers;
+    is_transcript = has.is_transcript;
+    kept = opened.kept.unwritten;
+    durable = durable;
+  }
+
+  pub ended_answered : (lines : List ScriptLine) (transcript : Transcript) (new : D) (e : Ending) → e ≡ Replied transcript → new ≡ device engine → HasAnswered (history_of engine) lines transcript → QuestionsCause disk lines old new e
+  ended_answered lines transcript new e is same has =
+      subst (QuestionsCause disk lines old new) (sym is)
+      (subst (λ (d : D). AnswersAll disk lines old d transcript) (sym same) (answers_all lines transcript has))
+
+  pub ended_unanswered : (lines : List ScriptLine) (new : D) (e : Ending) → e ≡ OutOfMemory → new ≡ device engine → QuestionsCause disk lines old new e
+  ended_unanswered lines new e is same =
+      subst (QuestionsCause disk lines old new) (sym is)
+      (subst (λ (d : D). QuestionsCause disk lines old d OutOfMemory) (sym same) (tt, opened.kept.unwritten))

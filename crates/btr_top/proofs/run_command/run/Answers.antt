@@ -1,0 +1,20 @@
+-- If nothing fails: a run of a script on a store with room, and a run of questions.
+use Rattle.std.proofs.Common.{subst}
+use Rattle.btr_top.specs.Run.{Cause}
+use Rattle.btr_top.proofs.LiveCompletes.{benign_live, benign_shown}
+use Rattle.btr_top.proofs.AskCompletes.{benign_ask}
+use Rattle.btr_top.proofs.run_command.run.Goals as goal
+
+pub returns-clause-lives : goal.returns-clause-lives
+returns-clause-lives g c = λ source_told told is_live can works.
+    let why = subst (λ o. Cause g.S.Source g.D.Disk o c.args.source.now c.dispatch-ending.new.source c.args.disk c.dispatch-ending.result.disk c.dispatch-ending.result.ending) is_live c.dispatch-ending.ensures.cause in
+    benign_shown g.K.Sink c.args.sink.now c.show-status.new.sink works.others.sink_works c.dispatch-ending.result.ending c.show-status.result
+    (benign_live g.S.Source g.D.Disk c.args.source.now c.dispatch-ending.new.source c.args.disk c.dispatch-ending.result.disk c.held_is_sound.ensures can source_told told works.source_works works.others.device_works c.dispatch-ending.result.ending why)
+    c.show-status.ensures
+
+pub returns-clause-asks : goal.returns-clause-asks
+returns-clause-asks g c = λ source_told told is_ask can works.
+    let why = subst (λ o. Cause g.S.Source g.D.Disk o c.args.source.now c.dispatch-ending.new.source c.args.disk c.dispatch-ending.result.disk c.dispatch-ending.result.ending) is_ask c.dispatch-ending.ensures.cause in
+    benign_shown g.K.Sink c.args.sink.now c.show-status.new.sink works.others.sink_works c.dispatch-ending.result.ending c.show-status.result
+    (benign_ask g.S.Source g.D.Disk c.args.source.now c.dispatch-ending.new.source c.args.disk c.dispatch-ending.result.disk c.held_is_sound.ensures can source_told told works.source_works works.others.device_works c.dispatch-ending.result.ending why)
+    c.show-status.ensures

@@ -1,0 +1,59 @@
+-- The command `ask`: what each line is answered, and why the command ends as it does.
+use Rattle.std.specs.Prelude.{◌≡◌, ◌⊎◌, ◌≤◌, List, [], ◌∷◌, length}
+use Rattle.btr_io.specs.declared.source.Source.{Ghosts as SourceGhosts}
+use Rattle.btr_disk.specs.declared.disk.Disk.{Ghosts}
+use Rattle.btr_disk.specs.Bytes.{Image}
+use Rattle.btr_hist.specs.declared.entry.Entry.{Entry}
+use Rattle.btr_hist.specs.Answer.{answer}
+use Rattle.btr_text.specs.declared.script.ScriptLine.{ScriptLine}
+use Rattle.btr_text.specs.declared.reply.LineReply.{LineReply}
+use Rattle.btr_text.specs.declared.reply.LineReply.TheVariants.{No}
+use Rattle.btr_text.specs.declared.reply.Reason.TheVariants as reasons
+use Rattle.btr_engine.specs.Holds.{HoldsHistory}
+use Rattle.btr_top.specs.declared.script.TheConstants.{MAX_INPUT}
+use Rattle.btr_top.specs.declared.script.Transcript.{Transcript}
+use Rattle.btr_top.specs.declared.ending.Ending.{Ending}
+use Rattle.btr_top.specs.declared.ending.Ending.TheVariants.{OutOfMemory, Replied}
+use Rattle.btr_top.specs.Meaning.{Meaning, Asks, question}
+use Rattle.btr_top.specs.Replies.{reply_of_answer, reply_to}
+use Rattle.btr_top.specs.Script.{IsKept, OpeningCause, IsTranscript, CommandCause}
+
+-- The reply is that of the history. An answer may lack memory; what is refused is always refused.
+abbrev pub IsAnswerOrNoMemory : List Entry → Meaning → LineReply → Type 0
+IsAnswerOrNoMemory h (Asks query) reply = (reply ≡ reply_of_answer (answer h query)) ⊎ (reply ≡ No reasons.Memory)
+IsAnswerOrNoMemory h asked reply = reply ≡ reply_to h asked
+
+-- One reply to each line, in order, all from the same history.
+abbrev pub AnswersEach : List Entry → List ScriptLine → List LineReply → Type 0
+AnswersEach h [] [] = Unit {0}
+AnswersEach h [] (reply ∷ replies) = ⊥
+AnswersEach h (line ∷ lines) [] = ⊥
+AnswersEach h (line ∷ lines) (reply ∷ replies) = IsAnswerOrNoMemory h (question h line.line) reply × AnswersEach h lines replies
+
+module _ {D : Type 0} (disk : Ghosts D) where
+  -- Each line was answered from the history that the device `old` holds, and this is the transcript. Nothing was written. Every crash
+  -- from now on leaves the history that was answered from.
+  pub record AnswersAll (lines : List ScriptLine) (old new : D) (transcript : Transcript) : Type 0 where
+    pub history : List Entry
+    pub replies : List LineReply
+    pub holds : disk.is_observable → HoldsHistory (disk.size old) (disk.contents old) history
+    pub answers : AnswersEach history lines replies
+    pub is_transcript : IsTranscript replies transcript
+    pub kept : IsKept disk old new
+    pub durable : disk.is_observable → (c : Image) → disk.images_now new c → HoldsHistory (disk.size new) c history
+
+  -- Why `ask` ends so, after its lines were read.
+  abbrev pub QuestionsCause : List ScriptLine → D → D → Ending → Type 0
+  QuestionsCause lines old new (Replied transcript) = AnswersAll lines old new transcript
+  QuestionsCause lines old new e = OpeningCause disk old new e × IsKept disk old new
+
+module _ {S D : Type 0} (source : SourceGhosts S) (disk : Ghosts D) where
+  -- Why `ask` ends so.
+  abbrev pub AskCause : S → S → D → D → Ending → Type 0
+  AskCause given rest old new e = CommandCause source (QuestionsCause disk) given rest old new e
+
+  -- The device holds a store, and the input is within the limit.
+  pub record CanAsk (given : S) (old : D) : Type 0 where
+    pub history : List Entry
+    pub holds : HoldsHistory (disk.size old) (disk.contents old) history
+    pub within : length (source.left given) ≤ MAX_INPUT

@@ -1,0 +1,150 @@
+-- What each line of a script replies, and the store after it.
+use Rattle.std.specs.Prelude.{◌≡◌, ◌⊎◌, ℕ, ◌+◌, ◌-◌, ◌<◌, ◌≤◌, Bool, true, false}
+use Rattle.std.specs.Prelude.{List, [], ◌∷◌, ◌++◌, length, flat_map, Option, Some, None}
+use Rattle.btr_hist.specs.declared.entry.Entry.{Entry}
+use Rattle.btr_hist.specs.declared.entry.Entry.TheVariants as entries
+use Rattle.btr_hist.specs.declared.answer.Answer.{Answer}
+use Rattle.btr_hist.specs.declared.answer.Answer.TheVariants.{Found, Refused}
+use Rattle.btr_hist.specs.declared.rejection.Rejection.{Rejection}
+use Rattle.btr_hist.specs.Legal.{rejection}
+use Rattle.btr_hist.specs.Answer.{answer}
+use Rattle.btr_hist.specs.Machine.{receipt}
+use Rattle.btr_text.specs.declared.script.Line.{Line}
+use Rattle.btr_text.specs.declared.script.Line.TheVariants as lines
+use Rattle.btr_text.specs.declared.script.ScriptLine.{ScriptLine}
+use Rattle.btr_text.specs.declared.reply.LineReply.{LineReply}
+use Rattle.btr_text.specs.declared.reply.LineReply.TheVariants.{Done, No}
+use Rattle.btr_text.specs.declared.reply.LineReply.TheVariants as replies
+use Rattle.btr_text.specs.declared.reply.Reason.TheVariants as reasons
+use Rattle.btr_text.specs.Reasons.{reason_of_rejection, reason_of_refusal}
+use Rattle.btr_text.specs.Text.{text}
+use Rattle.btr_engine.specs.Body.{need_of}
+use Rattle.btr_engine.specs.Step.{MayLackMemory}
+use Rattle.btr_top.specs.Meaning.{Meaning, Commits, Asks, Refuses, meaning}
+
+-- ---- what the model replies
+
+abbrev pub reply_of_answer : Answer → LineReply
+reply_of_answer (Found version rows) = replies.Found version rows
+reply_of_answer (Refused refusal) = No (reason_of_refusal refusal)
+
+abbrev pub reply_of_commit : List Entry → Entry → Option Rejection → LineReply
+reply_of_commit h e None = Done (receipt h e).version
+reply_of_commit h e (Some why) = No (reason_of_rejection why)
+
+-- The model's reply to what is asked for.
+abbrev pub reply_to : List Entry → Meaning → LineReply
+reply_to h (Commits e) = reply_of_commit h e (rejection h e)
+reply_to h (Asks query) = reply_of_answer (answer h query)
+reply_to h (Refuses reason) = No reason
+
+-- ---- a store
+
+-- The entries of a store, the blocks that are left, and whether it was stopped by a failure of its device.
+pub record Store : Type 0 where
+  pub history : List Entry
+  pub left : ℕ
+  pub stopped : Bool
+
+-- The store with one entry more.
+abbrev pub with_entry : Store → Entry → Store
+with_entry s e = record { history = s.history ++ e ∷ []; left = s.left - need_of e; stopped = s.stopped }
+
+-- The store that takes no more entries.
+abbrev pub stopped_at : Store → Store
+stopped_at s = record { history = s.history; left = s.left; stopped = true }
+
+abbrev pub after_commit : Store → Entry → Option Rejection → Store
+after_commit s e None = with_entry s e
+after_commit s e (Some why) = s
+
+-- The store after what was asked for, by the model.
+abbrev pub after : Store → Meaning → Store
+after s (Commits e) = after_commit s e (rejection s.history e)
+after s (Asks query) = s
+after s (Refuses reason) = s
+
+-- ---- the reply to one line
+
+-- The store can do it: it is not stopped, and an entry that the model accepts fits.
+abbrev pub Allows : Store → Meaning → Type 0
+Allows s (Commits e) = (s.stopped ≡ false) × (rejection s.history e ≡ None → need_of e ≤ s.left)
+Allows s (Asks query) = Unit {0}
+Allows s (Refuses reason) = Unit {0}
+
+-- The reply is the model's, and so is the store after it.
+pub record IsModel (s : Store) (m : Meaning) (reply : LineReply) (t : Store) : Type 0 where
+  pub allowed : Allows s m
+  pub replied : reply ≡ reply_to s.history m
+  pub store : t ≡ after s m
+
+-- The model accepts the entry, but there are too few blocks for it.
+pub record IsFull (s : Store) (e : Entry) (reply : LineReply) (t : Store) : Type 0 where
+  pub not_stopped : s.stopped ≡ false
+  pub allowed : rejection s.history e ≡ None
+  pub short : s.left < need_of e
+  pub replied : reply ≡ No (reasons.Full (need_of e) s.left)
+  pub store : t ≡ s
+
+-- The model accepts the entry, but the device failed in its commit, which stops the store.
+pub record IsDeviceFault (s : Store) (e : Entry) (reply : LineReply) (t : Store) : Type 0 where
+  pub not_stopped : s.stopped ≡ false
+  pub allowed : rejection s.history e ≡ None
+  pub fits : need_of e ≤ s.left
+  pub replied : reply ≡ No reasons.Device
+  pub store : t ≡ stopped_at s
+
+-- The store was stopped before.
+pub record IsStopped (s : Store) (reply : LineReply) (t : Store) : Type 0 where
+  pub stopped : s.stopped ≡ true
+  pub replied : reply ≡ No (reasons.Stopped (length s.history))
+  pub store : t ≡ s
+
+-- Memory may run out in it: in an answer, or in a commit that nothing refuses which is tested before memory is taken.
+abbrev pub NeedsMemory : Store → Meaning → Type 0
+NeedsMemory s (Commits e) = (s.stopped ≡ false) × MayLackMemory (rejection s.history e)
+NeedsMemory s (Asks query) = Unit {0}
+NeedsMemory s (Refuses reason) = ⊥
+
+-- Memory ran out.
+pub record IsOutOfMemory (s : Store) (m : Meaning) (reply : LineReply) (t : Store) : Type 0 where
+  pub needs : NeedsMemory s m
+  pub replied : reply ≡ No reasons.Memory
+  pub store : t ≡ s
+
+-- The entry was not committed, for a reason that the model does not have.
+abbrev pub IsNotDone : Store → Meaning → LineReply → Store → Type 0
+IsNotDone s (Commits e) reply t = IsFull s e reply t ⊎ IsDeviceFault s e reply t ⊎ IsStopped s reply t
+IsNotDone s (Asks query) reply t = ⊥
+IsNotDone s (Refuses reason) reply t = ⊥
+
+-- The reply to what is asked for, and the store after it: by the model, or with the reason why it was not done.
+abbrev pub Replies : Store → Meaning → LineReply → Store → Type 0
+Replies s m reply t = IsModel s m reply t ⊎ IsNotDone s m reply t ⊎ IsOutOfMemory s m reply t
+
+-- ---- a script
+
+-- The replies to lines, one for each in order, and the store after them.
+abbrev pub RunsScript : Store → List ScriptLine → List LineReply → Store → Type 0
+RunsScript s [] [] t = s ≡ t
+RunsScript s [] (reply ∷ replies) t = ⊥
+RunsScript s (line ∷ lines) [] t = ⊥
+RunsScript s (line ∷ lines) (reply ∷ replies) t =
+    (m : Store) × Replies s (meaning s.history line.line) reply m × RunsScript m lines replies t
+
+-- The most blocks that a line may need.
+abbrev pub need_of_line : Option Line → ℕ
+need_of_line None = 0
+need_of_line (Some (lines.Create id)) = need_of (entries.Create id)
+need_of_line (Some (lines.Insert id added)) = need_of (entries.Commit 0 [] added)
+need_of_line (Some (lines.Delete id from to)) = need_of (entries.Commit 0 (record { from = from; to = to } ∷ []) [])
+need_of_line (Some line) = 0
+
+-- The most blocks that lines may need.
+abbrev pub needs_of : List ScriptLine → ℕ
+needs_of [] = 0
+needs_of (line ∷ lines) = need_of_line line.line + needs_of lines
+
+-- The text of replies.
+abbrev pub text_of_replies : List LineReply → List ℕ
+text_of_replies replies = flat_map text replies

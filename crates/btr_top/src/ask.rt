@@ -1,0 +1,101 @@
+//! The command `ask`, which answers questions from the store of a device.
+ghost use Rattle.std.specs.Prelude.{◌≡◌, ◌+◌, IfOk, OnOk};
+ghost use Rattle.btr_io.specs.Bytes.{Gives};
+ghost use Rattle.btr_text.specs.declared.reply.LineReply.{LineReply as ReplySpec};
+ghost use Rattle.btr_engine.specs.Engine.{history_of};
+ghost use Rattle.btr_engine.specs.Opening.{IsOpened};
+ghost use Rattle.btr_top.specs.declared.script.TheConstants.{MAX_INPUT};
+ghost use Rattle.btr_top.specs.Meaning.{question};
+ghost use Rattle.btr_top.specs.Script.{IsKept};
+ghost use Rattle.btr_top.specs.Ask.{AskCause, IsAnswerOrNoMemory, QuestionsCause};
+ghost use Rattle.btr_top.specs.EngineScript.{AddsReply, HasAnswered};
+
+use crate::ending::Ending;
+use crate::line::answer_question;
+use crate::script::{CommandResult, Transcript, open_refusal, read_lines};
+use btr_disk::Disk;
+use btr_engine::{Engine, open_store};
+use btr_io::Source;
+use btr_text::{Line, ScriptLine};
+use std::alloc::{AllocError, Global};
+
+/// `ask`: reads the source to its end, opens the store, and answers the lines that were read, of which only questions
+/// are answered. It does not call the device before all lines are read, nor after the store is open.
+pub(crate) fn run_ask<S: Source, D: Disk>(
+    alloc: Global,
+    source: &mut S,
+    disk: D,
+) -> CommandResult<D>
+    ensures size { D.size result.disk ≡ D.size disk }
+    ensures input { S.is_observable → Gives (MAX_INPUT + 1) (S.left source.old) (S.left source.new) }
+    ensures cause { AskCause ⟦<S as Source>⟧ ⟦<D as Disk>⟧ source.old source.new disk result.disk result.ending }
+    ensures kept { IsKept ⟦<D as Disk>⟧ disk result.disk }
+{
+    match read_lines(alloc, source) {
+        Ok(lines) => ask_lines(alloc, lines, disk),
+        Err(ending) => CommandResult { ending, disk },
+    }
+}
+
+/// Answers lines from the store of a device.
+fn ask_lines<D: Disk>(alloc: Global, lines: Vec<ScriptLine>, disk: D) -> CommandResult<D>
+    ensures size { D.size result.disk ≡ D.size disk }
+    ensures cause { QuestionsCause ⟦<D as Disk>⟧ lines.items disk result.disk result.ending }
+    ensures kept { IsKept ⟦<D as Disk>⟧ disk result.disk }
+{
+    match open_store(alloc, disk) {
+        Ok(engine) => ask_opened(alloc, lines, engine),
+        Err(fault) => open_refusal(fault),
+    }
+}
+
+/// Answers lines from a store that was opened.
+fn ask_opened<D: Disk>(alloc: Global, lines: Vec<ScriptLine>, engine: Engine<D>) -> CommandResult<D>
+    ensures size { (old : D) → IsOpened ⟦<D as Disk>⟧ old engine → D.size result.disk ≡ D.size old }
+    ensures cause { (old : D) → IsOpened ⟦<D as Disk>⟧ old engine
+        → QuestionsCause ⟦<D as Disk>⟧ lines.items old result.disk result.ending }
+    ensures kept { (old : D) → IsOpened ⟦<D as Disk>⟧ old engine → IsKept ⟦<D as Disk>⟧ old result.disk }
+{
+    let answered = answer_questions(alloc, &engine, lines);
+    let disk = engine.into_disk();
+    match answered {
+        Ok(transcript) => CommandResult {
+            ending: Ending::Replied(transcript),
+            disk,
+        },
+        Err(_) => CommandResult {
+            ending: Ending::OutOfMemory,
+            disk,
+        },
+    }
+}
+
+/// Answers all lines in order, and returns the replies. An `Err` is that there is no memory for the text of a reply.
+#[tactic(auto, using(crate::proofs::AskedLines::none_answered))]
+fn answer_questions<D: Disk>(
+    alloc: Global,
+    engine: &Engine<D>,
+    lines: Vec<ScriptLine>,
+) -> Result<Transcript, AllocError>
+    ensures { IfOk result (λ t. HasAnswered (history_of engine.now) lines.items t) }
+{
+    let mut transcript = Transcript::new(alloc);
+    for line in lines {
+        ask_line(alloc, engine, line.line, &mut transcript)?;
+    }
+    Ok(transcript)
+}
+
+/// Answers a line, and adds the reply. An `Err` is that there is no memory for the reply's text.
+fn ask_line<D: Disk>(
+    alloc: Global,
+    engine: &Engine<D>,
+    line: Option<Line>,
+    transcript: &mut Transcript,
+) -> Result<(), AllocError>
+    ensures { OnOk result ((reply : ReplySpec) × IsAnswerOrNoMemory (history_of engine.now) (question (history_of engine.now) line) reply
+        × AddsReply reply transcript.old transcript.new) }
+{
+    let reply = answer_question(alloc, engine, line);
+    transcript.add(&reply)
+}

@@ -1,0 +1,100 @@
+//! The command `live`, which runs lines on the store of a device.
+ghost use Rattle.std.specs.Prelude.{◌≡◌, ◌+◌, IfOk, OnErr, OnOk};
+ghost use Rattle.btr_io.specs.Bytes.{Gives};
+ghost use Rattle.btr_text.specs.declared.reply.LineReply.{LineReply as ReplySpec};
+ghost use Rattle.btr_engine.specs.Engine.{history_of};
+ghost use Rattle.btr_engine.specs.Opening.{IsOpened};
+ghost use Rattle.btr_top.specs.declared.script.TheConstants.{MAX_INPUT};
+ghost use Rattle.btr_top.specs.Meaning.{meaning};
+ghost use Rattle.btr_top.specs.Live.{LiveCause, ScriptCause};
+ghost use Rattle.btr_top.specs.EngineScript.{AddsReply, Answers, HasRun, HasRunPrefix};
+
+use crate::ending::Ending;
+use crate::line::answer_line;
+use crate::script::{CommandResult, Transcript, open_refusal, read_lines};
+use btr_disk::Disk;
+use btr_engine::{Engine, open_store};
+use btr_io::Source;
+use btr_text::{Line, ScriptLine};
+use std::alloc::{AllocError, Global};
+
+/// `live`: reads the source to its end, opens the store, and runs the lines that were read, one by one. It does not
+/// call the device before all lines are read.
+pub(crate) fn run_live<S: Source, D: Disk>(
+    alloc: Global,
+    source: &mut S,
+    disk: D,
+) -> CommandResult<D>
+    ensures size { D.size result.disk ≡ D.size disk }
+    ensures input { S.is_observable → Gives (MAX_INPUT + 1) (S.left source.old) (S.left source.new) }
+    ensures cause { LiveCause ⟦<S as Source>⟧ ⟦<D as Disk>⟧ source.old source.new disk result.disk result.ending }
+{
+    match read_lines(alloc, source) {
+        Ok(lines) => run_lines(alloc, lines, disk),
+        Err(ending) => CommandResult { ending, disk },
+    }
+}
+
+/// Runs lines on the store of a device.
+fn run_lines<D: Disk>(alloc: Global, lines: Vec<ScriptLine>, disk: D) -> CommandResult<D>
+    ensures size { D.size result.disk ≡ D.size disk }
+    ensures cause { ScriptCause ⟦<D as Disk>⟧ lines.items disk result.disk result.ending }
+{
+    match open_store(alloc, disk) {
+        Ok(engine) => run_opened(alloc, lines, engine),
+        Err(fault) => open_refusal(fault),
+    }
+}
+
+/// Runs lines on a store that was opened.
+fn run_opened<D: Disk>(alloc: Global, lines: Vec<ScriptLine>, engine: Engine<D>) -> CommandResult<D>
+    ensures size { (old : D) → IsOpened ⟦<D as Disk>⟧ old engine → D.size result.disk ≡ D.size old }
+    ensures cause { (old : D) → IsOpened ⟦<D as Disk>⟧ old engine
+        → ScriptCause ⟦<D as Disk>⟧ lines.items old result.disk result.ending }
+{
+    let mut engine = engine;
+    let answered = answer_lines(alloc, &mut engine, lines);
+    let disk = engine.into_disk();
+    match answered {
+        Ok(transcript) => CommandResult {
+            ending: Ending::Replied(transcript),
+            disk,
+        },
+        Err(_) => CommandResult {
+            ending: Ending::OutOfMemory,
+            disk,
+        },
+    }
+}
+
+/// Runs all lines in order, and returns their replies. An `Err` is that there is no memory for the text of a reply;
+/// then a prefix of the lines ran.
+#[tactic(auto, using(crate::proofs::ScriptLemmas::none_run))]
+fn answer_lines<D: Disk>(
+    alloc: Global,
+    engine: &mut Engine<D>,
+    lines: Vec<ScriptLine>,
+) -> Result<Transcript, AllocError>
+    ensures all { IfOk result (λ t. HasRun engine.old lines.items engine.new t) }
+    ensures part { OnErr result (HasRunPrefix engine.old lines.items engine.new) }
+{
+    let mut transcript = Transcript::new(alloc);
+    for line in lines {
+        run_line(alloc, engine, line.line, &mut transcript)?;
+    }
+    Ok(transcript)
+}
+
+/// Runs a line, and adds its reply. An `Err` is that there is no memory for the reply's text; the line ran then too.
+fn run_line<D: Disk>(
+    alloc: Global,
+    engine: &mut Engine<D>,
+    line: Option<Line>,
+    transcript: &mut Transcript,
+) -> Result<(), AllocError>
+    ensures { (reply : ReplySpec) × Answers engine.old (meaning (history_of engine.old) line) reply engine.new
+        × OnOk result (AddsReply reply transcript.old transcript.new) }
+{
+    let reply = answer_line(alloc, engine, line);
+    transcript.add(&reply)
+}

@@ -1,0 +1,114 @@
+//! The whole run of a command.
+ghost use Rattle.std.specs.Prelude.{◌≡◌, ◌⊎◌, ℕ, ◌+◌, ◌≤◌, ◌^◌, map, string_bytes, Some};
+ghost use Rattle.btr_io.specs.Bytes.{Gives};
+ghost use Rattle.btr_top.specs.declared.command.Command.TheVariants.{Ask, Format, Live};
+ghost use Rattle.btr_top.specs.declared.script.TheConstants.{MAX_INPUT};
+ghost use Rattle.btr_top.specs.Command.{command_of};
+ghost use Rattle.btr_top.specs.Script.{IsKept};
+ghost use Rattle.btr_top.specs.Live.{CanLive};
+ghost use Rattle.btr_top.specs.Ask.{CanAsk};
+ghost use Rattle.btr_top.specs.Format.{CanFormat, FormatCause, FormatLeaves};
+ghost use Rattle.btr_top.specs.Run.{AllWork, Cause, DeviceAndSinkWork, Ends};
+
+use crate::ask::run_ask;
+use crate::command::{Command, read_words};
+use crate::ending::{Ending, show};
+use crate::format_store::format_store;
+use crate::live::run_live;
+use crate::script::CommandResult;
+use btr_disk::Disk;
+use btr_engine::held_is_sound;
+use btr_io::{Sink, Source};
+use std::alloc::Global;
+
+/// What a run gives back.
+#[derive(Debug, Drop)]
+pub struct Outcome<D> {
+    /// The status with which the program ends.
+    pub status: u8,
+
+    /// The device, as the run's calls left it.
+    pub disk: D,
+}
+
+/// Runs the command that the words say: it works on the device, and writes the text of its ending to the sink. `live`
+/// and `ask` read the source to its end first. `format` reads nothing. `rt` is not used.
+pub fn run<R, S: Source, K: Sink, D: Disk + Send>(
+    _rt: &R,
+    alloc: Global,
+    words: &[String],
+    source: &mut S,
+    sink: &mut K,
+    disk: D,
+) -> Outcome<D>
+    ensures size { D.size result.disk ≡ D.size disk }
+    // at most one byte more than the limit is read
+    ensures input { S.is_observable → Gives (MAX_INPUT + 1) (S.left source.old) (S.left source.new) }
+    // why the run ends so, what the device is then, what a crash leaves of it, and what is written
+    ensures ends { Ends ⟦<S as Source>⟧ ⟦<K as Sink>⟧ ⟦<D as Disk>⟧ (command_of (map string_bytes words.now))
+        source.old source.new sink.old sink.new disk result.disk result.status }
+    ensures format_leaves { D.is_observable → (blocks : ℕ) → command_of (map string_bytes words.now) ≡ Some (Format blocks)
+        → FormatLeaves ⟦<D as Disk>⟧ blocks disk result.disk }
+    // if a store can be made and nothing fails, one is made, and 9 says only that there is no memory for the line
+    ensures formats { D.is_observable → (blocks : ℕ) → command_of (map string_bytes words.now) ≡ Some (Format blocks)
+        → CanFormat ⟦<D as Disk>⟧ blocks disk
+        → DeviceAndSinkWork ⟦<K as Sink>⟧ ⟦<D as Disk>⟧ sink.old sink.new disk result.disk
+        → (result.status ≡ 0) ⊎ (result.status ≡ 9) }
+    // if a store has room and nothing fails, each line is done, or refused as the model refuses it
+    ensures lives { S.is_observable → D.is_observable → command_of (map string_bytes words.now) ≡ Some Live
+        → CanLive ⟦<S as Source>⟧ ⟦<D as Disk>⟧ source.old disk
+        → AllWork ⟦<S as Source>⟧ ⟦<K as Sink>⟧ ⟦<D as Disk>⟧ source.old source.new sink.old sink.new disk result.disk
+        → (result.status ≡ 0) ⊎ (result.status ≡ 1) ⊎ (result.status ≡ 9) }
+    // if there is a store and nothing fails, each question is answered, or refused as the model refuses it
+    ensures asks { S.is_observable → D.is_observable → command_of (map string_bytes words.now) ≡ Some Ask
+        → CanAsk ⟦<S as Source>⟧ ⟦<D as Disk>⟧ source.old disk
+        → AllWork ⟦<S as Source>⟧ ⟦<K as Sink>⟧ ⟦<D as Disk>⟧ source.old source.new sink.old sink.new disk result.disk
+        → (result.status ≡ 0) ⊎ (result.status ≡ 1) ⊎ (result.status ≡ 9) }
+    // however `ask` ends, nothing is written
+    ensures kept { command_of (map string_bytes words.now) ≡ Some Ask → IsKept ⟦<D as Disk>⟧ disk result.disk }
+{
+    let CommandResult { ending, disk } = dispatch(alloc, words, source, disk);
+    let status = show(alloc, sink, &ending);
+    // so a device that holds a history is not refused as one without a store, or as a damaged one
+    held_is_sound();
+    Outcome { status, disk }
+}
+
+/// Does what the words say.
+fn dispatch<S: Source, D: Disk>(
+    alloc: Global,
+    words: &[String],
+    source: &mut S,
+    disk: D,
+) -> CommandResult<D>
+    ensures size { D.size result.disk ≡ D.size disk }
+    ensures input { S.is_observable → Gives (MAX_INPUT + 1) (S.left source.old) (S.left source.new) }
+    ensures cause { Cause ⟦<S as Source>⟧ ⟦<D as Disk>⟧ (command_of (map string_bytes words.now)) source.old source.new
+        disk result.disk result.ending }
+    ensures format_leaves { D.is_observable → (blocks : ℕ) → command_of (map string_bytes words.now) ≡ Some (Format blocks)
+        → FormatLeaves ⟦<D as Disk>⟧ blocks disk result.disk }
+    ensures kept { command_of (map string_bytes words.now) ≡ Some Ask → IsKept ⟦<D as Disk>⟧ disk result.disk }
+{
+    match read_words(words) {
+        None => CommandResult {
+            ending: Ending::Usage,
+            disk,
+        },
+        Some(Command::Format { blocks }) => make_store(disk, blocks),
+        Some(Command::Live) => run_live(alloc, source, disk),
+        Some(Command::Ask) => run_ask(alloc, source, disk),
+    }
+}
+
+/// Makes an empty store of this many blocks.
+fn make_store<D: Disk>(disk: D, blocks: u64) -> CommandResult<D>
+    requires least { 8 ≤ blocks }
+    requires greatest { blocks ≤ 2 ^ 32 }
+    ensures size { D.size result.disk ≡ D.size disk }
+    ensures cause { FormatCause ⟦<D as Disk>⟧ blocks disk result.disk result.ending }
+    ensures format_leaves { D.is_observable → FormatLeaves ⟦<D as Disk>⟧ blocks disk result.disk }
+{
+    let mut disk = disk;
+    let ending = format_store(&mut disk, blocks);
+    CommandResult { ending, disk }
+}

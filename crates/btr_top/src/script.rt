@@ -1,0 +1,104 @@
+//! What `live` and `ask` share: they read the input, open the store, and collect the replies.
+ghost use Rattle.std.specs.Prelude.{◌≡◌, ◌+◌, [], ◌++◌, IfOk, IfErr, OnOk};
+ghost use Rattle.btr_io.specs.Bytes.{Gives};
+ghost use Rattle.btr_text.specs.Input.{script_of};
+ghost use Rattle.btr_engine.specs.Opening.{IsNotOpened};
+ghost use Rattle.btr_top.specs.Script.{HasRead, InputCause, IsKept, IsTranscript, OpeningCause};
+ghost use Rattle.btr_top.specs.EngineScript.{AddsReply};
+
+use crate::ending::Ending;
+use crate::status::Status;
+use btr_disk::Disk;
+use btr_engine::{OpenCause, OpenFault};
+use btr_io::{ReadAllFault, Source, read_all};
+use btr_text::{LineReply, ScriptLine, read_script, write_reply};
+use std::alloc::{AllocError, Global};
+
+/// The most bytes of input that are taken: `2^28`.
+pub const MAX_INPUT: u64 = 268435456;
+
+/// How a command ended.
+#[derive(Debug, Drop)]
+pub(crate) struct CommandResult<D> {
+    pub(crate) ending: Ending,
+
+    /// The device, as the command's calls left it.
+    pub(crate) disk: D,
+}
+
+/// Reads the source to its end, and returns the lines of the input that have a reply. It reads at most one byte more
+/// than [`MAX_INPUT`]. An `Err` is how the command ends then.
+pub(crate) fn read_lines<S: Source>(
+    alloc: Global,
+    source: &mut S,
+) -> Result<Vec<ScriptLine>, Ending>
+    ensures input { S.is_observable → Gives (MAX_INPUT + 1) (S.left source.old) (S.left source.new) }
+    ensures read { IfOk result (λ lines. HasRead ⟦<S as Source>⟧ lines.items source.old source.new) }
+    ensures cause { IfErr result (λ e. InputCause ⟦<S as Source>⟧ source.old source.new e) }
+{
+    match read_all(alloc, source, MAX_INPUT) {
+        Ok(input) => lines_of(alloc, &input),
+        Err(ReadAllFault::Fault) => Err(Ending::NoSource),
+        Err(ReadAllFault::TooLong) => Err(Ending::TooLong),
+        Err(ReadAllFault::Want) => Err(Ending::OutOfMemory),
+    }
+}
+
+/// Returns the lines of an input that have a reply. An `Err` is that there is no memory for them.
+fn lines_of(alloc: Global, input: &[u8]) -> Result<Vec<ScriptLine>, Ending>
+    ensures lines { IfOk result (λ lines. lines.items ≡ script_of input.now) }
+    ensures cause { IfErr result (λ e. e ≡ Ending.OutOfMemory) }
+{
+    match read_script(alloc, input) {
+        Ok(script) => Ok(script.into_lines()),
+        Err(_) => Err(Ending::OutOfMemory),
+    }
+}
+
+/// Returns how a command ends whose store was not opened.
+pub(crate) fn open_refusal<D: Disk>(fault: OpenFault<D>) -> CommandResult<D>
+    ensures size { (old : D) → IsNotOpened ⟦<D as Disk>⟧ old fault → D.size result.disk ≡ D.size old }
+    ensures kept { (old : D) → IsNotOpened ⟦<D as Disk>⟧ old fault → IsKept ⟦<D as Disk>⟧ old result.disk }
+    ensures cause { (old : D) → IsNotOpened ⟦<D as Disk>⟧ old fault → OpeningCause ⟦<D as Disk>⟧ old result.disk result.ending }
+{
+    let ending = match fault.cause {
+        OpenCause::NotAStore => Ending::NoStore,
+        OpenCause::Damaged { block } => Ending::Damaged { block },
+        OpenCause::Fault => Ending::NoDevice,
+        OpenCause::Want => Ending::OutOfMemory,
+    };
+    CommandResult {
+        ending,
+        disk: fault.disk,
+    }
+}
+
+/// The replies to lines, as they are written at the end of the run.
+#[derive(Debug, Drop)]
+pub struct Transcript {
+    /// The status that the replies ask for.
+    pub status: Status,
+
+    /// The text of the replies.
+    pub text: Vec<u8>,
+}
+
+impl Transcript {
+    /// Makes a transcript of no reply.
+    pub(crate) fn new(alloc: Global) -> Transcript
+        ensures { IsTranscript [] result }
+    {
+        Transcript {
+            status: Status::Done,
+            text: Vec::new(alloc),
+        }
+    }
+
+    /// Adds a reply. An `Err` is that there is no memory for its text.
+    pub(crate) fn add(&mut self, reply: &LineReply) -> Result<(), AllocError>
+        ensures { OnOk result (AddsReply reply.now self.old self.new) }
+    {
+        self.status = self.status.greater(Status::of_reply(reply));
+        write_reply(reply, &mut self.text)
+    }
+}

@@ -1,0 +1,148 @@
+//! Runs on a device in memory, and transcripts of such runs.
+ghost use Rattle.std.specs.Prelude.{◌≡◌, ◌%◌, length};
+
+use crate::{Outcome, run};
+use btr_disk::{Capacity, MemDisk};
+use btr_io::{MemSink, MemSource};
+use btr_text::read_unsigned;
+use std::alloc::{AllocError, Global};
+use std::process::Abort;
+use std::test::Fail;
+
+/// What the record of a device can hold.
+const CAPACITY: Capacity = Capacity {
+    calls: 256,
+    blocks: 256,
+};
+
+/// What a run gave: its text, its status, and the device.
+#[derive(Drop)]
+pub(super) struct Ran {
+    pub(super) text: String,
+    pub(super) status: u8,
+    pub(super) disk: MemDisk,
+}
+
+/// Makes a device of 64 blocks on which the calls with these numbers fail.
+pub(super) fn empty_device(alloc: Global, failing: &[u64]) -> Result<MemDisk, AllocError> {
+    MemDisk::new(alloc, 64, CAPACITY, failing.to_vec(alloc)?)
+}
+
+/// Makes a device with these bytes.
+pub(super) fn device_of(alloc: Global, bytes: Vec<u8>) -> Result<MemDisk, AllocError>
+    requires { length bytes.items % 4096 ≡ 0 }
+{
+    MemDisk::from_bytes(alloc, bytes, CAPACITY, Vec::new(alloc))
+}
+
+/// Makes a device of 64 blocks with an empty store of this many.
+pub(super) fn store_of(rt: &impl AllocGlobal, blocks: &str) -> Result<MemDisk, Fail> {
+    let alloc = rt.alloc();
+    let words = format!(in alloc; "format --blocks {blocks}")?;
+    let ran = run_on(rt, words.as_str(), b"", empty_device(alloc, &[])?)?;
+    Ok(ran.disk)
+}
+
+/// Runs these words on a device, with an input in which `U` and `V` are short for two ids.
+pub(super) fn run_on(
+    rt: &impl AllocGlobal,
+    words: &str,
+    input: &[u8],
+    disk: MemDisk,
+) -> Result<Ran, Fail> {
+    let alloc = rt.alloc();
+    let mut source = MemSource::new(with_ids(alloc, input)?, 7, Vec::new(alloc));
+    let mut sink = MemSink::new(alloc, 10000, 11, Vec::new(alloc))?;
+    let (status, disk) = run_words(rt, words, &mut source, &mut sink, disk)?;
+    let text = String::from_utf8_lossy(alloc, sink.written())?.to_string(alloc)?;
+    Ok(Ran { text, status, disk })
+}
+
+/// Runs these words with a source and a sink, and returns the status and the device.
+pub(super) fn run_words(
+    rt: &impl AllocGlobal,
+    words: &str,
+    source: &mut MemSource,
+    sink: &mut MemSink,
+    disk: MemDisk,
+) -> Result<(u8, MemDisk), Fail> {
+    let alloc = rt.alloc();
+    let mut given = Vec::new(alloc);
+    for word in words.split(' ') {
+        given.push(word.to_string(alloc)?)?;
+    }
+    let Outcome { status, disk } = run(rt, alloc, &given, source, sink, disk);
+    Ok((status, disk))
+}
+
+/// Returns the text with one id for each `U` and another for each `V`.
+pub(super) fn with_ids(alloc: Global, text: &[u8]) -> Result<Vec<u8>, AllocError> {
+    let mut out = Vec::new(alloc);
+    for byte in text {
+        match *byte {
+            b'U' => out.extend_from_slice(b"11111111-1111-4111-8111-111111111111")?,
+            b'V' => out.extend_from_slice(b"22222222-2222-4222-8222-222222222222")?,
+            other => out.push(other)?,
+        }
+    }
+    Ok(out)
+}
+
+/// Plays a transcript of runs on one device of 64 blocks. A line `$ WORDS` begins a run, `> LINE` is a line of its
+/// input, `< LINE` a line that it must write, and `= N` the status with which it must end. The calls of the device that
+/// are listed fail. `U` and `V` are short for two ids.
+pub(super) fn play(
+    rt: &(impl AllocGlobal + Abort),
+    failing: &[u64],
+    transcript: &str,
+) -> Result<(), Fail> {
+    let alloc = rt.alloc();
+    let mut disk = empty_device(alloc, failing)?;
+    let mut words = "";
+    let mut input = String::new(alloc);
+    let mut wanted = String::new(alloc);
+    for line in transcript.split('\n') {
+        if let Some(given) = line.strip_prefix("$ ") {
+            words = given;
+            input = String::new(alloc);
+            wanted = String::new(alloc);
+        } else if let Some(said) = line.strip_prefix("> ") {
+            push_line(&mut input, said)?;
+        } else if let Some(reply) = line.strip_prefix("< ") {
+            push_line(&mut wanted, reply)?;
+        } else if let Some(status) = line.strip_prefix("= ") {
+            disk = ends_so(rt, words, input.as_str(), disk, wanted.as_str(), status)?;
+        }
+    }
+    Ok(())
+}
+
+/// Adds a line.
+fn push_line(text: &mut String, line: &str) -> Result<(), AllocError> {
+    text.push_str(line)?;
+    text.push('\n')
+}
+
+/// Asserts that a run writes this text and ends with this status, and returns the device.
+fn ends_so(
+    rt: &(impl AllocGlobal + Abort),
+    words: &str,
+    input: &str,
+    disk: MemDisk,
+    wanted: &str,
+    status: &str,
+) -> Result<MemDisk, Fail> {
+    let wanted = with_ids(rt.alloc(), wanted.as_bytes())?;
+    let ran = run_on(rt, words, input.as_bytes(), disk)?;
+    assert!(rt;
+        ran.text.as_bytes() == wanted.as_slice(),
+        "{words}: {input}{}",
+        ran.text
+    );
+    assert_eq!(rt;
+        Some(u64::from(ran.status)),
+        read_unsigned(status.as_bytes()),
+        "{words}: {input}"
+    );
+    Ok(ran.disk)
+}
