@@ -42,9 +42,9 @@ fn an_entry_that_may_not_follow_is_damage(rt: HostRuntime) -> Result<(), Fail> {
     let made = run_on(&rt, "live", b"create U\ncreate V\n", store_of(&rt, "64")?)?;
     let mut bytes = made.disk.into_bytes();
     // the second entry creates the first one's stream again
-    for (offset, byte) in CREATE.iter().enumerate() {
-        if let Some(to) = bytes.get_mut((7 * 4096 + 64usize).saturating_add(offset)) {
-            *to = *byte;
+    for offset in 0..17usize {
+        if let Some(byte) = bytes.get_mut((7 * 4096 + 64usize).saturating_add(offset)) {
+            *byte = CREATE.get(offset).copied().unwrap_or(0);
         }
     }
     let ran = run_on(

@@ -98,12 +98,12 @@ pub(super) fn play(
 ) -> Result<(), Fail> {
     let alloc = rt.alloc();
     let mut disk = empty_device(alloc, failing)?;
-    let mut words = "";
+    let mut words = String::new(alloc);
     let mut input = String::new(alloc);
     let mut wanted = String::new(alloc);
     for line in transcript.split('\n') {
         if let Some(given) = line.strip_prefix("$ ") {
-            words = given;
+            words = given.to_string(alloc)?;
             input = String::new(alloc);
             wanted = String::new(alloc);
         } else if let Some(said) = line.strip_prefix("> ") {
@@ -111,7 +111,14 @@ pub(super) fn play(
         } else if let Some(reply) = line.strip_prefix("< ") {
             push_line(&mut wanted, reply)?;
         } else if let Some(status) = line.strip_prefix("= ") {
-            disk = ends_so(rt, words, input.as_str(), disk, wanted.as_str(), status)?;
+            disk = ends_so(
+                rt,
+                words.as_str(),
+                input.as_str(),
+                disk,
+                wanted.as_str(),
+                status,
+            )?;
         }
     }
     Ok(())
