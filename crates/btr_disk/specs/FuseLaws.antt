@@ -28,7 +28,9 @@ module _ {D : Type 0} {disk : Ghosts D} (fuse : FuseDisk D disk) where
       inr (fewer (min s (disk.calls fuse.disk)) (min t (disk.calls fuse.disk)) (omega arith) (omega arith) left)
 
   -- The contents are an image.
-  pub fuse_reads : AreBytes (disk.contents fuse.disk) → disk.images_now fuse.disk (disk.contents fuse.disk) → FuseMayLeave fuse (disk.contents fuse.disk)
+  pub fuse_reads : AreBytes (disk.contents fuse.disk)
+      → disk.images_now fuse.disk (disk.contents fuse.disk)
+      → FuseMayLeave fuse (disk.contents fuse.disk)
   fuse_reads bytes reads = of_passed (disk.contents fuse.disk) bytes reads
 
   pub fuse_counts_now : (t : ℕ) (c : Image) → FuseMayLeave fuse c → FuseMayHaveLeft fuse t c

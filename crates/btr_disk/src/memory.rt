@@ -210,7 +210,8 @@ impl Disk for MemDisk {
         ensures cause { HasCause self.old.faults self.new.faults result }
         ensures fails { FailsAsListed (length bytes.now) self.old (IsErr result) }
         ensures written { OnOk result (Has (contents_of self.new.bytes.items) (4096 * first) bytes.now) }
-        ensures elsewhere { SameBut (4096 * first) (length bytes.now) (contents_of self.old.bytes.items) (contents_of self.new.bytes.items) }
+        ensures elsewhere { SameBut (4096 * first) (length bytes.now)
+            (contents_of self.old.bytes.items) (contents_of self.new.bytes.items) }
         ensures images { Tears (4096 * first) (length bytes.now) (images_of self.old) (images_of self.new) }
         ensures time { Elapses (call_count self.old.made) (since_of self.old) (since_of self.new) (images_of self.new) }
     {

@@ -1,4 +1,4 @@
--- When the points of a span are equal in two versions of a stream: if the newer tree's node or slot there is not newer than the older version.
+-- When the points of a span are equal in two versions of a stream: if the newer tree's node or slot there is no newer than the older one.
 use Rattle.std.specs.Prelude.{◌≡◌, ℕ, ◌≤◌, ℤ, Bool, List}
 use Rattle.btr_base.specs.declared.point.Point.{Point}
 use Rattle.btr_tree.specs.History.{Commit, bag}

@@ -43,7 +43,8 @@ pub record AreSomeSlots (below : ℕ) (start : ℤ) (slots : List Slot) (childre
   pub few : length (points_of (suc below) start (bag commits)) + more < 2 ^ 64
 
 -- The points of a span after a commit that makes its node. If they are more than a leaf holds, there was no inner node.
-pub record IsFresh (height : ℕ) (start : ℤ) (above : List Point → Bool) (h : List Commit) (c : Commit) (version : ℕ) (points : List Point) : Type 0 where
+pub record IsFresh (height : ℕ) (start : ℤ) (above : List Point → Bool) (h : List Commit) (c : Commit) (version : ℕ)
+    (points : List Point) : Type 0 where
   pub number : version ≡ c.version
   pub same : points ≡ points_of height start (bag (c ∷ h))
   pub fresh : (touches c height start (bag h) || not (is_node above height start (bag h))) ≡ true
@@ -92,7 +93,8 @@ slot_at was height start h =
     record { agg = agg (points_of height start (bag h)); version = last_change was height start h; child = 0 }
 
 -- An inner node of a history, and the part of a commit that is in its span.
-pub record IsApplied (below : ℕ) (span : SpanValue) (h : List Commit) (c : Commit) (cut : List RangeValue) (added : List Point) (version : ℕ) (slots : List Slot) (children : List Child) : Type 0 where
+pub record IsApplied (below : ℕ) (span : SpanValue) (h : List Commit) (c : Commit) (cut : List RangeValue) (added : List Point)
+    (version : ℕ) (slots : List Slot) (children : List Child) : Type 0 where
   pub height : span.height ≡ suc below
   pub many : LEAF_POINTS < length (points_of (suc below) span.start (bag h))
   pub all : HasSlots below span.start h 64 slots children

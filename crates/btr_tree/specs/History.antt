@@ -1,9 +1,9 @@
 -- The commits of a stream as plain lists, newest first, and the points that they leave.
-use Rattle.std.specs.Prelude.{◌<◌, ℕ, List, [], ◌∷◌, ◌++◌}
+use Rattle.std.specs.Prelude.{◌<◌, ℕ, List, [], ◌∷◌}
 use Rattle.std.specs.List.{AllByRecursion}
 use Rattle.btr_base.specs.declared.point.Point.{Point}
 use Rattle.btr_base.specs.Range.{RangeValue}
-use Rattle.btr_base.specs.Bag.{sort, outside}
+use Rattle.btr_base.specs.Commit as base
 
 -- The version that a commit makes, the times whose points it removes, and the points that it then adds.
 pub record Commit : Type 0 where
@@ -13,7 +13,7 @@ pub record Commit : Type 0 where
 
 -- The points after a commit.
 abbrev pub after : Commit → List Point → List Point
-after c b = sort (outside b c.cut ++ c.added)
+after c b = base.after b (record { cut = c.cut; added = c.added })
 
 -- The points after commits.
 abbrev pub bag : List Commit → List Point

@@ -46,7 +46,8 @@ pub record HasSlots (below : ℕ) (start : ℤ) (h : List Commit) (n : ℕ) (slo
       → slice_index_or slots i d ≡ slot_of_points (suc below) start below (slot_start below start i) h
 
 -- An inner node has more points than a leaf holds, 64 slots, and its version.
-pub record IsInner (below : ℕ) (start : ℤ) (above : List Point → Bool) (h : List Commit) (carried : ℕ) (slots : List Slot) (children : List Child) : Type 0 where
+pub record IsInner (below : ℕ) (start : ℤ) (above : List Point → Bool) (h : List Commit) (carried : ℕ) (slots : List Slot)
+    (children : List Child) : Type 0 where
   pub many : LEAF_POINTS < length (points_of (suc below) start (bag h))
   pub version : carried ≡ node_version above (suc below) start h
   pub all : HasSlots below start h 64 slots children

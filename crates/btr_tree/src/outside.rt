@@ -145,7 +145,8 @@ pub(crate) fn gather_outside_slots(
 ) -> Result<(), AllocError>
     requires some { (below : ℕ) × (span.height ≡ suc below) × AreSomeSlots below span.start slots.now children.now 0 }
     requires cut { IsCut cut.now }
-    ensures { OnOk result (AtEachInner span slots.now children.now (λ h. out.new.items ≡ out.old.items ++ outside (points_in span (bag h)) cut.now)) }
+    ensures { OnOk result (AtEachInner span slots.now children.now
+        (λ h. out.new.items ≡ out.old.items ++ outside (points_in span (bag h)) cut.now)) }
 {
     for i in 0..FAN_OUT {
         gather_outside_slot(alloc, span.slot(i), &children[usize::from(i)], cut, out)?;
