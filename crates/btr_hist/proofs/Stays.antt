@@ -22,7 +22,7 @@ use Rattle.btr_hist.specs.declared.answer.Rows.{Rows}
 use Rattle.btr_hist.specs.declared.answer.Rows.TheVariants.{Points, Cells, Ranges, Info}
 use Rattle.btr_hist.specs.History.{ids, latest, bag}
 use Rattle.btr_hist.specs.Answer.{answer, answer_at, version_of, is_range, is_power, is_width, list_of}
-use Rattle.btr_hist.specs.Laws.{IsThere, IsSettled}
+use Rattle.btr_hist.specs.Query.{IsThere, IsSettled}
 use Rattle.btr_hist.proofs.HistoryLemmas.{ids-append, latest-append, bag-append}
 
 -- The answer about a version that exists.

@@ -6,30 +6,13 @@ use Rattle.btr_base.specs.Point.{InDomain}
 use Rattle.btr_base.specs.Range.{covered}
 use Rattle.btr_base.specs.Bag.{copies}
 use Rattle.btr_hist.specs.declared.entry.Entry.{Entry}
-use Rattle.btr_hist.specs.declared.query.At.{At}
-use Rattle.btr_hist.specs.declared.query.At.TheVariants.{Number, Latest}
 use Rattle.btr_hist.specs.declared.query.Query.{Query}
-use Rattle.btr_hist.specs.declared.query.Query.TheVariants as ask
 use Rattle.btr_base.specs.Commit.{Change}
 use Rattle.btr_hist.specs.History.{ids, commits, latest, bag}
 use Rattle.btr_hist.specs.Legal.{Legal}
+use Rattle.btr_hist.specs.Query.{IsSettled}
 use Rattle.btr_hist.specs.Answer.{answer}
 use Rattle.btr_hist.specs.Machine.{Event, start, run}
-
--- The stream exists, and the version is given by its number and exists.
-abbrev pub IsThere : List Entry → ℕ → At → Type 0
-IsThere h stream (Number version) = (stream < length (ids h)) × (version ≤ latest h stream)
-IsThere h stream Latest = ⊥
-
--- The question is about versions that exist.
-abbrev pub IsSettled : List Entry → Query → Type 0
-IsSettled h (ask.Points stream from to at) = IsThere h stream at
-IsSettled h (ask.Nearest stream time way at) = IsThere h stream at
-IsSettled h (ask.Aligned stream from to p at) = IsThere h stream at
-IsSettled h (ask.Windows stream from to width at) = IsThere h stream at
-IsSettled h (ask.Changes stream old new p) = IsThere h stream (Number old) × IsThere h stream (Number new)
-IsSettled h (ask.Info stream at) = IsThere h stream at
-IsSettled h ask.Streams = ⊥
 
 -- The answer about versions that exist never changes.
 abbrev pub OldVersionsStay : Type 0

@@ -18,6 +18,52 @@ use crate::query::{At, Query};
 use btr_base::{Agg, END, FIRST, MAX_EXPONENT, MAX_WIDTH, Point, Toward, parted, points_between};
 use std::alloc::{AllocError, Global};
 
+/// The answer to a question. It costs the whole history. An `Err` means out of memory.
+pub(crate) fn answer_of(
+    alloc: Global,
+    entries: &[Entry],
+    query: &Query,
+) -> Result<Answer, AllocError>
+    ensures { IfOk result (λ a. a ≡ answer entries.now query.now) }
+{
+    match *query {
+        Query::Points {
+            stream,
+            from,
+            to,
+            at,
+        } => points_answer(alloc, entries, stream, from, to, at),
+        Query::Nearest {
+            stream,
+            time,
+            toward,
+            at,
+        } => nearest_answer(alloc, entries, stream, time, toward, at),
+        Query::Aligned {
+            stream,
+            from,
+            to,
+            p,
+            at,
+        } => aligned_answer(alloc, entries, stream, from, to, p, at),
+        Query::Windows {
+            stream,
+            from,
+            to,
+            width,
+            at,
+        } => windows_answer(alloc, entries, stream, from, to, width, at),
+        Query::Changes {
+            stream,
+            old,
+            new,
+            p,
+        } => changes_answer(alloc, entries, stream, old, new, p),
+        Query::Info { stream, at } => info_answer(alloc, entries, stream, at),
+        Query::Streams => streams_answer(alloc, entries),
+    }
+}
+
 /// The version that is asked for, or the reason of a refusal. `good` says whether the other numbers of the question are good.
 fn version_asked(entries: &[Entry], stream: u32, at: At, good: bool) -> Result<u64, Refusal>
     ensures { IsAsked entries.now stream (version_of entries.now stream at) good result }
@@ -44,7 +90,7 @@ fn version_asked(entries: &[Entry], stream: u32, at: At, good: bool) -> Result<u
 }
 
 /// The answer to a question for points. An `Err` means out of memory.
-pub(crate) fn points_answer(
+fn points_answer(
     alloc: Global,
     entries: &[Entry],
     stream: u32,
@@ -67,7 +113,7 @@ pub(crate) fn points_answer(
 }
 
 /// The answer to a question for the nearest point. An `Err` means out of memory.
-pub(crate) fn nearest_answer(
+fn nearest_answer(
     alloc: Global,
     entries: &[Entry],
     stream: u32,
@@ -90,7 +136,7 @@ pub(crate) fn nearest_answer(
 }
 
 /// The answer to a question for aligned windows. An `Err` means out of memory.
-pub(crate) fn aligned_answer(
+fn aligned_answer(
     alloc: Global,
     entries: &[Entry],
     stream: u32,
@@ -114,7 +160,7 @@ pub(crate) fn aligned_answer(
 }
 
 /// The answer to a question for windows of any width. An `Err` means out of memory.
-pub(crate) fn windows_answer(
+fn windows_answer(
     alloc: Global,
     entries: &[Entry],
     stream: u32,
@@ -138,7 +184,7 @@ pub(crate) fn windows_answer(
 }
 
 /// The answer to a question for the changes from one version to another. An `Err` means out of memory.
-pub(crate) fn changes_answer(
+fn changes_answer(
     alloc: Global,
     entries: &[Entry],
     stream: u32,
@@ -163,12 +209,7 @@ pub(crate) fn changes_answer(
 }
 
 /// The answer to a question for a version as a whole. An `Err` means out of memory.
-pub(crate) fn info_answer(
-    alloc: Global,
-    entries: &[Entry],
-    stream: u32,
-    at: At,
-) -> Result<Answer, AllocError>
+fn info_answer(alloc: Global, entries: &[Entry], stream: u32, at: At) -> Result<Answer, AllocError>
     ensures { IfOk result (λ a. a ≡ answer entries.now (AskInfo stream at)) }
 {
     let version = match version_asked(entries, stream, at, true) {
@@ -184,7 +225,7 @@ pub(crate) fn info_answer(
 }
 
 /// The answer to a question for all streams. An `Err` means out of memory.
-pub(crate) fn streams_answer(alloc: Global, entries: &[Entry]) -> Result<Answer, AllocError>
+fn streams_answer(alloc: Global, entries: &[Entry]) -> Result<Answer, AllocError>
     ensures { IfOk result (λ a. a ≡ answer entries.now AskStreams) }
 {
     let rows = stream_rows(alloc, entries)?;

@@ -10,10 +10,7 @@ ghost use Rattle.btr_hist.specs.Legal.{first_out_of_domain};
 ghost use Rattle.btr_hist.specs.Answer.{answer};
 
 use crate::answer::Answer;
-use crate::answering::{
-    aligned_answer, changes_answer, info_answer, nearest_answer, points_answer, streams_answer,
-    windows_answer,
-};
+use crate::answering::answer_of;
 use crate::crowded::first_crowded;
 use crate::entry::Entry;
 use crate::query::Query;
@@ -102,43 +99,7 @@ impl History {
     pub fn answer(&self, alloc: Global, query: &Query) -> Result<Answer, AllocError>
         ensures { IfOk result (λ a. a ≡ answer self.now query.now) }
     {
-        let entries = &self.entries;
-        match *query {
-            Query::Points {
-                stream,
-                from,
-                to,
-                at,
-            } => points_answer(alloc, entries, stream, from, to, at),
-            Query::Nearest {
-                stream,
-                time,
-                toward,
-                at,
-            } => nearest_answer(alloc, entries, stream, time, toward, at),
-            Query::Aligned {
-                stream,
-                from,
-                to,
-                p,
-                at,
-            } => aligned_answer(alloc, entries, stream, from, to, p, at),
-            Query::Windows {
-                stream,
-                from,
-                to,
-                width,
-                at,
-            } => windows_answer(alloc, entries, stream, from, to, width, at),
-            Query::Changes {
-                stream,
-                old,
-                new,
-                p,
-            } => changes_answer(alloc, entries, stream, old, new, p),
-            Query::Info { stream, at } => info_answer(alloc, entries, stream, at),
-            Query::Streams => streams_answer(alloc, entries),
-        }
+        answer_of(alloc, &self.entries, query)
     }
 
     /// The reason why an entry may not follow, or `None` if it may. It costs the whole history each time. An `Err` means out of
