@@ -1,0 +1,152 @@
+//! Nodes of an index, by height. The root has height 128. An inner node of height h splits its ids by bit h - 1 of their hash.
+ghost use Rattle.std.specs.Prelude.{◌≡◌, ℕ, ◌<◌, ◌≤◌, IfOk};
+ghost use Rattle.btr_board.specs.Put.{put_at};
+ghost use Rattle.btr_board.specs.Numbers.{first, bit, number_in};
+
+use std::alloc::{AllocError, Global};
+use std::sync::Arc;
+
+/// The greatest number of entries of a leaf above height 0.
+const MOST: usize = 16;
+
+/// An odd number, 2^128 over the golden ratio: the product with it spreads ids that are alike over all high bits.
+const SCATTER: u128 = 210306068529402873165736369884012333109;
+
+/// An id and its number.
+#[derive(Clone, Copy)]
+pub(crate) struct Entry {
+    pub(crate) id: u128,
+    pub(crate) number: u32,
+}
+
+/// A node of an index. Indexes share nodes.
+#[derive(Drop)]
+pub(crate) enum IndexNode {
+    /// The entries, with no id twice: at most 16, but any number at height 0.
+    Leaf(Vec<Entry>),
+
+    /// The nodes of the height below: of the ids whose bit is 0, and of those whose bit is 1.
+    Inner {
+        zeros: Arc<IndexNode, Global>,
+        ones: Arc<IndexNode, Global>,
+    },
+}
+
+/// A bit of the id's hash.
+fn bit_of(height: u8, id: u128) -> bool
+    requires { height < 128 }
+    ensures { result ≡ bit height id }
+{
+    (id.wrapping_mul(SCATTER) >> height) % 2 == 1
+}
+
+/// The number of the first entry with this id.
+fn first_number(entries: &[Entry], id: u128) -> Option<u32>
+    ensures { result ≡ first entries.now id }
+{
+    for entry in entries {
+        if entry.id == id {
+            return Some(entry.number);
+        }
+    }
+    None
+}
+
+/// The number of an id below a node.
+pub(crate) fn find_in(node: &IndexNode, height: u8, id: u128) -> Option<u32>
+    requires { height ≤ 128 }
+    ensures { result ≡ number_in height node.now id }
+{
+    match node {
+        IndexNode::Leaf(entries) => first_number(entries, id),
+        IndexNode::Inner { zeros, ones } => {
+            if height == 0 {
+                return None;
+            }
+            let below = height - 1;
+            if bit_of(below, id) {
+                return find_in(ones, below, id);
+            }
+            find_in(zeros, below, id)
+        }
+    }
+}
+
+/// The node with an entry put in.
+pub(crate) fn insert_in(
+    alloc: Global,
+    node: &IndexNode,
+    height: u8,
+    entry: Entry,
+) -> Result<Arc<IndexNode, Global>, AllocError>
+    requires { height ≤ 128 }
+    ensures { IfOk result (λ n. (j : ℕ) → number_in height n.value j ≡ put_at entry.id entry.number (number_in height node.now) j) }
+{
+    match node {
+        IndexNode::Leaf(entries) => build(alloc, with_entry(alloc, entries, entry)?, height),
+        IndexNode::Inner { zeros, ones } => {
+            if height == 0 {
+                return build(alloc, with_entry(alloc, &[], entry)?, 0);
+            }
+            let below = height - 1;
+            if bit_of(below, entry.id) {
+                let ones = insert_in(alloc, ones, below, entry)?;
+                let zeros = Arc::try_clone(zeros)?;
+                return Ok(Arc::new(alloc, IndexNode::Inner { zeros, ones })?);
+            }
+            let zeros = insert_in(alloc, zeros, below, entry)?;
+            let ones = Arc::try_clone(ones)?;
+            Ok(Arc::new(alloc, IndexNode::Inner { zeros, ones })?)
+        }
+    }
+}
+
+/// The node of these entries: a leaf if they are few.
+pub(crate) fn build(
+    alloc: Global,
+    entries: Vec<Entry>,
+    height: u8,
+) -> Result<Arc<IndexNode, Global>, AllocError>
+    requires { height ≤ 128 }
+    ensures { IfOk result (λ n. (j : ℕ) → number_in height n.value j ≡ first entries.items j) }
+{
+    if height == 0 || entries.len() <= MOST {
+        return Ok(Arc::new(alloc, IndexNode::Leaf(entries))?);
+    }
+    let below = height - 1;
+    let zeros = build(alloc, half(alloc, &entries, below, false)?, below)?;
+    let ones = build(alloc, half(alloc, &entries, below, true)?, below)?;
+    Ok(Arc::new(alloc, IndexNode::Inner { zeros, ones })?)
+}
+
+/// The entries whose bit is `one`.
+fn half(alloc: Global, entries: &[Entry], place: u8, one: bool) -> Result<Vec<Entry>, AllocError>
+    requires { place < 128 }
+    ensures { IfOk result (λ v. (j : ℕ) → bit place j ≡ one → first v.items j ≡ first entries.now j) }
+{
+    let mut part = Vec::new(alloc);
+    for entry in entries {
+        if bit_of(place, entry.id) == one {
+            part.push(*entry)?;
+        }
+    }
+    Ok(part)
+}
+
+/// The entries with one put in, in place of that with its id.
+pub(crate) fn with_entry(
+    alloc: Global,
+    entries: &[Entry],
+    new: Entry,
+) -> Result<Vec<Entry>, AllocError>
+    ensures { IfOk result (λ v. (j : ℕ) → first v.items j ≡ put_at new.id new.number (first entries.now) j) }
+{
+    let mut others = Vec::new(alloc);
+    for entry in entries {
+        if entry.id != new.id {
+            others.push(*entry)?;
+        }
+    }
+    others.push(new)?;
+    Ok(others)
+}
