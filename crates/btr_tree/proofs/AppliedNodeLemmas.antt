@@ -12,7 +12,7 @@ use Rattle.btr_base.specs.Span.{width, SpanValue, IsSpan, slot_of}
 use Rattle.btr_base.proofs.ListLemmas.{length-filter}
 use Rattle.btr_base.specs.declared.limits.TheConstants.{LEAF_POINTS}
 use Rattle.btr_tree.specs.declared.node.Slot.{Slot}
-use Rattle.btr_tree.specs.History.{Commit, bag}
+use Rattle.btr_tree.specs.History.{Commit, bag, Past, ◌▷◌}
 use Rattle.btr_tree.specs.Nodes.{points_of, has_points, touches, is_inner, is_node, last_change}
 use Rattle.btr_tree.proofs.VersionLemmas.{points-after}
 use Rattle.btr_tree.specs.declared.node.Child.{Child}
@@ -26,7 +26,7 @@ use Rattle.btr_tree.specs.Change.{IsFresh, IsChange, IsApplied, IsInnerOf, slot_
 
 -- ---- the points of a span after a commit
 
-pub change-after : (k : ℕ) (s : ℤ) (h : List Commit) (c : Commit) (cut : List RangeValue) (added : List Point) (v : ℕ) → IsChange k s c cut added v → points_of k s (bag (c ∷ h)) ≡ sort (outside (points_of k s (bag h)) cut ++ added)
+pub change-after : (k : ℕ) (s : ℤ) (h : Past) (c : Commit) (cut : List RangeValue) (added : List Point) (v : ℕ) → IsChange k s c cut added v → points_of k s (bag (c ▷ h)) ≡ sort (outside (points_of k s (bag h)) cut ++ added)
 change-after k s h c cut added v ch =
     points-after k s c (bag h)
     ∙ ap (λ x. sort (x ++ points_of k s c.added)) (outside-alike s (s +ℤ pos (width k)) (bag h) c.cut cut (λ t low high. sym (ch.times t low high)))
@@ -43,11 +43,11 @@ pub change-here : (k : ℕ) (s : ℤ) (c : Commit) (cut here : List RangeValue) 
 change-here k s c cut here added v ch alike =
     record { number = ch.number; points = ch.points; times = λ t low high. alike t low high ∙ ch.times t low high }
 
-pub change-count : (k : ℕ) (s : ℤ) (h : List Commit) (c : Commit) (cut : List RangeValue) (added : List Point) (v left : ℕ) → IsChange k s c cut added v → left ≡ length (outside (points_of k s (bag h)) cut) → length (points_of k s (bag (c ∷ h))) ≡ left + length added
+pub change-count : (k : ℕ) (s : ℤ) (h : Past) (c : Commit) (cut : List RangeValue) (added : List Point) (v left : ℕ) → IsChange k s c cut added v → left ≡ length (outside (points_of k s (bag h)) cut) → length (points_of k s (bag (c ▷ h))) ≡ left + length added
 change-count k s h c cut added v left ch e =
     omega (arith, ap length (change-after k s h c cut added v ch), length-sort (outside (points_of k s (bag h)) cut ++ added), length-append (outside (points_of k s (bag h)) cut) added, e)
 
-pub touched-fresh : (k : ℕ) (s : ℤ) (above : List Point → Bool) (h : List Commit) (c : Commit) (v : ℕ) (points : List Point) → v ≡ c.version → points ≡ points_of k s (bag (c ∷ h)) → touches c k s (bag h) ≡ true → (LEAF_POINTS < length points → length (points_of k s (bag h)) ≤ LEAF_POINTS) → IsFresh k s above h c v points
+pub touched-fresh : (k : ℕ) (s : ℤ) (above : List Point → Bool) (h : Past) (c : Commit) (v : ℕ) (points : List Point) → v ≡ c.version → points ≡ points_of k s (bag (c ▷ h)) → touches c k s (bag h) ≡ true → (LEAF_POINTS < length points → length (points_of k s (bag h)) ≤ LEAF_POINTS) → IsFresh k s above h c v points
 touched-fresh k s above h c v points number same touched small =
     record {
       number = number;
@@ -56,13 +56,13 @@ touched-fresh k s above h c v points number same touched small =
       small = small;
     }
 
-pub last_change-touched : (was : List Point → Bool) (k : ℕ) (s : ℤ) (h : List Commit) (c : Commit) (v : ℕ) → v ≡ c.version → touches c k s (bag h) ≡ true → v ≡ last_change was k s (c ∷ h)
+pub last_change-touched : (was : List Point → Bool) (k : ℕ) (s : ℤ) (h : Past) (c : Commit) (v : ℕ) → v ≡ c.version → touches c k s (bag h) ≡ true → v ≡ last_change was k s (c ▷ h)
 last_change-touched was k s h c v number touched =
     number ∙ sym (ap (λ t. cond (t || not (was (bag h))) c.version (last_change was k s h)) touched)
 
-pub inner-child_on : (k below : ℕ) (s : ℤ) (above : List Point → Bool) (h : List Commit) (c : Commit) (v : ℕ) (ss : List Slot) (cs : List Child) (p : Child) → k ≡ suc below → v ≡ c.version → touches c k s (bag h) ≡ true → LEAF_POINTS < length (points_of k s (bag (c ∷ h))) → HasSlots below s (c ∷ h) 64 ss cs → HasChildren below s (c ∷ h) 64 cs → IsInnerOf v ss cs p → IsChild k s above (c ∷ h) p
+pub inner-child_on : (k below : ℕ) (s : ℤ) (above : List Point → Bool) (h : Past) (c : Commit) (v : ℕ) (ss : List Slot) (cs : List Child) (p : Child) → k ≡ suc below → v ≡ c.version → touches c k s (bag h) ≡ true → LEAF_POINTS < length (points_of k s (bag (c ▷ h))) → HasSlots below s (c ▷ h) 64 ss cs → HasChildren below s (c ▷ h) 64 cs → IsInnerOf v ss cs p → IsChild k s above (c ▷ h) p
 inner-child_on k below s above h c v ss cs p e number touched many slots each is =
-    subst (λ j. IsChild j s above (c ∷ h) p) (sym e) (inner-child below s above h c v ss cs p number (ap (λ t. t || not (is_node above (suc below) s (bag h))) (subst (λ j. touches c j s (bag h) ≡ true) e touched)) (subst (λ j. LEAF_POINTS < length (points_of j s (bag (c ∷ h)))) e many) slots each is)
+    subst (λ j. IsChild j s above (c ▷ h) p) (sym e) (inner-child below s above h c v ss cs p number (ap (λ t. t || not (is_node above (suc below) s (bag h))) (subst (λ j. touches c j s (bag h) ≡ true) e touched)) (subst (λ j. LEAF_POINTS < length (points_of j s (bag (c ▷ h)))) e many) slots each is)
 
 -- ---- whether a commit touches a span
 
@@ -82,12 +82,12 @@ kept-all f (p ∷ b) =
       | false ↦ both (length (filter (λ q. not (f q)) b)) (length b) ∙ rest
     ]
 
-pub untouched-added : (k : ℕ) (s : ℤ) (h : List Commit) (c : Commit) (cut : List RangeValue) (added : List Point) (v : ℕ) → IsChange k s c cut added v → 0 < length added → false ≡ not (touches c k s (bag h))
+pub untouched-added : (k : ℕ) (s : ℤ) (h : Past) (c : Commit) (cut : List RangeValue) (added : List Point) (v : ℕ) → IsChange k s c cut added v → 0 < length added → false ≡ not (touches c k s (bag h))
 untouched-added k s h c cut added v ch some =
     let has : has_points (points_of k s c.added) ≡ true = ap has_points (sym ch.points) ∙ some-has added some in
     sym (ap (λ t. not (t || list_any (λ p. covered c.cut p.time) (points_of k s (bag h)))) has)
 
-pub untouched-kept : (k : ℕ) (s : ℤ) (h : List Commit) (c : Commit) (cut : List RangeValue) (added : List Point) (v left count : ℕ) → IsChange k s c cut added v → added ≡ [] → left ≡ length (outside (points_of k s (bag h)) cut) → count ≡ length (points_of k s (bag h)) → eqb left count ≡ not (touches c k s (bag h))
+pub untouched-kept : (k : ℕ) (s : ℤ) (h : Past) (c : Commit) (cut : List RangeValue) (added : List Point) (v left count : ℕ) → IsChange k s c cut added v → added ≡ [] → left ≡ length (outside (points_of k s (bag h)) cut) → count ≡ length (points_of k s (bag h)) → eqb left count ≡ not (touches c k s (bag h))
 untouched-kept k s h c cut added v left count ch none e f =
     let has : has_points (points_of k s c.added) ≡ false = ap has_points (sym ch.points ∙ none) in
     let alike = outside-alike s (s +ℤ pos (width k)) (bag h) cut c.cut ch.times in
@@ -117,13 +117,13 @@ parted-of span part below i b e place p aligned =
     subst (λ x. IsPartedAt span part below i pts x behind) (at.has ∙ points-part below span.start i b part place at.is) at
 
 -- What the walk knows of a slot.
-pub record IsStep (span part : SpanValue) (below i : ℕ) (h : List Commit) (c : Commit) (slot : Slot) (child : Child) (cut : List RangeValue) (here : List Point) (v : ℕ) : Type 0 where
+pub record IsStep (span part : SpanValue) (below i : ℕ) (h : Past) (c : Commit) (slot : Slot) (child : Child) (cut : List RangeValue) (here : List Point) (v : ℕ) : Type 0 where
   pub was : is_inner (suc below) span.start (bag h) ≡ true
   pub holds : IsChild part.height part.start (is_inner (suc below) span.start) h child
   pub slot_is : slot ≡ slot_at (is_inner (suc below) span.start) part.height part.start h
   pub change : IsChange part.height part.start c cut here v
 
-pub step-at : (span part : SpanValue) (below i j : ℕ) (h : List Commit) (c : Commit) (slot : Slot) (child : Child) (cut : List RangeValue) (added here behind : List Point) (v : ℕ) (ss : List Slot) (cs : List Child) → IsApplied below span h c cut added v ss cs → IsPartedAt span part below i added here behind → i < 64 → j ≡ i → part ≡ slot_of span i → slot ≡ slice_index_or ss j slot → child ≡ slice_index_or cs j child → IsStep span part below i h c slot child cut here v
+pub step-at : (span part : SpanValue) (below i j : ℕ) (h : Past) (c : Commit) (slot : Slot) (child : Child) (cut : List RangeValue) (added here behind : List Point) (v : ℕ) (ss : List Slot) (cs : List Child) → IsApplied below span h c cut added v ss cs → IsPartedAt span part below i added here behind → i < 64 → j ≡ i → part ≡ slot_of span i → slot ≡ slice_index_or ss j slot → child ≡ slice_index_or cs j child → IsStep span part below i h c slot child cut here v
 step-at span part below i j h c slot child cut added here behind v ss cs applied at place same p q r =
     let known = slot-at span below h i j part slot child ss cs applied.height applied.all applied.each place same p q r in
     let slot_is : slot ≡ slot_at (is_inner (suc below) span.start) below (slot_start below span.start i) h = q ∙ ap (λ k. slice_index_or ss k slot) same ∙ applied.all.each i slot place in

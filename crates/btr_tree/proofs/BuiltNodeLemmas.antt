@@ -1,39 +1,41 @@
 -- Lemmas on nodes that a commit makes.
-use Rattle.std.specs.Prelude.{◌≡◌, ℕ, ◌+◌, ◌<◌, ◌≤◌, ℤ, Bool, true, false, not, ◌&&◌, ◌||◌, cond, List, [], ◌∷◌, ◌++◌, length, slice_index_or, Option, Some, None, MatchOption}
+use Rattle.std.specs.Prelude.{◌≡◌, ℕ, ◌+◌, ◌<◌, ◌≤◌, ℤ, Bool, true, false, not, ◌&&◌, ◌||◌, cond, List, [], length, Option, Some, None, MatchOption}
 use Rattle.std.proofs.Common.{zero, suc, refl, sym, ap, ◌∙◌, arith, subst, inl, inr}
 use Rattle.std.proofs.lemmas.Bool.Decides.{nat_tests}
-use Rattle.std.proofs.lemmas.List.{get_or_push, length_push}
-use Rattle.std.proofs.Math.ListN.{get_or-append}
 use Rattle.std.proofs.Math.Nat.{eq-or-lt_of_le}
 use Rattle.btr_base.specs.declared.point.Point.{Point}
 use Rattle.btr_base.specs.Agg.{AggValue, agg}
 use Rattle.btr_base.specs.declared.limits.TheConstants.{LEAF_POINTS}
-use Rattle.btr_tree.specs.declared.node.Child.{Child}
+use Rattle.btr_tree.specs.declared.node.Link.{Link}
 use Rattle.btr_tree.specs.declared.node.NodeData.{NodeData, out-NodeData}
 use Rattle.btr_tree.specs.declared.node.NodeData.TheOpen.{NodeData-F}
 use Rattle.btr_tree.specs.declared.node.Slot.{Slot}
-use Rattle.btr_tree.specs.History.{Commit, bag}
+use Rattle.btr_tree.specs.declared.slots.Kept.{Kept}
+use Rattle.btr_tree.specs.declared.slots.Slots.{Slots}
+use Rattle.btr_tree.specs.Packed.{without_address}
+use Rattle.btr_tree.specs.Slots.{slot_in, child_in, AreSameSlots, IsPut}
+use Rattle.btr_tree.specs.History.{Commit, bag, Past, ◌▷◌}
 use Rattle.btr_tree.specs.Nodes.{points_of, touches, is_inner, is_node, last_change, node_version}
-use Rattle.btr_tree.specs.Shape.{node_of, ByKind, slot_start, slot_of_points, IsLeaf, HasSlots, HasChildren, IsNodeData, IsChild}
-use Rattle.btr_tree.proofs.NodeLemmas.{slot-fewer}
+use Rattle.btr_tree.specs.Shape.{ByKind, slot_start, slot_of_points, IsLeaf, HasSlots, HasChildren, IsNodeData, IsChild}
+use Rattle.btr_tree.proofs.NodeLemmas.{slot-fewer, child-same}
 use Rattle.btr_tree.specs.Change.{IsFresh, IsLeafOf, IsInnerOf}
 
 -- What holds of a kind holds in a weaker form.
-pub by_kind-weaker : (P R : ℕ → List Point → Type 0) (Q S : ℕ → List Slot → List Child → Type 0) (n : NodeData-F NodeData Child) → ((v : ℕ) (ps : List Point) → P v ps → R v ps) → ((v : ℕ) (ss : List Slot) (cs : List Child) → Q v ss cs → S v ss cs) → ByKind P Q n → ByKind R S n
+pub by_kind-weaker : (P R : ℕ → List Point → Type 0) (Q S : ℕ → Slots → Type 0) (n : NodeData-F NodeData Link Kept Slots) → ((v : ℕ) (ps : List Point) → P v ps → R v ps) → ((v : ℕ) (x : Slots) → Q v x → S v x) → ByKind P Q n → ByKind R S n
 by_kind-weaker P R Q S (NodeData-F.Leaf version points) f g h = f version points.items h
-by_kind-weaker P R Q S (NodeData-F.Inner version slots children) f g h = g version slots.items children.items h
+by_kind-weaker P R Q S (NodeData-F.Inner version slots) f g h = g version slots h
 
 -- What follows from a fact of either kind.
-pub by_kind-gives : (P : ℕ → List Point → Type 0) (Q : ℕ → List Slot → List Child → Type 0) (R : Type 0) (n : NodeData-F NodeData Child) → ((v : ℕ) (ps : List Point) → P v ps → R) → ((v : ℕ) (ss : List Slot) (cs : List Child) → Q v ss cs → R) → ByKind P Q n → R
+pub by_kind-gives : (P : ℕ → List Point → Type 0) (Q : ℕ → Slots → Type 0) (R : Type 0) (n : NodeData-F NodeData Link Kept Slots) → ((v : ℕ) (ps : List Point) → P v ps → R) → ((v : ℕ) (x : Slots) → Q v x → R) → ByKind P Q n → R
 by_kind-gives P Q R (NodeData-F.Leaf version points) f g h = f version points.items h
-by_kind-gives P Q R (NodeData-F.Inner version slots children) f g h = g version slots.items children.items h
+by_kind-gives P Q R (NodeData-F.Inner version slots) f g h = g version slots h
 
 -- A node that a commit touches or makes has its version.
-pub version-fresh : (k : ℕ) (s : ℤ) (above : List Point → Bool) (h : List Commit) (c : Commit) (v : ℕ) → v ≡ c.version → (touches c k s (bag h) || not (is_node above k s (bag h))) ≡ true → v ≡ node_version above k s (c ∷ h)
+pub version-fresh : (k : ℕ) (s : ℤ) (above : List Point → Bool) (h : Past) (c : Commit) (v : ℕ) → v ≡ c.version → (touches c k s (bag h) || not (is_node above k s (bag h))) ≡ true → v ≡ node_version above k s (c ▷ h)
 version-fresh k s above h c v e fresh =
     e ∙ sym (ap (λ t. cond t c.version (last_change (is_node above k s) k s h)) fresh)
 
-leaf-of : (k : ℕ) (s : ℤ) (above : List Point → Bool) (h : List Commit) (c : Commit) (v : ℕ) (points : List Point) → IsFresh k s above h c v points → 0 < length points → length points ≤ LEAF_POINTS → (w : ℕ) (ps : List Point) → (w ≡ v) × (ps ≡ points) → IsLeaf k s above (c ∷ h) w ps
+leaf-of : (k : ℕ) (s : ℤ) (above : List Point → Bool) (h : Past) (c : Commit) (v : ℕ) (points : List Point) → IsFresh k s above h c v points → 0 < length points → length points ≤ LEAF_POINTS → (w : ℕ) (ps : List Point) → (w ≡ v) × (ps ≡ points) → IsLeaf k s above (c ▷ h) w ps
 leaf-of k s above h c v points f some few w ps e =
     record {
       same = e.1 ∙ f.same;
@@ -42,41 +44,45 @@ leaf-of k s above h c v points f some few w ps e =
       version = version-fresh k s above h c w (e.0 ∙ f.number) f.fresh;
     }
 
-leaf-of_node : (k : ℕ) (s : ℤ) (above : List Point → Bool) (h : List Commit) (c : Commit) (v : ℕ) (points : List Point) (o : Option NodeData) → IsFresh k s above h c v points → 0 < length points → length points ≤ LEAF_POINTS → MatchOption o ⊥ (λ n. ByKind (λ w ps. (w ≡ v) × (ps ≡ points)) (λ w ss cs. ⊥) (out-NodeData n)) → MatchOption o (points_of k s (bag (c ∷ h)) ≡ []) (λ n. IsNodeData k s above (c ∷ h) n)
+leaf-of_node : (k : ℕ) (s : ℤ) (above : List Point → Bool) (h : Past) (c : Commit) (v : ℕ) (points : List Point) (o : Option NodeData) → IsFresh k s above h c v points → 0 < length points → length points ≤ LEAF_POINTS → MatchOption o ⊥ (λ n. ByKind (λ w ps. (w ≡ v) × (ps ≡ points)) (λ w x. ⊥) (out-NodeData n)) → MatchOption o (points_of k s (bag (c ▷ h)) ≡ []) (λ n. IsNodeData k s above (c ▷ h) n)
 leaf-of_node k s above h c v points None f some few is = absurd is
 leaf-of_node zero s above h c v points (Some n) f some few is =
-    by_kind-weaker _ _ _ _ (out-NodeData n) (leaf-of zero s above h c v points f some few) (λ _ _ _ x. x) is
+    by_kind-weaker _ _ _ _ (out-NodeData n) (leaf-of zero s above h c v points f some few) (λ _ _ x. x) is
 leaf-of_node (suc k) s above h c v points (Some n) f some few is =
-    by_kind-weaker _ _ _ _ (out-NodeData n) (leaf-of (suc k) s above h c v points f some few) (λ _ _ _ x. absurd x) is
+    by_kind-weaker _ _ _ _ (out-NodeData n) (leaf-of (suc k) s above h c v points f some few) (λ _ _ x. absurd x) is
 
-pub leaf-child : (k : ℕ) (s : ℤ) (above : List Point → Bool) (h : List Commit) (c : Commit) (v : ℕ) (points : List Point) (p : Child) → IsFresh k s above h c v points → 0 < length points → length points ≤ LEAF_POINTS → IsLeafOf v points p → IsChild k s above (c ∷ h) p
+pub leaf-child : (k : ℕ) (s : ℤ) (above : List Point → Bool) (h : Past) (c : Commit) (v : ℕ) (points : List Point) (p : Option NodeData) → IsFresh k s above h c v points → 0 < length points → length points ≤ LEAF_POINTS → IsLeafOf v points p → IsChild k s above (c ▷ h) p
 leaf-child k s above h c v points p f some few is =
-    leaf-of_node k s above h c v points (node_of p) f some few is
+    leaf-of_node k s above h c v points p f some few is
 
-pub slots-as : (below : ℕ) (s : ℤ) (h : List Commit) (n : ℕ) (ss ts : List Slot) (cs ds : List Child) → ts ≡ ss → ds ≡ cs → HasSlots below s h n ss cs → HasSlots below s h n ts ds
-slots-as k s h n ss ts cs ds p q x =
-    subst (λ y. HasSlots k s h n y ds) (sym p) (subst (HasSlots k s h n ss) (sym q) x)
+-- Slots that are the same are those of the same span.
+pub slots-same : (below : ℕ) (s : ℤ) (h : Past) (x y : Slots) → AreSameSlots x y → HasSlots below s h x → HasSlots below s h y
+slots-same below s h x y same holds = record { each = λ i lt. same.slots i ∙ holds.each i lt }
 
-inner-of_node : (below : ℕ) (s : ℤ) (above : List Point → Bool) (h : List Commit) (c : Commit) (v : ℕ) (ss : List Slot) (cs : List Child) (o : Option NodeData) → v ≡ c.version → (touches c (suc below) s (bag h) || not (is_node above (suc below) s (bag h))) ≡ true → LEAF_POINTS < length (points_of (suc below) s (bag (c ∷ h))) → HasSlots below s (c ∷ h) 64 ss cs → HasChildren below s (c ∷ h) 64 cs → MatchOption o ⊥ (λ n. ByKind (λ w ps. ⊥) (λ w ts ds. (w ≡ v) × (ts ≡ ss) × (ds ≡ cs)) (out-NodeData n)) → MatchOption o (points_of (suc below) s (bag (c ∷ h)) ≡ []) (λ n. IsNodeData (suc below) s above (c ∷ h) n)
-inner-of_node below s above h c v ss cs None number fresh many slots each is = absurd is
-inner-of_node below s above h c v ss cs (Some n) number fresh many slots each is =
-    by_kind-weaker _ _ _ _ (out-NodeData n) (λ _ _ x. absurd x) (λ w ts ds e. (
+pub children-same : (below : ℕ) (s : ℤ) (h : Past) (x y : Slots) → AreSameSlots x y → HasChildren below s h x → HasChildren below s h y
+children-same below s h x y same each i lt =
+    child-same below (slot_start below s i) (is_inner (suc below) s) h (child_in x i) (child_in y i) (same.children i) (each i lt)
+
+inner-of_node : (below : ℕ) (s : ℤ) (above : List Point → Bool) (h : Past) (c : Commit) (v : ℕ) (x : Slots) (o : Option NodeData) → v ≡ c.version → (touches c (suc below) s (bag h) || not (is_node above (suc below) s (bag h))) ≡ true → LEAF_POINTS < length (points_of (suc below) s (bag (c ▷ h))) → HasSlots below s (c ▷ h) x → HasChildren below s (c ▷ h) x → IsInnerOf v x o → IsChild (suc below) s above (c ▷ h) o
+inner-of_node below s above h c v x None number fresh many slots each is = absurd is
+inner-of_node below s above h c v x (Some n) number fresh many slots each is =
+    by_kind-weaker _ _ _ _ (out-NodeData n) (λ _ _ y. absurd y) (λ w y e. (
       record {
         many = many;
         version = version-fresh (suc below) s above h c w (e.0 ∙ number) fresh;
-        all = slots-as below s (c ∷ h) 64 ss ts cs ds e.1 e.2 slots;
+        all = slots-same below s (c ▷ h) x y e.1 slots;
       },
-      subst (HasChildren below s (c ∷ h) 64) (sym e.2) each,
+      children-same below s (c ▷ h) x y e.1 each,
     )) is
 
 -- An inner node of slots, if the commit touches it or makes it.
-pub inner-child : (below : ℕ) (s : ℤ) (above : List Point → Bool) (h : List Commit) (c : Commit) (v : ℕ) (ss : List Slot) (cs : List Child) (p : Child) → v ≡ c.version → (touches c (suc below) s (bag h) || not (is_node above (suc below) s (bag h))) ≡ true → LEAF_POINTS < length (points_of (suc below) s (bag (c ∷ h))) → HasSlots below s (c ∷ h) 64 ss cs → HasChildren below s (c ∷ h) 64 cs → IsInnerOf v ss cs p → IsChild (suc below) s above (c ∷ h) p
-inner-child below s above h c v ss cs p number fresh many slots each is =
-    inner-of_node below s above h c v ss cs (node_of p) number fresh many slots each is
+pub inner-child : (below : ℕ) (s : ℤ) (above : List Point → Bool) (h : Past) (c : Commit) (v : ℕ) (x : Slots) (p : Option NodeData) → v ≡ c.version → (touches c (suc below) s (bag h) || not (is_node above (suc below) s (bag h))) ≡ true → LEAF_POINTS < length (points_of (suc below) s (bag (c ▷ h))) → HasSlots below s (c ▷ h) x → HasChildren below s (c ▷ h) x → IsInnerOf v x p → IsChild (suc below) s above (c ▷ h) p
+inner-child below s above h c v x p number fresh many slots each is =
+    inner-of_node below s above h c v x p number fresh many slots each is
 
-pub inner-child_at : (k below : ℕ) (s : ℤ) (above : List Point → Bool) (h : List Commit) (c : Commit) (v : ℕ) (points : List Point) (ss : List Slot) (cs : List Child) (p : Child) → k ≡ suc below → IsFresh k s above h c v points → LEAF_POINTS < length points → HasSlots below s (c ∷ h) 64 ss cs → HasChildren below s (c ∷ h) 64 cs → IsInnerOf v ss cs p → IsChild k s above (c ∷ h) p
-inner-child_at k below s above h c v points ss cs p e f many slots each is =
-    subst (λ j. IsChild j s above (c ∷ h) p) (sym e) (inner-child below s above h c v ss cs p f.number (subst (λ j. (touches c j s (bag h) || not (is_node above j s (bag h))) ≡ true) e f.fresh) (subst (λ j. LEAF_POINTS < length (points_of j s (bag (c ∷ h)))) e (subst (λ x. LEAF_POINTS < length x) f.same many)) slots each is)
+pub inner-child_at : (k below : ℕ) (s : ℤ) (above : List Point → Bool) (h : Past) (c : Commit) (v : ℕ) (points : List Point) (x : Slots) (p : Option NodeData) → k ≡ suc below → IsFresh k s above h c v points → LEAF_POINTS < length points → HasSlots below s (c ▷ h) x → HasChildren below s (c ▷ h) x → IsInnerOf v x p → IsChild k s above (c ▷ h) p
+inner-child_at k below s above h c v points x p e f many slots each is =
+    subst (λ j. IsChild j s above (c ▷ h) p) (sym e) (inner-child below s above h c v x p f.number (subst (λ j. (touches c j s (bag h) || not (is_node above j s (bag h))) ≡ true) e f.fresh) (subst (λ j. LEAF_POINTS < length (points_of j s (bag (c ▷ h)))) e (subst (λ y. LEAF_POINTS < length y) f.same many)) slots each is)
 
 -- ---- one slot more
 
@@ -90,7 +96,7 @@ new : (t u : Bool) → u ≡ false → (t || not u) ≡ true
 new t u e = grind arith
 
 -- A slot of a span that was no inner node.
-pub slot-fresh : (below : ℕ) (s : ℤ) (i : ℕ) (h : List Commit) (c : Commit) (v : ℕ) (points : List Point) → i < 64 → v ≡ c.version → points ≡ points_of below (slot_start below s i) (bag (c ∷ h)) → length (points_of (suc below) s (bag h)) ≤ LEAF_POINTS → IsFresh below (slot_start below s i) (is_inner (suc below) s) h c v points
+pub slot-fresh : (below : ℕ) (s : ℤ) (i : ℕ) (h : Past) (c : Commit) (v : ℕ) (points : List Point) → i < 64 → v ≡ c.version → points ≡ points_of below (slot_start below s i) (bag (c ▷ h)) → length (points_of (suc below) s (bag h)) ≤ LEAF_POINTS → IsFresh below (slot_start below s i) (is_inner (suc below) s) h c v points
 slot-fresh below s i h c v points place number same few =
     let no = few-not_inner (suc below) s (bag h) few in
     let fewer = slot-fewer below s i (bag h) place in
@@ -101,37 +107,44 @@ slot-fresh below s i h c v points place number same few =
       small = λ _. omega arith;
     }
 
-pub slot-new : (below : ℕ) (s : ℤ) (i : ℕ) (h : List Commit) (c : Commit) → length (points_of (suc below) s (bag h)) ≤ LEAF_POINTS → (touches c below (slot_start below s i) (bag h) || not (is_inner (suc below) s (bag h))) ≡ true
+pub slot-new : (below : ℕ) (s : ℤ) (i : ℕ) (h : Past) (c : Commit) → length (points_of (suc below) s (bag h)) ≤ LEAF_POINTS → (touches c below (slot_start below s i) (bag h) || not (is_inner (suc below) s (bag h))) ≡ true
 slot-new below s i h c few =
     new (touches c below (slot_start below s i) (bag h)) (is_inner (suc below) s (bag h)) (few-not_inner (suc below) s (bag h) few)
 
 slot-by : (a b : AggValue) (v w : ℕ) → a ≡ b → v ≡ w → (let x : Slot = record { agg = a; version = v; child = 0 } in x) ≡ record { agg = b; version = w; child = 0 }
 slot-by a b v w p q = cc
 
-pub slot-made : (below : ℕ) (s : ℤ) (i : ℕ) (h : List Commit) (c : Commit) (v : ℕ) (points : List Point) (x : Slot) → v ≡ c.version → points ≡ points_of below (slot_start below s i) (bag (c ∷ h)) → (touches c below (slot_start below s i) (bag h) || not (is_inner (suc below) s (bag h))) ≡ true → x ≡ record { agg = agg points; version = v; child = 0 } → x ≡ slot_of_points (suc below) s below (slot_start below s i) (c ∷ h)
+pub slot-made : (below : ℕ) (s : ℤ) (i : ℕ) (h : Past) (c : Commit) (v : ℕ) (points : List Point) (x : Slot) → v ≡ c.version → points ≡ points_of below (slot_start below s i) (bag (c ▷ h)) → (touches c below (slot_start below s i) (bag h) || not (is_inner (suc below) s (bag h))) ≡ true → x ≡ record { agg = agg points; version = v; child = 0 } → x ≡ slot_of_points (suc below) s below (slot_start below s i) (c ▷ h)
 slot-made below s i h c v points x number same fresh e =
     e ∙ slot-by _ _ _ _ (ap agg same) (number ∙ sym (ap (λ t. cond t c.version (last_change (is_inner (suc below) s) below (slot_start below s i) h)) fresh))
 
-each_push : {X : Type 0} (xs : List X) (y : X) (P : ℕ → X → Type 0) (n : ℕ) → length xs ≡ n → ((i : ℕ) (d : X) → i < n → P i (slice_index_or xs i d)) → P n y → (i : ℕ) (d : X) → i < n + 1 → P i (slice_index_or (xs ++ y ∷ []) i d)
-each_push xs y P n long h last i d lt =
-    let le : i ≤ n = omega arith in
-    elim (eq-or-lt_of_le le) [
-      | inl e ↦ subst (λ j. P j (slice_index_or (xs ++ y ∷ []) i d)) (sym e) (subst (P n) (sym (get_or_push xs y d i (long ∙ sym e))) last)
-      | inr less ↦ subst (P i) (sym (get_or-append xs (y ∷ []) d i (omega arith))) (h i d less)
-    ]
+-- The first n slots are those of their spans, and so are their children.
+pub record HasFirst (below : ℕ) (s : ℤ) (h : Past) (n : ℕ) (x : Slots) : Type 0 where
+  pub slots : (i : ℕ) → i < n → slot_in x i ≡ slot_of_points (suc below) s below (slot_start below s i) h
+  pub children : (i : ℕ) → i < n → IsChild below (slot_start below s i) (is_inner (suc below) s) h (child_in x i)
 
-pub slots-none : (below : ℕ) (s : ℤ) (h : List Commit) → HasSlots below s h 0 [] []
-slots-none below s h = record { slots_length = refl; children_length = refl; each = λ i d lt. absurd (omega arith) }
+pub first-none_yet : (below : ℕ) (s : ℤ) (h : Past) (x : Slots) → HasFirst below s h 0 x
+first-none_yet below s h x =
+    record { slots = λ i lt. absurd (omega arith); children = λ i lt. absurd (omega arith) }
 
-pub slots-push : (below : ℕ) (s : ℤ) (h : List Commit) (n : ℕ) (ss : List Slot) (cs : List Child) (x : Slot) (p : Child) → HasSlots below s h n ss cs → x ≡ slot_of_points (suc below) s below (slot_start below s n) h → HasSlots below s h (n + 1) (ss ++ x ∷ []) (cs ++ p ∷ [])
-slots-push below s h n ss cs x p holds e =
-    let long = holds.slots_length in
+-- A slot more, which was put.
+pub first-put : (below : ℕ) (s : ℤ) (h : Past) (n : ℕ) (old new : Slots) (slot : Slot) (child : Option NodeData) → IsPut n slot child old new → HasFirst below s h n old → slot ≡ slot_of_points (suc below) s below (slot_start below s n) h → IsChild below (slot_start below s n) (is_inner (suc below) s) h child → HasFirst below s h (n + 1) new
+first-put below s h n old new slot child put holds e last =
     record {
-      slots_length = omega (arith, length_push ss x, holds.slots_length);
-      children_length = omega (arith, length_push cs p, holds.children_length);
-      each = λ i d lt. each_push ss x (λ j y. y ≡ slot_of_points (suc below) s below (slot_start below s j) h) n long (λ j f k. holds.each j f k) e i d lt;
+      slots = λ i lt.
+          let le : i ≤ n = omega arith in
+          elim (eq-or-lt_of_le le) [
+            | inl same ↦ ap (slot_in new) same ∙ put.is ∙ ap without_address e ∙ sym (ap (λ j. slot_of_points (suc below) s below (slot_start below s j) h) same)
+            | inr less ↦ put.slots i less ∙ holds.slots i less
+          ];
+      children = λ i lt.
+          let le : i ≤ n = omega arith in
+          elim (eq-or-lt_of_le le) [
+            | inl same ↦ subst (λ j. IsChild below (slot_start below s j) (is_inner (suc below) s) h (child_in new j)) (sym same) (child-same below (slot_start below s n) (is_inner (suc below) s) h child (child_in new n) put.has last)
+            | inr less ↦ child-same below (slot_start below s i) (is_inner (suc below) s) h (child_in old i) (child_in new i) (put.children i less) (holds.children i less)
+          ];
     }
 
-pub children-push : (below : ℕ) (s : ℤ) (h : List Commit) (n : ℕ) (cs : List Child) (p : Child) → length cs ≡ n → HasChildren below s h n cs → IsChild below (slot_start below s n) (is_inner (suc below) s) h p → HasChildren below s h (n + 1) (cs ++ p ∷ [])
-children-push below s h n cs p long each last i d lt =
-    each_push cs p (λ j q. IsChild below (slot_start below s j) (is_inner (suc below) s) h q) n long each last i d lt
+pub first-all : (below : ℕ) (s : ℤ) (h : Past) (n : ℕ) (x : Slots) → n ≡ 64 → HasFirst below s h n x → HasSlots below s h x × HasChildren below s h x
+first-all below s h n x e holds =
+    (record { each = λ i lt. holds.slots i (omega arith) }, λ i lt. holds.children i (omega arith))

@@ -10,7 +10,7 @@ use Rattle.btr_base.specs.Bag.{within, sort, is_within}
 use Rattle.btr_base.specs.Span.{width}
 use Rattle.btr_base.proofs.ListLemmas.{length-filter}
 use Rattle.btr_base.specs.declared.limits.TheConstants.{LEAF_POINTS}
-use Rattle.btr_tree.specs.History.{Commit, bag, IsBefore}
+use Rattle.btr_tree.specs.History.{Commit, bag, IsBefore, Past, ◌▷◌}
 use Rattle.btr_tree.specs.NewNodes.{NewNodeValue}
 use Rattle.btr_tree.specs.Nodes.{points_of, has_points, touches, is_inner, is_node, node_version}
 use Rattle.btr_tree.proofs.VersionLemmas.{points-after}
@@ -117,7 +117,7 @@ by-length [] P f g = f refl refl
 by-length (x ∷ b) P f g = g (omega arith)
 
 -- A span that the commit touches, and that has points then, has some weight.
-pub weight-some : (k : ℕ) (s : ℤ) (h : List Commit) (c : Commit) → touches c k s (bag h) ≡ true → 0 < length (points_of k s (bag (c ∷ h))) → 1 ≤ weight k s c
+pub weight-some : (k : ℕ) (s : ℤ) (h : Past) (c : Commit) → touches c k s (bag h) ≡ true → 0 < length (points_of k s (bag (c ▷ h))) → 1 ≤ weight k s c
 weight-some k s h c touched some =
     let e = s +ℤ pos (width k) in
     by-length (points_of k s c.added) (1 ≤ weight k s c) (λ _ none.
@@ -125,15 +125,15 @@ weight-some k s h c touched some =
     let cut : list_any (λ p. covered c.cut p.time) (points_of k s (bag h)) ≡ true = sym (ap (λ x. has_points x || list_any (λ p. covered c.cut p.time) (points_of k s (bag h))) none) ∙ touched in
     any-time s e (bag h) c.cut (1 ≤ weight k s c) cut (λ t low high here.
     let gone = outside-whole s e (bag h) c.cut (λ u l m. whole-cut s e t u c.cut no_bound low high here l m) in
-    absurd (no-length (points_of k s (bag (c ∷ h))) some (points-after k s c (bag h) ∙ ap (λ x. sort (x ++ points_of k s c.added)) gone ∙ ap sort none)))) (λ more. omega arith)) (λ more. omega arith)
+    absurd (no-length (points_of k s (bag (c ▷ h))) some (points-after k s c (bag h) ∙ ap (λ x. sort (x ++ points_of k s c.added)) gone ∙ ap sort none)))) (λ more. omega arith)) (λ more. omega arith)
 
-own-one : (k : ℕ) (s : ℤ) (above : List Point → Bool) (h : List Commit) (v : ℕ) → length (own_node k s above h v) ≤ 1
+own-one : (k : ℕ) (s : ℤ) (above : List Point → Bool) (h : Past) (v : ℕ) → length (own_node k s above h v) ≤ 1
 own-one k s above h v =
     elim (is_node above k s (bag h) && nat_eq (node_version above k s h) v) as (λ t. length (cond t (new_node k s above h ∷ []) []) ≤ 1) [ true ↦ omega arith | false ↦ omega arith ]
 
 -- ---- nodes are not more than their points
 
-prefix-points : (k : ℕ) (s : ℤ) (h : List Commit) (f : ℕ → List NewNodeValue) → ((i : ℕ) → length (f i) ≤ suc k * length (points_of k (slot_start k s i) (bag h))) → (n : ℕ) → length (concat_first n f) ≤ suc k * length (within s (slot_start k s n) (bag h))
+prefix-points : (k : ℕ) (s : ℤ) (h : Past) (f : ℕ → List NewNodeValue) → ((i : ℕ) → length (f i) ≤ suc k * length (points_of k (slot_start k s i) (bag h))) → (n : ℕ) → length (concat_first n f) ≤ suc k * length (within s (slot_start k s n) (bag h))
 prefix-points k s h f each zero = omega arith
 prefix-points k s h f each (suc n) =
     let next : n + 1 ≡ suc n = omega arith in
@@ -144,7 +144,7 @@ prefix-points k s h f each (suc n) =
     let product : suc k * length (within s (slot_start k s (suc n)) (bag h)) ≡ suc k * (length before + length here) = ap (λ m. suc k * m) long in
     omega (arith, length-append (concat_first n f) (f n), prefix-points k s h f each n, each n)
 
-pub new_nodes-points : (k : ℕ) (s : ℤ) (above : List Point → Bool) (h : List Commit) (v : ℕ) → length (new_nodes k s above h v) ≤ suc k * length (points_of k s (bag h))
+pub new_nodes-points : (k : ℕ) (s : ℤ) (above : List Point → Bool) (h : Past) (v : ℕ) → length (new_nodes k s above h v) ≤ suc k * length (points_of k s (bag h))
 new_nodes-points zero s above h v =
     by-length (points_of 0 s (bag h)) _ (λ _ none. let e = ap (length {A = NewNodeValue}) (new_nodes-none zero s above h v none) in omega arith) (λ more. let one = own-one zero s above h v in omega arith)
 new_nodes-points (suc k) s above h v =
@@ -189,45 +189,45 @@ is-inner : (n : ℕ) → nat_lt LEAF_POINTS n ≡ true → LEAF_POINTS < n
 is-inner n e = grind (arith, nat_tests)
 
 -- A span that was no inner node and is one after the commit.
-fresh-few : (k : ℕ) (s : ℤ) (above : List Point → Bool) (h : List Commit) (c : Commit) (v : ℕ) → is_inner k s (bag h) ≡ false → LEAF_POINTS < length (points_of k s (bag (c ∷ h))) → length (new_nodes k s above (c ∷ h) v) ≤ suc k * weight k s c
+fresh-few : (k : ℕ) (s : ℤ) (above : List Point → Bool) (h : Past) (c : Commit) (v : ℕ) → is_inner k s (bag h) ≡ false → LEAF_POINTS < length (points_of k s (bag (c ▷ h))) → length (new_nodes k s above (c ▷ h) v) ≤ suc k * weight k s c
 fresh-few k s above h c v leaf many =
     let few : length (points_of k s (bag h)) ≤ LEAF_POINTS = not-inner (length (points_of k s (bag h))) leaf in
     let fewer = after-fewer k s h c in
-    let light : length (points_of k s (bag (c ∷ h))) ≤ weight k s c = omega arith in
-    let product : suc k * length (points_of k s (bag (c ∷ h))) ≤ suc k * weight k s c = mul-le-mul_left (suc k) light in
-    omega (arith, new_nodes-points k s above (c ∷ h) v)
+    let light : length (points_of k s (bag (c ▷ h))) ≤ weight k s c = omega arith in
+    let product : suc k * length (points_of k s (bag (c ▷ h))) ≤ suc k * weight k s c = mul-le-mul_left (suc k) light in
+    omega (arith, new_nodes-points k s above (c ▷ h) v)
 
-pub new_nodes-few : (k : ℕ) (s : ℤ) (above : List Point → Bool) (h : List Commit) (c : Commit) (v : ℕ) → above (bag h) ≡ true → 0 < v → IsBefore v h → length (new_nodes k s above (c ∷ h) v) ≤ suc k * weight k s c
+pub new_nodes-few : (k : ℕ) (s : ℤ) (above : List Point → Bool) (h : Past) (c : Commit) (v : ℕ) → above (bag h) ≡ true → 0 < v → IsBefore v h → length (new_nodes k s above (c ▷ h) v) ≤ suc k * weight k s c
 new_nodes-few zero s above h c v w some before =
-    elim (touches c zero s (bag h)) as (λ t. touches c zero s (bag h) ≡ t → length (new_nodes zero s above (c ∷ h) v) ≤ 1 * weight zero s c) [
+    elim (touches c zero s (bag h)) as (λ t. touches c zero s (bag h) ≡ t → length (new_nodes zero s above (c ▷ h) v) ≤ 1 * weight zero s c) [
       | false ↦ λ e. let none = ap (length {A = NewNodeValue}) (new_nodes-kept zero s above h c v w e some before) in omega arith
       | true ↦ λ e.
-          by-length (points_of zero s (bag (c ∷ h))) _ (λ _ none. let gone = ap (length {A = NewNodeValue}) (new_nodes-none zero s above (c ∷ h) v none) in omega arith) (λ more.
-          let one = own-one zero s above (c ∷ h) v in
+          by-length (points_of zero s (bag (c ▷ h))) _ (λ _ none. let gone = ap (length {A = NewNodeValue}) (new_nodes-none zero s above (c ▷ h) v none) in omega arith) (λ more.
+          let one = own-one zero s above (c ▷ h) v in
           let heavy = weight-some zero s h c e more in
           omega arith)
     ] refl
 new_nodes-few (suc k) s above h c v w some before =
-    elim (touches c (suc k) s (bag h)) as (λ t. touches c (suc k) s (bag h) ≡ t → length (new_nodes (suc k) s above (c ∷ h) v) ≤ suc (suc k) * weight (suc k) s c) [
+    elim (touches c (suc k) s (bag h)) as (λ t. touches c (suc k) s (bag h) ≡ t → length (new_nodes (suc k) s above (c ▷ h) v) ≤ suc (suc k) * weight (suc k) s c) [
       | false ↦ λ e. let none = ap (length {A = NewNodeValue}) (new_nodes-kept (suc k) s above h c v w e some before) in omega arith
       | true ↦ λ e.
-          by-length (points_of (suc k) s (bag (c ∷ h))) _ (λ _ none. let gone = ap (length {A = NewNodeValue}) (new_nodes-none (suc k) s above (c ∷ h) v none) in omega arith) (λ more.
-          elim (is_inner (suc k) s (bag h)) as (λ t. is_inner (suc k) s (bag h) ≡ t → length (new_nodes (suc k) s above (c ∷ h) v) ≤ suc (suc k) * weight (suc k) s c) [
+          by-length (points_of (suc k) s (bag (c ▷ h))) _ (λ _ none. let gone = ap (length {A = NewNodeValue}) (new_nodes-none (suc k) s above (c ▷ h) v none) in omega arith) (λ more.
+          elim (is_inner (suc k) s (bag h)) as (λ t. is_inner (suc k) s (bag h) ≡ t → length (new_nodes (suc k) s above (c ▷ h) v) ≤ suc (suc k) * weight (suc k) s c) [
             | true ↦ λ inner.
-                let f = λ (i : ℕ). new_nodes k (slot_start k s i) (is_inner (suc k) s) (c ∷ h) v in
+                let f = λ (i : ℕ). new_nodes k (slot_start k s i) (is_inner (suc k) s) (c ▷ h) v in
                 let heavy = weight-some (suc k) s h c e more in
-                let one = own-one (suc k) s above (c ∷ h) v in
+                let one = own-one (suc k) s above (c ▷ h) v in
                 let below : length (concat_first 64 f) ≤ suc k * weight (suc k) s c = subst (λ n. length (concat_first 64 f) ≤ suc k * n) (prefix-end k s c) (prefix-few k s c f (λ i lt. new_nodes-few k (slot_start k s i) (is_inner (suc k) s) h c v inner some before) 64 (omega arith)) in
-                let either : length (cond (is_inner (suc k) s (bag (c ∷ h))) (concat_first 64 f) []) ≤ suc k * weight (suc k) s c = elim (is_inner (suc k) s (bag (c ∷ h))) as (λ t. length (cond t (concat_first 64 f) []) ≤ suc k * weight (suc k) s c) [ true ↦ below | false ↦ omega arith ] in
+                let either : length (cond (is_inner (suc k) s (bag (c ▷ h))) (concat_first 64 f) []) ≤ suc k * weight (suc k) s c = elim (is_inner (suc k) s (bag (c ▷ h))) as (λ t. length (cond t (concat_first 64 f) []) ≤ suc k * weight (suc k) s c) [ true ↦ below | false ↦ omega arith ] in
                 let twice : suc (suc k) * weight (suc k) s c ≡ suc k * weight (suc k) s c + weight (suc k) s c = omega arith in
-                omega (arith, length-append (cond (is_inner (suc k) s (bag (c ∷ h))) (concat_first 64 f) []) (own_node (suc k) s above (c ∷ h) v))
+                omega (arith, length-append (cond (is_inner (suc k) s (bag (c ▷ h))) (concat_first 64 f) []) (own_node (suc k) s above (c ▷ h) v))
             | false ↦ λ was.
-                elim (is_inner (suc k) s (bag (c ∷ h))) as (λ t. is_inner (suc k) s (bag (c ∷ h)) ≡ t → length (new_nodes (suc k) s above (c ∷ h) v) ≤ suc (suc k) * weight (suc k) s c) [
-                  | true ↦ λ yes. fresh-few (suc k) s above h c v was (is-inner (length (points_of (suc k) s (bag (c ∷ h)))) yes)
+                elim (is_inner (suc k) s (bag (c ▷ h))) as (λ t. is_inner (suc k) s (bag (c ▷ h)) ≡ t → length (new_nodes (suc k) s above (c ▷ h) v) ≤ suc (suc k) * weight (suc k) s c) [
+                  | true ↦ λ yes. fresh-few (suc k) s above h c v was (is-inner (length (points_of (suc k) s (bag (c ▷ h)))) yes)
                   | false ↦ λ leaf.
                       let heavy = weight-some (suc k) s h c e more in
-                      let one = own-one (suc k) s above (c ∷ h) v in
-                      let only : length (new_nodes (suc k) s above (c ∷ h) v) ≡ length (own_node (suc k) s above (c ∷ h) v) = ap (λ t. length (cond t (concat_first 64 (λ i. new_nodes k (slot_start k s i) (is_inner (suc k) s) (c ∷ h) v)) [] ++ own_node (suc k) s above (c ∷ h) v)) leaf in
+                      let one = own-one (suc k) s above (c ▷ h) v in
+                      let only : length (new_nodes (suc k) s above (c ▷ h) v) ≡ length (own_node (suc k) s above (c ▷ h) v) = ap (λ t. length (cond t (concat_first 64 (λ i. new_nodes k (slot_start k s i) (is_inner (suc k) s) (c ▷ h) v)) [] ++ own_node (suc k) s above (c ▷ h) v)) leaf in
                       let twice : suc (suc k) * weight (suc k) s c ≡ suc k * weight (suc k) s c + weight (suc k) s c = omega arith in
                       omega arith
                 ] refl
@@ -238,7 +238,7 @@ filter-length : {X : Type 0} (f : X → Bool) (xs : List X) → length (filter f
 filter-length f xs = length-filter f xs
 
 -- The whole of a commit, and the root's height.
-pub new_nodes-bound : (s : ℤ) (above : List Point → Bool) (h : List Commit) (c : Commit) (v : ℕ) → above (bag h) ≡ true → 0 < v → IsBefore v h → length (new_nodes 10 s above (c ∷ h) v) ≤ 11 * (253 * length c.added + 2 * length c.cut)
+pub new_nodes-bound : (s : ℤ) (above : List Point → Bool) (h : Past) (c : Commit) (v : ℕ) → above (bag h) ≡ true → 0 < v → IsBefore v h → length (new_nodes 10 s above (c ▷ h) v) ≤ 11 * (253 * length c.added + 2 * length c.cut)
 new_nodes-bound s above h c v w some before =
     let few = new_nodes-few 10 s above h c v w some before in
     let points = length-filter (is_within s (s +ℤ pos (width 10))) c.added in

@@ -9,7 +9,7 @@ use Rattle.btr_base.specs.declared.point.Point.{Point}
 use Rattle.btr_base.specs.Span.{SpanValue}
 use Rattle.btr_base.specs.declared.limits.TheConstants.{LEAF_POINTS}
 use Rattle.btr_tree.specs.declared.node.Slot.{Slot}
-use Rattle.btr_tree.specs.History.{Commit, bag, IsBefore}
+use Rattle.btr_tree.specs.History.{Commit, bag, IsBefore, Past, ◌▷◌}
 use Rattle.btr_tree.specs.Change.{CountsNodes}
 use Rattle.btr_tree.specs.Nodes.{points_of, has_points, touches, is_inner, is_node, last_change, node_version}
 use Rattle.btr_tree.proofs.VersionLemmas.{points-untouched}
@@ -18,9 +18,9 @@ use Rattle.btr_tree.specs.Shape.{slot_start, slot_of_points, HasSlots}
 use Rattle.btr_tree.proofs.UntouchedNodeLemmas.{touches-slot, last_change-kept, some-has, many-inner}
 use Rattle.btr_tree.specs.NewNodes.{NewNodeValue, concat_first, slots_of, new_node, own_node, new_nodes}
 
-pub last_change-before : (was : List Point → Bool) (k : ℕ) (s : ℤ) (h : List Commit) (v : ℕ) → 0 < v → IsBefore v h → last_change was k s h < v
+pub last_change-before : (was : List Point → Bool) (k : ℕ) (s : ℤ) (h : Past) (v : ℕ) → 0 < v → IsBefore v h → last_change was k s h < v
 last_change-before was k s [] v some before = some
-last_change-before was k s (c ∷ h) v some before =
+last_change-before was k s (c ▷ h) v some before =
     elim (touches c k s (bag h) || not (was (bag h))) as (λ t. cond t c.version (last_change was k s h) < v) [
       | true ↦ before.0
       | false ↦ last_change-before was k s h v some before.1
@@ -50,7 +50,7 @@ get-slots f (suc n) i d lt =
       | inr less ↦ get_or-append (concat_first n (λ i. f i ∷ [])) (f n ∷ []) d i (omega arith) ∙ get-slots f n i d less
     ]
 
-pub slots-are : (below : ℕ) (s : ℤ) (h : List Commit) (ss : List Slot) (cs : List Child) → HasSlots below s h 64 ss cs → ss ≡ slots_of below s h
+pub slots-are : (below : ℕ) (s : ℤ) (h : Past) (ss : List Slot) (cs : List Child) → HasSlots below s h 64 ss cs → ss ≡ slots_of below s h
 slots-are below s h ss cs holds =
     let f = λ (i : ℕ). slot_of_points (suc below) s below (slot_start below s i) h in
     let long = holds.slots_length in
@@ -67,22 +67,22 @@ none-node above k s b e = ap (λ x. above b && has_points x) e ∙ both (above b
 pub few-inner : (k : ℕ) (s : ℤ) (b : List Point) → length (points_of k s b) ≤ LEAF_POINTS → is_inner k s b ≡ false
 few-inner k s b few = grind (arith, nat_tests)
 
-own-none : (k : ℕ) (s : ℤ) (above : List Point → Bool) (h : List Commit) (v : ℕ) → is_node above k s (bag h) ≡ false → own_node k s above h v ≡ []
+own-none : (k : ℕ) (s : ℤ) (above : List Point → Bool) (h : Past) (v : ℕ) → is_node above k s (bag h) ≡ false → own_node k s above h v ≡ []
 own-none k s above h v e =
     ap (λ t. cond (t && nat_eq (node_version above k s h) v) (new_node k s above h ∷ []) []) e
 
-own-other : (k : ℕ) (s : ℤ) (above : List Point → Bool) (h : List Commit) (v : ℕ) → node_version above k s h < v → own_node k s above h v ≡ []
+own-other : (k : ℕ) (s : ℤ) (above : List Point → Bool) (h : Past) (v : ℕ) → node_version above k s h < v → own_node k s above h v ≡ []
 own-other k s above h v lt =
     let e : (is_node above k s (bag h) && nat_eq (node_version above k s h) v) ≡ false = grind (arith, nat_tests) in
     ap (λ t. cond t (new_node k s above h ∷ []) []) e
 
-own-here : (k : ℕ) (s : ℤ) (above : List Point → Bool) (h : List Commit) (v : ℕ) → above (bag h) ≡ true → 0 < length (points_of k s (bag h)) → v ≡ node_version above k s h → own_node k s above h v ≡ new_node k s above h ∷ []
+own-here : (k : ℕ) (s : ℤ) (above : List Point → Bool) (h : Past) (v : ℕ) → above (bag h) ≡ true → 0 < length (points_of k s (bag h)) → v ≡ node_version above k s h → own_node k s above h v ≡ new_node k s above h ∷ []
 own-here k s above h v w some e =
     let node : is_node above k s (bag h) ≡ true = ap (λ t. t && has_points (points_of k s (bag h))) w ∙ some-has (points_of k s (bag h)) some in
     let same : nat_eq (node_version above k s h) v ≡ true = grind (arith, nat_tests) in
     ap (λ t. cond (t && nat_eq (node_version above k s h) v) (new_node k s above h ∷ []) []) node ∙ ap (λ t. cond t (new_node k s above h ∷ []) []) same
 
-pub new_nodes-none : (k : ℕ) (s : ℤ) (above : List Point → Bool) (h : List Commit) (v : ℕ) → points_of k s (bag h) ≡ [] → new_nodes k s above h v ≡ []
+pub new_nodes-none : (k : ℕ) (s : ℤ) (above : List Point → Bool) (h : Past) (v : ℕ) → points_of k s (bag h) ≡ [] → new_nodes k s above h v ≡ []
 new_nodes-none zero s above h v e = own-none zero s above h v (none-node above zero s (bag h) e)
 new_nodes-none (suc k) s above h v e =
     let empty = ap (length {A = Point}) e in
@@ -93,7 +93,7 @@ new_node-by : (span : SpanValue) (v w : ℕ) (ps qs : List Point) (ss ts : List 
 new_node-by span v w ps qs ss ts p q r = cc
 
 -- A leaf of the version.
-pub new_nodes-leaf : (k : ℕ) (s : ℤ) (above : List Point → Bool) (h : List Commit) (v : ℕ) (points : List Point) → above (bag h) ≡ true → v ≡ node_version above k s h → points ≡ points_of k s (bag h) → 0 < length points → length points ≤ LEAF_POINTS → new_nodes k s above h v ≡ record { span = record { start = s; height = k }; version = v; points = points; slots = [] } ∷ []
+pub new_nodes-leaf : (k : ℕ) (s : ℤ) (above : List Point → Bool) (h : Past) (v : ℕ) (points : List Point) → above (bag h) ≡ true → v ≡ node_version above k s h → points ≡ points_of k s (bag h) → 0 < length points → length points ≤ LEAF_POINTS → new_nodes k s above h v ≡ record { span = record { start = s; height = k }; version = v; points = points; slots = [] } ∷ []
 new_nodes-leaf zero s above h v points w e same some few =
     own-here zero s above h v w (subst (λ x. 0 < length x) same some) e
     ∙ ap (λ p. p ∷ []) (new_node-by _ _ _ _ _ _ _ (sym e) (sym same) refl)
@@ -104,13 +104,13 @@ new_nodes-leaf (suc k) s above h v points w e same some few =
     ∙ ap (λ p. p ∷ []) (new_node-by _ _ _ _ _ _ _ (sym e) (ap (λ t. cond t [] (points_of (suc k) s (bag h))) no ∙ sym same) (ap (λ t. cond t (slots_of k s h) []) no))
 
 -- An inner node of the version.
-pub new_nodes-inner : (below : ℕ) (s : ℤ) (above : List Point → Bool) (h : List Commit) (v : ℕ) (ss : List Slot) (cs : List Child) → above (bag h) ≡ true → v ≡ node_version above (suc below) s h → LEAF_POINTS < length (points_of (suc below) s (bag h)) → HasSlots below s h 64 ss cs → new_nodes (suc below) s above h v ≡ concat_first 64 (λ i. new_nodes below (slot_start below s i) (is_inner (suc below) s) h v) ++ record { span = record { start = s; height = suc below }; version = v; points = []; slots = ss } ∷ []
+pub new_nodes-inner : (below : ℕ) (s : ℤ) (above : List Point → Bool) (h : Past) (v : ℕ) (ss : List Slot) (cs : List Child) → above (bag h) ≡ true → v ≡ node_version above (suc below) s h → LEAF_POINTS < length (points_of (suc below) s (bag h)) → HasSlots below s h 64 ss cs → new_nodes (suc below) s above h v ≡ concat_first 64 (λ i. new_nodes below (slot_start below s i) (is_inner (suc below) s) h v) ++ record { span = record { start = s; height = suc below }; version = v; points = []; slots = ss } ∷ []
 new_nodes-inner below s above h v ss cs w e many holds =
     let yes = many-inner (suc below) s (bag h) many in
     ap (λ t. cond t (concat_first 64 (λ i. new_nodes below (slot_start below s i) (is_inner (suc below) s) h v)) [] ++ own_node (suc below) s above h v) yes
     ∙ ap (λ x. concat_first 64 (λ i. new_nodes below (slot_start below s i) (is_inner (suc below) s) h v) ++ x) (own-here (suc below) s above h v w (omega arith) e ∙ ap (λ p. p ∷ []) (new_node-by _ _ _ _ _ _ _ (sym e) (ap (λ t. cond t [] (points_of (suc below) s (bag h))) yes) (ap (λ t. cond t (slots_of below s h) []) yes ∙ sym (slots-are below s h ss cs holds))))
 
-pub new_nodes-inner_at : (k below : ℕ) (s : ℤ) (above : List Point → Bool) (h : List Commit) (v : ℕ) (ss : List Slot) (cs : List Child) → k ≡ suc below → above (bag h) ≡ true → v ≡ node_version above k s h → LEAF_POINTS < length (points_of k s (bag h)) → HasSlots below s h 64 ss cs → new_nodes k s above h v ≡ concat_first 64 (λ i. new_nodes below (slot_start below s i) (is_inner (suc below) s) h v) ++ record { span = record { start = s; height = k }; version = v; points = []; slots = ss } ∷ []
+pub new_nodes-inner_at : (k below : ℕ) (s : ℤ) (above : List Point → Bool) (h : Past) (v : ℕ) (ss : List Slot) (cs : List Child) → k ≡ suc below → above (bag h) ≡ true → v ≡ node_version above k s h → LEAF_POINTS < length (points_of k s (bag h)) → HasSlots below s h 64 ss cs → new_nodes k s above h v ≡ concat_first 64 (λ i. new_nodes below (slot_start below s i) (is_inner (suc below) s) h v) ++ record { span = record { start = s; height = k }; version = v; points = []; slots = ss } ∷ []
 new_nodes-inner_at k below s above h v ss cs high w e many holds =
     subst (λ j. new_nodes j s above h v ≡ concat_first 64 (λ i. new_nodes below (slot_start below s i) (is_inner (suc below) s) h v) ++ record { span = record { start = s; height = j }; version = v; points = []; slots = ss } ∷ []) (sym high) (new_nodes-inner below s above h v ss cs w (subst (λ j. v ≡ node_version above j s h) high e) (subst (λ j. LEAF_POINTS < length (points_of j s (bag h))) high many) holds)
 
@@ -120,25 +120,25 @@ has-cases : (b : List Point) (P : Type 0) → (b ≡ [] → P) → (0 < length b
 has-cases [] P f g = f refl
 has-cases (p ∷ b) P f g = g (omega arith)
 
-own-kept : (k : ℕ) (s : ℤ) (above : List Point → Bool) (h : List Commit) (c : Commit) (v : ℕ) → above (bag h) ≡ true → touches c k s (bag h) ≡ false → 0 < v → IsBefore v h → own_node k s above (c ∷ h) v ≡ []
+own-kept : (k : ℕ) (s : ℤ) (above : List Point → Bool) (h : Past) (c : Commit) (v : ℕ) → above (bag h) ≡ true → touches c k s (bag h) ≡ false → 0 < v → IsBefore v h → own_node k s above (c ▷ h) v ≡ []
 own-kept k s above h c v w e some before =
     let same = points-untouched k s c h e in
-    has-cases (points_of k s (bag h)) _ (λ none. own-none k s above (c ∷ h) v (none-node above k s (bag (c ∷ h)) (same ∙ none))) (λ more.
+    has-cases (points_of k s (bag h)) _ (λ none. own-none k s above (c ▷ h) v (none-node above k s (bag (c ▷ h)) (same ∙ none))) (λ more.
     let node : is_node above k s (bag h) ≡ true = ap (λ t. t && has_points (points_of k s (bag h))) w ∙ some-has (points_of k s (bag h)) more in
     let old = last_change-before (is_node above k s) k s h v some before in
     let kept = last_change-kept (is_node above k s) k s h c e node in
-    own-other k s above (c ∷ h) v (subst (λ x. x < v) (sym kept) old))
+    own-other k s above (c ▷ h) v (subst (λ x. x < v) (sym kept) old))
 
-pub new_nodes-kept : (k : ℕ) (s : ℤ) (above : List Point → Bool) (h : List Commit) (c : Commit) (v : ℕ) → above (bag h) ≡ true → touches c k s (bag h) ≡ false → 0 < v → IsBefore v h → new_nodes k s above (c ∷ h) v ≡ []
+pub new_nodes-kept : (k : ℕ) (s : ℤ) (above : List Point → Bool) (h : Past) (c : Commit) (v : ℕ) → above (bag h) ≡ true → touches c k s (bag h) ≡ false → 0 < v → IsBefore v h → new_nodes k s above (c ▷ h) v ≡ []
 new_nodes-kept zero s above h c v w e some before = own-kept zero s above h c v w e some before
 new_nodes-kept (suc k) s above h c v w e some before =
     let same = points-untouched (suc k) s c h e in
     let inner = ap (λ x. nat_lt LEAF_POINTS (length x)) same in
-    ap (λ x. cond (is_inner (suc k) s (bag (c ∷ h))) (concat_first 64 (λ i. new_nodes k (slot_start k s i) (is_inner (suc k) s) (c ∷ h) v)) [] ++ x) (own-kept (suc k) s above h c v w e some before)
+    ap (λ x. cond (is_inner (suc k) s (bag (c ▷ h))) (concat_first 64 (λ i. new_nodes k (slot_start k s i) (is_inner (suc k) s) (c ▷ h) v)) [] ++ x) (own-kept (suc k) s above h c v w e some before)
     ∙ append-nil _
-    ∙ elim (is_inner (suc k) s (bag h)) as (λ t. is_inner (suc k) s (bag h) ≡ t → cond (is_inner (suc k) s (bag (c ∷ h))) (concat_first 64 (λ i. new_nodes k (slot_start k s i) (is_inner (suc k) s) (c ∷ h) v)) [] ≡ []) [
-      | true ↦ λ yes. ap (λ t. cond t (concat_first 64 (λ i. new_nodes k (slot_start k s i) (is_inner (suc k) s) (c ∷ h) v)) []) (inner ∙ yes) ∙ first-none 64 _ (λ i lt. new_nodes-kept k (slot_start k s i) (is_inner (suc k) s) h c v yes (touches-slot k s i c (bag h) lt e) some before)
-      | false ↦ λ no. ap (λ t. cond t (concat_first 64 (λ i. new_nodes k (slot_start k s i) (is_inner (suc k) s) (c ∷ h) v)) []) (inner ∙ no)
+    ∙ elim (is_inner (suc k) s (bag h)) as (λ t. is_inner (suc k) s (bag h) ≡ t → cond (is_inner (suc k) s (bag (c ▷ h))) (concat_first 64 (λ i. new_nodes k (slot_start k s i) (is_inner (suc k) s) (c ▷ h) v)) [] ≡ []) [
+      | true ↦ λ yes. ap (λ t. cond t (concat_first 64 (λ i. new_nodes k (slot_start k s i) (is_inner (suc k) s) (c ▷ h) v)) []) (inner ∙ yes) ∙ first-none 64 _ (λ i lt. new_nodes-kept k (slot_start k s i) (is_inner (suc k) s) h c v yes (touches-slot k s i c (bag h) lt e) some before)
+      | false ↦ λ no. ap (λ t. cond t (concat_first 64 (λ i. new_nodes k (slot_start k s i) (is_inner (suc k) s) (c ▷ h) v)) []) (inner ∙ no)
     ] refl
 
 -- ---- a list that grows

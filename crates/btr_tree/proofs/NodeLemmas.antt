@@ -1,9 +1,8 @@
 -- Lemmas on nodes of a history: what a leaf and an inner node are, and how the slots part a span.
-use Rattle.std.specs.Prelude.{◌≡◌, ℕ, ◌+◌, ◌-◌, ◌*◌, ◌<◌, ◌≤◌, ℤ, pos, ◌+ℤ◌, ◌≤ℤ◌, Bool, List, [], ◌++◌, length, slice_index_or, drop, Some, None, Vec, MatchOption}
+use Rattle.std.specs.Prelude.{◌≡◌, ℕ, ◌+◌, ◌-◌, ◌*◌, ◌<◌, ◌≤◌, ℤ, pos, ◌+ℤ◌, ◌≤ℤ◌, Bool, List, [], ◌++◌, length, Option, Some, None, Vec}
 use Rattle.std.proofs.Common.{zero, suc, refl, sym, ap, ◌∙◌, arith, subst, Bor, mul-le-mul_right}
 use Rattle.std.proofs.lemmas.Int.{ints}
 use Rattle.std.specs.Option.{option_map}
-use Rattle.std.proofs.lemmas.List.{drop_more, drop_all}
 use Rattle.std.specs.declared.sync.Arc.{Arc}
 use Rattle.std.specs.declared.alloc.Global.{Global}
 use Rattle.btr_base.specs.declared.point.Point.{Point}
@@ -14,7 +13,7 @@ use Rattle.btr_base.proofs.WithinLemmas.{within-split, within-empty, within-nest
 use Rattle.btr_base.proofs.ListLemmas.{length-filter}
 use Rattle.btr_base.specs.Agg.{agg, joined}
 use Rattle.btr_base.proofs.AggLemmas.{agg-append}
-use Rattle.btr_tree.specs.declared.node.Child.{Child, out-Child}
+use Rattle.btr_tree.specs.declared.node.Child.{Child}
 use Rattle.btr_tree.specs.declared.node.NodeData.{NodeData, out-NodeData}
 use Rattle.btr_tree.specs.declared.node.NodeData.TheVariants.{Leaf, Inner, rolls-Leaf, rolls-Inner}
 use Rattle.btr_tree.specs.declared.node.NodeData.TheOpen.{NodeData-F}
@@ -22,80 +21,79 @@ use Rattle.btr_tree.specs.declared.node.NodeData.TheViews.{out-roll-NodeData}
 use Rattle.btr_tree.specs.declared.node.Node.{Node}
 use Rattle.btr_tree.specs.declared.node.Node.TheVariants as seen
 use Rattle.btr_tree.specs.declared.node.Slot.{Slot}
-use Rattle.btr_tree.specs.History.{Commit, bag}
+use Rattle.btr_tree.specs.declared.slots.Slots.{Slots}
+use Rattle.btr_tree.specs.Slots.{node_of, slot_in, child_in}
+use Rattle.btr_tree.specs.History.{bag, Past}
 use Rattle.btr_tree.specs.Nodes.{points_of, is_inner}
 use Rattle.btr_tree.proofs.VersionLemmas.{bag-in_order}
-use Rattle.btr_tree.specs.Change.{joined_all}
-use Rattle.btr_tree.specs.Shape.{node_of, ByKind, slot_start, slot_of_points, IsLeaf, IsInner, HasSlots, HasChildren, IsNodeData, IsNode, IsChild}
+use Rattle.btr_tree.specs.Change.{joined_first}
+use Rattle.btr_tree.specs.Shape.{ByKind, slot_start, IsLeaf, IsInner, HasSlots, HasChildren, IsNodeData, IsNode, IsChild}
 
 -- ---- a node in memory
 
 out-leaf : (v : ℕ) (ps : Vec Point Global) → out-NodeData (Leaf v ps) ≡ NodeData-F.Leaf v ps
 out-leaf v ps = ap out-NodeData (sym (rolls-Leaf v ps)) ∙ out-roll-NodeData (NodeData-F.Leaf v ps)
 
-out-inner : (v : ℕ) (ss : Vec Slot Global) (cs : Vec Child Global) → out-NodeData (Inner v ss cs) ≡ NodeData-F.Inner v ss cs
-out-inner v ss cs =
-    ap out-NodeData (sym (rolls-Inner v ss cs)) ∙ out-roll-NodeData (NodeData-F.Inner v ss cs)
+out-inner : (v : ℕ) (x : Slots) → out-NodeData (Inner v x) ≡ NodeData-F.Inner v x
+out-inner v x = ap out-NodeData (sym (rolls-Inner v x)) ∙ out-roll-NodeData (NodeData-F.Inner v x)
 
 -- What holds of the kind of a node, at its parts.
-pub by_leaf : (P : ℕ → List Point → Type 0) (Q : ℕ → List Slot → List Child → Type 0) (n : NodeData) (v : ℕ) (ps : Vec Point Global) → n ≡ Leaf v ps → ByKind P Q (out-NodeData n) → P v ps.items
+pub by_leaf : (P : ℕ → List Point → Type 0) (Q : ℕ → Slots → Type 0) (n : NodeData) (v : ℕ) (ps : Vec Point Global) → n ≡ Leaf v ps → ByKind P Q (out-NodeData n) → P v ps.items
 by_leaf P Q n v ps e h = subst (ByKind P Q) (ap out-NodeData e ∙ out-leaf v ps) h
 
-pub by_inner : (P : ℕ → List Point → Type 0) (Q : ℕ → List Slot → List Child → Type 0) (n : NodeData) (v : ℕ) (ss : Vec Slot Global) (cs : Vec Child Global) → n ≡ Inner v ss cs → ByKind P Q (out-NodeData n) → Q v ss.items cs.items
-by_inner P Q n v ss cs e h = subst (ByKind P Q) (ap out-NodeData e ∙ out-inner v ss cs) h
+pub by_inner : (P : ℕ → List Point → Type 0) (Q : ℕ → Slots → Type 0) (n : NodeData) (v : ℕ) (x : Slots) → n ≡ Inner v x → ByKind P Q (out-NodeData n) → Q v x
+by_inner P Q n v x e h = subst (ByKind P Q) (ap out-NodeData e ∙ out-inner v x) h
 
-pub leaf_data-is : (k : ℕ) (s : ℤ) (above : List Point → Bool) (h : List Commit) (n : NodeData) (v : ℕ) (ps : Vec Point Global) → n ≡ Leaf v ps → IsNodeData k s above h n → IsLeaf k s above h v ps.items
+pub leaf_data-is : (k : ℕ) (s : ℤ) (above : List Point → Bool) (h : Past) (n : NodeData) (v : ℕ) (ps : Vec Point Global) → n ≡ Leaf v ps → IsNodeData k s above h n → IsLeaf k s above h v ps.items
 leaf_data-is zero s above h n v ps e holds = by_leaf _ _ n v ps e holds
 leaf_data-is (suc k) s above h n v ps e holds = by_leaf _ _ n v ps e holds
 
 -- The height below an inner node, and what its slots are.
-pub record IsBody (k : ℕ) (s : ℤ) (above : List Point → Bool) (h : List Commit) (v : ℕ) (ss : List Slot) (cs : List Child) : Type 0 where
+pub record IsBody (k : ℕ) (s : ℤ) (above : List Point → Bool) (h : Past) (v : ℕ) (x : Slots) : Type 0 where
   pub below : ℕ
   pub height : k ≡ suc below
-  pub inner : IsInner below s above h v ss cs
-  pub each : HasChildren below s h 64 cs
+  pub inner : IsInner below s above h v x
+  pub each : HasChildren below s h x
 
-pub inner_data-is : (k : ℕ) (s : ℤ) (above : List Point → Bool) (h : List Commit) (n : NodeData) (v : ℕ) (ss : Vec Slot Global) (cs : Vec Child Global) → n ≡ Inner v ss cs → IsNodeData k s above h n → IsBody k s above h v ss.items cs.items
-inner_data-is zero s above h n v ss cs e holds = absurd (by_inner _ _ n v ss cs e holds)
-inner_data-is (suc k) s above h n v ss cs e holds =
-    let body : IsInner k s above h v ss.items cs.items × HasChildren k s h 64 cs.items = by_inner _ _ n v ss cs e holds in
+pub inner_data-is : (k : ℕ) (s : ℤ) (above : List Point → Bool) (h : Past) (n : NodeData) (v : ℕ) (x : Slots) → n ≡ Inner v x → IsNodeData k s above h n → IsBody k s above h v x
+inner_data-is zero s above h n v x e holds = absurd (by_inner _ _ n v x e holds)
+inner_data-is (suc k) s above h n v x e holds =
+    let body : IsInner k s above h v x × HasChildren k s h x = by_inner _ _ n v x e holds in
     record { below = k; height = refl; inner = body.0; each = body.1 }
 
 -- ---- a node that was visited
 
-pub leaf-is : (k : ℕ) (s : ℤ) (above : List Point → Bool) (h : List Commit) (n : Node) (v : ℕ) (ps : Bor (List Point)) → n ≡ seen.Leaf v ps → IsNode k s above h n → IsLeaf k s above h v ps.now
+pub leaf-is : (k : ℕ) (s : ℤ) (above : List Point → Bool) (h : Past) (n : Node) (v : ℕ) (ps : Bor (List Point)) → n ≡ seen.Leaf v ps → IsNode k s above h n → IsLeaf k s above h v ps.now
 leaf-is k s above h n v ps e holds = subst (IsNode k s above h) e holds
 
-inner-at : (k : ℕ) (s : ℤ) (above : List Point → Bool) (h : List Commit) (v : ℕ) (ss : Bor (List Slot)) (cs : Bor (List Child)) → IsNode k s above h (seen.Inner v ss cs) → IsBody k s above h v ss.now cs.now
-inner-at zero s above h v ss cs holds = absurd holds
-inner-at (suc k) s above h v ss cs holds =
+inner-at : (k : ℕ) (s : ℤ) (above : List Point → Bool) (h : Past) (v : ℕ) (x : Bor Slots) → IsNode k s above h (seen.Inner v x) → IsBody k s above h v x.now
+inner-at zero s above h v x holds = absurd holds
+inner-at (suc k) s above h v x holds =
     record { below = k; height = refl; inner = holds.0; each = holds.1 }
 
-pub inner-is : (k : ℕ) (s : ℤ) (above : List Point → Bool) (h : List Commit) (n : Node) (v : ℕ) (ss : Bor (List Slot)) (cs : Bor (List Child)) → n ≡ seen.Inner v ss cs → IsNode k s above h n → IsBody k s above h v ss.now cs.now
-inner-is k s above h n v ss cs e holds =
-    inner-at k s above h v ss cs (subst (IsNode k s above h) e holds)
+pub inner-is : (k : ℕ) (s : ℤ) (above : List Point → Bool) (h : Past) (n : Node) (v : ℕ) (x : Bor Slots) → n ≡ seen.Inner v x → IsNode k s above h n → IsBody k s above h v x.now
+inner-is k s above h n v x e holds = inner-at k s above h v x (subst (IsNode k s above h) e holds)
 
-pub inner-seen : (k : ℕ) (s : ℤ) (above : List Point → Bool) (h : List Commit) (v : ℕ) (ss : Bor (List Slot)) (cs : Bor (List Child)) → IsBody k s above h v ss.now cs.now → IsNode k s above h (seen.Inner v ss cs)
-inner-seen zero s above h v ss cs body = absurd (grind (arith, body.height))
-inner-seen (suc k) s above h v ss cs body =
+pub inner-seen : (k : ℕ) (s : ℤ) (above : List Point → Bool) (h : Past) (v : ℕ) (x : Bor Slots) → IsBody k s above h v x.now → IsNode k s above h (seen.Inner v x)
+inner-seen zero s above h v x body = absurd (grind (arith, body.height))
+inner-seen (suc k) s above h v x body =
     let same : body.below ≡ k = omega (arith, body.height) in (
-      subst (λ j. IsInner j s above h v ss.now cs.now) same body.inner,
-      subst (λ j. HasChildren j s h 64 cs.now) same body.each,
+      subst (λ j. IsInner j s above h v x.now) same body.inner,
+      subst (λ j. HasChildren j s h x.now) same body.each,
     )
 
 -- ---- a link
 
-pub child-is : (k : ℕ) (s : ℤ) (above : List Point → Bool) (h : List Commit) (child : Child) (a : Arc NodeData Global) → (out-Child child).node ≡ Some a → IsChild k s above h child → IsNodeData k s above h a.value
+pub child-is : (k : ℕ) (s : ℤ) (above : List Point → Bool) (h : Past) (child : Child) (a : Bor (Arc NodeData Global)) → child.node ≡ Some a → IsChild k s above h (node_of child) → IsNodeData k s above h a.now.value
 child-is k s above h child a e holds =
-    subst (λ o. MatchOption (option_map (λ b. b.value) o) (points_of k s (bag h) ≡ []) (λ n. IsNodeData k s above h n)) e holds
+    subst (λ o. IsChild k s above h (option_map (λ b. b.now.value) o)) e holds
 
-pub none-is : (k : ℕ) (s : ℤ) (above : List Point → Bool) (h : List Commit) (child : Child) → (out-Child child).node ≡ None → IsChild k s above h child → points_of k s (bag h) ≡ []
+pub none-is : (k : ℕ) (s : ℤ) (above : List Point → Bool) (h : Past) (child : Child) → child.node ≡ None → IsChild k s above h (node_of child) → points_of k s (bag h) ≡ []
 none-is k s above h child e holds =
-    subst (λ o. MatchOption (option_map (λ b. b.value) o) (points_of k s (bag h) ≡ []) (λ n. IsNodeData k s above h n)) e holds
+    subst (λ o. IsChild k s above h (option_map (λ b. b.now.value) o)) e holds
 
-pub child-same : (k : ℕ) (s : ℤ) (above : List Point → Bool) (h : List Commit) (p q : Child) → node_of q ≡ node_of p → IsChild k s above h p → IsChild k s above h q
-child-same k s above h p q e holds =
-    subst (λ o. MatchOption o (points_of k s (bag h) ≡ []) (λ n. IsNodeData k s above h n)) (sym e) holds
+pub child-same : (k : ℕ) (s : ℤ) (above : List Point → Bool) (h : Past) (p q : Option NodeData) → q ≡ p → IsChild k s above h p → IsChild k s above h q
+child-same k s above h p q e holds = subst (IsChild k s above h) (sym e) holds
 
 -- ---- the slots of a span
 
@@ -117,20 +115,20 @@ slot-part span below i e =
     part-by _ _ _ _ (ap (λ k. span.start +ℤ pos (i * width k)) down) down
 
 -- The points before a slot, with those of the slot, are those before the next.
-pub prefix-next : (below : ℕ) (s : ℤ) (i : ℕ) (h : List Commit) → within s (slot_start below s (i + 1)) (bag h) ≡ within s (slot_start below s i) (bag h) ++ points_of below (slot_start below s i) (bag h)
+pub prefix-next : (below : ℕ) (s : ℤ) (i : ℕ) (h : Past) → within s (slot_start below s (i + 1)) (bag h) ≡ within s (slot_start below s i) (bag h) ++ points_of below (slot_start below s i) (bag h)
 prefix-next below s i h =
     let next = slot-next below s i in
     ap (λ e. within s e (bag h)) next
     ∙ within-split s (slot_start below s i) (slot_start below s i +ℤ pos (width below)) (bag h) (omega (arith, ints)) (omega (arith, ints)) (bag-in_order h)
 
-pub prefix-none : (below : ℕ) (s : ℤ) (h : List Commit) → within s (slot_start below s 0) (bag h) ≡ []
+pub prefix-none : (below : ℕ) (s : ℤ) (h : Past) → within s (slot_start below s 0) (bag h) ≡ []
 prefix-none below s h = ap (λ e. within s e (bag h)) (slot-first below s) ∙ within-empty s (bag h)
 
-pub prefix-all : (below : ℕ) (s : ℤ) (h : List Commit) → within s (slot_start below s 64) (bag h) ≡ points_of (suc below) s (bag h)
+pub prefix-all : (below : ℕ) (s : ℤ) (h : Past) → within s (slot_start below s 64) (bag h) ≡ points_of (suc below) s (bag h)
 prefix-all below s h = ap (λ e. within s e (bag h)) (slot-end below s)
 
 -- The points from a slot on are those of the slot, and those from the next one on.
-pub rest-next : (below : ℕ) (s : ℤ) (i : ℕ) (h : List Commit) → i < 64 → within (slot_start below s i) (s +ℤ pos (width (suc below))) (bag h) ≡ points_of below (slot_start below s i) (bag h) ++ within (slot_start below s (i + 1)) (s +ℤ pos (width (suc below))) (bag h)
+pub rest-next : (below : ℕ) (s : ℤ) (i : ℕ) (h : Past) → i < 64 → within (slot_start below s i) (s +ℤ pos (width (suc below))) (bag h) ≡ points_of below (slot_start below s i) (bag h) ++ within (slot_start below s (i + 1)) (s +ℤ pos (width (suc below))) (bag h)
 rest-next below s i h place =
     let next = slot-next below s i in
     let whole = width-next below in
@@ -140,28 +138,20 @@ rest-next below s i h place =
 
 -- ---- the aggregates of the slots
 
-total-from : (below : ℕ) (s : ℤ) (h : List Commit) (ss : List Slot) (cs : List Child) → HasSlots below s h 64 ss cs → (n i : ℕ) → n + i ≡ 64 → joined_all (drop i ss) ≡ agg (within (slot_start below s i) (s +ℤ pos (width (suc below))) (bag h))
-total-from below s h ss cs holds zero i e =
-    let here : i ≡ 64 = omega arith in
-    let done = holds.slots_length in
-    let end : slot_start below s i ≡ s +ℤ pos (width (suc below)) = ap (slot_start below s) here ∙ slot-end below s in
-    ap joined_all (drop_all i ss (omega arith))
-    ∙ sym (ap agg (ap (λ a. within a (s +ℤ pos (width (suc below))) (bag h)) end ∙ within-empty (s +ℤ pos (width (suc below))) (bag h)))
-total-from below s h ss cs holds (suc n) i e =
-    let d = slot_of_points (suc below) s below (slot_start below s i) h in
-    let long = holds.slots_length in
-    let here = holds.each i d (omega arith) in
-    let rest = total-from below s h ss cs holds n (i + 1) (omega arith) in
-    ap joined_all (drop_more ss i d (omega arith))
-    ∙ ap (λ x. joined x.agg (joined_all (drop (i + 1) ss))) here
-    ∙ ap (joined (agg (points_of below (slot_start below s i) (bag h)))) rest
-    ∙ sym (agg-append (points_of below (slot_start below s i) (bag h)) (within (slot_start below s (i + 1)) (s +ℤ pos (width (suc below))) (bag h)))
-    ∙ sym (ap agg (rest-next below s i h (omega arith)))
+pub total-first : (below : ℕ) (s : ℤ) (h : Past) (x : Slots) → HasSlots below s h x → (n : ℕ) → n ≤ 64 → joined_first n x ≡ agg (within s (slot_start below s n) (bag h))
+total-first below s h x holds zero le = sym (ap agg (prefix-none below s h))
+total-first below s h x holds (suc n) le =
+    let next : n + 1 ≡ suc n = omega arith in
+    let before = within s (slot_start below s n) (bag h) in
+    let here = points_of below (slot_start below s n) (bag h) in
+    ap (λ a. joined a (slot_in x n).agg) (total-first below s h x holds n (omega arith))
+    ∙ ap (λ y. joined (agg before) y.agg) (holds.each n (omega arith))
+    ∙ sym (agg-append before here)
+    ∙ sym (ap agg (prefix-next below s n h))
+    ∙ ap (λ j. agg (within s (slot_start below s j) (bag h))) next
 
-pub total-of : (below : ℕ) (s : ℤ) (h : List Commit) (ss : List Slot) (cs : List Child) → HasSlots below s h 64 ss cs → joined_all ss ≡ agg (points_of (suc below) s (bag h))
-total-of below s h ss cs holds =
-    total-from below s h ss cs holds 64 0 refl
-    ∙ ap (λ a. agg (within a (s +ℤ pos (width (suc below))) (bag h))) (slot-first below s)
+pub total-of : (below : ℕ) (s : ℤ) (h : Past) (x : Slots) → HasSlots below s h x → joined_first 64 x ≡ agg (points_of (suc below) s (bag h))
+total-of below s h x holds = total-first below s h x holds 64 (omega arith) ∙ ap agg (prefix-all below s h)
 
 -- ---- one slot of an inner node
 
@@ -184,16 +174,16 @@ slot-fewer below s i b place =
     subst (λ x. length x ≤ length (points_of (suc below) s b)) (points-slot below s i b place) (length-filter (is_within (slot_start below s i) (slot_start below s i +ℤ pos (width below))) (points_of (suc below) s b))
 
 -- What a walk knows of a slot and its child.
-pub record IsSlotAt (below : ℕ) (s : ℤ) (h : List Commit) (i : ℕ) (part : SpanValue) (slot : Slot) (child : Child) : Type 0 where
+pub record IsSlotAt (below : ℕ) (s : ℤ) (h : Past) (i : ℕ) (part : SpanValue) (slot : Slot) (child : Option NodeData) : Type 0 where
   pub is : part ≡ record { start = slot_start below s i; height = below }
   pub holds : IsChild part.height part.start (is_inner (suc below) s) h child
   pub counted : slot.agg ≡ agg (points_of part.height part.start (bag h))
 
-pub slot-at : (span : SpanValue) (below : ℕ) (h : List Commit) (i j : ℕ) (part : SpanValue) (slot : Slot) (child : Child) (ss : List Slot) (cs : List Child) → span.height ≡ suc below → HasSlots below span.start h 64 ss cs → HasChildren below span.start h 64 cs → i < 64 → j ≡ i → part ≡ slot_of span i → slot ≡ slice_index_or ss j slot → child ≡ slice_index_or cs j child → IsSlotAt below span.start h i part slot child
-slot-at span below h i j part slot child ss cs e slots each place same p q r =
+pub slot-at : (span : SpanValue) (below : ℕ) (h : Past) (i : ℕ) (part : SpanValue) (slot : Slot) (child : Option NodeData) (x : Slots) → span.height ≡ suc below → HasSlots below span.start h x → HasChildren below span.start h x → i < 64 → part ≡ slot_of span i → slot ≡ slot_in x i → child ≡ child_in x i → IsSlotAt below span.start h i part slot child
+slot-at span below h i part slot child x e slots each place p q r =
     let is : part ≡ record { start = slot_start below span.start i; height = below } = p ∙ slot-part span below i e in
-    let holds : IsChild below (slot_start below span.start i) (is_inner (suc below) span.start) h child = subst (IsChild below (slot_start below span.start i) (is_inner (suc below) span.start) h) (ap (λ k. slice_index_or cs k child) (sym same) ∙ sym r) (each i child place) in
-    let counted : slot.agg ≡ agg (points_of below (slot_start below span.start i) (bag h)) = ap (λ x. x.agg) (q ∙ ap (λ k. slice_index_or ss k slot) same ∙ slots.each i slot place) in
+    let holds : IsChild below (slot_start below span.start i) (is_inner (suc below) span.start) h child = subst (IsChild below (slot_start below span.start i) (is_inner (suc below) span.start) h) (sym r) (each i place) in
+    let counted : slot.agg ≡ agg (points_of below (slot_start below span.start i) (bag h)) = ap (λ y. y.agg) (q ∙ slots.each i place) in
     record {
       is = is;
       holds = subst (λ u. IsChild u.height u.start (is_inner (suc below) span.start) h child) (sym is) holds;
@@ -201,26 +191,26 @@ slot-at span below h i j part slot child ss cs e slots each place same p q r =
     }
 
 -- What a walk knows of a slot's child.
-pub record IsChildAt (below : ℕ) (s : ℤ) (h : List Commit) (i : ℕ) (part : SpanValue) (child : Child) : Type 0 where
+pub record IsChildAt (below : ℕ) (s : ℤ) (h : Past) (i : ℕ) (part : SpanValue) (child : Option NodeData) : Type 0 where
   pub is : part ≡ record { start = slot_start below s i; height = below }
   pub holds : IsChild part.height part.start (is_inner (suc below) s) h child
 
-pub child-at : (span : SpanValue) (below : ℕ) (h : List Commit) (i j : ℕ) (part : SpanValue) (child : Child) (cs : List Child) → span.height ≡ suc below → HasChildren below span.start h 64 cs → i < 64 → j ≡ i → part ≡ slot_of span i → child ≡ slice_index_or cs j child → IsChildAt below span.start h i part child
-child-at span below h i j part child cs e each place same p r =
+pub child-at : (span : SpanValue) (below : ℕ) (h : Past) (i : ℕ) (part : SpanValue) (child : Option NodeData) (x : Slots) → span.height ≡ suc below → HasChildren below span.start h x → i < 64 → part ≡ slot_of span i → child ≡ child_in x i → IsChildAt below span.start h i part child
+child-at span below h i part child x e each place p r =
     let is : part ≡ record { start = slot_start below span.start i; height = below } = p ∙ slot-part span below i e in
-    let holds : IsChild below (slot_start below span.start i) (is_inner (suc below) span.start) h child = subst (IsChild below (slot_start below span.start i) (is_inner (suc below) span.start) h) (ap (λ k. slice_index_or cs k child) (sym same) ∙ sym r) (each i child place) in
+    let holds : IsChild below (slot_start below span.start i) (is_inner (suc below) span.start) h child = subst (IsChild below (slot_start below span.start i) (is_inner (suc below) span.start) h) (sym r) (each i place) in
     record {
       is = is;
       holds = subst (λ u. IsChild u.height u.start (is_inner (suc below) span.start) h child) (sym is) holds;
     }
 
 -- The length of what the commits leave in a slot.
-pub slot-few : (below : ℕ) (s : ℤ) (h : List Commit) (i : ℕ) (part : SpanValue) → i < 64 → part ≡ record { start = slot_start below s i; height = below } → length (points_of part.height part.start (bag h)) ≤ length (points_of (suc below) s (bag h))
+pub slot-few : (below : ℕ) (s : ℤ) (h : Past) (i : ℕ) (part : SpanValue) → i < 64 → part ≡ record { start = slot_start below s i; height = below } → length (points_of part.height part.start (bag h)) ≤ length (points_of (suc below) s (bag h))
 slot-few below s h i part place is =
     subst (λ (u : SpanValue). length (points_of u.height u.start (bag h)) ≤ length (points_of (suc below) s (bag h))) (sym is) (slot-fewer below s i (bag h) place)
 
 -- The points up to a slot's end.
-pub prefix-part : (below : ℕ) (s : ℤ) (i : ℕ) (h : List Commit) (part : SpanValue) → part ≡ record { start = slot_start below s i; height = below } → within s (slot_start below s (i + 1)) (bag h) ≡ within s (slot_start below s i) (bag h) ++ points_of part.height part.start (bag h)
+pub prefix-part : (below : ℕ) (s : ℤ) (i : ℕ) (h : Past) (part : SpanValue) → part ≡ record { start = slot_start below s i; height = below } → within s (slot_start below s (i + 1)) (bag h) ≡ within s (slot_start below s i) (bag h) ++ points_of part.height part.start (bag h)
 prefix-part below s i h part is =
     prefix-next below s i h ∙ ap (λ (u : SpanValue). within s (slot_start below s i) (bag h) ++ points_of u.height u.start (bag h)) (sym is)
 
@@ -231,6 +221,6 @@ prefix-fewer below s i b place =
     subst (λ x. length x ≤ length (points_of (suc below) s b)) (within-nested s (s +ℤ pos (width (suc below))) s (slot_start below s i) b (omega (arith, ints)) (omega (arith, ints))) (length-filter (is_within s (slot_start below s i)) (points_of (suc below) s b))
 
 -- The points up to the last slot's end.
-pub prefix-done : (k below : ℕ) (s : ℤ) (i : ℕ) (h : List Commit) → i ≡ 64 → k ≡ suc below → within s (slot_start below s i) (bag h) ≡ points_of k s (bag h)
+pub prefix-done : (k below : ℕ) (s : ℤ) (i : ℕ) (h : Past) → i ≡ 64 → k ≡ suc below → within s (slot_start below s i) (bag h) ≡ points_of k s (bag h)
 prefix-done k below s i h e height =
     ap (λ j. within s (slot_start below s j) (bag h)) e ∙ prefix-all below s h ∙ ap (λ j. points_of j s (bag h)) (sym height)

@@ -1,5 +1,5 @@
 -- Lemmas on the root of a tree.
-use Rattle.std.specs.Prelude.{◌≡◌, ◌*◌, ◌≤◌, pos, ◌+ℤ◌, not, List, [], ◌∷◌, ◌++◌, length}
+use Rattle.std.specs.Prelude.{◌≡◌, ◌*◌, ◌≤◌, pos, ◌+ℤ◌, not, List, [], ◌∷◌, ◌++◌, length, Option}
 use Rattle.std.proofs.Common.{refl, sym, ap, ◌∙◌, arith, subst}
 use Rattle.std.proofs.lemmas.Int.{ints}
 use Rattle.btr_base.specs.declared.limits.TheConstants.{FIRST, END}
@@ -17,10 +17,10 @@ use Rattle.btr_base.proofs.AggLemmas.{agg-count}
 use Rattle.btr_base.specs.declared.limits.TheConstants.{MAX_POINTS}
 use Rattle.btr_tree.specs.declared.fault.TreeFault.{TreeFault}
 use Rattle.btr_tree.specs.declared.fault.TreeFault.TheVariants.{Crowded, TooManyPoints, Want}
-use Rattle.btr_tree.specs.History.{Commit, bag}
+use Rattle.btr_tree.specs.History.{Commit, bag, Past, ◌▷◌}
 use Rattle.btr_tree.specs.Nodes.{points_of, above_root}
-use Rattle.btr_tree.specs.declared.node.Child.{Child}
-use Rattle.btr_tree.specs.Shape.{node_of, IsChild}
+use Rattle.btr_tree.specs.declared.node.NodeData.{NodeData}
+use Rattle.btr_tree.specs.Shape.{IsChild}
 use Rattle.btr_tree.specs.Change.{end_of, IsChange}
 use Rattle.btr_tree.specs.Crowd.{HasNoCrowdedSpan, IsCrowdedFault}
 use Rattle.btr_tree.proofs.UntouchedNodeLemmas.{child-room}
@@ -47,15 +47,15 @@ root-aligned = (
 pub root-points : (b : List Point) → AreInDomain b → points_of 10 FIRST b ≡ b
 root-points b h = ap (λ e. within FIRST e b) end-root ∙ within-all FIRST END b h
 
-pub domain-after : (h : List Commit) (c : Commit) → AreInDomain (bag h) → AreInDomain c.added → AreInDomain (bag (c ∷ h))
+pub domain-after : (h : Past) (c : Commit) → AreInDomain (bag h) → AreInDomain c.added → AreInDomain (bag (c ▷ h))
 domain-after h c old new =
     each-sort (λ p. InDomain p.time) (outside (bag h) c.cut ++ c.added) (each-append (λ p. InDomain p.time) (outside (bag h) c.cut) c.added (each-filter (λ p. InDomain p.time) (λ p. not (covered c.cut p.time)) (bag h) old) new)
 
-pub tree-count : (h : List Commit) (t : TreeValue) → IsTree h t → t.total.count ≡ length (bag h)
+pub tree-count : (h : Past) (t : TreeValue) → IsTree h t → t.total.count ≡ length (bag h)
 tree-count h t x = ap (λ u. u.count) x.total ∙ agg-count (bag h)
 
 -- The tree after a commit.
-pub tree-of : (h : List Commit) (p : Child) (total : AggValue) → AreInDomain (bag h) → IsChild 10 FIRST above_root h p → total ≡ agg (points_of 10 FIRST (bag h)) → total.count ≤ MAX_POINTS → IsTree h (record { node = node_of p; total = total })
+pub tree-of : (h : Past) (p : Option NodeData) (total : AggValue) → AreInDomain (bag h) → IsChild 10 FIRST above_root h p → total ≡ agg (points_of 10 FIRST (bag h)) → total.count ≤ MAX_POINTS → IsTree h (record { node = p; total = total })
 tree-of h p total times holds counted few =
     let all = root-points (bag h) times in
     let is : total ≡ agg (bag h) = counted ∙ ap agg all in
@@ -67,12 +67,12 @@ tree-of h p total times holds counted few =
     }
 
 -- No bottom span is crowded.
-pub tree-room : (h : List Commit) (p : Child) → AreInDomain (bag h) → IsChild 10 FIRST above_root h p → HasNoCrowdedSpan FIRST END (bag h)
+pub tree-room : (h : Past) (p : Option NodeData) → AreInDomain (bag h) → IsChild 10 FIRST above_root h p → HasNoCrowdedSpan FIRST END (bag h)
 tree-room h p times holds =
     subst (λ e. HasNoCrowdedSpan FIRST e (bag h)) end-root (subst (HasNoCrowdedSpan FIRST (FIRST +ℤ pos (width 10))) (root-points (bag h) times) (child-room 10 FIRST above_root h p root-aligned holds))
 
 -- What is crowded in the root's span is crowded.
-pub root-fault : (h : List Commit) (e : TreeFault) → AreInDomain (bag h) → IsCrowdedFault FIRST (end_of root_part) (points_of 10 FIRST (bag h)) e → IsTreeFault (bag h) e
+pub root-fault : (h : Past) (e : TreeFault) → AreInDomain (bag h) → IsCrowdedFault FIRST (end_of root_part) (points_of 10 FIRST (bag h)) e → IsTreeFault (bag h) e
 root-fault h (Crowded start) times x =
     subst (λ y. IsCrowdedFault FIRST y (bag h) (Crowded start)) end-root (subst (λ b. IsCrowdedFault FIRST (end_of root_part) b (Crowded start)) (root-points (bag h) times) x)
 root-fault h (TooManyPoints count) times x = absurd x
@@ -83,15 +83,15 @@ pub root-change : (c : Commit) → AreInDomain c.added → IsChange 10 FIRST c c
 root-change c times = record { number = refl; points = sym (root-points c.added times); times = λ t low high. refl }
 
 -- What the walk knows at the root.
-pub record IsRootStep (span : SpanValue) (h : List Commit) (c : Commit) (p : Child) (total : AggValue) (cut : List RangeValue) (given : List Point) : Type 0 where
+pub record IsRootStep (span : SpanValue) (h : Past) (c : Commit) (p : Option NodeData) (total : AggValue) (cut : List RangeValue) (given : List Point) : Type 0 where
   pub holds : IsChild span.height span.start above_root h p
   pub counted : total ≡ agg (points_of span.height span.start (bag h))
   pub change : IsChange span.height span.start c cut given c.version
   pub inside : within span.start (end_of span) given ≡ given
-  pub times : AreInDomain (bag (c ∷ h))
+  pub times : AreInDomain (bag (c ▷ h))
   pub few : length (points_of span.height span.start (bag h)) ≤ MAX_POINTS
 
-pub root-step : (span : SpanValue) (h : List Commit) (c : Commit) (p : Child) (total : AggValue) (cut : List RangeValue) (given : List Point) → span ≡ root_part → cut ≡ c.cut → given ≡ c.added → IsTree h (record { node = node_of p; total = total }) → AreInDomain c.added → IsRootStep span h c p total cut given
+pub root-step : (span : SpanValue) (h : Past) (c : Commit) (p : Option NodeData) (total : AggValue) (cut : List RangeValue) (given : List Point) → span ≡ root_part → cut ≡ c.cut → given ≡ c.added → IsTree h (record { node = p; total = total }) → AreInDomain c.added → IsRootStep span h c p total cut given
 root-step span h c p total cut given e f g tree times =
     let all = root-points (bag h) tree.times in
     let whole : IsRootStep root_part h c p total c.cut c.added = record {

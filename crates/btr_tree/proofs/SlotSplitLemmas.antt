@@ -10,7 +10,7 @@ use Rattle.btr_base.proofs.WithinLemmas.{within-nested, within-before, within-fr
 use Rattle.btr_base.proofs.ListLemmas.{filter-same}
 use Rattle.btr_tree.specs.declared.fault.TreeFault.{TreeFault}
 use Rattle.btr_tree.specs.declared.fault.TreeFault.TheVariants.{Crowded, TooManyPoints, Want}
-use Rattle.btr_tree.specs.History.{Commit, bag}
+use Rattle.btr_tree.specs.History.{bag, Past}
 use Rattle.btr_tree.specs.Nodes.{points_of}
 use Rattle.btr_tree.specs.Shape.{slot_start}
 use Rattle.btr_tree.proofs.NodeLemmas.{slot-part, slot-next, slot-from, slot-inside, points-slot}
@@ -63,7 +63,7 @@ parted-inside a b points here e =
     ap (within a b) e ∙ within-nested a b a b points (omega (arith, ints)) (omega (arith, ints)) ∙ sym e
 
 -- The points of a slot are those that the commits leave there.
-pub parted-same : (span part : SpanValue) (below i : ℕ) (points here behind : List Point) (h : List Commit) → IsPartedAt span part below i points here behind → i < 64 → points ≡ points_of (suc below) span.start (bag h) → here ≡ points_of below (slot_start below span.start i) (bag h)
+pub parted-same : (span part : SpanValue) (below i : ℕ) (points here behind : List Point) (h : Past) → IsPartedAt span part below i points here behind → i < 64 → points ≡ points_of (suc below) span.start (bag h) → here ≡ points_of below (slot_start below span.start i) (bag h)
 parted-same span part below i points here behind h at place same =
     at.has
     ∙ ap (λ (u : SpanValue). within u.start (end_of u) points) at.is

@@ -9,14 +9,14 @@ use Rattle.btr_base.specs.Bag.{IsInOrder, sort, outside}
 use Rattle.btr_base.proofs.PointLemmas.{sort-in_order, sort-of_order}
 use Rattle.btr_base.specs.Span.{width}
 use Rattle.btr_base.proofs.WithinLemmas.{within-after, within-in_order}
-use Rattle.btr_tree.specs.History.{Commit, after, bag}
+use Rattle.btr_tree.specs.History.{Commit, Past, Opened, ◌▷◌, after, bag}
 use Rattle.btr_tree.specs.Nodes.{points_of, has_points, touches, last_change, up_to}
 
-pub bag-in_order : (h : List Commit) → IsInOrder (bag h)
-bag-in_order [] = tt
-bag-in_order (c ∷ h) = sort-in_order (outside (bag h) c.cut ++ c.added)
+pub bag-in_order : (h : Past) → IsInOrder (bag h)
+bag-in_order (Opened b dates) = sort-in_order b
+bag-in_order (c ▷ h) = sort-in_order (outside (bag h) c.cut ++ c.added)
 
-pub points-in_order : (k : ℕ) (s : ℤ) (h : List Commit) → IsInOrder (points_of k s (bag h))
+pub points-in_order : (k : ℕ) (s : ℤ) (h : Past) → IsInOrder (points_of k s (bag h))
 points-in_order k s h = within-in_order s (s +ℤ pos (width k)) (bag h) (bag-in_order h)
 
 -- The points of a span after a commit.
@@ -35,7 +35,7 @@ outside-uncovered (p ∷ b) rs h =
     ap (λ t. cond (not t) (p ∷ outside b rs) (outside b rs)) here ∙ ap (λ c. p ∷ c) (outside-uncovered b rs rest)
 
 -- What a commit does not touch stays.
-pub points-untouched : (k : ℕ) (s : ℤ) (c : Commit) (h : List Commit) → touches c k s (bag h) ≡ false → points_of k s (bag (c ∷ h)) ≡ points_of k s (bag h)
+pub points-untouched : (k : ℕ) (s : ℤ) (c : Commit) (h : Past) → touches c k s (bag h) ≡ false → points_of k s (bag (c ▷ h)) ≡ points_of k s (bag h)
 points-untouched k s c h e =
     let added : has_points (points_of k s c.added) ≡ false = grind arith in
     let kept : list_any (λ p. covered c.cut p.time) (points_of k s (bag h)) ≡ false = grind arith in
@@ -52,14 +52,14 @@ first-false : (a b : Bool) → (a || b) ≡ false → a ≡ false
 first-false a b h = grind arith
 
 -- A span has the same points in each version from its own to the latest.
-pub points-since : (was : List Point → Bool) (k : ℕ) (s : ℤ) (h : List Commit) (w : ℕ) → last_change was k s h ≤ w → points_of k s (bag (up_to w h)) ≡ points_of k s (bag h)
-points-since was k s [] w le = refl
-points-since was k s (c ∷ h) w le =
-    elim (nat_lt w c.version) as (λ t. nat_lt w c.version ≡ t → points_of k s (bag (cond t (up_to w h) (c ∷ h))) ≡ points_of k s (bag (c ∷ h))) [
+pub points-since : (was : List Point → Bool) (k : ℕ) (s : ℤ) (h : Past) (w : ℕ) → last_change was k s h ≤ w → points_of k s (bag (up_to w h)) ≡ points_of k s (bag h)
+points-since was k s (Opened b dates) w le = refl
+points-since was k s (c ▷ h) w le =
+    elim (nat_lt w c.version) as (λ t. nat_lt w c.version ≡ t → points_of k s (bag (cond t (up_to w h) (c ▷ h))) ≡ points_of k s (bag (c ▷ h))) [
       | false ↦ λ e. refl
       | true ↦ λ e.
           let newer = less-from_test w c.version e in
-          elim (touches c k s (bag h) || not (was (bag h))) as (λ u. (touches c k s (bag h) || not (was (bag h))) ≡ u → cond u c.version (last_change was k s h) ≤ w → points_of k s (bag (up_to w h)) ≡ points_of k s (bag (c ∷ h))) [
+          elim (touches c k s (bag h) || not (was (bag h))) as (λ u. (touches c k s (bag h) || not (was (bag h))) ≡ u → cond u c.version (last_change was k s h) ≤ w → points_of k s (bag (up_to w h)) ≡ points_of k s (bag (c ▷ h))) [
             | true ↦ λ _ low. absurd (omega arith)
             | false ↦ λ same low.
                 points-since was k s h w low ∙ sym (points-untouched k s c h (first-false (touches c k s (bag h)) (not (was (bag h))) same))

@@ -1,9 +1,12 @@
--- The commits of a stream, and the points that they leave.
+-- The past of a stream: commits on a base, and the points that they leave.
 pub mod History
 -- Which spans are nodes, and the versions of nodes and slots.
 pub mod Nodes
 -- Which spans are crowded.
 pub mod Crowd
+-- How the slots of an inner node lie in memory.
+pub mod Packed
+pub mod Slots
 -- What a tree in memory is, and what a visit shows of it.
 pub mod Shape
 pub mod EachHistory

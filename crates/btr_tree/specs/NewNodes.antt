@@ -1,11 +1,27 @@
 -- The nodes of a tree that have a version, children before parents: those that a commit writes.
-use Rattle.std.specs.Prelude.{ℕ, zero, suc, ℤ, Bool, ◌&&◌, nat_eq, List, [], ◌∷◌, ◌++◌, if◌then◌else◌}
+use Rattle.std.specs.Prelude.{ℕ, zero, suc, ℤ, Bool, ◌&&◌, nat_eq, List, [], ◌∷◌, ◌++◌, Option, Some, None, if◌then◌else◌}
 use Rattle.btr_base.specs.declared.point.Point.{Point}
+use Rattle.btr_tree.specs.declared.node.NodeData.{NodeData, out-NodeData}
+use Rattle.btr_tree.specs.declared.node.NodeData.TheOpen.{NodeData-F}
+use Rattle.btr_tree.specs.declared.node.Link.{Link}
+use Rattle.btr_tree.specs.declared.slots.Kept.{Kept}
+use Rattle.btr_tree.specs.declared.slots.Slots.{Slots}
 use Rattle.btr_tree.specs.declared.node.Slot.{Slot}
-use Rattle.btr_tree.specs.History.{Commit, bag}
+use Rattle.btr_tree.specs.History.{Past, bag}
 use Rattle.btr_base.specs.Span.{SpanValue}
 use Rattle.btr_tree.specs.Nodes.{points_of, is_inner, is_node, node_version}
 use Rattle.btr_tree.specs.Shape.{slot_start, slot_of_points}
+use Rattle.btr_tree.specs.Slots.{first_slots}
+
+-- The slots of a node: 64 of an inner node, and none of a leaf.
+abbrev pub slots_of_kind : NodeData-F NodeData Link Kept Slots → List Slot
+slots_of_kind (NodeData-F.Leaf version points) = []
+slots_of_kind (NodeData-F.Inner version slots) = first_slots 64 slots
+
+-- The slots of a node, if there is one.
+unfoldable pub slots_of_node : Option NodeData → List Slot
+slots_of_node None = []
+slots_of_node (Some n) = slots_of_kind (out-NodeData n)
 
 -- A node: its span and version, the points of a leaf, the slots of an inner node.
 pub record NewNodeValue : Type 0 where
@@ -20,11 +36,11 @@ concat_first zero f = []
 concat_first (suc n) f = concat_first n f ++ f n
 
 -- The 64 slots of a span.
-abbrev pub slots_of : ℕ → ℤ → List Commit → List Slot
+abbrev pub slots_of : ℕ → ℤ → Past → List Slot
 slots_of below start h = concat_first 64 (λ i. slot_of_points (suc below) start below (slot_start below start i) h ∷ [])
 
 -- The node of a span: a leaf has its points, and an inner node its slots.
-abbrev pub new_node : ℕ → ℤ → (List Point → Bool) → List Commit → NewNodeValue
+abbrev pub new_node : ℕ → ℤ → (List Point → Bool) → Past → NewNodeValue
 new_node zero start above h =
     record {
       span = record { start = start; height = zero };
@@ -41,13 +57,13 @@ new_node (suc below) start above h =
     }
 
 -- The node of the span itself, if it is a node and has the version.
-abbrev pub own_node : ℕ → ℤ → (List Point → Bool) → List Commit → ℕ → List NewNodeValue
+abbrev pub own_node : ℕ → ℤ → (List Point → Bool) → Past → ℕ → List NewNodeValue
 own_node height start above h version =
     if is_node above height start (bag h) && nat_eq (node_version above height start h) version
     then new_node height start above h ∷ [] else []
 
 -- The nodes in a span that have the version, children before parents and in order of time.
-abbrev pub new_nodes : ℕ → ℤ → (List Point → Bool) → List Commit → ℕ → List NewNodeValue
+abbrev pub new_nodes : ℕ → ℤ → (List Point → Bool) → Past → ℕ → List NewNodeValue
 new_nodes zero start above h version = own_node zero start above h version
 new_nodes (suc below) start above h version =
     (if is_inner (suc below) start (bag h)

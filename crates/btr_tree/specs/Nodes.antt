@@ -1,4 +1,4 @@
--- Which spans are nodes of a tree, and the versions of nodes and slots. All is said over the commits as plain lists.
+-- Which spans are nodes of a tree, and the versions of nodes and slots. All is said over a past as plain data.
 --
 -- A span is given by its height and its first time.
 use Rattle.std.specs.Prelude.{ℕ, ℤ, pos, ◌+ℤ◌, Bool, true, false, not, ◌&&◌, ◌||◌, nat_lt, List, [], ◌∷◌, length, if◌then◌else◌}
@@ -8,7 +8,7 @@ use Rattle.btr_base.specs.Range.{covered}
 use Rattle.btr_base.specs.Bag.{within}
 use Rattle.btr_base.specs.Span.{width}
 use Rattle.btr_base.specs.declared.limits.TheConstants.{LEAF_POINTS}
-use Rattle.btr_tree.specs.History.{Commit, bag}
+use Rattle.btr_tree.specs.History.{Commit, Past, Opened, ◌▷◌, bag}
 
 -- The points of a span.
 abbrev pub points_of : ℕ → ℤ → List Point → List Point
@@ -36,22 +36,23 @@ is_node above height start b = above b && has_points (points_of height start b)
 abbrev pub above_root : List Point → Bool
 above_root b = true
 
--- The version of the newest commit that touches the span, or before which `counts_from` did not hold.
-abbrev pub last_change : (List Point → Bool) → ℕ → ℤ → List Commit → ℕ
-last_change counts_from height start [] = 0
-last_change counts_from height start (c ∷ h) =
+-- The version of the newest commit that touches the span, or before which `counts_from` did not hold; if there is none, the
+-- date that the base has for the span.
+abbrev pub last_change : (List Point → Bool) → ℕ → ℤ → Past → ℕ
+last_change counts_from height start (Opened b dates) = dates height start
+last_change counts_from height start (c ▷ h) =
     if touches c height start (bag h) || not (counts_from (bag h)) then c.version else last_change counts_from height start h
 
 -- The version of a node: that of the newest commit that touches its span, or before which the span was no node.
-abbrev pub node_version : (List Point → Bool) → ℕ → ℤ → List Commit → ℕ
+abbrev pub node_version : (List Point → Bool) → ℕ → ℤ → Past → ℕ
 node_version above height start h = last_change (is_node above height start) height start h
 
 -- The version of a slot: that of the newest commit that touches it, or before which the span above it was no inner node.
-abbrev pub slot_version : ℕ → ℤ → ℕ → ℤ → List Commit → ℕ
+abbrev pub slot_version : ℕ → ℤ → ℕ → ℤ → Past → ℕ
 slot_version above_height above_start height start h =
     last_change (is_inner above_height above_start) height start h
 
--- The commits up to a version.
-abbrev pub up_to : ℕ → List Commit → List Commit
-up_to version [] = []
-up_to version (c ∷ h) = if nat_lt version c.version then up_to version h else c ∷ h
+-- The past up to a version: its commits that are no newer, and its base.
+abbrev pub up_to : ℕ → Past → Past
+up_to version (Opened b dates) = Opened b dates
+up_to version (c ▷ h) = if nat_lt version c.version then up_to version h else c ▷ h

@@ -1,29 +1,27 @@
--- Which trees in memory are those of a stream's commits, and what a walk learns of a node that it visits.
-use Rattle.std.specs.Prelude.{◌≡◌, ℕ, zero, suc, ◌+◌, ◌*◌, ◌<◌, ◌≤◌, ℤ, pos, ◌+ℤ◌, Bool, List, [], length, min, slice_index_or, Option, MatchOption, IfSome, IsNone, IsSome}
-use Rattle.std.specs.Option.{option_map}
+-- Which trees in memory are those of a stream's past, and what a walk learns of a node that it visits.
+use Rattle.std.specs.Prelude.{◌≡◌, ℕ, zero, suc, ◌+◌, ◌*◌, ◌<◌, ◌≤◌, ℤ, pos, ◌+ℤ◌, Bool, List, [], length, min, Option, MatchOption, IfSome, IsNone, IsSome}
 use Rattle.btr_base.specs.declared.point.Point.{Point}
-use Rattle.btr_base.specs.Span.{width, SpanValue}
+use Rattle.btr_base.specs.Span.{width}
 use Rattle.btr_base.specs.Agg.{agg}
 use Rattle.btr_base.specs.declared.limits.TheConstants.{LEAF_POINTS}
-use Rattle.btr_tree.specs.declared.node.Child.{Child, out-Child}
+use Rattle.btr_tree.specs.declared.node.Link.{Link}
 use Rattle.btr_tree.specs.declared.node.NodeData.{NodeData, out-NodeData}
 use Rattle.btr_tree.specs.declared.node.NodeData.TheOpen.{NodeData-F}
 use Rattle.btr_tree.specs.declared.node.Node.{Node}
 use Rattle.btr_tree.specs.declared.node.Node.TheVariants.{Leaf, Inner}
 use Rattle.btr_tree.specs.declared.node.Slot.{Slot}
-use Rattle.btr_tree.specs.History.{Commit, bag}
+use Rattle.btr_tree.specs.declared.slots.Kept.{Kept}
+use Rattle.btr_tree.specs.declared.slots.Slots.{Slots}
+use Rattle.btr_tree.specs.History.{Past, bag}
 use Rattle.btr_tree.specs.Nodes.{points_of, is_inner, node_version, slot_version}
-
--- The node of a link, if there is one.
-abbrev pub node_of : Child → Option NodeData
-node_of child = option_map (λ a. a.value) (out-Child child).node
+use Rattle.btr_tree.specs.Slots.{slot_in, child_in}
 
 -- The start of a slot of this height.
 abbrev pub slot_start : ℕ → ℤ → ℕ → ℤ
 slot_start height start i = start +ℤ pos (i * width height)
 
 -- The slot of a span: its aggregate and its version.
-abbrev pub slot_of_points : ℕ → ℤ → ℕ → ℤ → List Commit → Slot
+abbrev pub slot_of_points : ℕ → ℤ → ℕ → ℤ → Past → Slot
 slot_of_points above begin height start h =
     record {
       agg = agg (points_of height start (bag h));
@@ -32,64 +30,59 @@ slot_of_points above begin height start h =
     }
 
 -- A leaf has the points of its span, which are at least one and at most 252, and its version.
-pub record IsLeaf (height : ℕ) (start : ℤ) (above : List Point → Bool) (h : List Commit) (carried : ℕ) (points : List Point) : Type 0 where
+pub record IsLeaf (height : ℕ) (start : ℤ) (above : List Point → Bool) (h : Past) (carried : ℕ) (points : List Point) : Type 0 where
   pub same : points ≡ points_of height start (bag h)
   pub some : 0 < length points
   pub few : length points ≤ LEAF_POINTS
   pub version : carried ≡ node_version above height start h
 
--- The first n slots of a span, each of which is the slot of its own span.
-pub record HasSlots (below : ℕ) (start : ℤ) (h : List Commit) (n : ℕ) (slots : List Slot) (children : List Child) : Type 0 where
-  pub slots_length : length slots ≡ n
-  pub children_length : length children ≡ n
-  pub each : (i : ℕ) (d : Slot) → i < n
-      → slice_index_or slots i d ≡ slot_of_points (suc below) start below (slot_start below start i) h
+-- The 64 slots of a span, each of which is the slot of its own span.
+pub record HasSlots (below : ℕ) (start : ℤ) (h : Past) (slots : Slots) : Type 0 where
+  pub each : (i : ℕ) → i < 64 → slot_in slots i ≡ slot_of_points (suc below) start below (slot_start below start i) h
 
 -- An inner node has more points than a leaf holds, 64 slots, and its version.
-pub record IsInner (below : ℕ) (start : ℤ) (above : List Point → Bool) (h : List Commit) (carried : ℕ) (slots : List Slot)
-    (children : List Child) : Type 0 where
+pub record IsInner (below : ℕ) (start : ℤ) (above : List Point → Bool) (h : Past) (carried : ℕ) (slots : Slots) : Type 0 where
   pub many : LEAF_POINTS < length (points_of (suc below) start (bag h))
   pub version : carried ≡ node_version above (suc below) start h
-  pub all : HasSlots below start h 64 slots children
+  pub all : HasSlots below start h slots
 
--- A fact on the version and points of a leaf, and one on the version, slots and children of an inner node.
-abbrev pub ByKind : (ℕ → List Point → Type 0) → (ℕ → List Slot → List Child → Type 0) → NodeData-F NodeData Child → Type 0
+-- A fact on the version and points of a leaf, and one on the version and slots of an inner node.
+abbrev pub ByKind : (ℕ → List Point → Type 0) → (ℕ → Slots → Type 0) → NodeData-F NodeData Link Kept Slots → Type 0
 ByKind leaf inner (NodeData-F.Leaf version points) = leaf version points.items
-ByKind leaf inner (NodeData-F.Inner version slots children) = inner version slots.items children.items
+ByKind leaf inner (NodeData-F.Inner version slots) = inner version slots
 
--- A node in memory is that of a span after commits, and so is each node below it. A slot without a point has no child.
-abbrev pub IsNodeData : ℕ → ℤ → (List Point → Bool) → List Commit → NodeData → Type 0
-IsNodeData zero start above h n =
-    ByKind (λ v ps. IsLeaf zero start above h v ps) (λ v ss cs. ⊥) (out-NodeData n)
+-- A node in memory is that of a span after a past, and so is each node below it. A slot without a point has no child.
+abbrev pub IsNodeData : ℕ → ℤ → (List Point → Bool) → Past → NodeData → Type 0
+IsNodeData zero start above h n = ByKind (λ v ps. IsLeaf zero start above h v ps) (λ v slots. ⊥) (out-NodeData n)
 IsNodeData (suc below) start above h n =
-    ByKind (λ v ps. IsLeaf (suc below) start above h v ps) (λ v ss cs.
-    IsInner below start above h v ss cs
-    × ((i : ℕ) (d : Child) → i < 64 → MatchOption (node_of (slice_index_or cs i d))
+    ByKind (λ v ps. IsLeaf (suc below) start above h v ps) (λ v slots.
+    IsInner below start above h v slots
+    × ((i : ℕ) → i < 64 → MatchOption (child_in slots i)
     (points_of below (slot_start below start i) (bag h) ≡ [])
     (λ m. IsNodeData below (slot_start below start i) (is_inner (suc below) start) h m))) (out-NodeData n)
 
--- A link is that of a span after commits. There is no node if the span has no point.
-abbrev pub IsChild : ℕ → ℤ → (List Point → Bool) → List Commit → Child → Type 0
+-- A child is that of a span after a past. There is none if the span has no point.
+abbrev pub IsChild : ℕ → ℤ → (List Point → Bool) → Past → Option NodeData → Type 0
 IsChild height start above h child =
-    MatchOption (node_of child) (points_of height start (bag h) ≡ []) (λ n. IsNodeData height start above h n)
+    MatchOption child (points_of height start (bag h) ≡ []) (λ n. IsNodeData height start above h n)
 
--- The links of the first n slots of a span.
-abbrev pub HasChildren : ℕ → ℤ → List Commit → ℕ → List Child → Type 0
-HasChildren below start h n cs =
-    (i : ℕ) (d : Child) → i < n → IsChild below (slot_start below start i) (is_inner (suc below) start) h (slice_index_or cs i d)
+-- The children of the 64 slots of a span.
+abbrev pub HasChildren : ℕ → ℤ → Past → Slots → Type 0
+HasChildren below start h slots =
+    (i : ℕ) → i < 64 → IsChild below (slot_start below start i) (is_inner (suc below) start) h (child_in slots i)
 
--- A node that was visited is that of a span after commits.
-abbrev pub IsNode : ℕ → ℤ → (List Point → Bool) → List Commit → Node → Type 0
+-- A node that was visited is that of a span after a past.
+abbrev pub IsNode : ℕ → ℤ → (List Point → Bool) → Past → Node → Type 0
 IsNode height start above h (Leaf version points) = IsLeaf height start above h version points.now
-IsNode zero start above h (Inner version slots children) = ⊥
-IsNode (suc below) start above h (Inner version slots children) =
-    IsInner below start above h version slots.now children.now × HasChildren below start h 64 children.now
+IsNode zero start above h (Inner version slots) = ⊥
+IsNode (suc below) start above h (Inner version slots) =
+    IsInner below start above h version slots.now × HasChildren below start h slots.now
 
--- A visit of a link returns the span's node and counts one step, or returns none and counts none if the span has no point.
-pub record IsVisit (child : Child) (result : Option Node) (before after : ℕ) : Type 0 where
-  pub none : IsNone result → (height : ℕ) (start : ℤ) (above : List Point → Bool) (h : List Commit)
+-- A visit of a child returns the span's node and counts one step, or returns none and counts none if the span has no point.
+pub record IsVisit (child : Option NodeData) (result : Option Node) (before after : ℕ) : Type 0 where
+  pub none : IsNone result → (height : ℕ) (start : ℤ) (above : List Point → Bool) (h : Past)
       → IsChild height start above h child → points_of height start (bag h) ≡ []
-  pub node : IfSome result (λ n. (height : ℕ) (start : ℤ) (above : List Point → Bool) (h : List Commit)
+  pub node : IfSome result (λ n. (height : ℕ) (start : ℤ) (above : List Point → Bool) (h : Past)
       → IsChild height start above h child → IsNode height start above h n)
   pub free : IsNone result → after ≡ before
   pub counted : IsSome result → after ≡ min (before + 1) 18446744073709551615

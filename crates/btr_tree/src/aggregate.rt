@@ -1,23 +1,24 @@
 //! The aggregate of all points of a child.
-ghost use Rattle.std.specs.Prelude.{◌≡◌, ◌<◌, ◌^◌, ℕ, ℤ, Bool, List, length};
+ghost use Rattle.std.specs.Prelude.{◌≡◌, ◌<◌, ◌≤◌, ◌^◌, ℕ, ℤ, Bool, List};
 ghost use Rattle.btr_base.specs.Agg.{agg};
 ghost use Rattle.btr_base.specs.declared.point.Point.{Point as APoint};
-ghost use Rattle.btr_tree.specs.History.{Commit, bag};
+ghost use Rattle.btr_tree.specs.History.{Past, bag};
 ghost use Rattle.btr_tree.specs.Nodes.{points_of};
 ghost use Rattle.btr_tree.specs.Shape.{IsChild};
-ghost use Rattle.btr_tree.specs.Change.{IsCounted};
-ghost use Rattle.btr_tree.specs.Change.{joined_all};
+ghost use Rattle.btr_tree.specs.Change.{IsCounted, joined_first};
+ghost use Rattle.btr_tree.specs.Slots.{node_of};
 
-use crate::node::{Child, NodeData, Slot};
-use btr_base::Agg;
+use crate::node::{Child, NodeData};
+use crate::slots::Slots;
+use btr_base::{Agg, FAN_OUT};
 
 /// Returns the aggregate of a child's points, by its own points or by its slots.
-pub(crate) fn agg_of_child(child: &Child) -> Agg
-    requires { IsCounted child.now }
-    ensures { (height : ℕ) (start : ℤ) (above : List APoint → Bool) (h : List Commit) → IsChild height start above h child.now
+pub(crate) fn agg_of_child(child: Child<'_>) -> Agg
+    requires { IsCounted (node_of child) }
+    ensures { (height : ℕ) (start : ℤ) (above : List APoint → Bool) (h : Past) → IsChild height start above h (node_of child.entry)
         → result ≡ agg (points_of height start (bag h)) }
 {
-    match &child.node {
+    match child.node {
         None => Agg::none(),
         Some(node) => match &**node {
             NodeData::Leaf { points, .. } => Agg::of_points(points),
@@ -27,12 +28,13 @@ pub(crate) fn agg_of_child(child: &Child) -> Agg
 }
 
 /// Returns the aggregate of all slots.
-fn agg_of_slots(slots: &[Slot]) -> Agg
-    requires { (joined_all slots.now).count < 2 ^ 64 }
-    ensures { result ≡ joined_all slots.now }
+fn agg_of_slots(slots: &Slots) -> Agg
+    requires { (i : ℕ) → i ≤ 64 → (joined_first i slots.now).count < 2 ^ 64 }
+    ensures { result ≡ joined_first 64 slots.now }
 {
     let mut all = Agg::none();
-    for slot in slots {
+    for i in 0..FAN_OUT {
+        let slot = slots.slot(i);
         all = all.join(&slot.agg);
     }
     all

@@ -1,11 +1,11 @@
 //! A commit, applied to the nodes of a span.
-ghost use Rattle.std.specs.Prelude.{◌≡◌, ◌<◌, ◌≤◌, ◌+◌, ◌++◌, ◌∷◌, ◌||◌, [], ◌+ℤ◌, ℕ, ℤ, pos, suc, true, not, Bool, List, length, IfOk, IfErr, OnOk};
+ghost use Rattle.std.specs.Prelude.{◌≡◌, ◌<◌, ◌≤◌, ◌+◌, ◌++◌, ◌∷◌, ◌||◌, [], ◌+ℤ◌, ℕ, ℤ, pos, suc, true, false, not, Bool, List, length, IfOk, IfErr, OnOk};
 ghost use Rattle.btr_base.specs.Agg.{agg};
 ghost use Rattle.btr_base.specs.Bag.{IsInOrder, within, outside, sort};
 ghost use Rattle.btr_base.specs.Range.{IsCut};
 ghost use Rattle.btr_base.specs.declared.point.Point.{Point as APoint};
 ghost use Rattle.btr_base.specs.declared.limits.TheConstants.{LEAF_POINTS as FEW};
-ghost use Rattle.btr_tree.specs.History.{bag, IsBefore};
+ghost use Rattle.btr_tree.specs.History.{bag, ◌▷◌, IsBefore};
 ghost use Rattle.btr_tree.specs.Nodes.{points_of, touches};
 ghost use Rattle.btr_tree.specs.Shape.{IsChild, HasSlots, HasChildren};
 ghost use Rattle.btr_tree.specs.EachHistory.{AtEachInner, points_in};
@@ -13,14 +13,15 @@ ghost use Rattle.btr_tree.specs.Change.{IsSomeChild, AreSomeSlots, IsSomeSlot, C
 ghost use Rattle.btr_tree.specs.Change.{AtEachCommit, AtEachSlotCommit, AtEachInnerCommit};
 ghost use Rattle.btr_tree.specs.Crowd.{IsCrowdedFault};
 ghost use Rattle.btr_tree.specs.NewNodes.{new_nodes};
+ghost use Rattle.btr_tree.specs.Slots.{linked, node_of};
 
 use crate::aggregate::agg_of_child;
-use crate::build::{build, push_inner, push_slot};
+use crate::build::{build, push_inner};
 use crate::fault::TreeFault;
-use crate::link::share;
 use crate::new_node::NewNode;
-use crate::node::{Child, NodeData, Slot};
+use crate::node::{Child, Link, NodeData, Slot};
 use crate::outside::{count_outside_slot, count_outside_slots, gather_outside_slots};
+use crate::slots::Slots;
 use crate::steps::Steps;
 use btr_base::{
     FAN_OUT, LEAF_POINTS, Point, Range, Span, merged, parted, points_outside, ranges_before,
@@ -34,36 +35,36 @@ pub(crate) fn apply_slot(
     alloc: Global,
     span: Span,
     slot: Slot,
-    child: &Child,
+    child: Child<'_>,
     cut: &[Range],
     added: &[Point],
     version: u64,
     nodes: &mut Vec<NewNode>,
     steps: &mut Steps,
-) -> Result<(Slot, Child), TreeFault>
-    requires some { IsSomeSlot span.height span.start slot child.now (length added.now) }
+) -> Result<(Slot, Link), TreeFault>
+    requires some { IsSomeSlot span.height span.start slot (node_of child) (length added.now) }
     requires cut { IsCut cut.now }
     requires order { IsInOrder added.now }
     requires inside { within span.start (end_of span) added.now ≡ added.now }
-    ensures child { IfOk result (λ r. AtEachSlotCommit span slot child.now cut.now added.now version (λ above h c.
-        IsChild span.height span.start above (c ∷ h) r.1)) }
-    ensures agg { IfOk result (λ r. AtEachSlotCommit span slot child.now cut.now added.now version (λ above h c.
-        r.0.agg ≡ agg (points_in span (bag (c ∷ h))))) }
-    ensures slot { IfOk result (λ r. AtEachSlotCommit span slot child.now cut.now added.now version (λ above h c.
-        slot ≡ slot_at above span.height span.start h → r.0 ≡ slot_at above span.height span.start (c ∷ h))) }
-    ensures nodes { OnOk result (AtEachSlotCommit span slot child.now cut.now added.now version (λ above h c.
-        above (bag (c ∷ h)) ≡ true → 0 < version → IsBefore version h
-        → nodes.new.items ≡ nodes.old.items ++ new_nodes span.height span.start above (c ∷ h) version)) }
+    ensures child { IfOk result (λ r. AtEachSlotCommit span slot (node_of child.entry) cut.now added.now version (λ above h c.
+        IsChild span.height span.start above (c ▷ h) (linked r.1))) }
+    ensures agg { IfOk result (λ r. AtEachSlotCommit span slot (node_of child.entry) cut.now added.now version (λ above h c.
+        r.0.agg ≡ agg (points_in span (bag (c ▷ h))))) }
+    ensures slot { IfOk result (λ r. AtEachSlotCommit span slot (node_of child.entry) cut.now added.now version (λ above h c.
+        slot ≡ slot_at above span.height span.start h → r.0 ≡ slot_at above span.height span.start (c ▷ h))) }
+    ensures nodes { OnOk result (AtEachSlotCommit span slot (node_of child.entry) cut.now added.now version (λ above h c.
+        above (bag (c ▷ h)) ≡ true → 0 < version → IsBefore version h
+        → nodes.new.items ≡ nodes.old.items ++ new_nodes span.height span.start above (c ▷ h) version)) }
     ensures counted { OnOk result (CountsNodes steps.old steps.new nodes.old.items nodes.new.items) }
-    ensures fault { IfErr result (λ e. AtEachSlotCommit span slot child.now cut.now added.now version (λ above h c.
-        IsCrowdedFault span.start (end_of span) (points_in span (bag (c ∷ h))) e)) }
+    ensures fault { IfErr result (λ e. AtEachSlotCommit span slot (node_of child.entry) cut.now added.now version (λ above h c.
+        IsCrowdedFault span.start (end_of span) (points_in span (bag (c ▷ h))) e)) }
 {
     let here = ranges_before(ranges_from(cut, span.start), span.end());
     if is_untouched(alloc, span, slot, child, here, added)? {
-        return Ok((slot, share(child)?));
+        return Ok((slot, child.share()?));
     }
     let new_child = apply_child(alloc, span, child, here, added, version, nodes, steps)?;
-    let agg = agg_of_child(&new_child);
+    let agg = agg_of_child(new_child.seen());
     let slot = Slot {
         agg,
         version,
@@ -77,13 +78,13 @@ fn is_untouched(
     alloc: Global,
     span: Span,
     slot: Slot,
-    child: &Child,
+    child: Child<'_>,
     cut: &[Range],
     added: &[Point],
 ) -> Result<bool, AllocError>
-    requires some { IsSomeChild span.height span.start child.now 0 }
+    requires some { IsSomeChild span.height span.start (node_of child) 0 }
     requires cut { IsCut cut.now }
-    ensures { IfOk result (λ b. (version : ℕ) → AtEachCommit span child.now cut.now added.now version (λ above h c.
+    ensures { IfOk result (λ b. (version : ℕ) → AtEachCommit span (node_of child.entry) cut.now added.now version (λ above h c.
         slot.agg ≡ agg (points_in span (bag h)) → b ≡ not (touches c span.height span.start (bag h)))) }
 {
     if !added.is_empty() {
@@ -99,40 +100,36 @@ fn is_untouched(
 pub(crate) fn apply_child(
     alloc: Global,
     span: Span,
-    child: &Child,
+    child: Child<'_>,
     cut: &[Range],
     added: &[Point],
     version: u64,
     nodes: &mut Vec<NewNode>,
     steps: &mut Steps,
-) -> Result<Child, TreeFault>
-    requires some { IsSomeChild span.height span.start child.now (length added.now) }
+) -> Result<Link, TreeFault>
+    requires some { IsSomeChild span.height span.start (node_of child) (length added.now) }
     requires cut { IsCut cut.now }
     requires order { IsInOrder added.now }
     requires inside { within span.start (end_of span) added.now ≡ added.now }
-    ensures child { IfOk result (λ r. AtEachCommit span child.now cut.now added.now version (λ above h c.
-        touches c span.height span.start (bag h) ≡ true → IsChild span.height span.start above (c ∷ h) r)) }
-    ensures nodes { OnOk result (AtEachCommit span child.now cut.now added.now version (λ above h c.
-        touches c span.height span.start (bag h) ≡ true → above (bag (c ∷ h)) ≡ true → 0 < version → IsBefore version h
-        → nodes.new.items ≡ nodes.old.items ++ new_nodes span.height span.start above (c ∷ h) version)) }
+    ensures child { IfOk result (λ r. AtEachCommit span (node_of child.entry) cut.now added.now version (λ above h c.
+        touches c span.height span.start (bag h) ≡ true → IsChild span.height span.start above (c ▷ h) (linked r))) }
+    ensures nodes { OnOk result (AtEachCommit span (node_of child.entry) cut.now added.now version (λ above h c.
+        touches c span.height span.start (bag h) ≡ true → above (bag (c ▷ h)) ≡ true → 0 < version → IsBefore version h
+        → nodes.new.items ≡ nodes.old.items ++ new_nodes span.height span.start above (c ▷ h) version)) }
     ensures counted { OnOk result (CountsNodes steps.old steps.new nodes.old.items nodes.new.items) }
-    ensures fault { IfErr result (λ e. AtEachCommit span child.now cut.now added.now version (λ above h c.
-        IsCrowdedFault span.start (end_of span) (points_in span (bag (c ∷ h))) e)) }
+    ensures fault { IfErr result (λ e. AtEachCommit span (node_of child.entry) cut.now added.now version (λ above h c.
+        IsCrowdedFault span.start (end_of span) (points_in span (bag (c ▷ h))) e)) }
 {
-    match &child.node {
+    match child.node {
         None => build(alloc, span, added, version, nodes, steps),
         Some(node) => match &**node {
             NodeData::Leaf { points, .. } => {
                 let all = changed(alloc, points, cut, added)?;
                 build(alloc, span, &all, version, nodes, steps)
             }
-            NodeData::Inner {
-                slots,
-                children,
-                ..
-            } => apply_inner(
-                alloc, span, slots, children, cut, added, version, nodes, steps,
-            ),
+            NodeData::Inner { slots, .. } => {
+                apply_inner(alloc, span, slots, cut, added, version, nodes, steps)
+            }
         },
     }
 }
@@ -158,56 +155,73 @@ fn changed(
 pub(crate) fn apply_inner(
     alloc: Global,
     span: Span,
-    slots: &[Slot],
-    children: &[Child],
+    slots: &Slots,
     cut: &[Range],
     added: &[Point],
     version: u64,
     nodes: &mut Vec<NewNode>,
     steps: &mut Steps,
-) -> Result<Child, TreeFault>
-    requires some { (below : ℕ) × (span.height ≡ suc below) × AreSomeSlots below span.start slots.now children.now (length added.now) }
+) -> Result<Link, TreeFault>
+    requires some { (below : ℕ) × (span.height ≡ suc below) × AreSomeSlots below span.start slots.now (length added.now) }
     requires cut { IsCut cut.now }
     requires order { IsInOrder added.now }
     requires inside { within span.start (end_of span) added.now ≡ added.now }
-    ensures child { IfOk result (λ r. AtEachInnerCommit span slots.now children.now cut.now added.now version (λ below h c.
-        (above : List APoint → Bool) → touches c span.height span.start (bag h) ≡ true → IsChild span.height span.start above (c ∷ h) r)) }
-    ensures nodes { OnOk result (AtEachInnerCommit span slots.now children.now cut.now added.now version (λ below h c.
-        (above : List APoint → Bool) → touches c span.height span.start (bag h) ≡ true → above (bag (c ∷ h)) ≡ true
+    ensures child { IfOk result (λ r. AtEachInnerCommit span slots.now cut.now added.now version (λ below h c.
+        (above : List APoint → Bool) → touches c span.height span.start (bag h) ≡ true → IsChild span.height span.start above (c ▷ h) (linked r))) }
+    ensures nodes { OnOk result (AtEachInnerCommit span slots.now cut.now added.now version (λ below h c.
+        (above : List APoint → Bool) → touches c span.height span.start (bag h) ≡ true → above (bag (c ▷ h)) ≡ true
         → 0 < version → IsBefore version h
-        → nodes.new.items ≡ nodes.old.items ++ new_nodes span.height span.start above (c ∷ h) version)) }
+        → nodes.new.items ≡ nodes.old.items ++ new_nodes span.height span.start above (c ▷ h) version)) }
     ensures counted { OnOk result (CountsNodes steps.old steps.new nodes.old.items nodes.new.items) }
-    ensures fault { IfErr result (λ e. AtEachInnerCommit span slots.now children.now cut.now added.now version (λ below h c.
-        IsCrowdedFault span.start (end_of span) (points_in span (bag (c ∷ h))) e)) }
+    ensures fault { IfErr result (λ e. AtEachInnerCommit span slots.now cut.now added.now version (λ below h c.
+        IsCrowdedFault span.start (end_of span) (points_in span (bag (c ▷ h))) e)) }
 {
-    let left = count_outside_slots(alloc, span, slots, children, cut)?;
-    if left + added.len() as u64 <= LEAF_POINTS as u64 {
-        let all = gathered(alloc, span, slots, children, cut, added)?;
+    if is_few(alloc, span, slots, cut, added)? {
+        let all = gathered(alloc, span, slots, cut, added)?;
         return build(alloc, span, &all, version, nodes, steps);
     }
-    let (new_slots, new_children) = apply_slots(
-        alloc, span, slots, children, cut, added, version, nodes, steps,
-    )?;
-    Ok(push_inner(alloc, span, version, new_slots, new_children, nodes, steps)?)
+    let new_slots = apply_slots(alloc, span, slots, cut, added, version, nodes, steps)?;
+    Ok(push_inner(alloc, span, version, new_slots, nodes, steps)?)
+}
+
+/// Whether a commit leaves an inner node so few points that it is none. Its points are counted only if the cut is not empty.
+fn is_few(
+    alloc: Global,
+    span: Span,
+    slots: &Slots,
+    cut: &[Range],
+    added: &[Point],
+) -> Result<bool, AllocError>
+    requires some { (below : ℕ) × (span.height ≡ suc below) × AreSomeSlots below span.start slots.now (length added.now) }
+    requires cut { IsCut cut.now }
+    ensures few { IfOk result (λ b. b ≡ true → AtEachInner span slots.now (λ h.
+        length (outside (points_in span (bag h)) cut.now) + length added.now ≤ FEW)) }
+    ensures many { IfOk result (λ b. b ≡ false → AtEachInner span slots.now (λ h. FEW < length (points_in span (bag h))
+        → FEW < length (outside (points_in span (bag h)) cut.now) + length added.now)) }
+{
+    if cut.is_empty() {
+        return Ok(false);
+    }
+    let left = count_outside_slots(alloc, span, slots, cut)?;
+    Ok(left + added.len() as u64 <= LEAF_POINTS as u64)
 }
 
 /// Returns the points of an inner node outside a cut together with those that are added, in order.
 fn gathered(
     alloc: Global,
     span: Span,
-    slots: &[Slot],
-    children: &[Child],
+    slots: &Slots,
     cut: &[Range],
     added: &[Point],
 ) -> Result<Vec<Point>, AllocError>
-    requires some { (below : ℕ) × (span.height ≡ suc below) × AreSomeSlots below span.start slots.now children.now 0 }
+    requires some { (below : ℕ) × (span.height ≡ suc below) × AreSomeSlots below span.start slots.now 0 }
     requires cut { IsCut cut.now }
     requires added { IsInOrder added.now }
-    ensures { IfOk result (λ v. AtEachInner span slots.now children.now (λ h.
+    ensures { IfOk result (λ v. AtEachInner span slots.now (λ h.
         v.items ≡ sort (outside (points_in span (bag h)) cut.now ++ added.now))) }
 {
     let mut kept = Vec::new(alloc);
-    gather_outside_slots(alloc, span, slots, children, cut, &mut kept)?;
+    gather_outside_slots(alloc, span, slots, cut, &mut kept)?;
     merged(alloc, &kept, added)
 }
 
@@ -216,47 +230,48 @@ fn gathered(
 pub(crate) fn apply_slots(
     alloc: Global,
     span: Span,
-    slots: &[Slot],
-    children: &[Child],
+    slots: &Slots,
     cut: &[Range],
     added: &[Point],
     version: u64,
     nodes: &mut Vec<NewNode>,
     steps: &mut Steps,
-) -> Result<(Vec<Slot>, Vec<Child>), TreeFault>
-    requires some { (below : ℕ) × (span.height ≡ suc below) × AreSomeSlots below span.start slots.now children.now (length added.now) }
+) -> Result<Slots, TreeFault>
+    requires some { (below : ℕ) × (span.height ≡ suc below) × AreSomeSlots below span.start slots.now (length added.now) }
     requires cut { IsCut cut.now }
     requires order { IsInOrder added.now }
     requires inside { within span.start (end_of span) added.now ≡ added.now }
-    ensures slots { IfOk result (λ r. AtEachInnerCommit span slots.now children.now cut.now added.now version (λ below h c.
-        HasSlots below span.start (c ∷ h) 64 r.0.items r.1.items × HasChildren below span.start (c ∷ h) 64 r.1.items)) }
-    ensures nodes { OnOk result (AtEachInnerCommit span slots.now children.now cut.now added.now version (λ below h c.
-        FEW < length (points_of (suc below) span.start (bag (c ∷ h))) → 0 < version → IsBefore version h
-        → nodes.new.items ≡ nodes.old.items ++ new_below below span.start (c ∷ h) version)) }
+    ensures slots { IfOk result (λ r. AtEachInnerCommit span slots.now cut.now added.now version (λ below h c.
+        HasSlots below span.start (c ▷ h) r × HasChildren below span.start (c ▷ h) r)) }
+    ensures nodes { OnOk result (AtEachInnerCommit span slots.now cut.now added.now version (λ below h c.
+        FEW < length (points_of (suc below) span.start (bag (c ▷ h))) → 0 < version → IsBefore version h
+        → nodes.new.items ≡ nodes.old.items ++ new_below below span.start (c ▷ h) version)) }
     ensures counted { OnOk result (CountsNodes steps.old steps.new nodes.old.items nodes.new.items) }
-    ensures fault { IfErr result (λ e. AtEachInnerCommit span slots.now children.now cut.now added.now version (λ below h c.
-        IsCrowdedFault span.start (end_of span) (points_in span (bag (c ∷ h))) e)) }
+    ensures fault { IfErr result (λ e. AtEachInnerCommit span slots.now cut.now added.now version (λ below h c.
+        IsCrowdedFault span.start (end_of span) (points_in span (bag (c ▷ h))) e)) }
 {
-    let mut new_slots = Vec::new(alloc);
-    let mut new_children = Vec::new(alloc);
+    let mut new_slots = Slots::new(alloc, slots.base(), slots.len().saturating_add(1))?;
     let mut rest = added;
     for i in 0..FAN_OUT {
         let part = span.slot(i);
         let (here, after) = parted(rest, part.end());
-        let index = usize::from(i);
+        rest = after;
+        if cut.is_empty() && here.is_empty() {
+            new_slots.put(i, slots.slot(i), slots.child(i).share()?)?;
+            continue;
+        }
         let (slot, child) = apply_slot(
             alloc,
             part,
-            slots[index],
-            &children[index],
+            slots.slot(i),
+            slots.child(i),
             cut,
             here,
             version,
             nodes,
             steps,
         )?;
-        push_slot(&mut new_slots, &mut new_children, slot, child)?;
-        rest = after;
+        new_slots.put(i, slot, child)?;
     }
-    Ok((new_slots, new_children))
+    Ok(new_slots)
 }

@@ -13,7 +13,9 @@
 // nodes and their counter
 mod new_node;
 mod node;
+mod packed;
 mod root;
+mod slots;
 mod steps;
 // why a commit is not applied
 mod fault;
@@ -31,11 +33,9 @@ mod laws;
 pub use fault::TreeFault;
 pub use laws::equal_since_its_version;
 pub use link::visit;
-pub use new_node::NewNode;
+pub use new_node::{NewNode, NewSlots};
 pub use node::{Child, Node, Slot};
 pub use root::root_span;
+pub use slots::Slots;
 pub use steps::Steps;
 pub use tree::{Applied, Tree};
-
-#[cfg(test)]
-mod tests;

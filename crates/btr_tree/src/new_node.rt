@@ -1,5 +1,11 @@
-use crate::node::Slot;
-use btr_base::{Point, Span};
+ghost use Rattle.std.specs.Prelude.{◌≡◌, ◌<◌, [], length, slice_get, IfOk};
+ghost use Rattle.btr_tree.specs.NewNodes.{slots_of_node};
+ghost use Rattle.btr_tree.specs.Slots.{linked};
+
+use crate::node::{Link, NodeData, Slot};
+use btr_base::{FAN_OUT, Point, Span};
+use std::alloc::AllocError;
+use std::fmt::{Debug, Error, Formatter, Write};
 use std::marker::Model;
 
 /// A node that a commit wrote. A leaf has no slots, and an inner node has no points.
@@ -15,7 +21,7 @@ pub struct NewNode {
     pub points: Vec<Point>,
 
     /// The 64 slots of an inner node, in order.
-    pub slots: Vec<Slot>,
+    pub slots: NewSlots,
 }
 
 impl Model for NewNode {
@@ -23,5 +29,75 @@ impl Model for NewNode {
 
     ghost Value = { NewNodeValue };
 
-    ghost view = { λ n. record { span = n.span; version = n.version; points = n.points.items; slots = n.slots.items } };
+    ghost view = { λ n. record { span = n.span; version = n.version; points = n.points.items; slots = n.slots } };
+}
+
+/// The slots of a node that a commit wrote: 64 of an inner node, and none of a leaf. It shares the node with the tree.
+#[derive(Drop)]
+pub struct NewSlots {
+    node: Link,
+}
+
+impl Model for NewSlots {
+    ghost use Rattle.std.specs.Prelude.{List};
+    ghost use Rattle.btr_tree.specs.declared.node.Slot.{Slot};
+    ghost use Rattle.btr_tree.specs.NewNodes.{slots_of_node};
+    ghost use Rattle.btr_tree.specs.Slots.{linked};
+
+    ghost Value = { List Slot };
+
+    ghost view = { λ s. slots_of_node (linked s.node) };
+}
+
+impl NewSlots {
+    /// The slots of no node.
+    pub(crate) fn none() -> NewSlots
+        ensures { result ≡ [] }
+    {
+        NewSlots { node: Link::none() }
+    }
+
+    /// The slots of a node, in constant time.
+    pub(crate) fn of(node: &Link) -> Result<NewSlots, AllocError>
+        ensures { IfOk result (λ s. s ≡ slots_of_node (linked node.now)) }
+    {
+        Ok(NewSlots {
+            node: node.seen().share()?,
+        })
+    }
+
+    /// How many slots there are: 64, or 0. It takes constant time and no memory.
+    pub fn len(&self) -> usize
+        ensures { result ≡ length self.now }
+    {
+        match &self.node.node {
+            None => 0,
+            Some(node) => match &**node {
+                NodeData::Leaf { .. } => 0,
+                NodeData::Inner { .. } => usize::from(FAN_OUT),
+            },
+        }
+    }
+
+    /// The slot of a number, or `None` if there are not so many. It takes constant time and no memory.
+    pub fn get(&self, i: u8) -> Option<Slot>
+        ensures { result ≡ slice_get self.now i }
+    {
+        if i >= FAN_OUT {
+            return None;
+        }
+        match &self.node.node {
+            None => None,
+            Some(node) => match &**node {
+                NodeData::Leaf { .. } => None,
+                NodeData::Inner { slots, .. } => Some(slots.slot(i)),
+            },
+        }
+    }
+}
+
+impl Debug for NewSlots {
+    fn fmt<W: Write>(&self, f: &mut Formatter<W>) -> Result<(), Error> {
+        f.write_str("NewSlots")
+    }
 }

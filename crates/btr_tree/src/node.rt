@@ -1,9 +1,13 @@
 //! Nodes in memory, and what a walk sees of them.
+ghost use Rattle.std.specs.Prelude.{◌≡◌, IfOk, None};
+ghost use Rattle.btr_tree.specs.Slots.{linked, node_of};
+
+use crate::slots::Slots;
 use btr_base::{Agg, Point};
-use std::alloc::Global;
+use std::alloc::{AllocError, Global};
 use std::sync::Arc;
 
-/// What an inner node keeps of a slot beside its child.
+/// What an inner node knows of a slot beside its child.
 #[derive(Clone, Copy, Debug, PartialEq, Eq)]
 pub struct Slot {
     /// The aggregate of the slot's points.
@@ -16,44 +20,70 @@ pub struct Slot {
     pub child: u64,
 }
 
-/// The link to the node of a span, or to none if the span has no point. [`crate::visit`] is the only way from a link to its node.
+/// The node of a span, or none if the span has no point. Versions and threads share the node.
 #[cycle(node)]
 #[derive(Drop)]
-pub struct Child {
+pub(crate) struct Link {
     pub(crate) node: Option<Arc<NodeData, Global>>,
 }
 
-/// What a tree keeps of a span that has a point (BTrDB, FAST 2016). Versions and threads share it.
+/// What a tree keeps of a span that has a point (BTrDB, FAST 2016).
 #[cycle(node)]
 #[derive(Drop)]
 pub(crate) enum NodeData {
     /// The points, at most 252, by time and value.
-    Leaf {
-        version: u64,
-        points: Vec<Point>,
-    },
+    Leaf { version: u64, points: Vec<Point> },
 
     /// More than 252 points, in 64 slots in order of time. A slot has a child if it has a point.
-    Inner {
-        version: u64,
-        slots: Vec<Slot>,
-        children: Vec<Child>,
-    },
+    Inner { version: u64, slots: Slots },
+}
+
+/// The link to the node of a span, or to none if the span has no point. [`crate::visit`] is the only way from a link to its
+/// node.
+#[derive(Clone, Copy)]
+pub struct Child<'a> {
+    pub(crate) node: Option<&'a Arc<NodeData, Global>>,
 }
 
 /// A node that was visited.
 #[derive(Clone, Copy)]
 pub enum Node<'a> {
     /// The points, at most 252, by time and value.
-    Leaf {
-        version: u64,
-        points: &'a [Point],
-    },
+    Leaf { version: u64, points: &'a [Point] },
 
-    /// More than 252 points, in 64 slots in order of time, and the link of each slot.
-    Inner {
-        version: u64,
-        slots: &'a [Slot],
-        children: &'a [Child],
-    },
+    /// More than 252 points, in 64 slots in order of time.
+    Inner { version: u64, slots: &'a Slots },
+}
+
+impl Link {
+    /// A link to no node.
+    pub(crate) fn none() -> Link
+        ensures { linked result ≡ None }
+    {
+        Link { node: None }
+    }
+
+    /// The link as a walk sees it.
+    pub(crate) fn seen(&self) -> Child<'_>
+        ensures { node_of result ≡ linked self.now }
+    {
+        match &self.node {
+            None => Child { node: None },
+            Some(node) => Child { node: Some(node) },
+        }
+    }
+}
+
+impl Child<'_> {
+    /// A link to the same node, in constant time.
+    pub(crate) fn share(self) -> Result<Link, AllocError>
+        ensures { IfOk result (λ l. linked l ≡ node_of self.entry) }
+    {
+        match self.node {
+            None => Ok(Link { node: None }),
+            Some(node) => Ok(Link {
+                node: Some(Arc::try_clone(node)?),
+            }),
+        }
+    }
 }

@@ -5,8 +5,10 @@ ghost use Rattle.btr_base.specs.Range.{IsCut, covered};
 ghost use Rattle.btr_tree.specs.History.{bag};
 ghost use Rattle.btr_tree.specs.EachHistory.{AtEachHistory, AtEachInner, points_in};
 ghost use Rattle.btr_tree.specs.Change.{IsSomeChild, AreSomeSlots, end_of};
+ghost use Rattle.btr_tree.specs.Slots.{node_of};
 
-use crate::node::{Child, NodeData, Slot};
+use crate::node::{Child, NodeData};
+use crate::slots::Slots;
 use btr_base::{FAN_OUT, Point, Range, Span, points_outside, ranges_before, ranges_from};
 use std::alloc::{AllocError, Global};
 
@@ -15,22 +17,18 @@ use std::alloc::{AllocError, Global};
 fn count_outside_child(
     alloc: Global,
     span: Span,
-    child: &Child,
+    child: Child<'_>,
     cut: &[Range],
 ) -> Result<u64, AllocError>
-    requires some { IsSomeChild span.height span.start child.now 0 }
+    requires some { IsSomeChild span.height span.start (node_of child) 0 }
     requires cut { IsCut cut.now }
-    ensures { IfOk result (λ n. AtEachHistory span child.now (λ h. n ≡ length (outside (points_in span (bag h)) cut.now))) }
+    ensures { IfOk result (λ n. AtEachHistory span (node_of child.entry) (λ h. n ≡ length (outside (points_in span (bag h)) cut.now))) }
 {
-    match &child.node {
+    match child.node {
         None => Ok(0),
         Some(node) => match &**node {
             NodeData::Leaf { points, .. } => count_outside_points(alloc, points, cut),
-            NodeData::Inner {
-                slots,
-                children,
-                ..
-            } => count_outside_slots(alloc, span, slots, children, cut),
+            NodeData::Inner { slots, .. } => count_outside_slots(alloc, span, slots, cut),
         },
     }
 }
@@ -50,20 +48,18 @@ fn count_outside_points(alloc: Global, points: &[Point], cut: &[Range]) -> Resul
 pub(crate) fn count_outside_slots(
     alloc: Global,
     span: Span,
-    slots: &[Slot],
-    children: &[Child],
+    slots: &Slots,
     cut: &[Range],
 ) -> Result<u64, AllocError>
-    requires some { (below : ℕ) × (span.height ≡ suc below) × AreSomeSlots below span.start slots.now children.now 0 }
+    requires some { (below : ℕ) × (span.height ≡ suc below) × AreSomeSlots below span.start slots.now 0 }
     requires cut { IsCut cut.now }
-    ensures { IfOk result (λ n. AtEachInner span slots.now children.now (λ h. n ≡ length (outside (points_in span (bag h)) cut.now))) }
+    ensures { IfOk result (λ n. AtEachInner span slots.now (λ h. n ≡ length (outside (points_in span (bag h)) cut.now))) }
 {
     let mut left = 0;
     for i in 0..FAN_OUT {
-        let index = usize::from(i);
-        let agg = &slots[index].agg;
-        let count = agg.count;
-        left += count_outside_slot(alloc, span.slot(i), count, &children[index], cut)?;
+        let slot = slots.slot(i);
+        let agg = &slot.agg;
+        left += count_outside_slot(alloc, span.slot(i), agg.count, slots.child(i), cut)?;
     }
     Ok(left)
 }
@@ -74,12 +70,12 @@ pub(crate) fn count_outside_slot(
     alloc: Global,
     span: Span,
     count: u64,
-    child: &Child,
+    child: Child<'_>,
     cut: &[Range],
 ) -> Result<u64, AllocError>
-    requires some { IsSomeChild span.height span.start child.now 0 }
+    requires some { IsSomeChild span.height span.start (node_of child) 0 }
     requires cut { IsCut cut.now }
-    ensures { IfOk result (λ n. AtEachHistory span child.now (λ h.
+    ensures { IfOk result (λ n. AtEachHistory span (node_of child.entry) (λ h.
         count ≡ length (points_in span (bag h)) → n ≡ length (outside (points_in span (bag h)) cut.now))) }
 {
     let here = ranges_before(ranges_from(cut, span.start), span.end());
@@ -97,23 +93,19 @@ pub(crate) fn count_outside_slot(
 fn gather_outside_child(
     alloc: Global,
     span: Span,
-    child: &Child,
+    child: Child<'_>,
     cut: &[Range],
     out: &mut Vec<Point>,
 ) -> Result<(), AllocError>
-    requires some { IsSomeChild span.height span.start child.now 0 }
+    requires some { IsSomeChild span.height span.start (node_of child) 0 }
     requires cut { IsCut cut.now }
-    ensures { OnOk result (AtEachHistory span child.now (λ h. out.new.items ≡ out.old.items ++ outside (points_in span (bag h)) cut.now)) }
+    ensures { OnOk result (AtEachHistory span (node_of child.entry) (λ h. out.new.items ≡ out.old.items ++ outside (points_in span (bag h)) cut.now)) }
 {
-    match &child.node {
+    match child.node {
         None => Ok(()),
         Some(node) => match &**node {
             NodeData::Leaf { points, .. } => gather_outside_points(alloc, points, cut, out),
-            NodeData::Inner {
-                slots,
-                children,
-                ..
-            } => gather_outside_slots(alloc, span, slots, children, cut, out),
+            NodeData::Inner { slots, .. } => gather_outside_slots(alloc, span, slots, cut, out),
         },
     }
 }
@@ -138,18 +130,17 @@ fn gather_outside_points(
 pub(crate) fn gather_outside_slots(
     alloc: Global,
     span: Span,
-    slots: &[Slot],
-    children: &[Child],
+    slots: &Slots,
     cut: &[Range],
     out: &mut Vec<Point>,
 ) -> Result<(), AllocError>
-    requires some { (below : ℕ) × (span.height ≡ suc below) × AreSomeSlots below span.start slots.now children.now 0 }
+    requires some { (below : ℕ) × (span.height ≡ suc below) × AreSomeSlots below span.start slots.now 0 }
     requires cut { IsCut cut.now }
-    ensures { OnOk result (AtEachInner span slots.now children.now
+    ensures { OnOk result (AtEachInner span slots.now
         (λ h. out.new.items ≡ out.old.items ++ outside (points_in span (bag h)) cut.now)) }
 {
     for i in 0..FAN_OUT {
-        gather_outside_slot(alloc, span.slot(i), &children[usize::from(i)], cut, out)?;
+        gather_outside_slot(alloc, span.slot(i), slots.child(i), cut, out)?;
     }
     Ok(())
 }
@@ -159,13 +150,13 @@ pub(crate) fn gather_outside_slots(
 fn gather_outside_slot(
     alloc: Global,
     span: Span,
-    child: &Child,
+    child: Child<'_>,
     cut: &[Range],
     out: &mut Vec<Point>,
 ) -> Result<(), AllocError>
-    requires some { IsSomeChild span.height span.start child.now 0 }
+    requires some { IsSomeChild span.height span.start (node_of child) 0 }
     requires cut { IsCut cut.now }
-    ensures { OnOk result (AtEachHistory span child.now (λ h. out.new.items ≡ out.old.items ++ outside (points_in span (bag h)) cut.now)) }
+    ensures { OnOk result (AtEachHistory span (node_of child.entry) (λ h. out.new.items ≡ out.old.items ++ outside (points_in span (bag h)) cut.now)) }
 {
     let here = ranges_before(ranges_from(cut, span.start), span.end());
     if covers_all(here, span) {

@@ -1,20 +1,20 @@
-ghost use Rattle.std.specs.Prelude.{◌≡◌, ◌<◌, ◌≤◌, ◌+◌, ◌*◌, ◌∷◌, [], List, length, min, IfOk, IfErr, OnOk};
+ghost use Rattle.std.specs.Prelude.{◌≡◌, ◌<◌, ◌≤◌, ◌+◌, ◌*◌, length, min, IfOk, IfErr, OnOk};
 ghost use Rattle.btr_base.specs.Agg.{agg};
 ghost use Rattle.btr_base.specs.Point.{AreInDomain};
 ghost use Rattle.btr_base.specs.declared.limits.TheConstants.{FIRST as FIRST_TIME, END as END_TIME};
-ghost use Rattle.btr_tree.specs.History.{Commit, bag, IsBefore};
+ghost use Rattle.btr_tree.specs.History.{bag, nothing, ◌▷◌, IsBefore};
 ghost use Rattle.btr_tree.specs.Crowd.{HasNoCrowdedSpan};
 ghost use Rattle.btr_tree.specs.Nodes.{above_root};
 ghost use Rattle.btr_tree.specs.NewNodes.{new_nodes};
 ghost use Rattle.btr_tree.specs.Shape.{IsChild};
 ghost use Rattle.btr_tree.specs.Change.{IsSomeChild};
+ghost use Rattle.btr_tree.specs.Slots.{node_of};
 ghost use Rattle.btr_tree.specs.Root.{IsTree, IsTreeFault, AfterCommit, AtEachTree};
 
 use crate::apply::apply_slot;
 use crate::fault::TreeFault;
-use crate::link::share;
 use crate::new_node::NewNode;
-use crate::node::{Child, Slot};
+use crate::node::{Child, Link, Slot};
 use crate::root::root_span;
 use crate::steps::Steps;
 use btr_base::{Agg, Bag, MAX_POINTS, Ranges};
@@ -25,25 +25,24 @@ use std::marker::Model;
 /// common, in any threads.
 #[derive(Drop)]
 pub struct Tree {
-    root: Child,
+    root: Link,
     agg: Agg,
 }
 
 impl Model for Tree {
     ghost use Rattle.std.specs.Coded.{codes};
     ghost use Rattle.btr_tree.specs.contracts.node.NodeData as node_contract;
-    ghost use Rattle.btr_tree.specs.History.{Commit};
+    ghost use Rattle.btr_tree.specs.History.{Past};
     ghost use Rattle.btr_tree.specs.Root.{TreeValue, IsTree};
-    ghost use Rattle.btr_tree.specs.Shape.{node_of};
-    ghost use Rattle.std.specs.Prelude.{List};
+    ghost use Rattle.btr_tree.specs.Slots.{linked};
 
     ghost Value = { TreeValue };
 
     ghost coded = { Prim.hlevel (codes, node_contract.the_row.coded) };
 
-    ghost view = { λ t. record { node = node_of t.root; total = t.agg } };
+    ghost view = { λ t. record { node = linked t.root; total = t.agg } };
 
-    ghost invariant = { λ t. (h : List Commit) × IsTree h (record { node = node_of t.root; total = t.agg }) };
+    ghost invariant = { λ t. (h : Past) × IsTree h (record { node = linked t.root; total = t.agg }) };
 }
 
 /// A commit that was applied: the new tree, and the nodes that it wrote, children before parents.
@@ -56,10 +55,10 @@ pub struct Applied {
 impl Tree {
     /// The tree of no commit. It takes no memory.
     pub fn empty() -> Tree
-        ensures { IsTree [] result }
+        ensures { IsTree nothing result }
     {
         Tree {
-            root: Child { node: None },
+            root: Link::none(),
             agg: Agg::none(),
         }
     }
@@ -69,7 +68,7 @@ impl Tree {
         ensures { IfOk result (λ t. t ≡ self.now) }
     {
         Ok(Tree {
-            root: share(&self.root)?,
+            root: self.root.seen().share()?,
             agg: self.agg,
         })
     }
@@ -90,11 +89,11 @@ impl Tree {
     }
 
     /// The link to the root, whose span is the whole domain, in constant time. It takes no memory.
-    pub fn root(&self) -> &Child
-        ensures child { AtEachTree self.now (λ h. IsChild 10 FIRST_TIME above_root h result.now) }
-        ensures some { IsSomeChild 10 FIRST_TIME result.now 0 }
+    pub fn root(&self) -> Child<'_>
+        ensures child { AtEachTree self.now (λ h. IsChild 10 FIRST_TIME above_root h (node_of result)) }
+        ensures some { IsSomeChild 10 FIRST_TIME (node_of result) 0 }
     {
-        &self.root
+        self.root.seen()
     }
 
     /// Applies a commit: removes the points whose time `cut` covers, and then adds the points of `added`. This tree stays as
@@ -117,15 +116,15 @@ impl Tree {
         steps: &mut Steps,
     ) -> Result<Applied, TreeFault>
         requires { AreInDomain added.now }
-        ensures tree { IfOk result (λ a. AfterCommit self.now version cut.now added.now (λ h c. IsTree (c ∷ h) a.tree)) }
+        ensures tree { IfOk result (λ a. AfterCommit self.now version cut.now added.now (λ h c. IsTree (c ▷ h) a.tree)) }
         ensures nodes { IfOk result (λ a. AfterCommit self.now version cut.now added.now (λ h c.
-            0 < version → IsBefore version h → a.nodes.items ≡ new_nodes 10 FIRST_TIME above_root (c ∷ h) version)) }
+            0 < version → IsBefore version h → a.nodes.items ≡ new_nodes 10 FIRST_TIME above_root (c ▷ h) version)) }
         ensures few { IfOk result (λ a. AfterCommit self.now version cut.now added.now (λ h c.
             0 < version → IsBefore version h → length a.nodes.items ≤ 11 * (253 * length added.now + 2 * length cut.now))) }
         ensures steps { IfOk result (λ a. steps.new ≡ min (steps.old + length a.nodes.items) 18446744073709551615) }
         ensures room { OnOk result (AfterCommit self.now version cut.now added.now (λ h c.
-            HasNoCrowdedSpan FIRST_TIME END_TIME (bag (c ∷ h)))) }
-        ensures fault { IfErr result (λ e. AfterCommit self.now version cut.now added.now (λ h c. IsTreeFault (bag (c ∷ h)) e)) }
+            HasNoCrowdedSpan FIRST_TIME END_TIME (bag (c ▷ h)))) }
+        ensures fault { IfErr result (λ e. AfterCommit self.now version cut.now added.now (λ h c. IsTreeFault (bag (c ▷ h)) e)) }
     {
         prove!(steps.count() <= u64::MAX);
         let mut nodes = Vec::new(alloc);
@@ -138,7 +137,7 @@ impl Tree {
             alloc,
             root_span(),
             whole,
-            &self.root,
+            self.root.seen(),
             cut.as_slice(),
             added.as_slice(),
             version,

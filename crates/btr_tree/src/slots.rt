@@ -1,0 +1,166 @@
+//! The 64 slots of an inner node in memory.
+ghost use Rattle.std.specs.Prelude.{◌≡◌, ◌<◌, ◌≤◌, true, nat_lt, option_map, IfOk, OnOk};
+ghost use Rattle.btr_tree.specs.Packed.{without_address};
+ghost use Rattle.btr_tree.specs.Slots.{linked, node_of, kept_in, slot_in, child_in, base_of, empty_slot};
+ghost use Rattle.btr_tree.specs.Slots.{IsNextOccupied, IsPreviousOccupied, IsFilled, IsPut, AreSameSlots};
+
+use crate::node::{Child, Link, Slot};
+use crate::packed::Packed;
+use btr_base::{Agg, FAN_OUT};
+use std::alloc::{AllocError, Global};
+
+/// What is kept of a slot: its aggregate and its version, and its child.
+#[cycle(node)]
+#[derive(Drop)]
+pub(crate) struct Kept {
+    slot: Packed,
+    child: Link,
+}
+
+/// The 64 slots of an inner node, in order of time.
+///
+/// In memory only those slots are kept that have a point, or whose version is not the base version of the node. A slot that is
+/// kept takes at most 64 bytes, and the others take none.
+#[cycle(node)]
+#[derive(Drop)]
+pub struct Slots {
+    base: u64,
+    mask: u64,
+    kept: Vec<Kept>,
+}
+
+impl Slots {
+    /// No slot is kept yet. There is room for `room` slots.
+    pub(crate) fn new(alloc: Global, base: u64, room: usize) -> Result<Slots, AllocError>
+        ensures filled { IfOk result (λ s. IsFilled 0 s) }
+        ensures base { IfOk result (λ s. base_of s ≡ base) }
+    {
+        Ok(Slots {
+            base,
+            mask: 0,
+            kept: Vec::with_capacity(alloc, room)?,
+        })
+    }
+
+    /// The slot of a number, in constant time. It takes no memory.
+    pub fn slot(&self, i: u8) -> Slot
+        requires { i < 64 }
+        ensures { result ≡ slot_in self.now i }
+    {
+        match self.kept_at(i) {
+            Some(kept) => kept.slot.slot(),
+            None => Slot {
+                agg: Agg::none(),
+                version: self.base,
+                child: 0,
+            },
+        }
+    }
+
+    /// The link to the child of a slot, in constant time. It takes no memory.
+    pub fn child(&self, i: u8) -> Child<'_>
+        requires { i < 64 }
+        ensures { node_of result ≡ child_in self.now i }
+    {
+        match self.kept_at(i) {
+            Some(kept) => kept.child.seen(),
+            None => Child { node: None },
+        }
+    }
+
+    /// The first slot from `from` on that has a point, or `None` if there is none. It takes time linear in the number of slots
+    /// from `from` on, and no memory.
+    pub fn next_occupied(&self, from: u8) -> Option<u8>
+        requires { from ≤ 64 }
+        ensures { IsNextOccupied self.now from result }
+    {
+        for i in from..FAN_OUT {
+            if self.is_occupied(i) {
+                return Some(i);
+            }
+        }
+        None
+    }
+
+    /// The last slot below `to` that has a point, or `None` if there is none. It takes time linear in `to`, and no memory.
+    pub fn previous_occupied(&self, to: u8) -> Option<u8>
+        requires { to ≤ 64 }
+        ensures { IsPreviousOccupied self.now to result }
+    {
+        let mut i = to;
+        while i > 0 {
+            i -= 1;
+            if self.is_occupied(i) {
+                return Some(i);
+            }
+        }
+        None
+    }
+
+    /// How many slots are kept.
+    pub(crate) fn len(&self) -> usize {
+        self.kept.len()
+    }
+
+    /// The base version.
+    pub(crate) fn base(&self) -> u64
+        ensures { result ≡ base_of self.now }
+    {
+        self.base
+    }
+
+    /// Puts the next slot and its child. It is kept if it has a point or a child, or a version other than the base version.
+    pub(crate) fn put(&mut self, i: u8, slot: Slot, child: Link) -> Result<(), AllocError>
+        requires place { i < 64 }
+        requires filled { IsFilled i self.now }
+        ensures { OnOk result (IsPut i slot (linked child) self.old self.new) }
+    {
+        if is_as_base(&slot, self.base) && child.node.is_none() {
+            return Ok(());
+        }
+        self.kept.push(Kept {
+            slot: Packed::of(&slot),
+            child,
+        })?;
+        self.mask += 1 << i;
+        Ok(())
+    }
+
+    /// Gives back the room that no slot takes.
+    pub(crate) fn fit(&mut self)
+        ensures { AreSameSlots self.old self.new }
+    {
+        self.kept.shrink_to_fit();
+    }
+
+    /// Whether a slot has a point.
+    fn is_occupied(&self, i: u8) -> bool
+        requires { i < 64 }
+        ensures { result ≡ nat_lt 0 (slot_in self.now i).agg.count }
+    {
+        match self.kept_at(i) {
+            Some(kept) => kept.slot.has_points(),
+            None => false,
+        }
+    }
+
+    /// What is kept of a slot.
+    fn kept_at(&self, i: u8) -> Option<&Kept>
+        requires { i < 64 }
+        ensures { option_map (λ k. k.now) result ≡ kept_in self.now i }
+    {
+        if self.mask >> i & 1 == 0 {
+            return None;
+        }
+        let rank = (self.mask % (1 << i)).count_ones();
+        self.kept.get(rank as usize)
+    }
+}
+
+/// Whether a slot is the empty slot of a version.
+fn is_as_base(slot: &Slot, base: u64) -> bool
+    ensures { result ≡ true → without_address slot.now ≡ empty_slot base }
+{
+    let agg = &slot.agg;
+    agg.count == 0 && slot.version == base
+}
