@@ -2,6 +2,7 @@
 use Rattle.std.specs.Prelude.{◌≡◌, ℕ, ℤ, ◌<◌, ◌≤◌, Bool, true, false, List, length}
 use Rattle.btr_base.specs.declared.point.Point.{Point}
 use Rattle.btr_base.specs.Range.{RangeValue}
+use Rattle.btr_tree.specs.Root.{TreeValue, IsTree}
 use Rattle.btr_hist.specs.declared.entry.Entry.{Entry}
 use Rattle.btr_hist.specs.declared.answer.Answer.TheVariants.{Refused}
 use Rattle.btr_hist.specs.declared.answer.Refusal.{Refusal}
@@ -9,12 +10,14 @@ use Rattle.btr_hist.specs.declared.answer.Rows.{Rows}
 use Rattle.btr_hist.specs.declared.query.At.{At}
 use Rattle.btr_hist.specs.History.{ids, latest}
 use Rattle.btr_hist.specs.Answer.{answer_at, version_of, is_range}
+use Rattle.btr_engine.specs.Board.{commits_to}
 
--- The version that is asked, which the stream has.
-pub record IsVersion (h : List Entry) (stream asked version : ℕ) : Type 0 where
+-- The version that is asked, which the stream has, and its tree.
+pub record IsVersion (h : List Entry) (stream asked version : ℕ) (t : TreeValue) : Type 0 where
   pub known : stream < length (ids h)
   pub made : version ≤ latest h stream
   pub same : version ≡ asked
+  pub tree : IsTree (commits_to h stream version) t
 
 -- The range has the bounds that are asked, and they are good.
 pub record IsAskedRange (from to : ℤ) (range : RangeValue) : Type 0 where

@@ -1,18 +1,27 @@
--- The index that a board keeps of its entries: the number of the stream of each id, and the trees of each stream's versions.
-use Rattle.std.specs.Prelude.{◌≡◌, ℕ, ◌+◌, ◌<◌, ◌≤◌, List, [], ◌∷◌, length, take, slice_get, slice_index_or, Some}
-use Rattle.std.specs.Ordering.{nat_cmp}
-use Rattle.std.specs.BTreeMap.{BTreeMap, get}
+-- What a board keeps of a history: the id of each stream, the trees of its versions, and the number of entries.
+use Rattle.std.specs.Prelude.{◌≡◌, ℕ, ◌+◌, ◌<◌, ◌≤◌, nat_le, List, [], ◌∷◌, length, take, slice_get, slice_index_or, Option, Some, None}
+use Rattle.std.specs.Prelude.{if◌then◌else◌}
 use Rattle.btr_tree.specs.History as tree
 use Rattle.btr_tree.specs.Root.{TreeValue, IsTree}
 use Rattle.btr_hist.specs.declared.entry.Entry.{Entry}
 use Rattle.btr_base.specs.Commit.{Change}
-use Rattle.btr_hist.specs.History.{ids, stream_of, commits, latest}
+use Rattle.btr_hist.specs.History.{ids, commits, latest}
 use Rattle.btr_hist.specs.Legal.{Legal}
-use Rattle.btr_engine.specs.declared.board.Stream.{Stream}
 
--- Each id is mapped to the number of its stream, and no other id is mapped.
-abbrev pub IsIdIndex : List Entry → BTreeMap ℕ ℕ → Type 0
-IsIdIndex h numbers = (id : ℕ) → get nat_cmp numbers id ≡ stream_of h id
+-- A stream: its id, and the trees of its versions, from version 0 on.
+pub record Versions : Type 0 where
+  pub id : ℕ
+  pub trees : List TreeValue
+
+-- What contracts see of a board: the streams in order of creation, and the number of entries.
+pub record Kept : Type 0 where
+  pub streams : List Versions
+  pub entries : ℕ
+
+-- Each entry may follow those before it as to streams, versions and numbers of points: that is what the trees of a board need.
+-- It has a name of its own because a legal history may meet more conditions, which say nothing of streams, versions and points.
+abbrev pub Follows : List Entry → Type 0
+Follows h = Legal h
 
 -- Commits as a tree has them, the newest first, each with the version that it made. `made` versions were made before.
 abbrev pub newest_first : ℕ → List tree.Commit → List Change → List tree.Commit
@@ -30,12 +39,25 @@ pub record HasTrees (h : List Entry) (stream : ℕ) (trees : List TreeValue) : T
   pub each : (version : ℕ) (d : TreeValue) → version ≤ latest h stream
       → IsTree (commits_to h stream version) (slice_index_or trees version d)
 
--- The index is that of the entries, each of which is allowed after those before it.
-pub record IsIndexed (h : List Entry) (streams : List Stream) (numbers : BTreeMap ℕ ℕ) : Type 0 where
-  pub counted : length streams ≡ length (ids h)
-  pub numbered : IsIdIndex h numbers
-  pub named : (stream : ℕ) (d : Stream) → stream < length (ids h)
-      → slice_get (ids h) stream ≡ Some (slice_index_or streams stream d).id
-  pub kept : (stream : ℕ) (d : Stream) → stream < length (ids h)
-      → HasTrees h stream (slice_index_or streams stream d).trees.items
-  pub legal : Legal h
+-- The board is that of the history: it has the ids and the trees of its streams, and the number of its entries.
+pub record IsBoardOf (h : List Entry) (b : Kept) : Type 0 where
+  pub counted : length b.streams ≡ length (ids h)
+  pub named : (stream : ℕ) (d : Versions) → stream < length (ids h)
+      → slice_get (ids h) stream ≡ Some (slice_index_or b.streams stream d).id
+  pub kept : (stream : ℕ) (d : Versions) → stream < length (ids h)
+      → HasTrees h stream (slice_index_or b.streams stream d).trees
+  pub entries : b.entries ≡ length h
+  pub follows : Follows h
+
+-- The latest version of a stream, if the history has the stream.
+abbrev pub latest_of : List Entry → ℕ → Option ℕ
+latest_of h stream = if nat_le (length (ids h)) stream then None else Some (latest h stream)
+
+-- The history has this version of this stream.
+abbrev pub HasVersion : List Entry → ℕ → ℕ → Type 0
+HasVersion h stream version = (stream < length (ids h)) × (version ≤ latest h stream)
+
+-- The history has this version of this stream, and the tree is that of the stream's commits up to it.
+pub record IsTreeOf (h : List Entry) (stream version : ℕ) (t : TreeValue) : Type 0 where
+  pub has : HasVersion h stream version
+  pub tree : IsTree (commits_to h stream version) t

@@ -1,10 +1,10 @@
 //! The answers to questions, which a board reads from the trees of its streams.
-ghost use Rattle.std.specs.Prelude.{◌≡◌, ◌<◌, ◌≤◌, length, IfOk, IfErr};
-ghost use Rattle.btr_tree.specs.Root.{IsTree};
+ghost use Rattle.std.specs.Prelude.{◌≡◌, ◌≤◌, List, length, slice_get, IfOk, IfErr, MatchOption, Some};
+ghost use Rattle.btr_hist.specs.declared.entry.Entry.{Entry as EntrySpec};
 ghost use Rattle.btr_hist.specs.declared.query.Query.TheVariants as ask;
-ghost use Rattle.btr_hist.specs.History.{ids, latest};
-ghost use Rattle.btr_hist.specs.Answer.{answer, version_of};
-ghost use Rattle.btr_engine.specs.Board.{commits_to};
+ghost use Rattle.btr_hist.specs.History.{ids};
+ghost use Rattle.btr_hist.specs.Answer.{answer, version_of, rows_from};
+ghost use Rattle.btr_engine.specs.Board.{IsBoardOf};
 ghost use Rattle.btr_engine.specs.Answering.{IsVersion, IsAskedRange, RefusesVersion, RefusesRange};
 
 use crate::board::Board;
@@ -20,7 +20,7 @@ impl Board {
     /// Answers a question. It costs the nodes of the tree that the question needs, and its rows. The list of all streams costs
     /// their number. An `Err` means out of memory.
     pub fn answer(&self, alloc: Global, query: &Query) -> Result<Answer, AllocError>
-        ensures { IfOk result (λ a. a ≡ answer self.now query.now) }
+        ensures { (h : List EntrySpec) → IsBoardOf h self.now → IfOk result (λ a. a ≡ answer h query.now) }
     {
         match *query {
             Query::Points {
@@ -69,13 +69,13 @@ impl Board {
         to: i64,
         at: At,
     ) -> Result<Answer, AllocError>
-        ensures { IfOk result (λ a. a ≡ answer self.now (ask.Points stream from to at)) }
+        ensures { (h : List EntrySpec) → IsBoardOf h self.now → IfOk result (λ a. a ≡ answer h (ask.Points stream from to at)) }
     {
-        let (version, between) = match self.asked(stream, from, to, at) {
+        let (version, tree, between) = match self.asked(stream, from, to, at) {
             Ok(asked) => asked,
             Err(refusal) => return Ok(Answer::Refused(refusal)),
         };
-        let found = range(alloc, self.tree(stream, version), between)?;
+        let found = range(alloc, tree, between)?;
         Ok(Answer::Found {
             version,
             rows: Rows::Points(PointList::from_points(found)),
@@ -91,15 +91,15 @@ impl Board {
         toward: Toward,
         at: At,
     ) -> Result<Answer, AllocError>
-        ensures { IfOk result (λ a. a ≡ answer self.now (ask.Nearest stream time toward at)) }
+        ensures { (h : List EntrySpec) → IsBoardOf h self.now → IfOk result (λ a. a ≡ answer h (ask.Nearest stream time toward at)) }
     {
-        let version = match self.version_at(stream, at) {
-            Ok(version) => version,
+        let (version, tree) = match self.version_at(stream, at) {
+            Ok(asked) => asked,
             Err(refusal) => return Ok(Answer::Refused(refusal)),
         };
         let mut steps = Steps::new(alloc);
         let mut found = Vec::new(alloc);
-        if let Some(point) = nearest(self.tree(stream, version), time, toward, &mut steps) {
+        if let Some(point) = nearest(tree, time, toward, &mut steps) {
             found.push(point)?;
         }
         Ok(Answer::Found {
@@ -118,16 +118,16 @@ impl Board {
         p: u8,
         at: At,
     ) -> Result<Answer, AllocError>
-        ensures { IfOk result (λ a. a ≡ answer self.now (ask.Aligned stream from to p at)) }
+        ensures { (h : List EntrySpec) → IsBoardOf h self.now → IfOk result (λ a. a ≡ answer h (ask.Aligned stream from to p at)) }
     {
-        let (version, between) = match self.asked(stream, from, to, at) {
+        let (version, tree, between) = match self.asked(stream, from, to, at) {
             Ok(asked) => asked,
             Err(refusal) => return Ok(Answer::Refused(refusal)),
         };
         if p > MAX_EXPONENT {
             return Ok(Answer::Refused(Refusal::BadRange));
         }
-        let found = aligned(alloc, self.tree(stream, version), between, p)?;
+        let found = aligned(alloc, tree, between, p)?;
         Ok(Answer::Found {
             version,
             rows: Rows::Cells(CellList::from_cells(found)),
@@ -144,16 +144,16 @@ impl Board {
         width: u64,
         at: At,
     ) -> Result<Answer, AllocError>
-        ensures { IfOk result (λ a. a ≡ answer self.now (ask.Windows stream from to width at)) }
+        ensures { (h : List EntrySpec) → IsBoardOf h self.now → IfOk result (λ a. a ≡ answer h (ask.Windows stream from to width at)) }
     {
-        let (version, between) = match self.asked(stream, from, to, at) {
+        let (version, tree, between) = match self.asked(stream, from, to, at) {
             Ok(asked) => asked,
             Err(refusal) => return Ok(Answer::Refused(refusal)),
         };
         if width == 0 || width > MAX_WIDTH {
             return Ok(Answer::Refused(Refusal::BadRange));
         }
-        let found = windows(alloc, self.tree(stream, version), between, width)?;
+        let found = windows(alloc, tree, between, width)?;
         Ok(Answer::Found {
             version,
             rows: Rows::Cells(CellList::from_cells(found)),
@@ -169,18 +169,19 @@ impl Board {
         new: u64,
         p: u8,
     ) -> Result<Answer, AllocError>
-        ensures { IfOk result (λ a. a ≡ answer self.now (ask.Changes stream old new p)) }
+        ensures { (h : List EntrySpec) → IsBoardOf h self.now → IfOk result (λ a. a ≡ answer h (ask.Changes stream old new p)) }
     {
-        let version = match self.version_at(stream, At::Number(old.max(new))) {
-            Ok(version) => version,
+        let (version, newer) = match self.version_at(stream, At::Number(old.max(new))) {
+            Ok(asked) => asked,
             Err(refusal) => return Ok(Answer::Refused(refusal)),
         };
         if old > new || p > MAX_EXPONENT {
             return Ok(Answer::Refused(Refusal::BadRange));
         }
+        let Some(older) = self.tree(stream, old) else {
+            unreachable!()
+        };
         let mut steps = Steps::new(alloc);
-        let older = self.tree(stream, old);
-        let newer = self.tree(stream, new);
         let found = changes(alloc, older, newer, old, p, &mut steps)?;
         Ok(Answer::Found {
             version,
@@ -190,13 +191,13 @@ impl Board {
 
     /// Answers with the aggregate of a whole version.
     fn info(&self, stream: u32, at: At) -> Answer
-        ensures { result ≡ answer self.now (ask.Info stream at) }
+        ensures { (h : List EntrySpec) → IsBoardOf h self.now → result ≡ answer h (ask.Info stream at) }
     {
         match self.version_at(stream, at) {
-            Ok(version) => Answer::Found {
+            Ok((version, tree)) => Answer::Found {
                 version,
                 rows: Rows::Info {
-                    agg: self.tree(stream, version).root_agg(),
+                    agg: tree.root_agg(),
                 },
             },
             Err(refusal) => Answer::Refused(refusal),
@@ -205,14 +206,14 @@ impl Board {
 
     /// Answers with all streams, in order of creation.
     fn all_streams(&self, alloc: Global) -> Result<Answer, AllocError>
-        ensures { IfOk result (λ a. a ≡ answer self.now ask.Streams) }
+        ensures { (h : List EntrySpec) → IsBoardOf h self.now → IfOk result (λ a. a ≡ answer h ask.Streams) }
     {
         let mut rows = Vec::with_capacity(alloc, self.streams.len())?;
-        for stream in &self.streams {
-            rows.push(StreamRow {
-                id: stream.id,
-                latest: (stream.trees.len() - 1) as u64,
-            })?;
+        for place in 0..self.streams.len() {
+            let Some(row) = self.row(place) else {
+                unreachable!()
+            };
+            rows.push(row)?;
         }
         Ok(Answer::Found {
             version: self.entries(),
@@ -220,47 +221,57 @@ impl Board {
         })
     }
 
-    /// Returns the version and the range that a question asks for, or why it is refused.
-    fn asked(&self, stream: u32, from: i64, to: i64, at: At) -> Result<(u64, Range), Refusal>
-        ensures there { IfOk result (λ r. IsVersion self.now stream (version_of self.now stream at) r.0) }
-        ensures range { IfOk result (λ r. IsAskedRange from to r.1) }
-        ensures refused { IfErr result (RefusesRange self.now stream from to at) }
+    /// Returns the row of the stream with this number, if there is one.
+    fn row(&self, place: usize) -> Option<StreamRow>
+        ensures { (h : List EntrySpec) → IsBoardOf h self.now
+            → MatchOption result (length (ids h) ≤ place) (λ r. slice_get (rows_from h 0 (ids h)) place ≡ Some r) }
     {
-        let version = match self.version_at(stream, at) {
-            Ok(version) => version,
+        let kept = self.streams.get(place)?;
+        Some(StreamRow {
+            id: kept.id,
+            latest: (kept.trees.len() - 1) as u64,
+        })
+    }
+
+    /// Returns the version that a question asks for, its tree, and the range, or why the question is refused.
+    fn asked(
+        &self,
+        stream: u32,
+        from: i64,
+        to: i64,
+        at: At,
+    ) -> Result<(u64, &Tree, Range), Refusal>
+        ensures there { (h : List EntrySpec) → IsBoardOf h self.now
+            → IfOk result (λ r. IsVersion h stream (version_of h stream at) r.0 r.1.now) }
+        ensures range { IfOk result (λ r. IsAskedRange from to r.2) }
+        ensures refused { (h : List EntrySpec) → IsBoardOf h self.now → IfErr result (RefusesRange h stream from to at) }
+    {
+        let (version, tree) = match self.version_at(stream, at) {
+            Ok(asked) => asked,
             Err(refusal) => return Err(refusal),
         };
         match Range::new(from, to) {
-            Some(between) => Ok((version, between)),
+            Some(between) => Ok((version, tree, between)),
             None => Err(Refusal::BadRange),
         }
     }
 
-    /// Returns the number of the version that a question asks for, or why it is refused.
-    fn version_at(&self, stream: u32, at: At) -> Result<u64, Refusal>
-        ensures there { IfOk result (IsVersion self.now stream (version_of self.now stream at)) }
-        ensures refused { IfErr result (RefusesVersion self.now stream at) }
+    /// Returns the number of the version that a question asks for, and its tree, or why the question is refused.
+    fn version_at(&self, stream: u32, at: At) -> Result<(u64, &Tree), Refusal>
+        ensures there { (h : List EntrySpec) → IsBoardOf h self.now
+            → IfOk result (λ r. IsVersion h stream (version_of h stream at) r.0 r.1.now) }
+        ensures refused { (h : List EntrySpec) → IsBoardOf h self.now → IfErr result (RefusesVersion h stream at) }
     {
-        if stream as usize >= self.streams.len() {
+        let Some(latest) = self.latest(stream) else {
             return Err(Refusal::NoStream);
-        }
-        let latest = self.latest(stream) as u64;
+        };
         let asked = match at {
             At::Number(number) => number,
             At::Latest => latest,
         };
-        if asked > latest {
-            return Err(Refusal::NoVersion { asked, latest });
+        match self.tree(stream, asked) {
+            Some(tree) => Ok((asked, tree)),
+            None => Err(Refusal::NoVersion { asked, latest }),
         }
-        Ok(asked)
-    }
-
-    /// Returns the tree of a version.
-    fn tree(&self, stream: u32, version: u64) -> &Tree
-        requires stream { stream < length (ids self.now) }
-        requires version { version ≤ latest self.now stream }
-        ensures { IsTree (commits_to self.now stream version) result.now }
-    {
-        &self.streams[stream as usize].trees[version as usize]
     }
 }

@@ -1,23 +1,25 @@
-//! The board: a history, and an index of it for the calls and questions of an engine.
-ghost use Rattle.std.specs.Prelude.{◌≡◌, ◌<◌, ◌≤◌, List, [], ◌∷◌, ◌++◌, length, IfOk, IfErr, IfSome, IsNone, OnOk, OnErr, None};
+//! The board: what an engine keeps of a history in memory, for its calls and questions.
+ghost use Rattle.std.specs.Prelude.{◌≡◌, ◌-◌, ◌^◌, ◌<◌, ◌≤◌, List, [], ◌∷◌, ◌++◌, length, slice_set, IfOk, IfErr, IfSome, IsNone, OnOk};
+ghost use Rattle.std.specs.Prelude.{MatchOption, None};
 ghost use Rattle.btr_base.specs.declared.point.Point.{Point as PointSpec};
 ghost use Rattle.btr_base.specs.Bag.{IsInOrder};
 ghost use Rattle.btr_base.specs.Point.{AreInDomain};
-ghost use Rattle.btr_tree.specs.Root.{TreeValue, IsTree, IsTreeFault};
+ghost use Rattle.btr_tree.specs.Root.{IsTreeFault};
+ghost use Rattle.btr_hist.specs.declared.entry.Entry.{Entry as EntrySpec};
 ghost use Rattle.btr_hist.specs.declared.entry.Entry.TheVariants as entry;
-ghost use Rattle.btr_hist.specs.History.{ids, stream_of, latest};
+ghost use Rattle.btr_hist.specs.History.{ids, stream_of};
 ghost use Rattle.btr_hist.specs.Legal.{rejection, commit_rejection, points_rejection};
-ghost use Rattle.btr_engine.specs.Push.{PushCause, IsNext, change_of, OfEachStream, SameTrees, HasPushedTree, HasPoppedTree};
-ghost use Rattle.btr_engine.specs.Push.{IndexesStream, KeepsIndex, UnindexesStream};
+ghost use Rattle.btr_engine.specs.Board.{IsBoardOf, HasVersion, IsTreeOf, latest_of};
+ghost use Rattle.btr_engine.specs.Stage.{PushCause, IsNext, change_of, OfEachStream};
 
 use btr_base::{Bag, MAX_STREAMS, MAX_VERSIONS, Ranges};
-use btr_hist::{Entry, History, Rejection, change_rejection};
+use btr_board::{Index, Trail};
+use btr_hist::{Entry, Rejection, change_rejection};
 use btr_tree::{Steps, Tree, TreeFault};
 use std::alloc::{AllocError, Global};
-use std::collections::BTreeMap;
 use std::marker::Model;
 
-/// Why an entry was not added. The board is as before.
+/// Why an entry was not staged. The board is as before.
 #[derive(Clone, Copy, Debug, PartialEq, Eq)]
 pub enum PushFault {
     /// The entry may not follow the history.
@@ -31,176 +33,222 @@ pub enum PushFault {
 #[derive(Drop)]
 pub(crate) struct Stream {
     pub(crate) id: u128,
-    pub(crate) trees: Vec<Tree>,
+    pub(crate) trees: Trail<Tree>,
 }
 
-/// A history, each entry of which is allowed after those before it. Beside the entries the board keeps an index: the number of
-/// the stream of each id, and the tree of each version of each stream. Its answers are those of a [`History`] of the entries.
+impl Model for Stream {
+    ghost use Rattle.std.specs.Coded.{codes};
+    ghost use Rattle.btr_tree.specs.contracts.tree.Tree as tree_contract;
+    ghost use Rattle.btr_engine.specs.Board.{Versions};
+
+    ghost Value = { Versions };
+
+    ghost coded = { Prim.hlevel (codes, tree_contract.the_row.coded) };
+
+    ghost view = { λ s. record { id = s.id; trees = s.trees } };
+}
+
+/// What a history's answers need: the id of each stream, the tree of each of its versions, and the number of entries. The
+/// entries themselves are not kept. Each of them is allowed after those before it.
+///
+/// A board is a value: [`Board::stage`] makes the next board and shares with this one all that does not change.
 #[derive(Drop)]
 pub struct Board {
-    pub(crate) history: History,
-    pub(crate) streams: Vec<Stream>,
-    numbers: BTreeMap<u128, usize>,
+    pub(crate) streams: Trail<Stream>,
+    numbers: Index,
+    entries: u64,
 }
 
 impl Model for Board {
-    ghost use Rattle.std.specs.Prelude.{List};
+    ghost use Rattle.std.specs.Prelude.{◌≡◌, ℕ, List};
+    ghost use Rattle.std.specs.Coded.{codes};
+    ghost use Rattle.btr_board.specs.Numbers.{number_of};
+    ghost use Rattle.btr_tree.specs.contracts.tree.Tree as tree_contract;
     ghost use Rattle.btr_hist.specs.declared.entry.Entry.{Entry};
-    ghost use Rattle.btr_engine.specs.Board.{IsIndexed};
+    ghost use Rattle.btr_hist.specs.History.{stream_of};
+    ghost use Rattle.btr_engine.specs.Board.{Kept, IsBoardOf};
 
-    ghost Value = { List Entry };
+    ghost Value = { Kept };
 
-    ghost view = { λ b. b.history };
+    ghost coded = { Prim.hlevel (codes, tree_contract.the_row.coded) };
 
-    ghost invariant = { λ b. IsIndexed b.history b.streams.items b.numbers };
+    ghost view = { λ b. record { streams = b.streams; entries = b.entries } };
+
+    ghost invariant = { λ b. (h : List Entry) × IsBoardOf h (record { streams = b.streams; entries = b.entries })
+        × ((id : ℕ) → number_of b.numbers id ≡ stream_of h id) };
+}
+
+/// An entry that may follow the history of a board, with the next board. All its memory is taken.
+#[derive(Drop)]
+pub struct Staged {
+    pub(crate) next: Board,
 }
 
 impl Board {
-    /// Returns a board without entries. It takes no memory.
-    pub fn empty(alloc: Global) -> Board
-        ensures { result ≡ [] }
+    /// Returns the board of no entries. It takes no memory.
+    pub fn empty() -> Board
+        ensures { IsBoardOf [] result }
     {
         Board {
-            history: History::empty(alloc),
-            streams: Vec::new(alloc),
-            numbers: BTreeMap::new(alloc),
+            streams: Trail::empty(),
+            numbers: Index::empty(),
+            entries: 0,
         }
     }
 
-    /// Adds an entry if it may follow. After an `Err` the board is as before.
+    /// Returns the same board once more, in constant time. An `Err` means out of memory.
+    pub fn share(&self) -> Result<Board, AllocError>
+        ensures { IfOk result (λ b. b ≡ self.now) }
+    {
+        Ok(Board {
+            streams: self.streams.share()?,
+            numbers: self.numbers.share()?,
+            entries: self.entries,
+        })
+    }
+
+    /// Makes the next board, with an entry more, if the entry may follow. This board stays as it is.
     ///
     /// All tests come before memory is taken, except those of the points that the stream would have. A new stream costs
-    /// logarithmic time. A commit costs its bytes and the nodes of the stream's tree that it touches: all other nodes are
-    /// shared with the versions before.
-    pub fn push(&mut self, alloc: Global, entry: &Entry) -> Result<(), PushFault>
-        ensures allowed { OnOk result (rejection self.old entry.now ≡ None) }
-        ensures ok { OnOk result (self.new ≡ self.old ++ entry.now ∷ []) }
-        ensures cause { IfErr result (PushCause (rejection self.old entry.now)) }
-        ensures err { OnErr result (self.new ≡ self.old) }
+    /// logarithmic time. A commit costs logarithmic time, and the nodes of the stream's tree that it touches: all other nodes
+    /// are shared with the versions before.
+    pub fn stage(&self, alloc: Global, entry: &Entry) -> Result<Staged, PushFault>
+        requires few { self.now.entries < 2 ^ 64 - 1 }
+        ensures allowed { (h : List EntrySpec) → IsBoardOf h self.now → OnOk result (rejection h entry.now ≡ None) }
+        ensures staged { (h : List EntrySpec) → IsBoardOf h self.now → IfOk result (λ s. IsBoardOf (h ++ entry.now ∷ []) s.next) }
+        ensures cause { (h : List EntrySpec) → IsBoardOf h self.now → IfErr result (PushCause (rejection h entry.now)) }
     {
         match entry {
-            Entry::Create { id } => self.push_stream(alloc, *id),
+            Entry::Create { id } => self.stage_stream(alloc, *id),
             Entry::Commit { stream, cut, added } => {
-                let tree = self.next_version(alloc, *stream, cut, added)?;
-                let cut = cut.copy(alloc)?;
-                let added = added.copy(alloc)?;
-                Ok(self.push_version(*stream, cut, added, tree)?)
+                self.stage_version(alloc, *stream, cut, added)
             }
         }
     }
 
-    /// Adds a new stream if it may follow.
-    fn push_stream(&mut self, alloc: Global, id: u128) -> Result<(), PushFault>
-        ensures allowed { OnOk result (rejection self.old (entry.Create id) ≡ None) }
-        ensures ok { OnOk result (self.new ≡ self.old ++ entry.Create id ∷ []) }
-        ensures cause { IfErr result (PushCause (rejection self.old (entry.Create id))) }
-        ensures err { OnErr result (self.new ≡ self.old) }
+    /// Replaces this board by a staged one. It takes no memory.
+    pub fn accept(&mut self, staged: Staged)
+        ensures { self.new ≡ staged.next }
+    {
+        *self = staged.next;
+    }
+
+    /// Makes the next board with a new stream, if the stream may follow.
+    fn stage_stream(&self, alloc: Global, id: u128) -> Result<Staged, PushFault>
+        requires few { self.now.entries < 2 ^ 64 - 1 }
+        ensures allowed { (h : List EntrySpec) → IsBoardOf h self.now → OnOk result (rejection h (entry.Create id) ≡ None) }
+        ensures staged { (h : List EntrySpec) → IsBoardOf h self.now → IfOk result (λ s. IsBoardOf (h ++ entry.Create id ∷ []) s.next) }
+        ensures cause { (h : List EntrySpec) → IsBoardOf h self.now → IfErr result (PushCause (rejection h (entry.Create id))) }
     {
         if let Some(why) = self.create_rejection(id) {
             return Err(PushFault::Rejected(why));
         }
-        let first = first_version(alloc, id)?;
-        self.history.push(Entry::Create { id })?;
-        if add_stream(&mut self.numbers, &mut self.streams, id, first).is_err() {
-            self.history.pop();
-            return Err(PushFault::Want);
-        }
-        Ok(())
+        let next = self.with_stream(alloc, id)?;
+        Ok(Staged { next })
     }
 
-    /// Returns the tree of the next version of a stream, if the commit may follow.
-    fn next_version(
+    /// Makes the next board with a new stream.
+    fn with_stream(&self, alloc: Global, id: u128) -> Result<Board, AllocError>
+        requires few { self.now.entries < 2 ^ 64 - 1 }
+        requires room { length self.now.streams < MAX_STREAMS }
+        requires allowed { (h : List EntrySpec) → IsBoardOf h self.now → rejection h (entry.Create id) ≡ None }
+        ensures { (h : List EntrySpec) → IsBoardOf h self.now → IfOk result (IsBoardOf (h ++ entry.Create id ∷ [])) }
+    {
+        let number = self.streams.len() as u32;
+        let trees = Trail::empty().push(alloc, Tree::empty())?;
+        Ok(Board {
+            streams: self.streams.push(alloc, Stream { id, trees })?,
+            numbers: self.numbers.insert(alloc, id, number)?,
+            entries: self.entries + 1,
+        })
+    }
+
+    /// Makes the next board with a commit, if the commit may follow.
+    fn stage_version(
         &self,
         alloc: Global,
         stream: u32,
         cut: &Ranges,
         added: &Bag,
-    ) -> Result<Tree, PushFault>
-        ensures allowed { OnOk result (commit_rejection self.now stream (change_of cut.now added.now) ≡ None) }
-        ensures tree { IfOk result (IsNext self.now stream (change_of cut.now added.now)) }
-        ensures cause { IfErr result (PushCause (commit_rejection self.now stream (change_of cut.now added.now))) }
+    ) -> Result<Staged, PushFault>
+        requires few { self.now.entries < 2 ^ 64 - 1 }
+        ensures allowed { (h : List EntrySpec) → IsBoardOf h self.now
+            → OnOk result (commit_rejection h stream (change_of cut.now added.now) ≡ None) }
+        ensures staged { (h : List EntrySpec) → IsBoardOf h self.now
+            → IfOk result (λ s. IsBoardOf (h ++ entry.Commit stream cut.now added.now ∷ []) s.next) }
+        ensures cause { (h : List EntrySpec) → IsBoardOf h self.now
+            → IfErr result (PushCause (commit_rejection h stream (change_of cut.now added.now))) }
     {
-        let Some(kept) = self.streams.get(stream as usize) else {
+        let place = stream as usize;
+        let Some(kept) = self.streams.get(place) else {
             return Err(PushFault::Rejected(Rejection::NoStream));
         };
-        next_tree(alloc, &kept.trees, cut, added)
-    }
-
-    /// Adds a commit that may follow, and the tree of its version.
-    fn push_version(
-        &mut self,
-        stream: u32,
-        cut: Ranges,
-        added: Bag,
-        tree: Tree,
-    ) -> Result<(), AllocError>
-        requires allowed { commit_rejection self.old stream (change_of cut added) ≡ None }
-        requires tree { IsNext self.old stream (change_of cut added) tree }
-        ensures ok { OnOk result (self.new ≡ self.old ++ entry.Commit stream cut added ∷ []) }
-        ensures err { OnErr result (self.new ≡ self.old) }
-    {
-        self.history.push(Entry::Commit { stream, cut, added })?;
-        if push_tree(&mut self.streams, stream as usize, tree).is_err() {
-            self.history.pop();
-            return Err(AllocError);
-        }
-        Ok(())
-    }
-
-    /// Removes the last entry, if there is one, and returns it. It costs logarithmic time and takes no memory.
-    pub fn pop(&mut self) -> Option<Entry>
-        ensures last { IfSome result (λ e. self.old ≡ self.new ++ e ∷ []) }
-        ensures none { IsNone result → (self.old ≡ []) × (self.new ≡ []) }
-    {
-        let entry = self.history.pop()?;
-        match &entry {
-            Entry::Create { id } => {
-                self.streams.pop();
-                remove_id(&mut self.numbers, *id, self.streams.len());
-            }
-            Entry::Commit { stream, .. } => pop_tree(&mut self.streams, *stream as usize),
-        }
-        Some(entry)
+        let tree = next_tree(alloc, &kept.trees, cut, added)?;
+        let streams = grown(alloc, &self.streams, place, kept, tree)?;
+        let next = Board {
+            streams,
+            numbers: self.numbers.share()?,
+            entries: self.entries + 1,
+        };
+        Ok(Staged { next })
     }
 
     /// Returns the number of the stream with this id, if there is one: the first in order of creation. It costs logarithmic
     /// time and takes no memory.
-    pub fn find(&self, id: u128) -> Option<usize>
-        ensures { result ≡ stream_of self.now id }
+    pub fn find(&self, id: u128) -> Option<u32>
+        ensures of { (h : List EntrySpec) → IsBoardOf h self.now → result ≡ stream_of h id }
+        ensures below { IfSome result (λ number. number < length self.now.streams) }
     {
-        self.numbers.get(&id).copied()
+        self.numbers.find(id)
     }
 
     /// Returns the number of streams, in constant time. It takes no memory.
-    pub fn streams(&self) -> usize
-        ensures { result ≡ length (ids self.now) }
+    pub fn streams(&self) -> u32
+        ensures of { (h : List EntrySpec) → IsBoardOf h self.now → result ≡ length (ids h) }
+        ensures kept { result ≡ length self.now.streams }
     {
-        self.streams.len()
+        self.streams.len() as u32
     }
 
-    /// Returns the latest version of a stream, which is the number of its commits, in constant time. It takes no memory.
-    pub fn latest(&self, stream: u32) -> usize
-        ensures { result ≡ latest self.now stream }
+    /// Returns the latest version of a stream, which is the number of its commits, or `None` if there is no such stream. It
+    /// costs logarithmic time and takes no memory.
+    pub fn latest(&self, stream: u32) -> Option<u64>
+        ensures { (h : List EntrySpec) → IsBoardOf h self.now → result ≡ latest_of h stream }
     {
-        let stream = stream as usize;
-        if stream >= self.streams.len() {
-            return 0;
-        }
-        self.streams[stream].trees.len() - 1
+        let kept = self.streams.get(stream as usize)?;
+        Some((kept.trees.len() - 1) as u64)
+    }
+
+    /// Returns the tree of a version of a stream, or `None` if there is no such stream or version. It costs logarithmic time
+    /// and takes no memory.
+    pub fn tree(&self, stream: u32, version: u64) -> Option<&Tree>
+        ensures { (h : List EntrySpec) → IsBoardOf h self.now
+            → MatchOption result (HasVersion h stream version → ⊥) (λ t. IsTreeOf h stream version t.now) }
+    {
+        let kept = self.streams.get(stream as usize)?;
+        kept.trees.get(version as usize)
     }
 
     /// Returns the number of entries, in constant time. It takes no memory.
     pub fn entries(&self) -> u64
-        ensures { result ≡ length self.now }
+        ensures { result ≡ self.now.entries }
     {
-        self.history.entries() as u64
+        self.entries
+    }
+
+    /// The board is that of some history. A caller learns here what holds of the boards of all histories.
+    pub(crate) fn is_of_some(&self)
+        ensures { (h : List EntrySpec) × IsBoardOf h self.now }
+    {
+        let _ = &self.entries;
     }
 
     /// Returns why a stream with this id may not be created, or `None` if it may.
     fn create_rejection(&self, id: u128) -> Option<Rejection>
-        ensures { result ≡ rejection self.now (entry.Create id) }
+        ensures of { (h : List EntrySpec) → IsBoardOf h self.now → result ≡ rejection h (entry.Create id) }
+        ensures room { IsNone result → length self.now.streams < MAX_STREAMS }
     {
-        if self.numbers.contains_key(&id) {
+        if self.numbers.find(id).is_some() {
             return Some(Rejection::StreamExists);
         }
         if self.streams.len() >= MAX_STREAMS {
@@ -210,65 +258,28 @@ impl Board {
     }
 }
 
-/// Returns a stream at version 0.
-fn first_version(alloc: Global, id: u128) -> Result<Stream, AllocError>
-    ensures { IfOk result (λ s. (s.id ≡ id) × ((t : TreeValue) × IsTree [] t × (s.trees.items ≡ t ∷ []))) }
+/// Returns the streams with one tree more for the stream at a place, which is `kept`.
+fn grown(
+    alloc: Global,
+    streams: &Trail<Stream>,
+    place: usize,
+    kept: &Stream,
+    tree: Tree,
+) -> Result<Trail<Stream>, AllocError>
+    requires { place < length streams.now }
+    ensures { IfOk result (λ t. t ≡ slice_set streams.now place (record { id = kept.now.id; trees = kept.now.trees ++ tree ∷ [] })) }
 {
-    let mut trees = Vec::new(alloc);
-    trees.push(Tree::empty())?;
-    Ok(Stream { id, trees })
-}
-
-/// Adds a new stream at its first version, and its id to the index.
-fn add_stream(
-    numbers: &mut BTreeMap<u128, usize>,
-    streams: &mut Vec<Stream>,
-    id: u128,
-    first: Stream,
-) -> Result<(), AllocError>
-    ensures numbered { OnOk result (IndexesStream (length streams.old.items) id numbers.old numbers.new) }
-    ensures added { OnOk result (streams.new.items ≡ streams.old.items ++ first ∷ []) }
-    ensures err { OnErr result (KeepsIndex numbers.old numbers.new × (streams.new.items ≡ streams.old.items)) }
-{
-    let number = streams.len();
-    streams.push(first)?;
-    if insert_id(numbers, id, number).is_err() {
-        streams.pop();
-        return Err(AllocError);
-    }
-    Ok(())
-}
-
-/// Maps an id to the number of a new stream, unless the id has a stream.
-fn insert_id(
-    numbers: &mut BTreeMap<u128, usize>,
-    id: u128,
-    streams: usize,
-) -> Result<(), AllocError>
-    ensures ok { OnOk result (IndexesStream streams id numbers.old numbers.new) }
-    ensures err { OnErr result (KeepsIndex numbers.old numbers.new) }
-{
-    if numbers.contains_key(&id) {
-        return Ok(());
-    }
-    numbers.insert(id, streams)?;
-    Ok(())
-}
-
-/// Removes the id of the last stream, which has this number, unless an earlier stream has the id.
-fn remove_id(numbers: &mut BTreeMap<u128, usize>, id: u128, streams: usize)
-    ensures { UnindexesStream streams id numbers.old numbers.new }
-{
-    let Some(number) = numbers.get(&id).copied() else {
-        return;
-    };
-    if number == streams {
-        numbers.remove(&id);
-    }
+    let trees = kept.trees.push(alloc, tree)?;
+    streams.set(alloc, place, Stream { id: kept.id, trees })
 }
 
 /// Returns the tree of the next version of a stream with these trees, if the commit may follow.
-fn next_tree(alloc: Global, trees: &[Tree], cut: &Ranges, added: &Bag) -> Result<Tree, PushFault>
+fn next_tree(
+    alloc: Global,
+    trees: &Trail<Tree>,
+    cut: &Ranges,
+    added: &Bag,
+) -> Result<Tree, PushFault>
     requires { 1 ≤ length trees.now }
     ensures allowed { OnOk result (OfEachStream trees.now (λ h stream. commit_rejection h stream (change_of cut.now added.now) ≡ None)) }
     ensures tree { IfOk result (λ t. OfEachStream trees.now (λ h stream. IsNext h stream (change_of cut.now added.now) t)) }
@@ -282,8 +293,11 @@ fn next_tree(alloc: Global, trees: &[Tree], cut: &Ranges, added: &Bag) -> Result
     if latest >= MAX_VERSIONS {
         return Err(PushFault::Rejected(Rejection::VersionLimit));
     }
+    let Some(last) = trees.get(latest) else {
+        unreachable!()
+    };
     let mut steps = Steps::new(alloc);
-    match trees[latest].apply(alloc, cut, added, latest as u64 + 1, &mut steps) {
+    match last.apply(alloc, cut, added, latest as u64 + 1, &mut steps) {
         Ok(applied) => Ok(applied.tree),
         Err(fault) => Err(push_fault(fault)),
     }
@@ -300,23 +314,6 @@ fn push_fault(fault: TreeFault) -> PushFault
         }),
         TreeFault::Want => PushFault::Want,
     }
-}
-
-/// Adds the tree of a stream's next version.
-fn push_tree(streams: &mut Vec<Stream>, stream: usize, tree: Tree) -> Result<(), AllocError>
-    requires { stream < length streams.old.items }
-    ensures ok { OnOk result (HasPushedTree streams.old.items stream tree streams.new.items) }
-    ensures err { OnErr result (SameTrees streams.old.items streams.new.items) }
-{
-    Ok(streams[stream].trees.push(tree)?)
-}
-
-/// Removes the tree of a stream's latest version.
-fn pop_tree(streams: &mut Vec<Stream>, stream: usize)
-    requires { stream < length streams.old.items }
-    ensures { HasPoppedTree streams.old.items stream streams.new.items }
-{
-    streams[stream].trees.pop();
 }
 
 impl From<AllocError> for PushFault {
