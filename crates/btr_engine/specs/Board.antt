@@ -1,7 +1,7 @@
 -- What a board keeps of a history: the id of each stream, the trees of its versions, and the number of entries.
 use Rattle.std.specs.Prelude.{◌≡◌, ℕ, ◌+◌, ◌<◌, ◌≤◌, nat_le, List, [], ◌∷◌, length, take, slice_get, slice_index_or, Option, Some, None}
 use Rattle.std.specs.Prelude.{if◌then◌else◌}
-use Rattle.btr_tree.specs.History as tree
+use Rattle.btr_tree.specs.History.{Past, nothing, ◌▷◌}
 use Rattle.btr_tree.specs.Root.{TreeValue, IsTree}
 use Rattle.btr_hist.specs.declared.entry.Entry.{Entry}
 use Rattle.btr_base.specs.Commit.{Change}
@@ -23,15 +23,15 @@ pub record Kept : Type 0 where
 abbrev pub Follows : List Entry → Type 0
 Follows h = Legal h
 
--- Commits as a tree has them, the newest first, each with the version that it made. `made` versions were made before.
-abbrev pub newest_first : ℕ → List tree.Commit → List Change → List tree.Commit
-newest_first made before [] = before
-newest_first made before (c ∷ cs) =
-    newest_first (made + 1) (record { version = made + 1; cut = c.cut; added = c.added } ∷ before) cs
+-- The past of a tree with these commits after `before`, each with the version that it makes. `made` versions were made before.
+abbrev pub with_commits : ℕ → Past → List Change → Past
+with_commits made before [] = before
+with_commits made before (c ∷ cs) =
+    with_commits (made + 1) (record { version = made + 1; cut = c.cut; added = c.added } ▷ before) cs
 
--- The commits of a version of a stream, as its tree has them.
-abbrev pub commits_to : List Entry → ℕ → ℕ → List tree.Commit
-commits_to h stream version = newest_first 0 [] (take version (commits h stream))
+-- The past of the tree of a version of a stream: the stream's commits up to the version.
+abbrev pub commits_to : List Entry → ℕ → ℕ → Past
+commits_to h stream version = with_commits 0 nothing (take version (commits h stream))
 
 -- The trees of a stream's versions, from version 0 on.
 pub record HasTrees (h : List Entry) (stream : ℕ) (trees : List TreeValue) : Type 0 where

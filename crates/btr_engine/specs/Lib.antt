@@ -3,8 +3,9 @@ pub mod Body
 -- which history a device holds, and what breaks its format
 pub mod Holds
 pub mod Damage
--- the index of a history that is kept in memory
+-- what is kept in memory of a history
 pub mod Board
+pub mod Snapshot
 -- what contracts see of an engine, and what its calls do
 pub mod Engine
 pub mod Opening
@@ -13,5 +14,5 @@ pub mod Step
 pub mod Laws
 -- what the private functions promise
 pub mod Reading
-pub mod Push
+pub mod Stage
 pub mod Answering

@@ -1,7 +1,8 @@
 -- What the functions promise that stage an entry: why none is staged, and what each stream of the next board has.
-use Rattle.std.specs.Prelude.{◌≡◌, ℕ, ◌+◌, ◌<◌, List, ◌∷◌, length, Option, Some, None}
+use Rattle.std.specs.Prelude.{◌≡◌, ℕ, ◌+◌, ◌<◌, List, length, Option, Some, None}
 use Rattle.btr_base.specs.declared.point.Point.{Point}
 use Rattle.btr_base.specs.Range.{RangeValue}
+use Rattle.btr_tree.specs.History.{◌▷◌}
 use Rattle.btr_tree.specs.Root.{TreeValue, IsTree}
 use Rattle.btr_hist.specs.declared.entry.Entry.{Entry}
 use Rattle.btr_hist.specs.declared.rejection.Rejection.{Rejection}
@@ -31,7 +32,7 @@ change_of cut added = record { cut = cut; added = added }
 -- The tree of the version that a commit makes.
 abbrev pub IsNext : List Entry → ℕ → Change → TreeValue → Type 0
 IsNext h stream c t =
-    IsTree (record { version = latest h stream + 1; cut = c.cut; added = c.added } ∷ commits_to h stream (latest h stream)) t
+    IsTree (record { version = latest h stream + 1; cut = c.cut; added = c.added } ▷ commits_to h stream (latest h stream)) t
 
 -- P holds of each stream of a history whose versions have these trees.
 abbrev pub OfEachStream : List TreeValue → (List Entry → ℕ → Type 0) → Type 0

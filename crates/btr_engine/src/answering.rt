@@ -234,13 +234,7 @@ impl Board {
     }
 
     /// Returns the version that a question asks for, its tree, and the range, or why the question is refused.
-    fn asked(
-        &self,
-        stream: u32,
-        from: i64,
-        to: i64,
-        at: At,
-    ) -> Result<(u64, &Tree, Range), Refusal>
+    fn asked(&self, stream: u32, from: i64, to: i64, at: At) -> Result<(u64, &Tree, Range), Refusal>
         ensures there { (h : List EntrySpec) → IsBoardOf h self.now
             → IfOk result (λ r. IsVersion h stream (version_of h stream at) r.0 r.1.now) }
         ensures range { IfOk result (λ r. IsAskedRange from to r.2) }

@@ -9,6 +9,7 @@ mod extent;
 // the history in memory
 mod answering;
 mod board;
+mod snapshot;
 // the engine
 mod engine;
 mod opening;
@@ -16,9 +17,11 @@ mod step;
 // what holds of all devices
 mod laws;
 
+pub use board::{Board, PushFault, Staged};
 pub use engine::Engine;
 pub use laws::{held_is_sound, one_history_is_held};
 pub use opening::{OpenCause, OpenFault, open_store};
+pub use snapshot::Snapshot;
 pub use step::{Receipt, StepFault};
 
 #[cfg(test)]
