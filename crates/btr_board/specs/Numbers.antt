@@ -1,5 +1,5 @@
 -- What a node of an index has for each id, and the partial function of ids that an index is.
-use Rattle.std.specs.Prelude.{◌≡◌, ℕ, zero, suc, ◌+◌, ◌*◌, ◌/◌, ◌%◌, ◌^◌, Bool, ◌==◌, if◌then◌else◌, List, [], ◌∷◌, Option, None, Some}
+use Rattle.std.specs.Prelude.{ℕ, zero, suc, ◌*◌, ◌/◌, ◌%◌, ◌^◌, Bool, ◌==◌, if◌then◌else◌, List, [], ◌∷◌, Option, None, Some}
 use Rattle.std.specs.Option.{option_and_then}
 use Rattle.btr_board.specs.declared.index_node.Entry.{Entry}
 use Rattle.btr_board.specs.declared.index_node.IndexNode.{IndexNode, out-IndexNode}

@@ -1,5 +1,5 @@
 -- What a node of a trail has at each place, and the list that a trail is.
-use Rattle.std.specs.Prelude.{◌≡◌, ℕ, zero, suc, ◌+◌, ◌*◌, ◌/◌, ◌%◌, ◌^◌, ◌<◌, ◌≤◌, List, [], ◌∷◌, ◌++◌, slice_get, Option, None, Some, IsSome}
+use Rattle.std.specs.Prelude.{ℕ, zero, suc, ◌+◌, ◌*◌, ◌/◌, ◌%◌, ◌^◌, ◌<◌, ◌≤◌, List, [], ◌∷◌, ◌++◌, slice_get, Option, None, Some, IsSome}
 use Rattle.std.specs.Option.{option_map}
 use denote.Ref.{Bor}
 use Rattle.std.specs.declared.alloc.Global.{Global}
@@ -60,7 +60,7 @@ unfoldable pub listed : {T : Type 0} → ℕ → (ℕ → Option T) → List T
 listed zero f = []
 listed (suc n) f = listed n f ++ item_list (f n)
 
--- The items of a trail: each place below its length has one, and the height is that of at most 2^64 places.
+-- What a trail keeps: there is an item at each place below its length, and a root of its height has room for them.
 pub record IsTrail {T : Type 0} (height len : ℕ) (items : ℕ → Option T) : Type 0 where
   pub low : height ≤ 12
   pub fits : len ≤ width (height + 1)

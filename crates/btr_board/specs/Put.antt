@@ -1,5 +1,5 @@
 -- A partial function of numbers with the value at one number replaced.
-use Rattle.std.specs.Prelude.{ℕ, Bool, ◌==◌, if◌then◌else◌, Option, Some}
+use Rattle.std.specs.Prelude.{ℕ, ◌==◌, if◌then◌else◌, Option, Some}
 
 -- The partial function that has x at i, and is f elsewhere.
 unfoldable pub put_at : {X : Type 0} → ℕ → X → (ℕ → Option X) → ℕ → Option X

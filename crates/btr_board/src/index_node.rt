@@ -86,7 +86,7 @@ pub(crate) fn insert_in(
         IndexNode::Leaf(entries) => build(alloc, with_entry(alloc, entries, entry)?, height),
         IndexNode::Inner { zeros, ones } => {
             if height == 0 {
-                return build(alloc, with_entry(alloc, &[], entry)?, 0);
+                return build(alloc, with_entry(alloc, &[], entry)?, height);
             }
             let below = height - 1;
             if bit_of(below, entry.id) {

@@ -150,8 +150,12 @@ pub(crate) fn raised<T: Drop>(
     ensures { IfOk result (λ n. (j : ℕ) → j < width (height + 1) → found (height + 1) (Some n.value) j ≡ found height (node_of root.now) j) }
 {
     let mut children = Vec::new(alloc);
-    if let Some(root) = root {
-        children.push(Arc::try_clone(root)?)?;
+    match root {
+        None => {}
+        Some(root) => {
+            let first = Arc::try_clone(root)?;
+            children.push(first)?;
+        }
     }
     Ok(Arc::new(alloc, TrailNode::Inner(children))?)
 }
