@@ -1,11 +1,11 @@
 -- Lemmas on how many nodes carry a version above another one.
-use Rattle.std.specs.Prelude.{◌≡◌, ℕ, zero, suc, ◌+◌, ◌<◌, ◌≤◌, ℤ, Bool, true, false, not, ◌&&◌, ◌||◌, nat_lt, List, [], ◌∷◌, length, cond}
+use Rattle.std.specs.Prelude.{◌≡◌, ℕ, zero, suc, ◌+◌, ◌<◌, ◌≤◌, ℤ, Bool, true, false, not, ◌&&◌, ◌||◌, nat_lt, List, Option, cond}
 use Rattle.std.proofs.Common.{refl, sym, ap, ◌∙◌, arith, add-one, add-zero}
 use Rattle.std.proofs.lemmas.Bool.Decides.{nat_tests}
 use Rattle.btr_base.specs.declared.point.Point.{Point}
 use Rattle.btr_base.specs.Span.{SpanValue}
-use Rattle.btr_tree.specs.declared.node.Child.{Child}
-use Rattle.btr_tree.specs.History.{Commit, bag}
+use Rattle.btr_tree.specs.declared.node.NodeData.{NodeData}
+use Rattle.btr_tree.specs.History.{Past, Opened, ◌▷◌, bag}
 use Rattle.btr_tree.specs.Nodes.{points_of, has_points, touches, is_inner, is_node, last_change, node_version}
 use Rattle.btr_tree.specs.Newer.{sum_of, newer_here, newer_nodes}
 use Rattle.btr_tree.specs.Shape.{slot_start}
@@ -18,9 +18,9 @@ both-hold : (a b : Bool) → b ≡ true → (a && b) ≡ a
 both-hold a b h = grind arith
 
 -- A span with points carries the same version as a node and as a slot.
-pub node-slot : (above : List Point → Bool) (height : ℕ) (start : ℤ) (k : List Commit) → has_points (points_of height start (bag k)) ≡ true → node_version above height start k ≡ last_change above height start k
-node-slot above height start [] some = refl
-node-slot above height start (c ∷ h) some =
+pub node-slot : (above : List Point → Bool) (height : ℕ) (start : ℤ) (k : Past) → has_points (points_of height start (bag k)) ≡ true → node_version above height start k ≡ last_change above height start k
+node-slot above height start (Opened b dates) some = refl
+node-slot above height start (c ▷ h) some =
     elim (touches c height start (bag h)) as (λ t. touches c height start (bag h) ≡ t → cond (t || not (is_node above height start (bag h))) c.version (node_version above height start h) ≡ cond (t || not (above (bag h))) c.version (last_change above height start h)) [
       | true ↦ λ _. refl
       | false ↦ λ e.
@@ -32,7 +32,7 @@ node-slot above height start (c ∷ h) some =
 
 -- ---- One node, and those below it.
 
-pub newer-is : (height : ℕ) (start : ℤ) (above : List Point → Bool) (h : List Commit) (since : ℕ) → newer_nodes height start above h since ≡ newer_here height start above h since + newer_below height start h since
+pub newer-is : (height : ℕ) (start : ℤ) (above : List Point → Bool) (h : Past) (since : ℕ) → newer_nodes height start above h since ≡ newer_here height start above h since + newer_below height start h since
 unfolding newer_below
 newer-is zero start above h since = sym (add-zero (newer_here zero start above h since))
 newer-is (suc below) start above h since = refl
@@ -40,7 +40,7 @@ newer-is (suc below) start above h since = refl
 all-three : (a b c : Bool) → a ≡ true → b ≡ true → c ≡ true → ((a && b) && c) ≡ true
 all-three a b c e f g = grind arith
 
-newer-one : (height : ℕ) (start : ℤ) (above : List Point → Bool) (k : List Commit) (since : ℕ) → has_points (points_of height start (bag k)) ≡ true → above (bag k) ≡ true → since < last_change above height start k → newer_here height start above k since ≡ 1
+newer-one : (height : ℕ) (start : ℤ) (above : List Point → Bool) (k : Past) (since : ℕ) → has_points (points_of height start (bag k)) ≡ true → above (bag k) ≡ true → since < last_change above height start k → newer_here height start above k since ≡ 1
 newer-one height start above k since some up newer =
     let same = node-slot above height start k some in
     let later : nat_lt since (node_version above height start k) ≡ true = grind (arith, nat_tests) in
@@ -48,17 +48,17 @@ newer-one height start above k since some up newer =
     ap {B = ℕ} (λ t. cond t 1 0) holds
 
 -- A newer node is one more than those below it.
-newer-node : (height : ℕ) (start : ℤ) (above : List Point → Bool) (k : List Commit) (since : ℕ) → has_points (points_of height start (bag k)) ≡ true → above (bag k) ≡ true → since < last_change above height start k → newer_nodes height start above k since ≡ 1 + newer_below height start k since
+newer-node : (height : ℕ) (start : ℤ) (above : List Point → Bool) (k : Past) (since : ℕ) → has_points (points_of height start (bag k)) ≡ true → above (bag k) ≡ true → since < last_change above height start k → newer_nodes height start above k since ≡ 1 + newer_below height start k since
 newer-node height start above k since some up newer =
     newer-is height start above k since
     ∙ ap (λ n. n + newer_below height start k since) (newer-one height start above k since some up newer)
 
 -- The newer nodes in a slot that carries a newer version are its node and those below it.
-pub newer-slot : (span : SpanValue) (since v : ℕ) (child : Child) (k : List Commit) → has_points (points_of span.height span.start (bag k)) ≡ true → since < v → (slot : IsSlotOf span v child k) → newer_nodes span.height span.start (is_inner slot.above slot.begin) k since ≡ 1 + newer_below span.height span.start k since
+pub newer-slot : (span : SpanValue) (since v : ℕ) (child : Option NodeData) (k : Past) → has_points (points_of span.height span.start (bag k)) ≡ true → since < v → (slot : IsSlotOf span v child k) → newer_nodes span.height span.start (is_inner slot.above slot.begin) k since ≡ 1 + newer_below span.height span.start k since
 newer-slot span since v child k some newer slot =
     newer-node span.height span.start (is_inner slot.above slot.begin) k since some slot.inner (omega (arith, slot.carried))
 
-pub below-fewer : (height : ℕ) (start : ℤ) (above : List Point → Bool) (k : List Commit) (since : ℕ) → newer_below height start k since ≤ newer_nodes height start above k since
+pub below-fewer : (height : ℕ) (start : ℤ) (above : List Point → Bool) (k : Past) (since : ℕ) → newer_below height start k since ≤ newer_nodes height start above k since
 below-fewer height start above k since = omega (arith, newer-is height start above k since)
 
 -- ---- Slot by slot.
@@ -66,20 +66,20 @@ below-fewer height start above k since = omega (arith, newer-is height start abo
 sum-next : (i : ℕ) (f : ℕ → ℕ) → sum_of (i + 1) f ≡ sum_of i f + f i
 sum-next i f = ap (λ n. sum_of n f) (add-one i)
 
-sum-below : (below : ℕ) (start : ℤ) (k : List Commit) (since n : ℕ) → is_inner (suc below) start (bag k) ≡ true → n ≡ 64 → newer_below (suc below) start k since ≡ sum_of n (λ j. newer_nodes below (slot_start below start j) (is_inner (suc below) start) k since)
+sum-below : (below : ℕ) (start : ℤ) (k : Past) (since n : ℕ) → is_inner (suc below) start (bag k) ≡ true → n ≡ 64 → newer_below (suc below) start k since ≡ sum_of n (λ j. newer_nodes below (slot_start below start j) (is_inner (suc below) start) k since)
 unfolding newer_below
 sum-below below start k since n inner all =
     let f : ℕ → ℕ = λ j. newer_nodes below (slot_start below start j) (is_inner (suc below) start) k since in
     ap (λ t. cond t (sum_of 64 f) 0) inner ∙ ap (λ m. sum_of m f) (sym all)
 
 -- The newer nodes below an inner node are those of all slots.
-pub below-sum : (height below : ℕ) (start : ℤ) (k : List Commit) (since n : ℕ) → height ≡ suc below → is_inner height start (bag k) ≡ true → n ≡ 64 → newer_below height start k since ≡ sum_of n (λ j. newer_nodes below (slot_start below start j) (is_inner (suc below) start) k since)
+pub below-sum : (height below : ℕ) (start : ℤ) (k : Past) (since n : ℕ) → height ≡ suc below → is_inner height start (bag k) ≡ true → n ≡ 64 → newer_below height start k since ≡ sum_of n (λ j. newer_nodes below (slot_start below start j) (is_inner (suc below) start) k since)
 below-sum height below start k since n e inner all =
     ap (λ g. newer_below g start k since) e
     ∙ sum-below below start k since n (ap (λ g. is_inner g start (bag k)) (sym e) ∙ inner) all
 
 -- One slot more.
-pub bounded-slot : (below : ℕ) (start : ℤ) (i : ℕ) (part : SpanValue) (k : List Commit) (since first mid last : ℕ) → part ≡ record { start = slot_start below start i; height = below } → mid ≤ first + sum_of i (λ j. newer_nodes below (slot_start below start j) (is_inner (suc below) start) k since) → last ≤ mid + newer_nodes part.height part.start (is_inner (suc below) start) k since → last ≤ first + sum_of (i + 1) (λ j. newer_nodes below (slot_start below start j) (is_inner (suc below) start) k since)
+pub bounded-slot : (below : ℕ) (start : ℤ) (i : ℕ) (part : SpanValue) (k : Past) (since first mid last : ℕ) → part ≡ record { start = slot_start below start i; height = below } → mid ≤ first + sum_of i (λ j. newer_nodes below (slot_start below start j) (is_inner (suc below) start) k since) → last ≤ mid + newer_nodes part.height part.start (is_inner (suc below) start) k since → last ≤ first + sum_of (i + 1) (λ j. newer_nodes below (slot_start below start j) (is_inner (suc below) start) k since)
 bounded-slot below start i part k since first mid last is before here =
     let f : ℕ → ℕ = λ j. newer_nodes below (slot_start below start j) (is_inner (suc below) start) k since in
     let same : newer_nodes part.height part.start (is_inner (suc below) start) k since ≡ f i = ap (λ (u : SpanValue). newer_nodes u.height u.start (is_inner (suc below) start) k since) is in

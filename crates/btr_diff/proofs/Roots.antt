@@ -1,5 +1,5 @@
 -- Lemmas on the comparison of whole trees.
-use Rattle.std.specs.Prelude.{◌≡◌, ℕ, ◌+◌, ◌≤◌, List, []}
+use Rattle.std.specs.Prelude.{◌≡◌, ℕ, ◌+◌, ◌≤◌, List, [], Option}
 use Rattle.std.proofs.Common.{sym, subst, arith}
 use Rattle.std.proofs.lemmas.Int.{ints}
 use Rattle.btr_base.specs.Point.{AreInDomain}
@@ -7,8 +7,8 @@ use Rattle.btr_base.specs.declared.limits.TheConstants.{FIRST}
 use Rattle.btr_base.specs.Range.{RangeValue, IsCut}
 use Rattle.btr_base.specs.Changes.{changes}
 use Rattle.btr_base.specs.Span.{SpanValue}
-use Rattle.btr_tree.specs.declared.node.Child.{Child}
-use Rattle.btr_tree.specs.History.{Commit, bag}
+use Rattle.btr_tree.specs.declared.node.NodeData.{NodeData}
+use Rattle.btr_tree.specs.History.{Past, bag}
 use Rattle.btr_tree.specs.Nodes.{points_of, above_root, is_node, is_inner, up_to}
 use Rattle.btr_tree.specs.Newer.{newer_nodes}
 use Rattle.btr_tree.specs.Agree.{AgreeSince}
@@ -31,16 +31,16 @@ root-inside = record {
   ends = let end = end-root in omega (arith, ints);
 }
 
-pub root-belongs : (span : SpanValue) (child : Child) → span ≡ root → IsSomeChild 10 FIRST child 0 → BelongsTo span (IsChildOf span child)
+pub root-belongs : (span : SpanValue) (child : Option NodeData) → span ≡ root → IsSomeChild 10 FIRST child 0 → BelongsTo span (IsChildOf span child)
 root-belongs span child e some =
-    let at : BelongsTo root (IsChildOf root child) = record { inside = root-inside; commits = some.commits; holds = (some.above, some.holds) } in
+    let at : BelongsTo root (IsChildOf root child) = record { inside = root-inside; past = some.commits; holds = (some.above, some.holds) } in
     subst (λ s. BelongsTo s (IsChildOf s child)) (sym e) at
 
-pub root-child : (span : SpanValue) (child : Child) (h : List Commit) → span ≡ root → IsChild 10 FIRST above_root h child → IsChildOf span child h
+pub root-child : (span : SpanValue) (child : Option NodeData) (h : Past) → span ≡ root → IsChild 10 FIRST above_root h child → IsChildOf span child h
 root-child span child h e place = subst (λ s. IsChildOf s child h) (sym e) (above_root, place)
 
 -- A version agrees with the latest one since its number.
-pub agree-since : (since : ℕ) (h k : List Commit) → h ≡ up_to since k → AgreeSince since h k
+pub agree-since : (since : ℕ) (h k : Past) → h ≡ up_to since k → AgreeSince since h k
 agree-since since h k e =
     let at : AgreeSince since (up_to since k) k = record {
       nodes = λ above height start low. points-since (is_node above height start) height start k since low;
@@ -49,13 +49,13 @@ agree-since since h k e =
     subst (λ x. AgreeSince since x k) (sym e) at
 
 -- What is added in the root's span are the changes.
-pub root-changes : (span : SpanValue) (p : ℕ) (was now : List RangeValue) (h k : List Commit) → span ≡ root → p ≤ 62 → was ≡ [] → IsCut now → AreInDomain (bag h) → AreInDomain (bag k) → AddsChangedSlots p was now (points_of span.height span.start (bag h)) (points_of span.height span.start (bag k)) → now ≡ changes p (bag h) (bag k)
+pub root-changes : (span : SpanValue) (p : ℕ) (was now : List RangeValue) (h k : Past) → span ≡ root → p ≤ 62 → was ≡ [] → IsCut now → AreInDomain (bag h) → AreInDomain (bag k) → AddsChangedSlots p was now (points_of span.height span.start (bag h)) (points_of span.height span.start (bag k)) → now ≡ changes p (bag h) (bag k)
 root-changes span p was now h k e low none cut old new adds =
     let at = subst (λ (s : SpanValue). AddsChangedSlots p was now (points_of s.height s.start (bag h)) (points_of s.height s.start (bag k))) e adds in
     let whole = adds-as p was now _ _ _ _ (root-points (bag h) old) (root-points (bag k) new) at in
     adds-all p now (bag h) (bag k) low cut (subst (λ x. AddsChangedSlots p x now (bag h) (bag k)) none whole)
 
-pub root-bounded : (span : SpanValue) (first last since : ℕ) (k : List Commit) → span ≡ root → last ≤ first + 1 + newer_below span.height span.start k since → last ≤ first + 1 + newer_nodes 10 FIRST above_root k since
+pub root-bounded : (span : SpanValue) (first last since : ℕ) (k : Past) → span ≡ root → last ≤ first + 1 + newer_below span.height span.start k since → last ≤ first + 1 + newer_nodes 10 FIRST above_root k since
 root-bounded span first last since k e few =
     let at = subst (λ (s : SpanValue). last ≤ first + 1 + newer_below s.height s.start k since) e few in
     let more = below-fewer 10 FIRST above_root k since in

@@ -1,17 +1,21 @@
--- Lemmas on what the slots of a span add, one after the other, and on what belongs to a slot.
-use Rattle.std.specs.Prelude.{◌≡◌, ℕ, suc, ◌+◌, ◌<◌, ◌≤◌, ℤ, pos, ◌+ℤ◌, List, [], slice_index_or}
-use Rattle.std.proofs.Common.{sym, ap, ◌∙◌, arith, subst}
+-- Lemmas on what the slots of a span add, one after the other, on what belongs to a slot, and on slots without a point.
+use Rattle.std.specs.Prelude.{◌≡◌, ℕ, zero, suc, ◌+◌, ◌-◌, ◌<◌, ◌≤◌, ℤ, pos, ◌+ℤ◌, List, [], ◌++◌, Option}
+use Rattle.std.proofs.Common.{sym, ap, ◌∙◌, arith, subst, add-zero, append-nil}
 use Rattle.std.proofs.lemmas.Int.{ints}
+use Rattle.std.proofs.lemmas.List.{nil_from_length}
 use Rattle.btr_base.specs.declared.point.Point.{Point}
 use Rattle.btr_base.specs.Range.{RangeValue}
 use Rattle.btr_base.specs.Bag.{within}
 use Rattle.btr_base.specs.Span.{width, SpanValue, slot_of}
+use Rattle.btr_base.proofs.AggLemmas.{agg-count}
+use Rattle.btr_tree.specs.declared.node.NodeData.{NodeData}
 use Rattle.btr_tree.specs.declared.node.Slot.{Slot}
-use Rattle.btr_tree.specs.declared.node.Child.{Child}
-use Rattle.btr_tree.specs.History.{Commit, bag}
+use Rattle.btr_tree.specs.declared.slots.Slots.{Slots}
+use Rattle.btr_tree.specs.Slots.{slot_in, child_in, AreEmpty}
+use Rattle.btr_tree.specs.History.{Past, bag}
 use Rattle.btr_tree.specs.Nodes.{points_of, is_inner, last_change}
-use Rattle.btr_tree.specs.Shape.{slot_start}
-use Rattle.btr_tree.proofs.NodeLemmas.{slot-next, slot-from, points-slot, prefix-none, prefix-done, child-at}
+use Rattle.btr_tree.specs.Shape.{slot_start, HasSlots}
+use Rattle.btr_tree.proofs.NodeLemmas.{slot-next, slot-from, points-slot, prefix-none, prefix-next, prefix-done, child-at}
 use Rattle.btr_tree.proofs.VersionLemmas.{bag-in_order}
 use Rattle.btr_diff.specs.Comparison.{AddsChangedSlots, AreSlotsOf, IsSlotOf, ArePointsOf, IncludesPointsOf}
 use Rattle.btr_diff.proofs.ChangedSlots.{adds-none, adds-within}
@@ -22,12 +26,12 @@ pub adds-as : (p : ℕ) (was now : List RangeValue) (a b c d : List Point) → a
 adds-as p was now a b c d e f h = subst (λ x. AddsChangedSlots p was now x d) e (subst (AddsChangedSlots p was now a) f h)
 
 -- Of no slot.
-pub adds-first : (p : ℕ) (was : List RangeValue) (below : ℕ) (s : ℤ) (h k : List Commit) → AddsChangedSlots p was was (within s (slot_start below s 0) (bag h)) (within s (slot_start below s 0) (bag k))
+pub adds-first : (p : ℕ) (was : List RangeValue) (below : ℕ) (s : ℤ) (h k : Past) → AddsChangedSlots p was was (within s (slot_start below s 0) (bag h)) (within s (slot_start below s 0) (bag k))
 adds-first p was below s h k =
     adds-as p was was [] [] _ _ (sym (prefix-none below s h)) (sym (prefix-none below s k)) (adds-none p was [])
 
 -- Of one slot more.
-pub adds-slot : (p : ℕ) (was mid now : List RangeValue) (below : ℕ) (s : ℤ) (i : ℕ) (part : SpanValue) (h k : List Commit) → part ≡ record { start = slot_start below s i; height = below } → AddsChangedSlots p was mid (within s (slot_start below s i) (bag h)) (within s (slot_start below s i) (bag k)) → AddsChangedSlots p mid now (points_of part.height part.start (bag h)) (points_of part.height part.start (bag k)) → AddsChangedSlots p was now (within s (slot_start below s (i + 1)) (bag h)) (within s (slot_start below s (i + 1)) (bag k))
+pub adds-slot : (p : ℕ) (was mid now : List RangeValue) (below : ℕ) (s : ℤ) (i : ℕ) (part : SpanValue) (h k : Past) → part ≡ record { start = slot_start below s i; height = below } → AddsChangedSlots p was mid (within s (slot_start below s i) (bag h)) (within s (slot_start below s i) (bag k)) → AddsChangedSlots p mid now (points_of part.height part.start (bag h)) (points_of part.height part.start (bag k)) → AddsChangedSlots p was now (within s (slot_start below s (i + 1)) (bag h)) (within s (slot_start below s (i + 1)) (bag k))
 adds-slot p was mid now below s i part h k is before here =
     let next = slot-next below s i in
     let at = subst (λ (u : SpanValue). AddsChangedSlots p mid now (points_of u.height u.start (bag h)) (points_of u.height u.start (bag k))) is here in
@@ -35,20 +39,20 @@ adds-slot p was mid now below s i part h k is before here =
     adds-within p was mid now s (slot_start below s i) (slot_start below s (i + 1)) (bag h) (bag k) (slot-from below s i) (omega (arith, ints)) (bag-in_order h) (bag-in_order k) before to
 
 -- Of all slots.
-pub adds-done : (p : ℕ) (was now : List RangeValue) (height below : ℕ) (s : ℤ) (i : ℕ) (h k : List Commit) → i ≡ 64 → height ≡ suc below → AddsChangedSlots p was now (within s (slot_start below s i) (bag h)) (within s (slot_start below s i) (bag k)) → AddsChangedSlots p was now (points_of height s (bag h)) (points_of height s (bag k))
+pub adds-done : (p : ℕ) (was now : List RangeValue) (height below : ℕ) (s : ℤ) (i : ℕ) (h k : Past) → i ≡ 64 → height ≡ suc below → AddsChangedSlots p was now (within s (slot_start below s i) (bag h)) (within s (slot_start below s i) (bag k)) → AddsChangedSlots p was now (points_of height s (bag h)) (points_of height s (bag k))
 adds-done p was now height below s i h k e is all =
     adds-as p was now _ _ _ _ (prefix-done height below s i h e is) (prefix-done height below s i k e is) all
 
 -- ---- A slot of an inner node.
 
-unfoldable pub slot-belongs : (span : SpanValue) (ss : List Slot) (cs : List Child) (k : List Commit) (i j : ℕ) (part : SpanValue) (d : Slot) (child : Child) → (are : AreSlotsOf span ss cs k) → i < 64 → j ≡ i → part ≡ slot_of span i → child ≡ slice_index_or cs j child → IsSlotOf part (slice_index_or ss j d).version child k
-slot-belongs span ss cs k i j part d child are place same p r =
-    let at = child-at span are.below k i j part child cs are.height are.each place same p r in
+unfoldable pub slot-belongs : (span : SpanValue) (x : Slots) (k : Past) (i : ℕ) (part : SpanValue) (slot : Slot) (child : Option NodeData) → (are : AreSlotsOf span x k) → i < 64 → part ≡ slot_of span i → slot ≡ slot_in x i → child ≡ child_in x i → IsSlotOf part slot.version child k
+slot-belongs span x k i part slot child are place p q r =
+    let at = child-at span are.below k i part child x are.height are.each place p r in
     record {
       above = suc are.below;
       begin = span.start;
       inner = ap (λ g. is_inner g span.start (bag k)) (sym are.height) ∙ are.inner;
-      carried = ap (λ (x : Slot). x.version) (ap (λ n. slice_index_or ss n d) same ∙ are.all.each i d place)
+      carried = ap (λ (y : Slot). y.version) (q ∙ are.all.each i place)
           ∙ ap (λ (u : SpanValue). last_change (is_inner (suc are.below) span.start) u.height u.start k) (sym at.is);
       holds = at.holds;
     }
@@ -56,7 +60,7 @@ slot-belongs span ss cs k i j part d child are place same p r =
 -- ---- The points of a slot.
 
 -- The points of a span include those of each slot.
-pub slot-points : (span : SpanValue) (below i : ℕ) (part : SpanValue) (h : List Commit) (all : List Point) → span.height ≡ suc below → i < 64 → part ≡ record { start = slot_start below span.start i; height = below } → ArePointsOf span all h → IncludesPointsOf part all h
+pub slot-points : (span : SpanValue) (below i : ℕ) (part : SpanValue) (h : Past) (all : List Point) → span.height ≡ suc below → i < 64 → part ≡ record { start = slot_start below span.start i; height = below } → ArePointsOf span all h → IncludesPointsOf part all h
 slot-points span below i part h all e place is same =
     let s = span.start in
     let whole : all ≡ points_of (suc below) s (bag h) = same ∙ ap (λ g. points_of g s (bag h)) e in
@@ -66,3 +70,28 @@ slot-points span below i part h all e place is same =
 -- The points between the bounds of a span.
 pub points-here : (height : ℕ) (s a b : ℤ) (all here : List Point) → a ≡ s → b ≡ s +ℤ pos (width height) → here ≡ within a b all → here ≡ points_of height s all
 points-here height s a b all here begins ends e = e ∙ (λ i. within (begins i) (ends i) all)
+
+-- ---- The slots without a point.
+
+slot-empty : (below : ℕ) (s : ℤ) (h : Past) (x : Slots) → HasSlots below s h x → (i : ℕ) → i < 64 → (slot_in x i).agg.count ≡ 0 → points_of below (slot_start below s i) (bag h) ≡ []
+slot-empty below s h x all i place none =
+    let here = points_of below (slot_start below s i) (bag h) in
+    nil_from_length here (sym (agg-count here) ∙ sym (ap (λ (y : Slot). y.agg.count) (all.each i place)) ∙ none)
+
+prefix-empty : (below : ℕ) (s : ℤ) (h : Past) (x : Slots) → HasSlots below s h x → (from n : ℕ) → from + n ≤ 64 → AreEmpty x from (from + n) → within s (slot_start below s (from + n)) (bag h) ≡ within s (slot_start below s from) (bag h)
+prefix-empty below s h x all from zero le none = ap (λ j. within s (slot_start below s j) (bag h)) (add-zero from)
+prefix-empty below s h x all from (suc n) le none =
+    let i = from + n in
+    let next : from + suc n ≡ i + 1 = omega arith in
+    let before = within s (slot_start below s i) (bag h) in
+    ap (λ j. within s (slot_start below s j) (bag h)) next
+    ∙ prefix-next below s i h
+    ∙ ap (λ here. before ++ here) (slot-empty below s h x all i (omega arith) (none i (omega arith) (omega arith)))
+    ∙ append-nil before
+    ∙ prefix-empty below s h x all from n (omega arith) (λ j low high. none j low (omega arith))
+
+-- The points before a slot are those before an earlier one if the slots between have none.
+pub prefix-skip : (below : ℕ) (s : ℤ) (h : Past) (x : Slots) → HasSlots below s h x → (from to : ℕ) → from ≤ to → to ≤ 64 → AreEmpty x from to → within s (slot_start below s to) (bag h) ≡ within s (slot_start below s from) (bag h)
+prefix-skip below s h x all from to low high none =
+    let e : from + (to - from) ≡ to = omega arith in
+    subst (λ j. within s (slot_start below s j) (bag h) ≡ within s (slot_start below s from) (bag h)) e (prefix-empty below s h x all from (to - from) (omega arith) (subst (AreEmpty x from) (sym e) none))

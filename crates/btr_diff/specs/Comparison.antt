@@ -1,5 +1,6 @@
 -- What the comparison of two trees adds to the changed slots, and which nodes it visits.
-use Rattle.std.specs.Prelude.{◌≡◌, ℕ, zero, suc, ℤ, pos, ◌+ℤ◌, Bool, true, not, ◌||◌, int_lt, ◌+◌, ◌<◌, ◌≤◌, ◌≤ℤ◌, List, length, if◌then◌else◌}
+use Rattle.std.specs.Prelude.{◌≡◌, ℕ, zero, suc, ℤ, pos, ◌+ℤ◌, Bool, true, not, ◌||◌, int_lt, ◌+◌, ◌<◌, ◌≤◌, ◌≤ℤ◌}
+use Rattle.std.specs.Prelude.{List, length, Option, if◌then◌else◌}
 use Rattle.std.specs.List.{filter, list_any, AllByRecursion}
 use Rattle.btr_base.specs.declared.limits.TheConstants.{FIRST, END}
 use Rattle.btr_base.specs.declared.point.Point.{Point}
@@ -7,10 +8,10 @@ use Rattle.btr_base.specs.Span.{width, SpanValue}
 use Rattle.btr_base.specs.Point.{InDomain, AreInDomain}
 use Rattle.btr_base.specs.Range.{RangeValue, contains, covered}
 use Rattle.btr_base.specs.Changes.{changed, slot_around}
-use Rattle.btr_tree.specs.declared.node.Child.{Child}
+use Rattle.btr_tree.specs.declared.node.NodeData.{NodeData}
 use Rattle.btr_tree.specs.declared.node.Node.{Node}
-use Rattle.btr_tree.specs.declared.node.Slot.{Slot}
-use Rattle.btr_tree.specs.History.{Commit, bag}
+use Rattle.btr_tree.specs.declared.slots.Slots.{Slots}
+use Rattle.btr_tree.specs.History.{Past, bag}
 use Rattle.btr_tree.specs.Nodes.{is_inner, slot_version}
 use Rattle.btr_tree.specs.EachHistory.{points_in}
 use Rattle.btr_tree.specs.Newer.{sum_of, newer_nodes}
@@ -39,41 +40,34 @@ pub record IsFirstTime (t : ℤ) (a b : List Point) : Type 0 where
   pub inside : AreInDomain a → AreInDomain b → InDomain t
   pub fewer : length (rest_from (t +ℤ pos 1) a) + length (rest_from (t +ℤ pos 1) b) < length a + length b
 
--- ---- The two sides of a comparison: what belongs to a span after commits.
+-- ---- The two sides of a comparison: what belongs to a span after a past.
 
 -- The points are those of the span.
-abbrev pub ArePointsOf : SpanValue → List Point → List Commit → Type 0
+abbrev pub ArePointsOf : SpanValue → List Point → Past → Type 0
 ArePointsOf span points h = points ≡ points_in span (bag h)
 
 -- Those of the points that are in the span are the points of the span.
-abbrev pub IncludesPointsOf : SpanValue → List Point → List Commit → Type 0
+abbrev pub IncludesPointsOf : SpanValue → List Point → Past → Type 0
 IncludesPointsOf span points h = points_in span points ≡ points_in span (bag h)
 
 -- The child is that of the span.
-abbrev pub IsChildOf : SpanValue → Child → List Commit → Type 0
+abbrev pub IsChildOf : SpanValue → Option NodeData → Past → Type 0
 IsChildOf span child h = (above : List Point → Bool) × IsChild span.height span.start above h child
 
 -- The node is that of the span.
-abbrev pub IsNodeOf : SpanValue → Node → List Commit → Type 0
+abbrev pub IsNodeOf : SpanValue → Node → Past → Type 0
 IsNodeOf span node h = (above : List Point → Bool) × IsNode span.height span.start above h node
 
--- The children are those of the span, which is an inner node.
-pub record AreChildrenOf (span : SpanValue) (children : List Child) (h : List Commit) : Type 0 where
-  pub below : ℕ
-  pub height : span.height ≡ suc below
-  pub each : HasChildren below span.start h 64 children
-  pub all : length children ≡ 64
-
--- The slots and children are those of the span, which is an inner node.
-pub record AreSlotsOf (span : SpanValue) (slots : List Slot) (children : List Child) (h : List Commit) : Type 0 where
+-- The slots and their children are those of the span, which is an inner node.
+pub record AreSlotsOf (span : SpanValue) (slots : Slots) (h : Past) : Type 0 where
   pub below : ℕ
   pub height : span.height ≡ suc below
   pub inner : is_inner span.height span.start (bag h) ≡ true
-  pub all : HasSlots below span.start h 64 slots children
-  pub each : HasChildren below span.start h 64 children
+  pub all : HasSlots below span.start h slots
+  pub each : HasChildren below span.start h slots
 
 -- The version and the child are those of the span as a slot of an inner node.
-pub record IsSlotOf (span : SpanValue) (version : ℕ) (child : Child) (h : List Commit) : Type 0 where
+pub record IsSlotOf (span : SpanValue) (version : ℕ) (child : Option NodeData) (h : Past) : Type 0 where
   pub above : ℕ
   pub begin : ℤ
   pub inner : is_inner above begin (bag h) ≡ true
@@ -85,25 +79,25 @@ pub record IsInside (height : ℕ) (start : ℤ) : Type 0 where
   pub begins : FIRST ≤ℤ start
   pub ends : (start +ℤ pos (width height)) ≤ℤ END
 
--- The span is in the domain, and after some commits this belongs to it.
-pub record BelongsTo (span : SpanValue) (Belongs : List Commit → Type 0) : Type 0 where
+-- The span is in the domain, and after some past this belongs to it.
+pub record BelongsTo (span : SpanValue) (Belongs : Past → Type 0) : Type 0 where
   pub inside : IsInside span.height span.start
-  pub commits : List Commit
-  pub holds : Belongs commits
+  pub past : Past
+  pub holds : Belongs past
 
 -- ---- What the comparison of a span adds and visits.
 
 -- If both sides agree since the version, the changed slots of the span are added.
-abbrev pub Compares : Comparison → SpanValue → (List Commit → Type 0) → (List Commit → Type 0) → List RangeValue → List RangeValue → Type 0
+abbrev pub Compares : Comparison → SpanValue → (Past → Type 0) → (Past → Type 0) → List RangeValue → List RangeValue → Type 0
 Compares by span IsOlder IsNewer old new =
-    (h k : List Commit)
+    (h k : Past)
     → IsOlder h
     → IsNewer k
     → AgreeSince by.since h k
     → AddsChangedSlots by.p old new (points_in span (bag h)) (points_in span (bag k))
 
 -- How many nodes below a span carry a version above this one.
-unfoldable pub newer_below : ℕ → ℤ → List Commit → ℕ → ℕ
+unfoldable pub newer_below : ℕ → ℤ → Past → ℕ → ℕ
 newer_below zero start h version = 0
 newer_below (suc below) start h version =
     if is_inner (suc below) start (bag h)
@@ -111,13 +105,13 @@ newer_below (suc below) start h version =
     else 0
 
 -- The steps rise at most by the number of nodes below the span that carry a version above this one.
-abbrev pub VisitsBelow : ℕ → SpanValue → (List Commit → Type 0) → ℕ → ℕ → Type 0
+abbrev pub VisitsBelow : ℕ → SpanValue → (Past → Type 0) → ℕ → ℕ → Type 0
 VisitsBelow since span IsNewer old new =
-    (k : List Commit) → IsNewer k → new ≤ old + newer_below span.height span.start k since
+    (k : Past) → IsNewer k → new ≤ old + newer_below span.height span.start k since
 
 -- The steps rise at most by the number of nodes in the slot that carry a version above this one.
-abbrev pub VisitsSlot : ℕ → SpanValue → ℕ → Child → ℕ → ℕ → Type 0
+abbrev pub VisitsSlot : ℕ → SpanValue → ℕ → Option NodeData → ℕ → ℕ → Type 0
 VisitsSlot since span version child old new =
-    (k : List Commit)
+    (k : Past)
     → (slot : IsSlotOf span version child k)
     → new ≤ old + newer_nodes span.height span.start (is_inner slot.above slot.begin) k since

@@ -1,11 +1,12 @@
 //! The changed slots between two trees.
-ghost use Rattle.std.specs.Prelude.{◌≡◌, ◌+◌, ◌≤◌, List, IfOk, OnOk};
+ghost use Rattle.std.specs.Prelude.{◌≡◌, ◌+◌, ◌≤◌, IfOk, OnOk};
 ghost use Rattle.btr_base.specs.declared.limits.TheConstants.{FIRST as FIRST_TIME};
 ghost use Rattle.btr_base.specs.Changes.{changes as changes_of};
-ghost use Rattle.btr_tree.specs.History.{Commit, bag};
+ghost use Rattle.btr_tree.specs.History.{Past, bag};
 ghost use Rattle.btr_base.specs.Span.{SpanValue};
 ghost use Rattle.btr_tree.specs.Nodes.{above_root, node_version, up_to};
 ghost use Rattle.btr_tree.specs.Root.{IsTree};
+ghost use Rattle.btr_tree.specs.Slots.{node_of};
 ghost use Rattle.btr_tree.specs.Newer.{newer_nodes};
 ghost use Rattle.btr_diff.specs.Comparison.{BelongsTo, IsChildOf, IsNodeOf, Compares, VisitsBelow};
 
@@ -30,9 +31,9 @@ pub fn changes(
     steps: &mut Steps,
 ) -> Result<Ranges, AllocError>
     requires { p ≤ 62 }
-    ensures runs { IfOk result (λ r. (h k : List Commit) → IsTree h old.now → IsTree k new.now → h ≡ up_to since k
+    ensures runs { IfOk result (λ r. (h k : Past) → IsTree h old.now → IsTree k new.now → h ≡ up_to since k
         → r ≡ changes_of p (bag h) (bag k)) }
-    ensures bounded { OnOk result ((k : List Commit) → IsTree k new.now
+    ensures bounded { OnOk result ((k : Past) → IsTree k new.now
         → steps.new ≤ steps.old + 1 + newer_nodes 10 FIRST_TIME above_root k since) }
     ensures never_falls { steps.old ≤ steps.new }
 {
@@ -53,17 +54,18 @@ pub fn changes(
 /// above `since`.
 fn compare_roots(
     span: Span,
-    old: &Child,
-    new: &Child,
+    old: Child<'_>,
+    new: Child<'_>,
     comparison: Comparison,
     out: &mut Ranges,
     steps: &mut Steps,
 ) -> Result<(), AllocError>
     requires p { comparison.p ≤ 62 }
-    requires old { BelongsTo span (IsChildOf span old.now) }
-    requires new { BelongsTo span (IsChildOf span new.now) }
-    ensures adds { OnOk result (Compares comparison span (IsChildOf span old.now) (IsChildOf span new.now) out.old out.new) }
-    ensures bounded { OnOk result (VisitsBelow comparison.since span (IsChildOf span new.now) (steps.old + 1) steps.new) }
+    requires old { BelongsTo span (IsChildOf span (node_of old)) }
+    requires new { BelongsTo span (IsChildOf span (node_of new)) }
+    ensures adds { OnOk result (Compares comparison span (IsChildOf span (node_of old.entry)) (IsChildOf span (node_of new.entry))
+        out.old out.new) }
+    ensures bounded { OnOk result (VisitsBelow comparison.since span (IsChildOf span (node_of new.entry)) (steps.old + 1) steps.new) }
     ensures never_falls { steps.old ≤ steps.new }
 {
     match visit(new, steps) {
@@ -79,7 +81,7 @@ fn compare_roots(
 
 /// Returns the version that a node carries.
 fn version_of(node: Node<'_>) -> u64
-    ensures { (span : SpanValue) (h : List Commit) → (is : IsNodeOf span node.entry h)
+    ensures { (span : SpanValue) (h : Past) → (is : IsNodeOf span node.entry h)
         → result ≡ node_version is.0 span.height span.start h }
 {
     match node {

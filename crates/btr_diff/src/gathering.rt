@@ -1,11 +1,12 @@
 //! The points of a span of the older tree.
-ghost use Rattle.std.specs.Prelude.{◌≡◌, ◌++◌, List, OnOk};
-ghost use Rattle.btr_tree.specs.History.{Commit, bag};
+ghost use Rattle.std.specs.Prelude.{◌≡◌, ◌++◌, OnOk};
+ghost use Rattle.btr_tree.specs.History.{Past, bag};
 ghost use Rattle.btr_tree.specs.EachHistory.{points_in};
-ghost use Rattle.btr_diff.specs.Comparison.{BelongsTo, IsChildOf, AreChildrenOf};
+ghost use Rattle.btr_tree.specs.Slots.{node_of};
+ghost use Rattle.btr_diff.specs.Comparison.{BelongsTo, IsChildOf, AreSlotsOf};
 
-use btr_base::{FAN_OUT, Point, Span};
-use btr_tree::{Child, Node, Steps, visit};
+use btr_base::{Point, Span};
+use btr_tree::{Child, Node, Slots, Steps, visit};
 use std::alloc::{AllocError, Global};
 
 /// Appends the points of a span to `out`, in order. It costs the nodes and points of the span.
@@ -13,36 +14,38 @@ use std::alloc::{AllocError, Global};
 fn gather_child(
     alloc: Global,
     span: Span,
-    child: &Child,
+    child: Child<'_>,
     out: &mut Vec<Point>,
 ) -> Result<(), AllocError>
-    requires { BelongsTo span (IsChildOf span child.now) }
-    ensures { OnOk result ((h : List Commit) → IsChildOf span child.now h
+    requires { BelongsTo span (IsChildOf span (node_of child)) }
+    ensures { OnOk result ((h : Past) → IsChildOf span (node_of child.entry) h
         → out.new.items ≡ out.old.items ++ points_in span (bag h)) }
 {
     match visit(child, &mut Steps::new(alloc)) {
         None => Ok(()),
         Some(node) => match node {
             Node::Leaf { points, .. } => out.extend_from_slice(points),
-            Node::Inner { children, .. } => gather_slots(alloc, span, children, out),
+            Node::Inner { slots, .. } => gather_slots(alloc, span, slots, out),
         },
     }
 }
 
-/// Appends the points of the slots of an inner node to `out`, in order.
+/// Appends the points of the slots of an inner node to `out`, in order. It goes from one slot that has a point to the next.
 #[cycle(gathering)]
 pub(crate) fn gather_slots(
     alloc: Global,
     span: Span,
-    children: &[Child],
+    slots: &Slots,
     out: &mut Vec<Point>,
 ) -> Result<(), AllocError>
-    requires { BelongsTo span (AreChildrenOf span children.now) }
-    ensures { OnOk result ((h : List Commit) → AreChildrenOf span children.now h
+    requires { BelongsTo span (AreSlotsOf span slots.now) }
+    ensures { OnOk result ((h : Past) → AreSlotsOf span slots.now h
         → out.new.items ≡ out.old.items ++ points_in span (bag h)) }
 {
-    for i in 0..FAN_OUT {
-        gather_child(alloc, span.slot(i), &children[usize::from(i)], out)?;
+    let mut from = 0;
+    while let Some(i) = slots.next_occupied(from) {
+        gather_child(alloc, span.slot(i), slots.child(i), out)?;
+        from = i + 1;
     }
     Ok(())
 }

@@ -2,13 +2,14 @@
 ghost use Rattle.std.specs.Prelude.{◌≤◌, ◌<◌, ℕ, OnOk};
 ghost use Rattle.btr_base.specs.Point.{AreInDomain};
 ghost use Rattle.btr_base.specs.Bag.{IsInOrder};
+ghost use Rattle.btr_tree.specs.Slots.{node_of};
 ghost use Rattle.btr_diff.specs.Comparison.{BelongsTo, Compares, VisitsBelow, VisitsSlot};
 ghost use Rattle.btr_diff.specs.Comparison.{ArePointsOf, IncludesPointsOf, IsChildOf, IsSlotOf, AreSlotsOf};
 
 use crate::comparison::Comparison;
 use crate::points::compare_points;
 use btr_base::{FAN_OUT, Point, Ranges, Span, points_between};
-use btr_tree::{Child, Node, Slot, Steps, visit};
+use btr_tree::{Child, Node, Slots, Steps, visit};
 use std::alloc::AllocError;
 
 /// Adds to `out` the slots in which the points of the older tree in a span differ from those of the newer tree.
@@ -16,7 +17,7 @@ use std::alloc::AllocError;
 fn compare_points_with_child(
     span: Span,
     old: &[Point],
-    new: &Child,
+    new: Child<'_>,
     comparison: Comparison,
     out: &mut Ranges,
     steps: &mut Steps,
@@ -24,20 +25,19 @@ fn compare_points_with_child(
     requires p { comparison.p ≤ 62 }
     requires order { IsInOrder old.now }
     requires domain { AreInDomain old.now }
-    requires new { BelongsTo span (IsChildOf span new.now) }
-    ensures adds { OnOk result (Compares comparison span (ArePointsOf span old.now) (IsChildOf span new.now) out.old out.new) }
-    ensures bounded { OnOk result ((v : ℕ) → comparison.since < v → VisitsSlot comparison.since span v new.now steps.old steps.new) }
+    requires new { BelongsTo span (IsChildOf span (node_of new)) }
+    ensures adds { OnOk result (Compares comparison span (ArePointsOf span old.now) (IsChildOf span (node_of new.entry)) out.old out.new) }
+    ensures bounded { OnOk result ((v : ℕ) → comparison.since < v
+        → VisitsSlot comparison.since span v (node_of new.entry) steps.old steps.new) }
     ensures never_falls { steps.old ≤ steps.new }
 {
     match visit(new, steps) {
         None => compare_points(old, &[], comparison.p, out),
         Some(node) => match node {
             Node::Leaf { points, .. } => compare_points(old, points, comparison.p, out),
-            Node::Inner {
-                slots,
-                children,
-                ..
-            } => compare_points_with_slots(span, old, slots, children, comparison, out, steps),
+            Node::Inner { slots, .. } => {
+                compare_points_with_slots(span, old, slots, comparison, out, steps)
+            }
         },
     }
 }
@@ -47,8 +47,7 @@ fn compare_points_with_child(
 pub(crate) fn compare_points_with_slots(
     span: Span,
     old: &[Point],
-    slots: &[Slot],
-    new: &[Child],
+    new: &Slots,
     comparison: Comparison,
     out: &mut Ranges,
     steps: &mut Steps,
@@ -56,19 +55,18 @@ pub(crate) fn compare_points_with_slots(
     requires p { comparison.p ≤ 62 }
     requires order { IsInOrder old.now }
     requires domain { AreInDomain old.now }
-    requires new { BelongsTo span (AreSlotsOf span slots.now new.now) }
-    ensures adds { OnOk result (Compares comparison span (ArePointsOf span old.now) (AreSlotsOf span slots.now new.now) out.old out.new) }
-    ensures bounded { OnOk result (VisitsBelow comparison.since span (AreSlotsOf span slots.now new.now) steps.old steps.new) }
+    requires new { BelongsTo span (AreSlotsOf span new.now) }
+    ensures adds { OnOk result (Compares comparison span (ArePointsOf span old.now) (AreSlotsOf span new.now) out.old out.new) }
+    ensures bounded { OnOk result (VisitsBelow comparison.since span (AreSlotsOf span new.now) steps.old steps.new) }
     ensures never_falls { steps.old ≤ steps.new }
 {
     for i in 0..FAN_OUT {
-        let index = usize::from(i);
-        let version = slots[index].version;
+        let slot = new.slot(i);
         compare_points_with_slot(
             span.slot(i),
-            version,
+            slot.version,
             old,
-            &new[index],
+            new.child(i),
             comparison,
             out,
             steps,
@@ -84,7 +82,7 @@ fn compare_points_with_slot(
     span: Span,
     version: u64,
     old: &[Point],
-    new: &Child,
+    new: Child<'_>,
     comparison: Comparison,
     out: &mut Ranges,
     steps: &mut Steps,
@@ -92,9 +90,10 @@ fn compare_points_with_slot(
     requires p { comparison.p ≤ 62 }
     requires order { IsInOrder old.now }
     requires domain { AreInDomain old.now }
-    requires new { BelongsTo span (IsChildOf span new.now) }
-    ensures adds { OnOk result (Compares comparison span (IncludesPointsOf span old.now) (IsSlotOf span version new.now) out.old out.new) }
-    ensures bounded { OnOk result (VisitsSlot comparison.since span version new.now steps.old steps.new) }
+    requires new { BelongsTo span (IsChildOf span (node_of new)) }
+    ensures adds { OnOk result (Compares comparison span (IncludesPointsOf span old.now) (IsSlotOf span version (node_of new.entry))
+        out.old out.new) }
+    ensures bounded { OnOk result (VisitsSlot comparison.since span version (node_of new.entry) steps.old steps.new) }
     ensures never_falls { steps.old ≤ steps.new }
 {
     if version <= comparison.since {

@@ -1,18 +1,19 @@
 //! The walk over the newer tree beside the older one, into the spans whose node or slot has a newer version.
-ghost use Rattle.std.specs.Prelude.{◌≤◌, ◌<◌, ℕ, List, OnOk};
+ghost use Rattle.std.specs.Prelude.{◌≤◌, ◌<◌, ℕ, OnOk};
 ghost use Rattle.btr_base.specs.Point.{AreInDomain};
 ghost use Rattle.btr_base.specs.Bag.{IsInOrder};
-ghost use Rattle.btr_tree.specs.History.{Commit, bag};
+ghost use Rattle.btr_tree.specs.History.{Past, bag};
 ghost use Rattle.btr_tree.specs.EachHistory.{points_in};
+ghost use Rattle.btr_tree.specs.Slots.{node_of};
 ghost use Rattle.btr_diff.specs.Comparison.{AddsChangedSlots, BelongsTo, Compares, VisitsBelow, VisitsSlot};
-ghost use Rattle.btr_diff.specs.Comparison.{IsChildOf, IsNodeOf, IsSlotOf, AreChildrenOf, AreSlotsOf};
+ghost use Rattle.btr_diff.specs.Comparison.{IsChildOf, IsNodeOf, IsSlotOf, AreSlotsOf};
 
 use crate::comparison::Comparison;
 use crate::gathering::gather_slots;
 use crate::leaf_walk::compare_points_with_slots;
 use crate::points::compare_points;
 use btr_base::{FAN_OUT, Point, Ranges, Span};
-use btr_tree::{Child, Node, Slot, Steps, visit};
+use btr_tree::{Child, Node, Slots, Steps, visit};
 use std::alloc::AllocError;
 
 /// Adds to `out` the slots in which the trees differ in a span. Visits the newer node, and below it those that are
@@ -20,17 +21,19 @@ use std::alloc::AllocError;
 #[cycle(tree_walk)]
 fn compare_child(
     span: Span,
-    old: &Child,
-    new: &Child,
+    old: Child<'_>,
+    new: Child<'_>,
     comparison: Comparison,
     out: &mut Ranges,
     steps: &mut Steps,
 ) -> Result<(), AllocError>
     requires p { comparison.p ≤ 62 }
-    requires old { BelongsTo span (IsChildOf span old.now) }
-    requires new { BelongsTo span (IsChildOf span new.now) }
-    ensures adds { OnOk result (Compares comparison span (IsChildOf span old.now) (IsChildOf span new.now) out.old out.new) }
-    ensures bounded { OnOk result ((v : ℕ) → comparison.since < v → VisitsSlot comparison.since span v new.now steps.old steps.new) }
+    requires old { BelongsTo span (IsChildOf span (node_of old)) }
+    requires new { BelongsTo span (IsChildOf span (node_of new)) }
+    ensures adds { OnOk result (Compares comparison span (IsChildOf span (node_of old.entry)) (IsChildOf span (node_of new.entry))
+        out.old out.new) }
+    ensures bounded { OnOk result ((v : ℕ) → comparison.since < v
+        → VisitsSlot comparison.since span v (node_of new.entry) steps.old steps.new) }
     ensures never_falls { steps.old ≤ steps.new }
 {
     match visit(new, steps) {
@@ -43,26 +46,22 @@ fn compare_child(
 #[cycle(tree_walk)]
 pub(crate) fn compare_node(
     span: Span,
-    old: &Child,
+    old: Child<'_>,
     new: Node<'_>,
     comparison: Comparison,
     out: &mut Ranges,
     steps: &mut Steps,
 ) -> Result<(), AllocError>
     requires p { comparison.p ≤ 62 }
-    requires old { BelongsTo span (IsChildOf span old.now) }
+    requires old { BelongsTo span (IsChildOf span (node_of old)) }
     requires new { BelongsTo span (IsNodeOf span new) }
-    ensures adds { OnOk result (Compares comparison span (IsChildOf span old.now) (IsNodeOf span new.entry) out.old out.new) }
+    ensures adds { OnOk result (Compares comparison span (IsChildOf span (node_of old.entry)) (IsNodeOf span new.entry) out.old out.new) }
     ensures bounded { OnOk result (VisitsBelow comparison.since span (IsNodeOf span new.entry) steps.old steps.new) }
     ensures never_falls { steps.old ≤ steps.new }
 {
     match new {
         Node::Leaf { points, .. } => compare_with_points(span, old, points, comparison, out),
-        Node::Inner {
-            slots,
-            children,
-            ..
-        } => compare_with_slots(span, old, slots, children, comparison, out, steps),
+        Node::Inner { slots, .. } => compare_with_slots(span, old, slots, comparison, out, steps),
     }
 }
 
@@ -70,29 +69,26 @@ pub(crate) fn compare_node(
 #[cycle(tree_walk)]
 fn compare_with_slots(
     span: Span,
-    old: &Child,
-    slots: &[Slot],
-    new: &[Child],
+    old: Child<'_>,
+    new: &Slots,
     comparison: Comparison,
     out: &mut Ranges,
     steps: &mut Steps,
 ) -> Result<(), AllocError>
     requires p { comparison.p ≤ 62 }
-    requires old { BelongsTo span (IsChildOf span old.now) }
-    requires new { BelongsTo span (AreSlotsOf span slots.now new.now) }
-    ensures adds { OnOk result (Compares comparison span (IsChildOf span old.now) (AreSlotsOf span slots.now new.now) out.old out.new) }
-    ensures bounded { OnOk result (VisitsBelow comparison.since span (AreSlotsOf span slots.now new.now) steps.old steps.new) }
+    requires old { BelongsTo span (IsChildOf span (node_of old)) }
+    requires new { BelongsTo span (AreSlotsOf span new.now) }
+    ensures adds { OnOk result (Compares comparison span (IsChildOf span (node_of old.entry)) (AreSlotsOf span new.now) out.old out.new) }
+    ensures bounded { OnOk result (VisitsBelow comparison.since span (AreSlotsOf span new.now) steps.old steps.new) }
     ensures never_falls { steps.old ≤ steps.new }
 {
     match visit(old, &mut Steps::new(comparison.alloc)) {
-        None => compare_points_with_slots(span, &[], slots, new, comparison, out, steps),
+        None => compare_points_with_slots(span, &[], new, comparison, out, steps),
         Some(node) => match node {
             Node::Leaf { points, .. } => {
-                compare_points_with_slots(span, points, slots, new, comparison, out, steps)
+                compare_points_with_slots(span, points, new, comparison, out, steps)
             }
-            Node::Inner { children, .. } => {
-                compare_slots(span, children, slots, new, comparison, out, steps)
-            }
+            Node::Inner { slots, .. } => compare_slots(span, slots, new, comparison, out, steps),
         },
     }
 }
@@ -101,28 +97,26 @@ fn compare_with_slots(
 #[cycle(tree_walk)]
 fn compare_slots(
     span: Span,
-    old: &[Child],
-    slots: &[Slot],
-    new: &[Child],
+    old: &Slots,
+    new: &Slots,
     comparison: Comparison,
     out: &mut Ranges,
     steps: &mut Steps,
 ) -> Result<(), AllocError>
     requires p { comparison.p ≤ 62 }
-    requires old { BelongsTo span (AreChildrenOf span old.now) }
-    requires new { BelongsTo span (AreSlotsOf span slots.now new.now) }
-    ensures adds { OnOk result (Compares comparison span (AreChildrenOf span old.now) (AreSlotsOf span slots.now new.now) out.old out.new) }
-    ensures bounded { OnOk result (VisitsBelow comparison.since span (AreSlotsOf span slots.now new.now) steps.old steps.new) }
+    requires old { BelongsTo span (AreSlotsOf span old.now) }
+    requires new { BelongsTo span (AreSlotsOf span new.now) }
+    ensures adds { OnOk result (Compares comparison span (AreSlotsOf span old.now) (AreSlotsOf span new.now) out.old out.new) }
+    ensures bounded { OnOk result (VisitsBelow comparison.since span (AreSlotsOf span new.now) steps.old steps.new) }
     ensures never_falls { steps.old ≤ steps.new }
 {
     for i in 0..FAN_OUT {
-        let index = usize::from(i);
-        let version = slots[index].version;
+        let slot = new.slot(i);
         compare_slot(
             span.slot(i),
-            version,
-            &old[index],
-            &new[index],
+            slot.version,
+            old.child(i),
+            new.child(i),
             comparison,
             out,
             steps,
@@ -136,17 +130,18 @@ fn compare_slots(
 fn compare_slot(
     span: Span,
     version: u64,
-    old: &Child,
-    new: &Child,
+    old: Child<'_>,
+    new: Child<'_>,
     comparison: Comparison,
     out: &mut Ranges,
     steps: &mut Steps,
 ) -> Result<(), AllocError>
     requires p { comparison.p ≤ 62 }
-    requires old { BelongsTo span (IsChildOf span old.now) }
-    requires new { BelongsTo span (IsChildOf span new.now) }
-    ensures adds { OnOk result (Compares comparison span (IsChildOf span old.now) (IsSlotOf span version new.now) out.old out.new) }
-    ensures bounded { OnOk result (VisitsSlot comparison.since span version new.now steps.old steps.new) }
+    requires old { BelongsTo span (IsChildOf span (node_of old)) }
+    requires new { BelongsTo span (IsChildOf span (node_of new)) }
+    ensures adds { OnOk result (Compares comparison span (IsChildOf span (node_of old.entry)) (IsSlotOf span version (node_of new.entry))
+        out.old out.new) }
+    ensures bounded { OnOk result (VisitsSlot comparison.since span version (node_of new.entry) steps.old steps.new) }
     ensures never_falls { steps.old ≤ steps.new }
 {
     if version <= comparison.since {
@@ -158,25 +153,25 @@ fn compare_slot(
 /// Adds to `out` the slots in which the points of a span in the older tree differ from `new`.
 pub(crate) fn compare_with_points(
     span: Span,
-    old: &Child,
+    old: Child<'_>,
     new: &[Point],
     comparison: Comparison,
     out: &mut Ranges,
 ) -> Result<(), AllocError>
     requires p { comparison.p ≤ 62 }
-    requires old { BelongsTo span (IsChildOf span old.now) }
+    requires old { BelongsTo span (IsChildOf span (node_of old)) }
     requires order { IsInOrder new.now }
     requires domain { AreInDomain new.now }
-    ensures { OnOk result ((h : List Commit) → IsChildOf span old.now h
+    ensures { OnOk result ((h : Past) → IsChildOf span (node_of old.entry) h
         → AddsChangedSlots comparison.p out.old out.new (points_in span (bag h)) new.now) }
 {
     match visit(old, &mut Steps::new(comparison.alloc)) {
         None => compare_points(&[], new, comparison.p, out),
         Some(node) => match node {
             Node::Leaf { points, .. } => compare_points(points, new, comparison.p, out),
-            Node::Inner { children, .. } => {
+            Node::Inner { slots, .. } => {
                 let mut points = Vec::new(comparison.alloc);
-                gather_slots(comparison.alloc, span, children, &mut points)?;
+                gather_slots(comparison.alloc, span, slots, &mut points)?;
                 compare_points(&points, new, comparison.p, out)
             }
         },

@@ -5,4 +5,4 @@ pub returns-in-Leaf : goal.returns-in-Leaf
 returns-in-Leaf c span h is = leaf-version span h c.args.node c.in-Leaf.version c.in-Leaf.points c.in-Leaf.is is
 
 pub returns-in-Inner : goal.returns-in-Inner
-returns-in-Inner c span h is = inner-version span h c.args.node c.in-Inner.version c.in-Inner.slots c.in-Inner.children c.in-Inner.is is
+returns-in-Inner c span h is = inner-version span h c.args.node c.in-Inner.version c.in-Inner.slots c.in-Inner.is is

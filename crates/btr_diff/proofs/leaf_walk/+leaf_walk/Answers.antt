@@ -1,4 +1,4 @@
-use Rattle.std.proofs.Common.{◌<◌, suc, sym, ap, ◌∙◌, subst, arith, w64, to_z, of_z}
+use Rattle.std.proofs.Common.{◌<◌, sym, ap, ◌∙◌, subst, arith, w64, to_z, of_z}
 use Rattle.std.proofs.lemmas.Result.{on_ok_weaker}
 use Rattle.std.proofs.lemmas.Int.{ints}
 use Rattle.btr_base.specs.Point.{InDomain, AreInDomain}
@@ -8,8 +8,9 @@ use Rattle.btr_base.proofs.WithinLemmas.{within-in_order}
 use Rattle.btr_tree.specs.History.{bag}
 use Rattle.btr_tree.specs.Nodes.{points_of, is_inner}
 use Rattle.btr_tree.proofs.NodeLemmas.{child-at}
+use Rattle.btr_tree.specs.Slots.{node_of}
 use Rattle.btr_diff.proofs.ChangedSlots.{adds-none}
-use Rattle.btr_diff.proofs.Nodes.{found-node, found-none, leaf-points, points-order, points-domain, node-some, inner-slots, slots-children, child-belongs}
+use Rattle.btr_diff.proofs.Nodes.{found-node, leaf-points, points-order, points-domain, node-some, inner-slots, child-belongs}
 use Rattle.btr_diff.proofs.Slots.{adds-as, adds-first, adds-slot, adds-done, slot-belongs, slot-points, points-here}
 use Rattle.btr_diff.proofs.Newer.{newer-slot, below-sum, bounded-slot}
 use Rattle.btr_diff.proofs.leaf_walk.+leaf_walk.Goals as goal
@@ -19,32 +20,32 @@ use Rattle.btr_diff.proofs.leaf_walk.+leaf_walk.Goals as goal
 pub compare_points_with_child-compare_points-requires-in-Leaf-clause-new_order : goal.compare_points_with_child-compare_points-requires-in-Leaf-clause-new_order
 compare_points_with_child-compare_points-requires-in-Leaf-clause-new_order t c =
     let new = c.requires.new in
-    points-order c.args.span new.commits c.in-Leaf.points.now (leaf-points c.args.span new.commits c.in-Some.node c.in-Leaf.version c.in-Leaf.points c.in-Leaf.is (found-node c.args.span c.args.new.now c.in-Some.node _ _ c.in-Some.ensures new.commits new.holds))
+    points-order c.args.span new.past c.in-Leaf.points.now (leaf-points c.args.span new.past c.in-Some.node c.in-Leaf.version c.in-Leaf.points c.in-Leaf.is (found-node c.args.span (node_of c.args.new) c.in-Some.node _ _ c.in-Some.ensures new.past new.holds))
 
 pub compare_points_with_child-compare_points-requires-in-Leaf-clause-new_domain : goal.compare_points_with_child-compare_points-requires-in-Leaf-clause-new_domain
 compare_points_with_child-compare_points-requires-in-Leaf-clause-new_domain t c =
     let new = c.requires.new in
-    points-domain c.args.span new.commits c.in-Leaf.points.now new.inside (leaf-points c.args.span new.commits c.in-Some.node c.in-Leaf.version c.in-Leaf.points c.in-Leaf.is (found-node c.args.span c.args.new.now c.in-Some.node _ _ c.in-Some.ensures new.commits new.holds))
+    points-domain c.args.span new.past c.in-Leaf.points.now new.inside (leaf-points c.args.span new.past c.in-Some.node c.in-Leaf.version c.in-Leaf.points c.in-Leaf.is (found-node c.args.span (node_of c.args.new) c.in-Some.node _ _ c.in-Some.ensures new.past new.holds))
 
 pub compare_points_with_child-compare_points_with_slots-requires : goal.compare_points_with_child-compare_points_with_slots-requires
 compare_points_with_child-compare_points_with_slots-requires t c =
     let new = c.requires.new in
     let d = c.decreases in
-    let slots = inner-slots c.args.span new.commits c.in-Some.node c.in-Inner.version c.in-Inner.slots c.in-Inner.children c.in-Inner.is (found-node c.args.span c.args.new.now c.in-Some.node _ _ c.in-Some.ensures new.commits new.holds) in
-    (omega arith, (c.requires.p, (c.requires.order, (c.requires.domain, record { inside = new.inside; commits = new.commits; holds = slots }))))
+    let slots = inner-slots c.args.span new.past c.in-Some.node c.in-Inner.version c.in-Inner.slots c.in-Inner.is (found-node c.args.span (node_of c.args.new) c.in-Some.node _ _ c.in-Some.ensures new.past new.holds) in
+    (omega arith, (c.requires.p, (c.requires.order, (c.requires.domain, record { inside = new.inside; past = new.past; holds = slots }))))
 
 pub compare_points_with_child-returns-in-Leaf-clause-adds : goal.compare_points_with_child-returns-in-Leaf-clause-adds
 compare_points_with_child-returns-in-Leaf-clause-adds t c =
     let span = c.args.span in
     on_ok_weaker c.compare_points-in-Leaf.result (λ e h g same child agree.
-    adds-as c.args.comparison.p c.args.out.now c.compare_points-in-Leaf.new.out _ _ _ _ same (leaf-points span g c.in-Some.node c.in-Leaf.version c.in-Leaf.points c.in-Leaf.is (found-node span c.args.new.now c.in-Some.node _ _ c.in-Some.ensures g child)) e) c.compare_points-in-Leaf.ensures
+    adds-as c.args.comparison.p c.args.out.now c.compare_points-in-Leaf.new.out _ _ _ _ same (leaf-points span g c.in-Some.node c.in-Leaf.version c.in-Leaf.points c.in-Leaf.is (found-node span (node_of c.args.new) c.in-Some.node _ _ c.in-Some.ensures g child)) e) c.compare_points-in-Leaf.ensures
 
 pub compare_points_with_child-returns-in-Leaf-clause-bounded : goal.compare_points_with_child-returns-in-Leaf-clause-bounded
 compare_points_with_child-returns-in-Leaf-clause-bounded t c =
     let span = c.args.span in
     on_ok_weaker c.compare_points-in-Leaf.result (λ e v newer g slot.
-    let some = node-some span g c.in-Some.node (found-node span c.args.new.now c.in-Some.node _ _ c.in-Some.ensures g (is_inner slot.above slot.begin, slot.holds)) in
-    let one = newer-slot span c.args.comparison.since v c.args.new.now g some newer slot in
+    let some = node-some span g c.in-Some.node (found-node span (node_of c.args.new) c.in-Some.node _ _ c.in-Some.ensures g (is_inner slot.above slot.begin, slot.holds)) in
+    let one = newer-slot span c.args.comparison.since v (node_of c.args.new) g some newer slot in
     let more = c.visit.ensures.at_most in
     omega arith) c.compare_points-in-Leaf.ensures
 
@@ -52,15 +53,15 @@ pub compare_points_with_child-returns-in-Inner-clause-adds : goal.compare_points
 compare_points_with_child-returns-in-Inner-clause-adds t c =
     let span = c.args.span in
     on_ok_weaker c.compare_points_with_slots.result (λ e h g same child agree.
-    e h g same (inner-slots span g c.in-Some.node c.in-Inner.version c.in-Inner.slots c.in-Inner.children c.in-Inner.is (found-node span c.args.new.now c.in-Some.node _ _ c.in-Some.ensures g child)) agree) c.compare_points_with_slots.ensures.adds
+    e h g same (inner-slots span g c.in-Some.node c.in-Inner.version c.in-Inner.slots c.in-Inner.is (found-node span (node_of c.args.new) c.in-Some.node _ _ c.in-Some.ensures g child)) agree) c.compare_points_with_slots.ensures.adds
 
 pub compare_points_with_child-returns-in-Inner-clause-bounded : goal.compare_points_with_child-returns-in-Inner-clause-bounded
 compare_points_with_child-returns-in-Inner-clause-bounded t c =
     let span = c.args.span in
     on_ok_weaker c.compare_points_with_slots.result (λ e v newer g slot.
-    let node = found-node span c.args.new.now c.in-Some.node _ _ c.in-Some.ensures g (is_inner slot.above slot.begin, slot.holds) in
-    let slots = inner-slots span g c.in-Some.node c.in-Inner.version c.in-Inner.slots c.in-Inner.children c.in-Inner.is node in
-    let one = newer-slot span c.args.comparison.since v c.args.new.now g (node-some span g c.in-Some.node node) newer slot in
+    let node = found-node span (node_of c.args.new) c.in-Some.node _ _ c.in-Some.ensures g (is_inner slot.above slot.begin, slot.holds) in
+    let slots = inner-slots span g c.in-Some.node c.in-Inner.version c.in-Inner.slots c.in-Inner.is node in
+    let one = newer-slot span c.args.comparison.since v (node_of c.args.new) g (node-some span g c.in-Some.node node) newer slot in
     let few = e g slots in
     let more = c.visit.ensures.at_most in
     omega arith) c.compare_points_with_slots.ensures.bounded
@@ -94,12 +95,6 @@ compare_points_with_slot-returns-clause-bounded t c =
 
 -- ---- All slots.
 
-pub compare_points_with_slots-bounds-slots-index : goal.compare_points_with_slots-bounds-slots-index
-compare_points_with_slots-bounds-slots-index t c = let all = c.requires.new.holds.all.slots_length in omega arith
-
-pub compare_points_with_slots-bounds-new-index : goal.compare_points_with_slots-bounds-new-index
-compare_points_with_slots-bounds-new-index t c = let all = c.requires.new.holds.all.children_length in omega arith
-
 pub compare_points_with_slots-slot-requires : goal.compare_points_with_slots-slot-requires
 compare_points_with_slots-slot-requires t c = let high = c.requires.new.holds.height in record { height = omega arith; place = omega arith }
 
@@ -115,8 +110,7 @@ pub compare_points_with_slots-compare_points_with_slot-requires : goal.compare_p
 compare_points_with_slots-compare_points_with_slot-requires t c =
     let d = c.decreases in
     let new = c.requires.new in
-    let children = slots-children c.args.span c.args.slots.now c.args.new.now new.commits new.holds in
-    let child = child-belongs c.args.span c.loop-i.i c.from-index.result c.slot.result c.index-new-index.result c.args.new.now (record { inside = new.inside; commits = new.commits; holds = children }) (omega arith) c.from-index.ensures c.slot.ensures c.index-new-index.is in
+    let child = child-belongs c.args.span c.loop-i.i c.slot.result (node_of c.child.result) c.args.new.now new (omega arith) c.slot.ensures c.child.ensures in
     let low = child.1 in
     (omega arith, (c.requires.p, (c.requires.order, (c.requires.domain, child.0))))
 
@@ -133,13 +127,13 @@ compare_points_with_slots-loop-i-preserved t c =
     let done = c.in_ok-compare_points_with_slot.ensures in
     record {
       adds = λ h g same slots agree.
-          let at = child-at span slots.below g i c.from-index.result part c.index-new-index.result c.args.new.now slots.height slots.each low c.from-index.ensures c.slot.ensures c.index-new-index.is in
-          let slot = slot-belongs span c.args.slots.now c.args.new.now g i c.from-index.result part c.index-slots-index.result c.index-new-index.result slots low c.from-index.ensures c.slot.ensures c.index-new-index.is in
+          let at = child-at span slots.below g i part (node_of c.child.result) c.args.new.now slots.height slots.each low c.slot.ensures c.child.ensures in
+          let slot = slot-belongs span c.args.new.now g i part c.slot-slot.result (node_of c.child.result) slots low c.slot.ensures c.slot-slot.ensures c.child.ensures in
           let old = slot-points span slots.below i part h c.args.old.now slots.height low at.is same in
           adds-slot c.args.comparison.p c.args.out.now c.loop-i.out c.compare_points_with_slot.new.out slots.below start i part h g at.is (before.adds h g same slots agree) (done.adds h g old slot agree);
       bounded = λ g slots.
-          let at = child-at span slots.below g i c.from-index.result part c.index-new-index.result c.args.new.now slots.height slots.each low c.from-index.ensures c.slot.ensures c.index-new-index.is in
-          let slot = slot-belongs span c.args.slots.now c.args.new.now g i c.from-index.result part c.index-slots-index.result c.index-new-index.result slots low c.from-index.ensures c.slot.ensures c.index-new-index.is in
+          let at = child-at span slots.below g i part (node_of c.child.result) c.args.new.now slots.height slots.each low c.slot.ensures c.child.ensures in
+          let slot = slot-belongs span c.args.new.now g i part c.slot-slot.result (node_of c.child.result) slots low c.slot.ensures c.slot-slot.ensures c.child.ensures in
           bounded-slot slots.below start i part g since c.args.steps.now c.loop-i.steps c.compare_points_with_slot.new.steps at.is (before.bounded g slots) (done.bounded g slot);
       never_falls = let low = before.never_falls in
           let high = c.compare_points_with_slot.ensures.never_falls in omega arith;

@@ -1,12 +1,13 @@
-use Rattle.std.proofs.Common.{◌≡◌, ◌<◌, suc, ℕ, ℤ, List, refl, sym, ap, ◌∙◌, subst, arith}
+use Rattle.std.proofs.Common.{◌≡◌, ◌<◌, suc, ℕ, ℤ, sym, subst, arith}
 use Rattle.std.proofs.lemmas.Result.{on_ok_weaker}
-use Rattle.btr_tree.specs.declared.node.Child.{Child}
-use Rattle.btr_tree.specs.History.{Commit, bag}
+use Rattle.btr_tree.specs.declared.slots.Slots.{Slots}
+use Rattle.btr_tree.specs.History.{Past, bag}
 use Rattle.btr_tree.specs.Shape.{HasChildren}
 use Rattle.btr_tree.specs.Nodes.{points_of, is_inner}
 use Rattle.btr_tree.proofs.NodeLemmas.{child-at}
+use Rattle.btr_tree.specs.Slots.{node_of}
 use Rattle.btr_diff.proofs.ChangedSlots.{adds-none}
-use Rattle.btr_diff.proofs.Nodes.{found-node, found-none, leaf-points, points-order, points-domain, node-some, inner-slots, inner-children, slots-children, child-belongs}
+use Rattle.btr_diff.proofs.Nodes.{found-node, found-none, leaf-points, points-order, points-domain, node-some, inner-slots, child-belongs}
 use Rattle.btr_diff.proofs.Slots.{adds-as, adds-first, adds-slot, adds-done, slot-belongs}
 use Rattle.btr_diff.proofs.Newer.{newer-slot, below-sum, bounded-slot}
 use Rattle.btr_diff.proofs.tree_walk.+tree_walk.Goals as goal
@@ -17,18 +18,18 @@ pub compare_child-compare_node-requires : goal.compare_child-compare_node-requir
 compare_child-compare_node-requires t c =
     let new = c.requires.new in
     let d = c.decreases in
-    (omega arith, (c.requires.p, (c.requires.old, record { inside = new.inside; commits = new.commits; holds = found-node c.args.span c.args.new.now c.in-Some.node _ _ c.in-Some.ensures new.commits new.holds })))
+    (omega arith, (c.requires.p, (c.requires.old, record { inside = new.inside; past = new.past; holds = found-node c.args.span (node_of c.args.new) c.in-Some.node _ _ c.in-Some.ensures new.past new.holds })))
 
 pub compare_child-returns-in-Some-clause-adds : goal.compare_child-returns-in-Some-clause-adds
 compare_child-returns-in-Some-clause-adds t c =
-    on_ok_weaker c.compare_node.result (λ e h g was child agree. e h g was (found-node c.args.span c.args.new.now c.in-Some.node _ _ c.in-Some.ensures g child) agree) c.compare_node.ensures.adds
+    on_ok_weaker c.compare_node.result (λ e h g was child agree. e h g was (found-node c.args.span (node_of c.args.new) c.in-Some.node _ _ c.in-Some.ensures g child) agree) c.compare_node.ensures.adds
 
 pub compare_child-returns-in-Some-clause-bounded : goal.compare_child-returns-in-Some-clause-bounded
 compare_child-returns-in-Some-clause-bounded t c =
     let span = c.args.span in
     on_ok_weaker c.compare_node.result (λ e v newer g slot.
-    let node = found-node span c.args.new.now c.in-Some.node _ _ c.in-Some.ensures g (is_inner slot.above slot.begin, slot.holds) in
-    let one = newer-slot span c.args.comparison.since v c.args.new.now g (node-some span g c.in-Some.node node) newer slot in
+    let node = found-node span (node_of c.args.new) c.in-Some.node _ _ c.in-Some.ensures g (is_inner slot.above slot.begin, slot.holds) in
+    let one = newer-slot span c.args.comparison.since v (node_of c.args.new) g (node-some span g c.in-Some.node node) newer slot in
     let few = e g node in
     let more = c.visit.ensures.at_most in
     omega arith) c.compare_node.ensures.bounded
@@ -38,19 +39,19 @@ compare_child-returns-in-Some-clause-bounded t c =
 pub compare_node-compare_with_points-requires-clause-order : goal.compare_node-compare_with_points-requires-clause-order
 compare_node-compare_with_points-requires-clause-order t c =
     let new = c.requires.new in
-    points-order c.args.span new.commits c.in-Leaf.points.now (leaf-points c.args.span new.commits c.args.new c.in-Leaf.version c.in-Leaf.points c.in-Leaf.is new.holds)
+    points-order c.args.span new.past c.in-Leaf.points.now (leaf-points c.args.span new.past c.args.new c.in-Leaf.version c.in-Leaf.points c.in-Leaf.is new.holds)
 
 pub compare_node-compare_with_points-requires-clause-domain : goal.compare_node-compare_with_points-requires-clause-domain
 compare_node-compare_with_points-requires-clause-domain t c =
     let new = c.requires.new in
-    points-domain c.args.span new.commits c.in-Leaf.points.now new.inside (leaf-points c.args.span new.commits c.args.new c.in-Leaf.version c.in-Leaf.points c.in-Leaf.is new.holds)
+    points-domain c.args.span new.past c.in-Leaf.points.now new.inside (leaf-points c.args.span new.past c.args.new c.in-Leaf.version c.in-Leaf.points c.in-Leaf.is new.holds)
 
 pub compare_node-compare_with_slots-requires : goal.compare_node-compare_with_slots-requires
 compare_node-compare_with_slots-requires t c =
     let new = c.requires.new in
     let d = c.decreases in
-    let slots = inner-slots c.args.span new.commits c.args.new c.in-Inner.version c.in-Inner.slots c.in-Inner.children c.in-Inner.is new.holds in
-    (omega arith, (c.requires.p, (c.requires.old, record { inside = new.inside; commits = new.commits; holds = slots })))
+    let slots = inner-slots c.args.span new.past c.args.new c.in-Inner.version c.in-Inner.slots c.in-Inner.is new.holds in
+    (omega arith, (c.requires.p, (c.requires.old, record { inside = new.inside; past = new.past; holds = slots })))
 
 pub compare_node-returns-in-Leaf-clause-adds : goal.compare_node-returns-in-Leaf-clause-adds
 compare_node-returns-in-Leaf-clause-adds t c =
@@ -61,46 +62,46 @@ compare_node-returns-in-Leaf-clause-adds t c =
 pub compare_node-returns-in-Inner-clause-adds : goal.compare_node-returns-in-Inner-clause-adds
 compare_node-returns-in-Inner-clause-adds t c =
     on_ok_weaker c.compare_with_slots.result (λ e h g was is agree.
-    e h g was (inner-slots c.args.span g c.args.new c.in-Inner.version c.in-Inner.slots c.in-Inner.children c.in-Inner.is is) agree) c.compare_with_slots.ensures.adds
+    e h g was (inner-slots c.args.span g c.args.new c.in-Inner.version c.in-Inner.slots c.in-Inner.is is) agree) c.compare_with_slots.ensures.adds
 
 pub compare_node-returns-in-Inner-clause-bounded : goal.compare_node-returns-in-Inner-clause-bounded
 compare_node-returns-in-Inner-clause-bounded t c =
     on_ok_weaker c.compare_with_slots.result (λ e g is.
-    e g (inner-slots c.args.span g c.args.new c.in-Inner.version c.in-Inner.slots c.in-Inner.children c.in-Inner.is is)) c.compare_with_slots.ensures.bounded
+    e g (inner-slots c.args.span g c.args.new c.in-Inner.version c.in-Inner.slots c.in-Inner.is is)) c.compare_with_slots.ensures.bounded
 
 -- ---- What the older tree has there.
 
 pub compare_with_slots-compare_points_with_slots-requires-in-Leaf-clause-order : goal.compare_with_slots-compare_points_with_slots-requires-in-Leaf-clause-order
 compare_with_slots-compare_points_with_slots-requires-in-Leaf-clause-order t c =
     let old = c.requires.old in
-    points-order c.args.span old.commits c.in-Leaf.points.now (leaf-points c.args.span old.commits c.in-Some.node c.in-Leaf.version c.in-Leaf.points c.in-Leaf.is (found-node c.args.span c.args.old.now c.in-Some.node _ _ c.in-Some.ensures old.commits old.holds))
+    points-order c.args.span old.past c.in-Leaf.points.now (leaf-points c.args.span old.past c.in-Some.node c.in-Leaf.version c.in-Leaf.points c.in-Leaf.is (found-node c.args.span (node_of c.args.old) c.in-Some.node _ _ c.in-Some.ensures old.past old.holds))
 
 pub compare_with_slots-compare_points_with_slots-requires-in-Leaf-clause-domain : goal.compare_with_slots-compare_points_with_slots-requires-in-Leaf-clause-domain
 compare_with_slots-compare_points_with_slots-requires-in-Leaf-clause-domain t c =
     let old = c.requires.old in
-    points-domain c.args.span old.commits c.in-Leaf.points.now old.inside (leaf-points c.args.span old.commits c.in-Some.node c.in-Leaf.version c.in-Leaf.points c.in-Leaf.is (found-node c.args.span c.args.old.now c.in-Some.node _ _ c.in-Some.ensures old.commits old.holds))
+    points-domain c.args.span old.past c.in-Leaf.points.now old.inside (leaf-points c.args.span old.past c.in-Some.node c.in-Leaf.version c.in-Leaf.points c.in-Leaf.is (found-node c.args.span (node_of c.args.old) c.in-Some.node _ _ c.in-Some.ensures old.past old.holds))
 
 pub compare_with_slots-compare_slots-requires : goal.compare_with_slots-compare_slots-requires
 compare_with_slots-compare_slots-requires t c =
     let old = c.requires.old in
     let d = c.decreases in
-    let children = inner-children c.args.span old.commits c.in-Some.node c.in-Inner.version c.in-Inner.slots c.in-Inner.children c.in-Inner.is (found-node c.args.span c.args.old.now c.in-Some.node _ _ c.in-Some.ensures old.commits old.holds) in
-    (omega arith, (c.requires.p, (record { inside = old.inside; commits = old.commits; holds = children }, c.requires.new)))
+    let children = inner-slots c.args.span old.past c.in-Some.node c.in-Inner.version c.in-Inner.slots c.in-Inner.is (found-node c.args.span (node_of c.args.old) c.in-Some.node _ _ c.in-Some.ensures old.past old.holds) in
+    (omega arith, (c.requires.p, (record { inside = old.inside; past = old.past; holds = children }, c.requires.new)))
 
 pub compare_with_slots-returns-in-None-clause-adds : goal.compare_with_slots-returns-in-None-clause-adds
 compare_with_slots-returns-in-None-clause-adds t c =
     on_ok_weaker c.compare_points_with_slots.result (λ e h g was slots agree.
-    e h g (sym (found-none c.args.span c.args.old.now _ _ c.in-None.ensures h was)) slots agree) c.compare_points_with_slots.ensures.adds
+    e h g (sym (found-none c.args.span (node_of c.args.old) _ _ c.in-None.ensures h was)) slots agree) c.compare_points_with_slots.ensures.adds
 
 pub compare_with_slots-returns-in-Leaf-clause-adds : goal.compare_with_slots-returns-in-Leaf-clause-adds
 compare_with_slots-returns-in-Leaf-clause-adds t c =
     on_ok_weaker c.compare_points_with_slots-in-Leaf.result (λ e h g was slots agree.
-    e h g (leaf-points c.args.span h c.in-Some.node c.in-Leaf.version c.in-Leaf.points c.in-Leaf.is (found-node c.args.span c.args.old.now c.in-Some.node _ _ c.in-Some.ensures h was)) slots agree) c.compare_points_with_slots-in-Leaf.ensures.adds
+    e h g (leaf-points c.args.span h c.in-Some.node c.in-Leaf.version c.in-Leaf.points c.in-Leaf.is (found-node c.args.span (node_of c.args.old) c.in-Some.node _ _ c.in-Some.ensures h was)) slots agree) c.compare_points_with_slots-in-Leaf.ensures.adds
 
 pub compare_with_slots-returns-in-Inner-clause-adds : goal.compare_with_slots-returns-in-Inner-clause-adds
 compare_with_slots-returns-in-Inner-clause-adds t c =
     on_ok_weaker c.compare_slots.result (λ e h g was slots agree.
-    e h g (inner-children c.args.span h c.in-Some.node c.in-Inner.version c.in-Inner.slots c.in-Inner.children c.in-Inner.is (found-node c.args.span c.args.old.now c.in-Some.node _ _ c.in-Some.ensures h was)) slots agree) c.compare_slots.ensures.adds
+    e h g (inner-slots c.args.span h c.in-Some.node c.in-Inner.version c.in-Inner.slots c.in-Inner.is (found-node c.args.span (node_of c.args.old) c.in-Some.node _ _ c.in-Some.ensures h was)) slots agree) c.compare_slots.ensures.adds
 
 -- ---- One slot.
 
@@ -120,15 +121,6 @@ compare_slot-returns-clause-bounded t c =
 
 -- ---- All slots.
 
-pub compare_slots-bounds-slots-index : goal.compare_slots-bounds-slots-index
-compare_slots-bounds-slots-index t c = let all = c.requires.new.holds.all.slots_length in omega arith
-
-pub compare_slots-bounds-old-index : goal.compare_slots-bounds-old-index
-compare_slots-bounds-old-index t c = let all = c.requires.old.holds.all in omega arith
-
-pub compare_slots-bounds-new-index : goal.compare_slots-bounds-new-index
-compare_slots-bounds-new-index t c = let all = c.requires.new.holds.all.children_length in omega arith
-
 pub compare_slots-slot-requires : goal.compare_slots-slot-requires
 compare_slots-slot-requires t c = let high = c.requires.old.holds.height in record { height = omega arith; place = omega arith }
 
@@ -144,17 +136,16 @@ pub compare_slots-compare_slot-requires : goal.compare_slots-compare_slot-requir
 compare_slots-compare_slot-requires t c =
     let d = c.decreases in
     let new = c.requires.new in
-    let children = slots-children c.args.span c.args.slots.now c.args.new.now new.commits new.holds in
-    let before = child-belongs c.args.span c.loop-i.i c.from-index.result c.slot.result c.index-old-index.result c.args.old.now c.requires.old (omega arith) c.from-index.ensures c.slot.ensures c.index-old-index.is in
-    let child = child-belongs c.args.span c.loop-i.i c.from-index.result c.slot.result c.index-new-index.result c.args.new.now (record { inside = new.inside; commits = new.commits; holds = children }) (omega arith) c.from-index.ensures c.slot.ensures c.index-new-index.is in
+    let before = child-belongs c.args.span c.loop-i.i c.slot.result (node_of c.child.result) c.args.old.now c.requires.old (omega arith) c.slot.ensures c.child.ensures in
+    let child = child-belongs c.args.span c.loop-i.i c.slot.result (node_of c.child-in-loop-i.result) c.args.new.now new (omega arith) c.slot.ensures c.child-in-loop-i.ensures in
     let low = child.1 in
     (omega arith, (c.requires.p, (before.0, child.0)))
 
 -- The children of an inner node are those of the span at whatever name its height has below it.
-below-same : (k below other : ℕ) (s : ℤ) (h : List Commit) (cs : List Child) → k ≡ suc below → k ≡ suc other → HasChildren other s h 64 cs → HasChildren below s h 64 cs
-below-same k below other s h cs e f each =
+below-same : (k below other : ℕ) (s : ℤ) (h : Past) (x : Slots) → k ≡ suc below → k ≡ suc other → HasChildren other s h x → HasChildren below s h x
+below-same k below other s h x e f each =
     let same : other ≡ below = omega arith in
-    subst (λ b. HasChildren b s h 64 cs) same each
+    subst (λ b. HasChildren b s h x) same each
 
 pub compare_slots-loop-i-preserved : goal.compare_slots-loop-i-preserved
 unfolding slot-belongs
@@ -170,12 +161,12 @@ compare_slots-loop-i-preserved t c =
     record {
       adds = λ h g was slots agree.
           let each = below-same span.height slots.below was.below start h c.args.old.now slots.height was.height was.each in
-          let old = child-at span slots.below h i c.from-index.result part c.index-old-index.result c.args.old.now slots.height each low c.from-index.ensures c.slot.ensures c.index-old-index.is in
-          let slot = slot-belongs span c.args.slots.now c.args.new.now g i c.from-index.result part c.index-slots-index.result c.index-new-index.result slots low c.from-index.ensures c.slot.ensures c.index-new-index.is in
+          let old = child-at span slots.below h i part (node_of c.child.result) c.args.old.now slots.height each low c.slot.ensures c.child.ensures in
+          let slot = slot-belongs span c.args.new.now g i part c.slot-slot.result (node_of c.child-in-loop-i.result) slots low c.slot.ensures c.slot-slot.ensures c.child-in-loop-i.ensures in
           adds-slot c.args.comparison.p c.args.out.now c.loop-i.out c.compare_slot.new.out slots.below start i part h g old.is (before.adds h g was slots agree) (done.adds h g (is_inner (suc slots.below) start, old.holds) slot agree);
       bounded = λ g slots.
-          let at = child-at span slots.below g i c.from-index.result part c.index-new-index.result c.args.new.now slots.height slots.each low c.from-index.ensures c.slot.ensures c.index-new-index.is in
-          let slot = slot-belongs span c.args.slots.now c.args.new.now g i c.from-index.result part c.index-slots-index.result c.index-new-index.result slots low c.from-index.ensures c.slot.ensures c.index-new-index.is in
+          let at = child-at span slots.below g i part (node_of c.child-in-loop-i.result) c.args.new.now slots.height slots.each low c.slot.ensures c.child-in-loop-i.ensures in
+          let slot = slot-belongs span c.args.new.now g i part c.slot-slot.result (node_of c.child-in-loop-i.result) slots low c.slot.ensures c.slot-slot.ensures c.child-in-loop-i.ensures in
           bounded-slot slots.below start i part g since c.args.steps.now c.loop-i.steps c.compare_slot.new.steps at.is (before.bounded g slots) (done.bounded g slot);
       never_falls = let low = before.never_falls in
           let high = c.compare_slot.ensures.never_falls in omega arith;
