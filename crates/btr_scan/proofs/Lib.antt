@@ -2,6 +2,6 @@
 pub mod Firsts
 -- Lemmas on trees.
 pub mod Places
-pub mod Parts
 pub mod Runs
+pub mod Parts
 pub mod Domain

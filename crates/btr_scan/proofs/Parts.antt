@@ -9,10 +9,13 @@ use Rattle.btr_base.specs.Bag.{within, is_within}
 use Rattle.btr_base.proofs.ListLemmas.{filter-filter, filter-same}
 use Rattle.btr_base.specs.Span.{width, SpanValue, slot_of}
 use Rattle.btr_base.proofs.WithinLemmas.{within-append}
-use Rattle.btr_tree.specs.History.{Commit, bag}
+use Rattle.btr_tree.specs.History.{Past, bag}
 use Rattle.btr_tree.specs.Nodes.{points_of}
-use Rattle.btr_tree.specs.Shape.{slot_start}
+use Rattle.btr_tree.specs.declared.slots.Slots.{Slots}
+use Rattle.btr_tree.specs.Slots.{AreEmpty}
+use Rattle.btr_tree.specs.Shape.{HasSlots, slot_start}
 use Rattle.btr_tree.proofs.NodeLemmas.{slot-next, slot-end, slot-inside, prefix-none, prefix-done}
+use Rattle.btr_scan.proofs.Runs.{prefix-gap}
 
 pub filter-never : {X : Type 0} (f : X → Bool) (a : List X) → ((x : X) → f x ≡ false) → filter f a ≡ []
 filter-never f [] h = refl
@@ -55,7 +58,7 @@ slot-end_of span below i e =
     ap (λ k. span.start +ℤ pos (i * width k) +ℤ pos (width k)) down ∙ sym (slot-next below span.start i)
 
 -- The slots before the first one that ends after the begin of a range.
-pub before-first : (span : SpanValue) (below : ℕ) (h : List Commit) (from to : ℤ) (first : ℕ) → span.height ≡ suc below → ((i : ℕ) → i < first → ((slot_of span i).start +ℤ pos (width (span.height - 1))) ≤ℤ from) → within from to (within span.start (slot_start below span.start first) (bag h)) ≡ []
+pub before-first : (span : SpanValue) (below : ℕ) (h : Past) (from to : ℤ) (first : ℕ) → span.height ≡ suc below → ((i : ℕ) → i < first → ((slot_of span i).start +ℤ pos (width (span.height - 1))) ≤ℤ from) → within from to (within span.start (slot_start below span.start first) (bag h)) ≡ []
 before-first span below h from to zero e before = ap (within from to) (prefix-none below span.start h)
 before-first span below h from to (suc k) e before =
     let last = before k (omega arith) in
@@ -65,7 +68,7 @@ before-first span below h from to (suc k) e before =
     ∙ within-apart span.start (slot_start below span.start (k + 1)) from to (bag h) (omega (arith, ints))
 
 -- The slots after the last one that begins before the end of a range.
-pub behind-last : (span : SpanValue) (below : ℕ) (h : List Commit) (from to : ℤ) (last : ℕ) → span.height ≡ suc below → last < 64 → ((i : ℕ) → last < i → i < 64 → to ≤ℤ (slot_of span i).start) → within from to (within span.start (slot_start below span.start (last + 1)) (bag h)) ≡ within from to (points_of span.height span.start (bag h))
+pub behind-last : (span : SpanValue) (below : ℕ) (h : Past) (from to : ℤ) (last : ℕ) → span.height ≡ suc below → last < 64 → ((i : ℕ) → last < i → i < 64 → to ≤ℤ (slot_of span i).start) → within from to (within span.start (slot_start below span.start (last + 1)) (bag h)) ≡ within from to (points_of span.height span.start (bag h))
 behind-last span below h from to last e place behind =
     let up : last + 1 ≤ 64 = omega arith in
     elim (eq-or-lt_of_le up) [
@@ -77,6 +80,12 @@ behind-last span below h from to last e place behind =
           let high : to ≤ℤ (span.start +ℤ pos (width span.height)) = subst (λ k. to ≤ℤ (span.start +ℤ pos (width k))) (sym e) (omega (arith, ints)) in
           within-capped span.start (slot_start below span.start (last + 1)) (span.start +ℤ pos (width span.height)) from to (bag h) (omega (arith, ints)) high
     ]
+
+-- If no slot from one to the last that a range meets has a point, the points in the range are those before that one.
+pub rows-end : (span : SpanValue) (below : ℕ) (h : Past) (x : Slots) (from to : ℤ) (at last : ℕ) → span.height ≡ suc below → HasSlots below span.start h x → last < 64 → ((i : ℕ) → last < i → i < 64 → to ≤ℤ (slot_of span i).start) → at ≤ last + 1 → AreEmpty x at (last + 1) → within from to (within span.start (slot_start below span.start at) (bag h)) ≡ within from to (points_of span.height span.start (bag h))
+rows-end span below h x from to at last e slots place behind high none =
+    sym (ap (within from to) (prefix-gap below span.start h x at (last + 1) slots high (omega arith) none))
+    ∙ behind-last span below h from to last e place behind
 
 -- The points of one more slot.
 pub rows-more : (before here next : List Point) (from to : ℤ) (old mid new : List Point) → next ≡ before ++ here → mid ≡ old ++ within from to before → new ≡ mid ++ within from to here → new ≡ old ++ within from to next

@@ -1,5 +1,5 @@
 -- Lemmas on what a walk finds in a node: the points of a leaf, the slots of an inner node, and a slot's child.
-use Rattle.std.specs.Prelude.{◌≡◌, ℕ, suc, ◌+◌, ◌<◌, ◌^◌, ℤ, pos, ◌+ℤ◌, ◌≤ℤ◌, Bool, not, int_le, int_lt, List, [], length, slice_index_or, Result, Ok, Err, OnOk, if◌then◌else◌}
+use Rattle.std.specs.Prelude.{◌≡◌, ℕ, suc, ◌+◌, ◌<◌, ◌^◌, ℤ, pos, ◌+ℤ◌, ◌≤ℤ◌, Bool, not, int_le, int_lt, List, [], length, Option, Result, Ok, Err, OnOk, if◌then◌else◌}
 use Rattle.std.specs.Result.{is_ok}
 use Rattle.std.proofs.Common.{Bor, sym, ap, ◌∙◌, arith, subst}
 use Rattle.btr_base.specs.declared.point.Point.{Point}
@@ -8,15 +8,15 @@ use Rattle.btr_base.proofs.ListLemmas.{filter-same}
 use Rattle.btr_base.proofs.WithinLemmas.{within-from, within-before}
 use Rattle.std.specs.List.{filter}
 use Rattle.std.proofs.lemmas.Int.{ints}
-use Rattle.btr_base.specs.Span.{width, SpanValue, slot_of}
+use Rattle.btr_base.specs.Span.{width, SpanValue}
 use Rattle.btr_tree.specs.declared.node.Node.{Node}
 use Rattle.btr_tree.specs.declared.node.Node.TheVariants.{Leaf, Inner}
-use Rattle.btr_tree.specs.declared.node.Slot.{Slot}
-use Rattle.btr_tree.specs.History.{Commit, bag}
+use Rattle.btr_tree.specs.declared.slots.Slots.{Slots}
+use Rattle.btr_tree.specs.History.{Past, bag}
 use Rattle.btr_tree.specs.Nodes.{points_of, is_inner}
-use Rattle.btr_tree.specs.declared.node.Child.{Child}
+use Rattle.btr_tree.specs.declared.node.NodeData.{NodeData}
 use Rattle.btr_tree.specs.Shape.{slot_start, IsChild, HasSlots, HasChildren, IsNode}
-use Rattle.btr_tree.proofs.NodeLemmas.{leaf-is, inner-is, slot-part, slot-few}
+use Rattle.btr_tree.proofs.NodeLemmas.{leaf-is, inner-is, slot-few}
 use Rattle.btr_tree.specs.Change.{IsSomeChild, AreSomeSlots}
 use Rattle.btr_tree.proofs.VersionLemmas.{points-in_order}
 
@@ -29,10 +29,10 @@ not_before : (time t : ℤ) → not (int_lt t time) ≡ int_le time t
 not_before time t = grind (arith, ints)
 
 -- The points of a leaf are those of its span.
-pub leaf-points : (k : ℕ) (s : ℤ) (above : List Point → Bool) (h : List Commit) (n : Node) (v : ℕ) (ps : Bor (List Point)) → n ≡ Leaf v ps → IsNode k s above h n → ps.now ≡ points_of k s (bag h)
+pub leaf-points : (k : ℕ) (s : ℤ) (above : List Point → Bool) (h : Past) (n : Node) (v : ℕ) (ps : Bor (List Point)) → n ≡ Leaf v ps → IsNode k s above h n → ps.now ≡ points_of k s (bag h)
 leaf-points k s above h n v ps e holds = (leaf-is k s above h n v ps e holds).same
 
-pub leaf-in_order : (k : ℕ) (s : ℤ) (above : List Point → Bool) (h : List Commit) (n : Node) (v : ℕ) (ps : Bor (List Point)) → n ≡ Leaf v ps → IsNode k s above h n → IsInOrder ps.now
+pub leaf-in_order : (k : ℕ) (s : ℤ) (above : List Point → Bool) (h : Past) (n : Node) (v : ℕ) (ps : Bor (List Point)) → n ≡ Leaf v ps → IsNode k s above h n → IsInOrder ps.now
 leaf-in_order k s above h n v ps e holds =
     subst IsInOrder (sym (leaf-points k s above h n v ps e holds)) (points-in_order k s h)
 
@@ -60,20 +60,20 @@ none-until k s b time high none =
     sym (within-before s (s +ℤ pos (width k)) time b high) ∙ ap (filter (λ p. int_lt p.time time)) none
 
 -- The slots and children of an inner node.
-pub record HasInner (k : ℕ) (s : ℤ) (h : List Commit) (ss : List Slot) (cs : List Child) : Type 0 where
+pub record HasInner (k : ℕ) (s : ℤ) (h : Past) (x : Slots) : Type 0 where
   pub below : ℕ
   pub height : k ≡ suc below
-  pub all : HasSlots below s h 64 ss cs
-  pub each : HasChildren below s h 64 cs
+  pub all : HasSlots below s h x
+  pub each : HasChildren below s h x
 
-pub inner-parts : (k : ℕ) (s : ℤ) (above : List Point → Bool) (h : List Commit) (n : Node) (v : ℕ) (ss : Bor (List Slot)) (cs : Bor (List Child)) → n ≡ Inner v ss cs → IsNode k s above h n → HasInner k s h ss.now cs.now
-inner-parts k s above h n v ss cs e holds =
-    let body = inner-is k s above h n v ss cs e holds in
+pub inner-parts : (k : ℕ) (s : ℤ) (above : List Point → Bool) (h : Past) (n : Node) (v : ℕ) (x : Bor Slots) → n ≡ Inner v x → IsNode k s above h n → HasInner k s h x.now
+inner-parts k s above h n v x e holds =
+    let body = inner-is k s above h n v x e holds in
     record { below = body.below; height = body.height; all = body.inner.all; each = body.each }
 
 -- An inner node is of a history if its link was.
-pub inner-stands : (k : ℕ) (s : ℤ) (h : List Commit) (ss : List Slot) (cs : List Child) → HasInner k s h ss cs → length (points_of k s (bag h)) + 0 < 2 ^ 64 → (below : ℕ) × (k ≡ suc below) × AreSomeSlots below s ss cs 0
-inner-stands k s h ss cs body few = (
+pub inner-stands : (k : ℕ) (s : ℤ) (h : Past) (x : Slots) → HasInner k s h x → length (points_of k s (bag h)) + 0 < 2 ^ 64 → (below : ℕ) × (k ≡ suc below) × AreSomeSlots below s x 0
+inner-stands k s h x body few = (
   body.below,
   body.height,
   record {
@@ -87,7 +87,7 @@ inner-stands k s h ss cs body few = (
 -- ---- a slot's child
 
 -- A slot's child is of a history if its inner node is.
-pub child-stands : (below : ℕ) (s : ℤ) (h : List Commit) (i : ℕ) (part : SpanValue) (child : Child) → part ≡ record { start = slot_start below s i; height = below } → IsChild part.height part.start (is_inner (suc below) s) h child → i < 64 → length (points_of (suc below) s (bag h)) + 0 < 2 ^ 64 → IsSomeChild part.height part.start child 0
+pub child-stands : (below : ℕ) (s : ℤ) (h : Past) (i : ℕ) (part : SpanValue) (child : Option NodeData) → part ≡ record { start = slot_start below s i; height = below } → IsChild part.height part.start (is_inner (suc below) s) h child → i < 64 → length (points_of (suc below) s (bag h)) + 0 < 2 ^ 64 → IsSomeChild part.height part.start child 0
 child-stands below s h i part child is holds place few =
     let fewer = slot-few below s h i part place is in
     record {

@@ -1,5 +1,5 @@
 -- Lemmas on slots without a point that follow one another, and on the points before and after them.
-use Rattle.std.specs.Prelude.{◌≡◌, ℕ, ◌+◌, ◌-◌, ◌<◌, ◌≤◌, ℤ, pos, ◌+ℤ◌, ◌≤ℤ◌, List, [], ◌∷◌, ◌++◌, length, slice_index_or, Option, Some, None, slice_get}
+use Rattle.std.specs.Prelude.{◌≡◌, ℕ, ◌+◌, ◌-◌, ◌<◌, ◌≤◌, ℤ, pos, ◌+ℤ◌, ◌≤ℤ◌, List, [], ◌∷◌, ◌++◌, length, Option, Some, None, slice_get}
 use Rattle.std.specs.List.{last_or}
 use Rattle.std.proofs.Common.{zero, suc, refl, sym, ap, ◌∙◌, arith, subst, append-nil}
 use Rattle.std.proofs.lemmas.Int.{ints}
@@ -8,12 +8,12 @@ use Rattle.btr_base.specs.Bag.{within}
 use Rattle.btr_base.specs.Span.{width, SpanValue}
 use Rattle.btr_base.proofs.AggLemmas.{agg-count}
 use Rattle.btr_base.proofs.WithinLemmas.{within-split, within-empty}
-use Rattle.btr_tree.specs.declared.node.Slot.{Slot}
-use Rattle.btr_tree.specs.History.{Commit, bag}
+use Rattle.btr_tree.specs.declared.slots.Slots.{Slots}
+use Rattle.btr_tree.specs.Slots.{slot_in, IsOccupied, AreEmpty}
+use Rattle.btr_tree.specs.History.{Past, bag}
 use Rattle.btr_tree.specs.Nodes.{points_of}
 use Rattle.btr_tree.proofs.VersionLemmas.{bag-in_order}
 use Rattle.btr_tree.specs.Change.{end_of}
-use Rattle.btr_tree.specs.declared.node.Child.{Child}
 use Rattle.btr_tree.specs.Shape.{HasSlots, slot_start}
 use Rattle.btr_tree.proofs.NodeLemmas.{slot-end, slot-from, slot-inside, slot-next, prefix-next, prefix-none, rest-next}
 use Rattle.btr_scan.proofs.Firsts.{first-some, first-found, first-missed, last-some, last-found, last-missed}
@@ -23,36 +23,34 @@ le-gap a b h = (b - a, omega arith)
 
 -- ---- the points of a slot, by its count
 
-slot-count : (below : ℕ) (s : ℤ) (h : List Commit) (ss : List Slot) (cs : List Child) (m : ℕ) (d : Slot) → HasSlots below s h 64 ss cs → m < 64 → (slice_index_or ss m d).agg.count ≡ length (points_of below (slot_start below s m) (bag h))
-slot-count below s h ss cs m d slots place =
-    ap (λ x. x.agg.count) (slots.each m d place) ∙ agg-count (points_of below (slot_start below s m) (bag h))
+slot-count : (below : ℕ) (s : ℤ) (h : Past) (x : Slots) (m : ℕ) → HasSlots below s h x → m < 64 → (slot_in x m).agg.count ≡ length (points_of below (slot_start below s m) (bag h))
+slot-count below s h x m slots place =
+    ap (λ y. y.agg.count) (slots.each m place) ∙ agg-count (points_of below (slot_start below s m) (bag h))
 
 none-counted : (b : List Point) → length b ≡ 0 → b ≡ []
 none-counted [] e = refl
 none-counted (p ∷ b) e = absurd (omega arith)
 
 -- The slots from one up to, and without, another have no point.
-abbrev pub IsBlockRange : ℕ → ℤ → List Commit → ℕ → ℕ → Type 0
+abbrev pub IsBlockRange : ℕ → ℤ → Past → ℕ → ℕ → Type 0
 IsBlockRange below s h i j = (m : ℕ) → i ≤ m → m < j → points_of below (slot_start below s m) (bag h) ≡ []
 
-run-of : (below : ℕ) (s : ℤ) (h : List Commit) (ss : List Slot) (cs : List Child) (i j : ℕ) → HasSlots below s h 64 ss cs → j ≤ 64 → ((m : ℕ) (d : Slot) → i ≤ m → m < j → (slice_index_or ss m d).agg.count ≡ 0) → IsBlockRange below s h i j
-run-of below s h ss cs i j slots up none m low high =
-    let d : Slot = record { agg = record { count = 0; total = pos 0; ends = None }; version = 0; child = 0 } in
-    none-counted (points_of below (slot_start below s m) (bag h)) (sym (slot-count below s h ss cs m d slots (omega arith)) ∙ none m d low high)
+run-of : (below : ℕ) (s : ℤ) (h : Past) (x : Slots) (i j : ℕ) → HasSlots below s h x → j ≤ 64 → AreEmpty x i j → IsBlockRange below s h i j
+run-of below s h x i j slots up none m low high =
+    none-counted (points_of below (slot_start below s m) (bag h)) (sym (slot-count below s h x m slots (omega arith)) ∙ none m low high)
 
-full-of : (below : ℕ) (s : ℤ) (h : List Commit) (ss : List Slot) (cs : List Child) (i : ℕ) → HasSlots below s h 64 ss cs → i < 64 → ((d : Slot) → 0 < (slice_index_or ss i d).agg.count) → 0 < length (points_of below (slot_start below s i) (bag h))
-full-of below s h ss cs i slots place some =
-    let d : Slot = record { agg = record { count = 0; total = pos 0; ends = None }; version = 0; child = 0 } in
-    omega (arith, slot-count below s h ss cs i d slots place, some d)
+full-of : (below : ℕ) (s : ℤ) (h : Past) (x : Slots) (i : ℕ) → HasSlots below s h x → i < 64 → IsOccupied x i → 0 < length (points_of below (slot_start below s i) (bag h))
+full-of below s h x i slots place some =
+    omega (arith, slot-count below s h x i slots place, some)
 
 -- A slot whose count is not 0 has a point.
-pub full-slot : (below : ℕ) (s : ℤ) (h : List Commit) (ss : List Slot) (cs : List Child) (i : ℕ) (part : SpanValue) → HasSlots below s h 64 ss cs → i < 64 → ((d : Slot) → 0 < (slice_index_or ss i d).agg.count) → part ≡ record { start = slot_start below s i; height = below } → 0 < length (points_of part.height part.start (bag h))
-full-slot below s h ss cs i part slots place some is =
-    subst (λ (u : SpanValue). 0 < length (points_of u.height u.start (bag h))) (sym is) (full-of below s h ss cs i slots place some)
+pub full-slot : (below : ℕ) (s : ℤ) (h : Past) (x : Slots) (i : ℕ) (part : SpanValue) → HasSlots below s h x → i < 64 → IsOccupied x i → part ≡ record { start = slot_start below s i; height = below } → 0 < length (points_of part.height part.start (bag h))
+full-slot below s h x i part slots place some is =
+    subst (λ (u : SpanValue). 0 < length (points_of u.height u.start (bag h))) (sym is) (full-of below s h x i slots place some)
 
 -- ---- after slots without a point
 
-rest-skip : (n below : ℕ) (s : ℤ) (h : List Commit) (i j : ℕ) → n + i ≡ j → j ≤ 64 → IsBlockRange below s h i j → within (slot_start below s i) (s +ℤ pos (width (suc below))) (bag h) ≡ within (slot_start below s j) (s +ℤ pos (width (suc below))) (bag h)
+rest-skip : (n below : ℕ) (s : ℤ) (h : Past) (i j : ℕ) → n + i ≡ j → j ≤ 64 → IsBlockRange below s h i j → within (slot_start below s i) (s +ℤ pos (width (suc below))) (bag h) ≡ within (slot_start below s j) (s +ℤ pos (width (suc below))) (bag h)
 rest-skip zero below s h i j e up run =
     let same : i ≡ j = omega arith in
     ap (λ k. within (slot_start below s k) (s +ℤ pos (width (suc below))) (bag h)) same
@@ -61,16 +59,16 @@ rest-skip (suc n) below s h i j e up run =
     ∙ ap (λ x. x ++ within (slot_start below s (i + 1)) (s +ℤ pos (width (suc below))) (bag h)) (run i (omega arith) (omega arith))
     ∙ rest-skip n below s h (i + 1) j (omega arith) up (λ m low high. run m (omega arith) high)
 
-rest-none : (below : ℕ) (s : ℤ) (h : List Commit) → within (slot_start below s 64) (s +ℤ pos (width (suc below))) (bag h) ≡ []
+rest-none : (below : ℕ) (s : ℤ) (h : Past) → within (slot_start below s 64) (s +ℤ pos (width (suc below))) (bag h) ≡ []
 rest-none below s h =
     ap (λ a. within a (s +ℤ pos (width (suc below))) (bag h)) (slot-end below s) ∙ within-empty (s +ℤ pos (width (suc below))) (bag h)
 
 -- The first point from a slot on is that of the first slot there with a point.
-pub first-behind : (span : SpanValue) (below : ℕ) (h : List Commit) (ss : List Slot) (cs : List Child) (from i : ℕ) (part : SpanValue) (r : Option Point) → span.height ≡ suc below → HasSlots below span.start h 64 ss cs → from ≤ i → i < 64 → ((d : Slot) → 0 < (slice_index_or ss i d).agg.count) → ((m : ℕ) (d : Slot) → from ≤ m → m < i → (slice_index_or ss m d).agg.count ≡ 0) → part ≡ record { start = slot_start below span.start i; height = below } → r ≡ slice_get (points_of part.height part.start (bag h)) 0 → r ≡ slice_get (within (slot_start below span.start from) (end_of span) (bag h)) 0
-first-behind span below h ss cs from i part r e slots low place some passed is found =
+pub first-behind : (span : SpanValue) (below : ℕ) (h : Past) (x : Slots) (from i : ℕ) (part : SpanValue) (r : Option Point) → span.height ≡ suc below → HasSlots below span.start h x → from ≤ i → i < 64 → IsOccupied x i → AreEmpty x from i → part ≡ record { start = slot_start below span.start i; height = below } → r ≡ slice_get (points_of part.height part.start (bag h)) 0 → r ≡ slice_get (within (slot_start below span.start from) (end_of span) (bag h)) 0
+first-behind span below h x from i part r e slots low place some passed is found =
     let s = span.start in
-    let run = run-of below s h ss cs from i slots (omega arith) passed in
-    let full = full-of below s h ss cs i slots place some in
+    let run = run-of below s h x from i slots (omega arith) passed in
+    let full = full-of below s h x i slots place some in
     let gap = le-gap from i low in
     found
     ∙ ap (λ (u : SpanValue). slice_get (points_of u.height u.start (bag h)) 0) is
@@ -79,10 +77,10 @@ first-behind span below h ss cs from i part r e slots low place some passed is f
     ∙ ap (λ k. slice_get (within (slot_start below s from) (s +ℤ pos (width k)) (bag h)) 0) (sym e)
 
 -- There is no point if no slot there has one.
-pub none-behind : (span : SpanValue) (below : ℕ) (h : List Commit) (ss : List Slot) (cs : List Child) (from : ℕ) (r : Option Point) → span.height ≡ suc below → HasSlots below span.start h 64 ss cs → from ≤ 64 → ((m : ℕ) (d : Slot) → from ≤ m → m < 64 → (slice_index_or ss m d).agg.count ≡ 0) → r ≡ None → r ≡ slice_get (within (slot_start below span.start from) (end_of span) (bag h)) 0
-none-behind span below h ss cs from r e slots up none is =
+pub none-behind : (span : SpanValue) (below : ℕ) (h : Past) (x : Slots) (from : ℕ) (r : Option Point) → span.height ≡ suc below → HasSlots below span.start h x → from ≤ 64 → AreEmpty x from 64 → r ≡ None → r ≡ slice_get (within (slot_start below span.start from) (end_of span) (bag h)) 0
+none-behind span below h x from r e slots up none is =
     let s = span.start in
-    let run = run-of below s h ss cs from 64 slots (omega arith) none in
+    let run = run-of below s h x from 64 slots (omega arith) none in
     let gap = le-gap from 64 up in
     is
     ∙ sym (ap (λ (x : List Point). slice_get x 0) (rest-skip gap.0 below s h from 64 gap.1 (omega arith) run ∙ rest-none below s h))
@@ -90,7 +88,7 @@ none-behind span below h ss cs from r e slots up none is =
 
 -- ---- before slots without a point
 
-prefix-skip : (n below : ℕ) (s : ℤ) (h : List Commit) (i j : ℕ) → n + i ≡ j → IsBlockRange below s h i j → within s (slot_start below s j) (bag h) ≡ within s (slot_start below s i) (bag h)
+prefix-skip : (n below : ℕ) (s : ℤ) (h : Past) (i j : ℕ) → n + i ≡ j → IsBlockRange below s h i j → within s (slot_start below s j) (bag h) ≡ within s (slot_start below s i) (bag h)
 prefix-skip zero below s h i j e run =
     let same : j ≡ i = omega arith in
     ap (λ k. within s (slot_start below s k) (bag h)) same
@@ -100,27 +98,33 @@ prefix-skip (suc n) below s h i j e run =
     ∙ ap (λ x. within s (slot_start below s i) (bag h) ++ x) (run i (omega arith) (omega arith))
     ∙ append-nil (within s (slot_start below s i) (bag h))
 
+-- If no slot from one up to, and without, another has a point, the points before the other are those before the one.
+pub prefix-gap : (below : ℕ) (s : ℤ) (h : Past) (x : Slots) (i j : ℕ) → HasSlots below s h x → i ≤ j → j ≤ 64 → AreEmpty x i j → within s (slot_start below s j) (bag h) ≡ within s (slot_start below s i) (bag h)
+prefix-gap below s h x i j slots low up none =
+    let gap = le-gap i j low in
+    prefix-skip gap.0 below s h i j gap.1 (run-of below s h x i j slots up none)
+
 -- The last point before a slot is that of the last slot there with a point.
-pub last-before : (below : ℕ) (s : ℤ) (h : List Commit) (ss : List Slot) (cs : List Child) (to i : ℕ) (part : SpanValue) (r : Option Point) → HasSlots below s h 64 ss cs → i < to → to ≤ 64 → ((d : Slot) → 0 < (slice_index_or ss i d).agg.count) → ((m : ℕ) (d : Slot) → i < m → m < to → (slice_index_or ss m d).agg.count ≡ 0) → part ≡ record { start = slot_start below s i; height = below } → r ≡ last_or None (points_of part.height part.start (bag h)) → r ≡ last_or None (within s (slot_start below s to) (bag h))
-last-before below s h ss cs to i part r slots high place some passed is found =
-    let run = run-of below s h ss cs (i + 1) to slots place (λ m d low up. passed m d (omega arith) up) in
-    let full = full-of below s h ss cs i slots (omega arith) some in
+pub last-before : (below : ℕ) (s : ℤ) (h : Past) (x : Slots) (to i : ℕ) (part : SpanValue) (r : Option Point) → HasSlots below s h x → i < to → to ≤ 64 → IsOccupied x i → AreEmpty x (i + 1) to → part ≡ record { start = slot_start below s i; height = below } → r ≡ last_or None (points_of part.height part.start (bag h)) → r ≡ last_or None (within s (slot_start below s to) (bag h))
+last-before below s h x to i part r slots high place some passed is found =
+    let run = run-of below s h x (i + 1) to slots place passed in
+    let full = full-of below s h x i slots (omega arith) some in
     let gap = le-gap (i + 1) to (omega arith) in
     found
     ∙ ap (λ (u : SpanValue). last_or None (points_of u.height u.start (bag h))) is
     ∙ sym (last-some (within s (slot_start below s i) (bag h)) (points_of below (slot_start below s i) (bag h)) full)
     ∙ sym (ap (last_or None) (prefix-skip gap.0 below s h (i + 1) to gap.1 run ∙ prefix-next below s i h))
 
-pub none-before : (below : ℕ) (s : ℤ) (h : List Commit) (ss : List Slot) (cs : List Child) (to : ℕ) (r : Option Point) → HasSlots below s h 64 ss cs → to ≤ 64 → ((m : ℕ) (d : Slot) → m < to → (slice_index_or ss m d).agg.count ≡ 0) → r ≡ None → r ≡ last_or None (within s (slot_start below s to) (bag h))
-none-before below s h ss cs to r slots place none is =
-    let run = run-of below s h ss cs 0 to slots place (λ m d low up. none m d up) in
+pub none-before : (below : ℕ) (s : ℤ) (h : Past) (x : Slots) (to : ℕ) (r : Option Point) → HasSlots below s h x → to ≤ 64 → AreEmpty x 0 to → r ≡ None → r ≡ last_or None (within s (slot_start below s to) (bag h))
+none-before below s h x to r slots place none is =
+    let run = run-of below s h x 0 to slots place none in
     is
     ∙ sym (ap (last_or None) (prefix-skip to below s h 0 to (omega arith) run ∙ prefix-none below s h))
 
 -- ---- the slot that a time lies in
 
 -- The points from a time on are those of its slot, and those of the slots after it.
-from-parts : (span : SpanValue) (below : ℕ) (h : List Commit) (time : ℤ) (i : ℕ) (part : SpanValue) → span.height ≡ suc below → i < 64 → part ≡ record { start = slot_start below span.start i; height = below } → time ≤ℤ end_of part → within time (end_of span) (bag h) ≡ within time (end_of part) (bag h) ++ within (slot_start below span.start (i + 1)) (end_of span) (bag h)
+from-parts : (span : SpanValue) (below : ℕ) (h : Past) (time : ℤ) (i : ℕ) (part : SpanValue) → span.height ≡ suc below → i < 64 → part ≡ record { start = slot_start below span.start i; height = below } → time ≤ℤ end_of part → within time (end_of span) (bag h) ≡ within time (end_of part) (bag h) ++ within (slot_start below span.start (i + 1)) (end_of span) (bag h)
 from-parts span below h time i part e place is early =
     let s = span.start in
     let ends : end_of part ≡ slot_start below s (i + 1) = ap (λ (u : SpanValue). end_of u) is ∙ sym (slot-next below s i) in
@@ -130,30 +134,30 @@ from-parts span below h time i part e place is early =
     within-split time (slot_start below s (i + 1)) (end_of span) (bag h) (omega (arith, ints)) high (bag-in_order h)
     ∙ ap (λ x. within time x (bag h) ++ within (slot_start below s (i + 1)) (end_of span) (bag h)) (sym ends)
 
-pub next-here : (span : SpanValue) (below : ℕ) (h : List Commit) (time : ℤ) (i : ℕ) (part : SpanValue) (p : Point) → span.height ≡ suc below → i < 64 → part ≡ record { start = slot_start below span.start i; height = below } → time ≤ℤ end_of part → Some p ≡ slice_get (within time (end_of part) (bag h)) 0 → Some p ≡ slice_get (within time (end_of span) (bag h)) 0
+pub next-here : (span : SpanValue) (below : ℕ) (h : Past) (time : ℤ) (i : ℕ) (part : SpanValue) (p : Point) → span.height ≡ suc below → i < 64 → part ≡ record { start = slot_start below span.start i; height = below } → time ≤ℤ end_of part → Some p ≡ slice_get (within time (end_of part) (bag h)) 0 → Some p ≡ slice_get (within time (end_of span) (bag h)) 0
 next-here span below h time i part p e place is early found =
     sym (first-found (within time (end_of part) (bag h)) (within (slot_start below span.start (i + 1)) (end_of span) (bag h)) p (sym found))
     ∙ sym (ap (λ (x : List Point). slice_get x 0) (from-parts span below h time i part e place is early))
 
-pub next-behind : (span : SpanValue) (below : ℕ) (h : List Commit) (time : ℤ) (i : ℕ) (part : SpanValue) (r : Option Point) → span.height ≡ suc below → i < 64 → part ≡ record { start = slot_start below span.start i; height = below } → time ≤ℤ end_of part → None ≡ slice_get (within time (end_of part) (bag h)) 0 → r ≡ slice_get (within (slot_start below span.start (i + 1)) (end_of span) (bag h)) 0 → r ≡ slice_get (within time (end_of span) (bag h)) 0
+pub next-behind : (span : SpanValue) (below : ℕ) (h : Past) (time : ℤ) (i : ℕ) (part : SpanValue) (r : Option Point) → span.height ≡ suc below → i < 64 → part ≡ record { start = slot_start below span.start i; height = below } → time ≤ℤ end_of part → None ≡ slice_get (within time (end_of part) (bag h)) 0 → r ≡ slice_get (within (slot_start below span.start (i + 1)) (end_of span) (bag h)) 0 → r ≡ slice_get (within time (end_of span) (bag h)) 0
 next-behind span below h time i part r e place is early none found =
     found
     ∙ sym (first-missed (within time (end_of part) (bag h)) (within (slot_start below span.start (i + 1)) (end_of span) (bag h)) (sym none))
     ∙ sym (ap (λ (x : List Point). slice_get x 0) (from-parts span below h time i part e place is early))
 
 -- The points before a time are those of the slots before its slot, and those of the slot.
-before-parts : (below : ℕ) (s : ℤ) (h : List Commit) (time : ℤ) (i : ℕ) (part : SpanValue) → part ≡ record { start = slot_start below s i; height = below } → part.start ≤ℤ time → within s time (bag h) ≡ within s (slot_start below s i) (bag h) ++ within part.start time (bag h)
+before-parts : (below : ℕ) (s : ℤ) (h : Past) (time : ℤ) (i : ℕ) (part : SpanValue) → part ≡ record { start = slot_start below s i; height = below } → part.start ≤ℤ time → within s time (bag h) ≡ within s (slot_start below s i) (bag h) ++ within part.start time (bag h)
 before-parts below s h time i part is late =
     let begins : part.start ≡ slot_start below s i = ap (λ (u : SpanValue). u.start) is in
     within-split s (slot_start below s i) time (bag h) (slot-from below s i) (omega (arith, ints)) (bag-in_order h)
     ∙ ap (λ x. within s (slot_start below s i) (bag h) ++ within x time (bag h)) (sym begins)
 
-pub previous-here : (below : ℕ) (s : ℤ) (h : List Commit) (time : ℤ) (i : ℕ) (part : SpanValue) (p : Point) → part ≡ record { start = slot_start below s i; height = below } → part.start ≤ℤ time → Some p ≡ last_or None (within part.start time (bag h)) → Some p ≡ last_or None (within s time (bag h))
+pub previous-here : (below : ℕ) (s : ℤ) (h : Past) (time : ℤ) (i : ℕ) (part : SpanValue) (p : Point) → part ≡ record { start = slot_start below s i; height = below } → part.start ≤ℤ time → Some p ≡ last_or None (within part.start time (bag h)) → Some p ≡ last_or None (within s time (bag h))
 previous-here below s h time i part p is late found =
     sym (last-found (within s (slot_start below s i) (bag h)) (within part.start time (bag h)) p (sym found))
     ∙ sym (ap (last_or None) (before-parts below s h time i part is late))
 
-pub previous-before : (below : ℕ) (s : ℤ) (h : List Commit) (time : ℤ) (i : ℕ) (part : SpanValue) (r : Option Point) → part ≡ record { start = slot_start below s i; height = below } → part.start ≤ℤ time → None ≡ last_or None (within part.start time (bag h)) → r ≡ last_or None (within s (slot_start below s i) (bag h)) → r ≡ last_or None (within s time (bag h))
+pub previous-before : (below : ℕ) (s : ℤ) (h : Past) (time : ℤ) (i : ℕ) (part : SpanValue) (r : Option Point) → part ≡ record { start = slot_start below s i; height = below } → part.start ≤ℤ time → None ≡ last_or None (within part.start time (bag h)) → r ≡ last_or None (within s (slot_start below s i) (bag h)) → r ≡ last_or None (within s time (bag h))
 previous-before below s h time i part r is late none found =
     found
     ∙ sym (last-missed (within s (slot_start below s i) (bag h)) (within part.start time (bag h)) (sym none))

@@ -1,23 +1,23 @@
 //! The last point before a time.
-ghost use Rattle.std.specs.Prelude.{◌≡◌, ◌+◌, ◌*◌, ◌≤◌, ℕ, ℤ, suc, ◌≤ℤ◌, ◌<ℤ◌, int_lt, Bool, List, None, filter, IsNone};
+ghost use Rattle.std.specs.Prelude.{◌≡◌, ◌+◌, ◌*◌, ◌≤◌, ℕ, ℤ, suc, ◌≤ℤ◌, ◌<ℤ◌, int_lt, None, filter, IsNone};
 ghost use Rattle.std.specs.List.{last_or};
 ghost use Rattle.btr_base.specs.Bag.{within};
 ghost use Rattle.btr_base.specs.declared.limits.TheConstants.{FIRST as FIRST_TIME};
-ghost use Rattle.btr_tree.specs.History.{Commit, bag};
+ghost use Rattle.btr_tree.specs.History.{Past, bag};
 ghost use Rattle.btr_tree.specs.Nodes.{above_root};
 ghost use Rattle.btr_tree.specs.Shape.{IsChild, HasSlots, HasChildren, slot_start};
 ghost use Rattle.btr_tree.specs.EachHistory.{AtEachHistory, AtEachInner, points_in};
 ghost use Rattle.btr_tree.specs.Change.{IsSomeChild, AreSomeSlots, end_of};
+ghost use Rattle.btr_tree.specs.Slots.{node_of};
 ghost use Rattle.btr_base.specs.Point.{AreInDomain};
 
-use crate::slots::previous_slot;
 use btr_base::{END, FAN_OUT, FIRST, Point, Span, parted};
-use btr_tree::{Child, Node, Slot, Steps, root_span, visit};
+use btr_tree::{Child, Node, Slots, Steps, root_span, visit};
 
 /// Returns the last point of the tree before a time. It visits at most 21 nodes.
-pub(crate) fn previous_in_root(child: &Child, time: i64, steps: &mut Steps) -> Option<Point>
-    requires { IsSomeChild 10 FIRST_TIME child.now 0 }
-    ensures point { (h : List Commit) → IsChild 10 FIRST_TIME above_root h child.now → AreInDomain (bag h)
+pub(crate) fn previous_in_root(child: Child<'_>, time: i64, steps: &mut Steps) -> Option<Point>
+    requires { IsSomeChild 10 FIRST_TIME (node_of child) 0 }
+    ensures point { (h : Past) → IsChild 10 FIRST_TIME above_root h (node_of child.entry) → AreInDomain (bag h)
         → result ≡ last_or None (filter (λ p. int_lt p.time time) (bag h)) }
     ensures bounded { steps.new ≤ steps.old + 21 }
     ensures never_falls { steps.old ≤ steps.new }
@@ -34,11 +34,11 @@ pub(crate) fn previous_in_root(child: &Child, time: i64, steps: &mut Steps) -> O
 /// Returns the last point of a child before a time, which is above the span's start and at most its end. It visits at most
 /// two nodes a height, and at most one if it finds none.
 #[cycle(previous)]
-fn previous_in_child(span: Span, child: &Child, time: i64, steps: &mut Steps) -> Option<Point>
-    requires some { IsSomeChild span.height span.start child.now 0 }
+fn previous_in_child(span: Span, child: Child<'_>, time: i64, steps: &mut Steps) -> Option<Point>
+    requires some { IsSomeChild span.height span.start (node_of child) 0 }
     requires begins { span.start <ℤ time }
     requires ends { time ≤ℤ end_of span }
-    ensures point { AtEachHistory span child.now (λ h. result ≡ last_or None (within span.start time (bag h))) }
+    ensures point { AtEachHistory span (node_of child.entry) (λ h. result ≡ last_or None (within span.start time (bag h))) }
     ensures bounded { steps.new ≤ steps.old + 2 * span.height + 1 }
     ensures none { IsNone result → steps.new ≤ steps.old + span.height + 1 }
     ensures never_falls { steps.old ≤ steps.new }
@@ -48,77 +48,57 @@ fn previous_in_child(span: Span, child: &Child, time: i64, steps: &mut Steps) ->
             let (before, _) = parted(points, time);
             last_of(before)
         }
-        Node::Inner {
-            slots,
-            children,
-            ..
-        } => previous_in_slots(span, slots, children, time, steps),
+        Node::Inner { slots, .. } => previous_in_slots(span, slots, time, steps),
     }
 }
 
 /// Returns the last point of an inner node before a time: of the last slot that begins before the time, or else of the slots
 /// before that one.
 #[cycle(previous)]
-fn previous_in_slots(
-    span: Span,
-    slots: &[Slot],
-    children: &[Child],
-    time: i64,
-    steps: &mut Steps,
-) -> Option<Point>
-    requires some { (below : ℕ) × (span.height ≡ suc below) × AreSomeSlots below span.start slots.now children.now 0 }
+fn previous_in_slots(span: Span, slots: &Slots, time: i64, steps: &mut Steps) -> Option<Point>
+    requires some { (below : ℕ) × (span.height ≡ suc below) × AreSomeSlots below span.start slots.now 0 }
     requires begins { span.start <ℤ time }
     requires ends { time ≤ℤ end_of span }
-    ensures point { AtEachInner span slots.now children.now (λ h. result ≡ last_or None (within span.start time (bag h))) }
+    ensures point { AtEachInner span slots.now (λ h. result ≡ last_or None (within span.start time (bag h))) }
     ensures bounded { steps.new ≤ steps.old + 2 * span.height }
     ensures none { IsNone result → steps.new ≤ steps.old + span.height }
     ensures never_falls { steps.old ≤ steps.new }
 {
     let (_, i) = span.slots_between(span.start, time);
-    match previous_in_child(span.slot(i), &children[usize::from(i)], time, steps) {
+    match previous_in_child(span.slot(i), slots.child(i), time, steps) {
         Some(point) => Some(point),
-        None => last_in_slots(span, slots, children, i, steps),
+        None => last_in_slots(span, slots, i, steps),
     }
 }
 
 /// Returns the last point of a child. It visits at most one node a height.
 #[cycle(last)]
-fn last_in_child(span: Span, child: &Child, steps: &mut Steps) -> Option<Point>
-    requires { IsSomeChild span.height span.start child.now 0 }
-    ensures point { AtEachHistory span child.now (λ h. result ≡ last_or None (points_in span (bag h))) }
+fn last_in_child(span: Span, child: Child<'_>, steps: &mut Steps) -> Option<Point>
+    requires { IsSomeChild span.height span.start (node_of child) 0 }
+    ensures point { AtEachHistory span (node_of child.entry) (λ h. result ≡ last_or None (points_in span (bag h))) }
     ensures bounded { steps.new ≤ steps.old + span.height + 1 }
     ensures never_falls { steps.old ≤ steps.new }
 {
     match visit(child, steps)? {
         Node::Leaf { points, .. } => last_of(points),
-        Node::Inner {
-            slots,
-            children,
-            ..
-        } => last_in_slots(span, slots, children, FAN_OUT, steps),
+        Node::Inner { slots, .. } => last_in_slots(span, slots, FAN_OUT, steps),
     }
 }
 
 /// Returns the last point of the slots of an inner node with a number below `to`. It visits no node if it finds none.
 #[cycle(last)]
-fn last_in_slots(
-    span: Span,
-    slots: &[Slot],
-    children: &[Child],
-    to: u8,
-    steps: &mut Steps,
-) -> Option<Point>
-    requires some { (below : ℕ) × (span.height ≡ suc below) × AreSomeSlots below span.start slots.now children.now 0 }
+fn last_in_slots(span: Span, slots: &Slots, to: u8, steps: &mut Steps) -> Option<Point>
+    requires some { (below : ℕ) × (span.height ≡ suc below) × AreSomeSlots below span.start slots.now 0 }
     requires place { to ≤ 64 }
-    ensures point { (below : ℕ) (h : List Commit) → span.height ≡ suc below → HasSlots below span.start h 64 slots.now children.now
-        → HasChildren below span.start h 64 children.now
+    ensures point { (below : ℕ) (h : Past) → span.height ≡ suc below → HasSlots below span.start h slots.now
+        → HasChildren below span.start h slots.now
         → result ≡ last_or None (within span.start (slot_start below span.start to) (bag h)) }
     ensures bounded { steps.new ≤ steps.old + span.height }
     ensures none { IsNone result → steps.new ≡ steps.old }
     ensures never_falls { steps.old ≤ steps.new }
 {
-    let i = previous_slot(slots, to)?;
-    last_in_child(span.slot(i), &children[usize::from(i)], steps)
+    let i = slots.previous_occupied(to)?;
+    last_in_child(span.slot(i), slots.child(i), steps)
 }
 
 /// Returns the last point of a list.

@@ -1,22 +1,22 @@
 //! The first point at or after a time.
-ghost use Rattle.std.specs.Prelude.{◌≡◌, ◌+◌, ◌*◌, ◌≤◌, ℕ, ℤ, suc, ◌≤ℤ◌, ◌<ℤ◌, int_le, Bool, List, slice_get, filter, IsNone};
+ghost use Rattle.std.specs.Prelude.{◌≡◌, ◌+◌, ◌*◌, ◌≤◌, ℕ, ℤ, suc, ◌≤ℤ◌, ◌<ℤ◌, int_le, slice_get, filter, IsNone};
 ghost use Rattle.btr_base.specs.Bag.{within};
 ghost use Rattle.btr_base.specs.declared.limits.TheConstants.{FIRST as FIRST_TIME};
-ghost use Rattle.btr_tree.specs.History.{Commit, bag};
+ghost use Rattle.btr_tree.specs.History.{Past, bag};
 ghost use Rattle.btr_tree.specs.Nodes.{above_root};
 ghost use Rattle.btr_tree.specs.Shape.{IsChild, HasSlots, HasChildren, slot_start};
 ghost use Rattle.btr_tree.specs.EachHistory.{AtEachHistory, AtEachInner, points_in};
 ghost use Rattle.btr_tree.specs.Change.{IsSomeChild, AreSomeSlots, end_of};
+ghost use Rattle.btr_tree.specs.Slots.{node_of};
 ghost use Rattle.btr_base.specs.Point.{AreInDomain};
 
-use crate::slots::next_slot;
 use btr_base::{END, FIRST, Point, Span, parted};
-use btr_tree::{Child, Node, Slot, Steps, root_span, visit};
+use btr_tree::{Child, Node, Slots, Steps, root_span, visit};
 
 /// Returns the first point of the tree at or after a time. It visits at most 21 nodes.
-pub(crate) fn next_in_root(child: &Child, time: i64, steps: &mut Steps) -> Option<Point>
-    requires { IsSomeChild 10 FIRST_TIME child.now 0 }
-    ensures point { (h : List Commit) → IsChild 10 FIRST_TIME above_root h child.now → AreInDomain (bag h)
+pub(crate) fn next_in_root(child: Child<'_>, time: i64, steps: &mut Steps) -> Option<Point>
+    requires { IsSomeChild 10 FIRST_TIME (node_of child) 0 }
+    ensures point { (h : Past) → IsChild 10 FIRST_TIME above_root h (node_of child.entry) → AreInDomain (bag h)
         → result ≡ slice_get (filter (λ p. int_le time p.time) (bag h)) 0 }
     ensures bounded { steps.new ≤ steps.old + 21 }
     ensures never_falls { steps.old ≤ steps.new }
@@ -33,11 +33,11 @@ pub(crate) fn next_in_root(child: &Child, time: i64, steps: &mut Steps) -> Optio
 /// Returns the first point of a child at or after a time of its span. It visits at most two nodes a height, and at most one
 /// if it finds none.
 #[cycle(next)]
-fn next_in_child(span: Span, child: &Child, time: i64, steps: &mut Steps) -> Option<Point>
-    requires some { IsSomeChild span.height span.start child.now 0 }
+fn next_in_child(span: Span, child: Child<'_>, time: i64, steps: &mut Steps) -> Option<Point>
+    requires some { IsSomeChild span.height span.start (node_of child) 0 }
     requires begins { span.start ≤ℤ time }
     requires ends { time <ℤ end_of span }
-    ensures point { AtEachHistory span child.now (λ h. result ≡ slice_get (within time (end_of span) (bag h)) 0) }
+    ensures point { AtEachHistory span (node_of child.entry) (λ h. result ≡ slice_get (within time (end_of span) (bag h)) 0) }
     ensures bounded { steps.new ≤ steps.old + 2 * span.height + 1 }
     ensures none { IsNone result → steps.new ≤ steps.old + span.height + 1 }
     ensures never_falls { steps.old ≤ steps.new }
@@ -47,78 +47,58 @@ fn next_in_child(span: Span, child: &Child, time: i64, steps: &mut Steps) -> Opt
             let (_, after) = parted(points, time);
             first_of(after)
         }
-        Node::Inner {
-            slots,
-            children,
-            ..
-        } => next_in_slots(span, slots, children, time, steps),
+        Node::Inner { slots, .. } => next_in_slots(span, slots, time, steps),
     }
 }
 
 /// Returns the first point of an inner node at or after a time: of the slot that the time lies in, or else of the slots after
 /// that one.
 #[cycle(next)]
-fn next_in_slots(
-    span: Span,
-    slots: &[Slot],
-    children: &[Child],
-    time: i64,
-    steps: &mut Steps,
-) -> Option<Point>
-    requires some { (below : ℕ) × (span.height ≡ suc below) × AreSomeSlots below span.start slots.now children.now 0 }
+fn next_in_slots(span: Span, slots: &Slots, time: i64, steps: &mut Steps) -> Option<Point>
+    requires some { (below : ℕ) × (span.height ≡ suc below) × AreSomeSlots below span.start slots.now 0 }
     requires begins { span.start ≤ℤ time }
     requires ends { time <ℤ end_of span }
-    ensures point { AtEachInner span slots.now children.now (λ h. result ≡ slice_get (within time (end_of span) (bag h)) 0) }
+    ensures point { AtEachInner span slots.now (λ h. result ≡ slice_get (within time (end_of span) (bag h)) 0) }
     ensures bounded { steps.new ≤ steps.old + 2 * span.height }
     ensures none { IsNone result → steps.new ≤ steps.old + span.height }
     ensures never_falls { steps.old ≤ steps.new }
 {
     let i = span.slot_at(time);
-    match next_in_child(span.slot(i), &children[usize::from(i)], time, steps) {
+    match next_in_child(span.slot(i), slots.child(i), time, steps) {
         Some(point) => Some(point),
-        None => first_in_slots(span, slots, children, i + 1, steps),
+        None => first_in_slots(span, slots, i + 1, steps),
     }
 }
 
 /// Returns the first point of a child. It visits at most one node a height.
 #[cycle(first)]
-fn first_in_child(span: Span, child: &Child, steps: &mut Steps) -> Option<Point>
-    requires { IsSomeChild span.height span.start child.now 0 }
-    ensures point { AtEachHistory span child.now (λ h. result ≡ slice_get (points_in span (bag h)) 0) }
+fn first_in_child(span: Span, child: Child<'_>, steps: &mut Steps) -> Option<Point>
+    requires { IsSomeChild span.height span.start (node_of child) 0 }
+    ensures point { AtEachHistory span (node_of child.entry) (λ h. result ≡ slice_get (points_in span (bag h)) 0) }
     ensures bounded { steps.new ≤ steps.old + span.height + 1 }
     ensures never_falls { steps.old ≤ steps.new }
 {
     match visit(child, steps)? {
         Node::Leaf { points, .. } => first_of(points),
-        Node::Inner {
-            slots,
-            children,
-            ..
-        } => first_in_slots(span, slots, children, 0, steps),
+        Node::Inner { slots, .. } => first_in_slots(span, slots, 0, steps),
     }
 }
 
 /// Returns the first point of the slots of an inner node with a number of at least `from`. It visits no node if it finds
 /// none.
 #[cycle(first)]
-fn first_in_slots(
-    span: Span,
-    slots: &[Slot],
-    children: &[Child],
-    from: u8,
-    steps: &mut Steps,
-) -> Option<Point>
-    requires some { (below : ℕ) × (span.height ≡ suc below) × AreSomeSlots below span.start slots.now children.now 0 }
+fn first_in_slots(span: Span, slots: &Slots, from: u8, steps: &mut Steps) -> Option<Point>
+    requires some { (below : ℕ) × (span.height ≡ suc below) × AreSomeSlots below span.start slots.now 0 }
     requires place { from ≤ 64 }
-    ensures point { (below : ℕ) (h : List Commit) → span.height ≡ suc below → HasSlots below span.start h 64 slots.now children.now
-        → HasChildren below span.start h 64 children.now
+    ensures point { (below : ℕ) (h : Past) → span.height ≡ suc below → HasSlots below span.start h slots.now
+        → HasChildren below span.start h slots.now
         → result ≡ slice_get (within (slot_start below span.start from) (end_of span) (bag h)) 0 }
     ensures bounded { steps.new ≤ steps.old + span.height }
     ensures none { IsNone result → steps.new ≡ steps.old }
     ensures never_falls { steps.old ≤ steps.new }
 {
-    let i = next_slot(slots, from)?;
-    first_in_child(span.slot(i), &children[usize::from(i)], steps)
+    let i = slots.next_occupied(from)?;
+    first_in_child(span.slot(i), slots.child(i), steps)
 }
 
 /// Returns the first point of a list.

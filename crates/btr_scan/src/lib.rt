@@ -4,8 +4,6 @@
 //! in one direction (BTrDB's GetNearestValue). Both visit only nodes whose spans can hold the answer, and no empty slot.
 #![tactic(auto)]
 
-// slots with a point
-mod slots;
 // the points of a range
 mod range_walk;
 // the point nearest to a time

@@ -1,5 +1,5 @@
 //! The point nearest to a time.
-ghost use Rattle.std.specs.Prelude.{◌≡◌, ◌+◌, ◌≤◌, List};
+ghost use Rattle.std.specs.Prelude.{◌≡◌, ◌+◌, ◌≤◌};
 ghost use Rattle.btr_base.specs.Nearest.{nearest as nearest_in};
 ghost use Rattle.btr_tree.specs.History.{bag};
 ghost use Rattle.btr_tree.specs.Root.{AtEachTree};

@@ -1,13 +1,14 @@
 //! The points of a range.
-ghost use Rattle.std.specs.Prelude.{◌≡◌, ◌++◌, ℕ, ℤ, suc, ◌<ℤ◌, Bool, List, length, IfOk, OnOk};
+ghost use Rattle.std.specs.Prelude.{◌≡◌, ◌++◌, ℕ, ℤ, suc, ◌<ℤ◌, IfOk, OnOk};
 ghost use Rattle.btr_base.specs.Bag.{within};
 ghost use Rattle.btr_tree.specs.History.{bag};
 ghost use Rattle.btr_tree.specs.EachHistory.{AtEachHistory, AtEachInner, points_in};
 ghost use Rattle.btr_tree.specs.Change.{IsSomeChild, AreSomeSlots, end_of};
 ghost use Rattle.btr_tree.specs.Root.{AtEachTree};
+ghost use Rattle.btr_tree.specs.Slots.{node_of};
 
 use btr_base::{END, FIRST, Point, Range, Span, points_between};
-use btr_tree::{Child, Node, Slot, Steps, Tree, root_span, visit};
+use btr_tree::{Child, Node, Slots, Steps, Tree, root_span, visit};
 use std::alloc::{AllocError, Global};
 
 /// Returns the points of a version with `from <= time < to`, by time and value (BTrDB's GetRange). Equal points each count.
@@ -26,15 +27,15 @@ pub fn range(alloc: Global, tree: &Tree, range: Range) -> Result<Vec<Point>, All
 #[cycle(walk)]
 fn walk_child(
     span: Span,
-    child: &Child,
+    child: Child<'_>,
     range: Range,
     rows: &mut Vec<Point>,
     steps: &mut Steps,
 ) -> Result<(), AllocError>
-    requires some { IsSomeChild span.height span.start child.now 0 }
+    requires some { IsSomeChild span.height span.start (node_of child) 0 }
     requires begins { range.from <ℤ end_of span }
     requires ends { span.start <ℤ range.to }
-    ensures { OnOk result (AtEachHistory span child.now (λ h.
+    ensures { OnOk result (AtEachHistory span (node_of child.entry) (λ h.
         rows.new.items ≡ rows.old.items ++ within range.from range.to (points_in span (bag h)))) }
 {
     match visit(child, steps) {
@@ -43,59 +44,35 @@ fn walk_child(
             Node::Leaf { points, .. } => {
                 rows.extend_from_slice(points_between(points, range.from, range.to))
             }
-            Node::Inner {
-                slots,
-                children,
-                ..
-            } => walk_slots(span, slots, children, range, rows, steps),
+            Node::Inner { slots, .. } => walk_slots(span, slots, range, rows, steps),
         },
     }
 }
 
-/// Appends the points of an inner node whose times are in a range. It reads only the slots that meet the range.
+/// Appends the points of an inner node whose times are in a range. It walks from one slot with a point to the next, through
+/// those that meet the range.
 #[cycle(walk)]
 fn walk_slots(
     span: Span,
-    slots: &[Slot],
-    children: &[Child],
+    slots: &Slots,
     range: Range,
     rows: &mut Vec<Point>,
     steps: &mut Steps,
 ) -> Result<(), AllocError>
-    requires some { (below : ℕ) × (span.height ≡ suc below) × AreSomeSlots below span.start slots.now children.now 0 }
+    requires some { (below : ℕ) × (span.height ≡ suc below) × AreSomeSlots below span.start slots.now 0 }
     requires begins { range.from <ℤ end_of span }
     requires ends { span.start <ℤ range.to }
-    ensures { OnOk result (AtEachInner span slots.now children.now (λ h.
+    ensures { OnOk result (AtEachInner span slots.now (λ h.
         rows.new.items ≡ rows.old.items ++ within range.from range.to (points_in span (bag h)))) }
 {
     let (first, last) = span.slots_between(range.from, range.to);
-    for i in first..last + 1 {
-        let index = usize::from(i);
-        let agg = &slots[index].agg;
-        let count = agg.count;
-        walk_slot(span.slot(i), count, &children[index], range, rows, steps)?;
+    let mut from = first;
+    while let Some(i) = slots.next_occupied(from) {
+        if i > last {
+            return Ok(());
+        }
+        walk_child(span.slot(i), slots.child(i), range, rows, steps)?;
+        from = i + 1;
     }
     Ok(())
-}
-
-/// Appends the points of a slot whose times are in a range. The slot has `count` points, and is not visited if it has none.
-#[cycle(walk)]
-fn walk_slot(
-    span: Span,
-    count: u64,
-    child: &Child,
-    range: Range,
-    rows: &mut Vec<Point>,
-    steps: &mut Steps,
-) -> Result<(), AllocError>
-    requires some { IsSomeChild span.height span.start child.now 0 }
-    requires begins { range.from <ℤ end_of span }
-    requires ends { span.start <ℤ range.to }
-    ensures { OnOk result (AtEachHistory span child.now (λ h.
-        count ≡ length (points_in span (bag h)) → rows.new.items ≡ rows.old.items ++ within range.from range.to (points_in span (bag h)))) }
-{
-    if count == 0 {
-        return Ok(());
-    }
-    walk_child(span, child, range, rows, steps)
 }

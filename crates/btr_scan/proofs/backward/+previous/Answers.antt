@@ -7,6 +7,7 @@ use Rattle.btr_base.specs.Bag.{within}
 use Rattle.btr_base.specs.Span.{SpanValue}
 use Rattle.btr_tree.specs.Change.{end_of}
 use Rattle.btr_tree.specs.History.{bag}
+use Rattle.btr_tree.specs.Slots.{node_of}
 use Rattle.btr_tree.specs.Nodes.{is_inner}
 use Rattle.btr_tree.proofs.NodeLemmas.{child-at}
 use Rattle.btr_scan.proofs.Places.{leaf-points, leaf-in_order, leaf-before, none-until, inner-parts, inner-stands, child-stands}
@@ -38,10 +39,10 @@ previous_in_child-previous_in_slots-requires t c =
     let d = c.decreases in
     let same = to_z-of_z w64 c.args.time c.ranges.time in
     let node = c.in_ok-points.ensures.node k s st.above st.commits st.holds in
-    let body = inner-parts k s st.above st.commits c.in_ok-points.field-0 c.in-Inner.version c.in-Inner.slots c.in-Inner.children c.in-Inner.is node in (
+    let body = inner-parts k s st.above st.commits c.in_ok-points.field-0 c.in-Inner.version c.in-Inner.slots c.in-Inner.is node in (
       omega arith,
       (
-        inner-stands k s st.commits _ _ body st.few,
+        inner-stands k s st.commits _ body st.few,
         (subst (λ x. s <ℤ x) (sym same) c.requires.begins, subst (λ x. x ≤ℤ end_of c.args.span) (sym same) c.requires.ends),
       ),
     )
@@ -62,7 +63,7 @@ previous_in_child-returns-in-Inner-clause-point t c above h holds =
     let s = c.args.span.start in
     let same = to_z-of_z w64 c.args.time c.ranges.time in
     let node = c.in_ok-points.ensures.node k s above h holds in
-    let body = inner-parts k s above h c.in_ok-points.field-0 c.in-Inner.version c.in-Inner.slots c.in-Inner.children c.in-Inner.is node in
+    let body = inner-parts k s above h c.in_ok-points.field-0 c.in-Inner.version c.in-Inner.slots c.in-Inner.is node in
     c.previous_in_slots.ensures.point body.below h body.height body.all body.each
     ∙ ap (λ x. last_or None (within s x (bag h))) same
 
@@ -74,8 +75,8 @@ previous_in_slots-previous_in_child-requires t c =
     let i = c.slots_between-i.result.1 in
     let all = c.slots_between-i.ensures in
     let same = to_z-of_z w64 c.args.time c.ranges.time in
-    let at = child-at c.args.span below st.2.commits i c.from.result c.slot.result c.index-children-from.result c.args.children.now st.1 st.2.each all.place c.from.ensures c.slot.ensures c.index-children-from.is in
-    let stands = child-stands below c.args.span.start st.2.commits i c.slot.result c.index-children-from.result at.is at.holds all.place st.2.few in
+    let at = child-at c.args.span below st.2.commits i c.slot.result (node_of c.child.result) c.args.slots.now st.1 st.2.each all.place c.slot.ensures c.child.ensures in
+    let stands = child-stands below c.args.span.start st.2.commits i c.slot.result (node_of c.child.result) at.is at.holds all.place st.2.few in
     let down : c.slot.result.height ≡ below = ap (λ u. u.height) at.is in
     let up = st.1 in
     let high = subst (λ x. x ≤ℤ end_of c.args.span) (sym same) c.requires.ends in (
@@ -94,7 +95,7 @@ previous_in_slots-returns-in-Some-clause-point t c below h e slots each =
     let i = c.slots_between-i.result.1 in
     let all = c.slots_between-i.ensures in
     let same = to_z-of_z w64 c.args.time c.ranges.time in
-    let at = child-at c.args.span below h i c.from.result c.slot.result c.index-children-from.result c.args.children.now e each all.place c.from.ensures c.slot.ensures c.index-children-from.is in
+    let at = child-at c.args.span below h i c.slot.result (node_of c.child.result) c.args.slots.now e each all.place c.slot.ensures c.child.ensures in
     let begins : c.slot.result.start <ℤ c.args.time = subst (λ x. c.slot.result.start <ℤ x) same (subst (λ (u : SpanValue). u.start <ℤ to_z w64 (of_z w64 c.args.time)) (sym c.slot.ensures) all.last) in
     let found = c.in-Some.ensures.point (is_inner (suc below) c.args.span.start) h at.holds ∙ ap (λ x. last_or None (within c.slot.result.start x (bag h))) same in
     previous-here below c.args.span.start h c.args.time i c.slot.result c.in-Some.point at.is (omega (arith, ints)) found
@@ -104,7 +105,7 @@ previous_in_slots-returns-in-None-clause-point t c below h e slots each =
     let i = c.slots_between-i.result.1 in
     let all = c.slots_between-i.ensures in
     let same = to_z-of_z w64 c.args.time c.ranges.time in
-    let at = child-at c.args.span below h i c.from.result c.slot.result c.index-children-from.result c.args.children.now e each all.place c.from.ensures c.slot.ensures c.index-children-from.is in
+    let at = child-at c.args.span below h i c.slot.result (node_of c.child.result) c.args.slots.now e each all.place c.slot.ensures c.child.ensures in
     let begins : c.slot.result.start <ℤ c.args.time = subst (λ x. c.slot.result.start <ℤ x) same (subst (λ (u : SpanValue). u.start <ℤ to_z w64 (of_z w64 c.args.time)) (sym c.slot.ensures) all.last) in
     let missed = c.in-None.ensures.point (is_inner (suc below) c.args.span.start) h at.holds ∙ ap (λ x. last_or None (within c.slot.result.start x (bag h))) same in
     previous-before below c.args.span.start h c.args.time i c.slot.result c.last_in_slots.result at.is (omega (arith, ints)) missed (c.last_in_slots.ensures.point below h e slots each)

@@ -8,6 +8,7 @@ use Rattle.btr_base.specs.Bag.{within}
 use Rattle.btr_base.specs.Span.{SpanValue}
 use Rattle.btr_tree.specs.Change.{end_of}
 use Rattle.btr_tree.specs.History.{bag}
+use Rattle.btr_tree.specs.Slots.{node_of}
 use Rattle.btr_tree.specs.Nodes.{points_of, above_root}
 use Rattle.btr_tree.specs.Shape.{IsChild}
 use Rattle.btr_tree.proofs.RootLemmas.{root_part, end-root, root-points}
@@ -24,7 +25,7 @@ pub returns-then-time-ge-END-clause-point : goal.returns-then-time-ge-END-clause
 returns-then-time-ge-END-clause-point c h holds inside =
     let same = to_z-of_z w64 c.args.time c.ranges.time in
     let late = c.if-time-ge-END.true in
-    let place = subst (λ (u : SpanValue). IsChild u.height u.start above_root h c.args.child.now) (sym c.root_span.ensures) holds in
+    let place = subst (λ (u : SpanValue). IsChild u.height u.start above_root h (node_of c.args.child)) (sym c.root_span.ensures) holds in
     c.last_in_child.ensures.point above_root h place
     ∙ ap (λ (u : SpanValue). last_or None (points_of u.height u.start (bag h))) c.root_span.ensures
     ∙ ap (λ (x : List Point). last_or None x) (root-points (bag h) inside ∙ sym (all-before_end c.args.time (bag h) inside (omega (arith, ints))))
@@ -40,7 +41,7 @@ pub returns-clause-point : goal.returns-clause-point
 returns-clause-point c h holds inside =
     let same = to_z-of_z w64 c.args.time c.ranges.time in
     let early = c.if-time-ge-END.false in
-    let place = subst (λ (u : SpanValue). IsChild u.height u.start above_root h c.args.child.now) (sym c.root_span-2.ensures) holds in
+    let place = subst (λ (u : SpanValue). IsChild u.height u.start above_root h (node_of c.args.child)) (sym c.root_span-2.ensures) holds in
     c.previous_in_child.ensures.point above_root h place
     ∙ (λ i. last_or None (within (c.root_span-2.ensures i).start (same i) (bag h)))
     ∙ ap (λ (x : List Point). last_or None x) (rest-before c.args.time (bag h) inside (omega (arith, ints)))

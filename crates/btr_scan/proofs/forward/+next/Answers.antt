@@ -6,6 +6,7 @@ use Rattle.btr_base.specs.Bag.{within}
 use Rattle.btr_base.specs.Span.{SpanValue}
 use Rattle.btr_tree.specs.Change.{end_of}
 use Rattle.btr_tree.specs.History.{bag}
+use Rattle.btr_tree.specs.Slots.{node_of}
 use Rattle.btr_tree.specs.Nodes.{is_inner}
 use Rattle.btr_tree.proofs.NodeLemmas.{child-at}
 use Rattle.btr_scan.proofs.Places.{leaf-points, leaf-in_order, leaf-from, none-from, inner-parts, inner-stands, child-stands}
@@ -36,10 +37,10 @@ next_in_child-next_in_slots-requires t c =
     let d = c.decreases in
     let same = to_z-of_z w64 c.args.time c.ranges.time in
     let node = c.in_ok-points.ensures.node k s st.above st.commits st.holds in
-    let body = inner-parts k s st.above st.commits c.in_ok-points.field-0 c.in-Inner.version c.in-Inner.slots c.in-Inner.children c.in-Inner.is node in (
+    let body = inner-parts k s st.above st.commits c.in_ok-points.field-0 c.in-Inner.version c.in-Inner.slots c.in-Inner.is node in (
       omega arith,
       (
-        inner-stands k s st.commits _ _ body st.few,
+        inner-stands k s st.commits _ body st.few,
         (subst (λ x. s ≤ℤ x) (sym same) c.requires.begins, subst (λ x. x <ℤ end_of c.args.span) (sym same) c.requires.ends),
       ),
     )
@@ -60,7 +61,7 @@ next_in_child-returns-in-Inner-clause-point t c above h holds =
     let s = c.args.span.start in
     let same = to_z-of_z w64 c.args.time c.ranges.time in
     let node = c.in_ok-points.ensures.node k s above h holds in
-    let body = inner-parts k s above h c.in_ok-points.field-0 c.in-Inner.version c.in-Inner.slots c.in-Inner.children c.in-Inner.is node in
+    let body = inner-parts k s above h c.in_ok-points.field-0 c.in-Inner.version c.in-Inner.slots c.in-Inner.is node in
     c.next_in_slots.ensures.point body.below h body.height body.all body.each
     ∙ ap (λ x. slice_get (within x (end_of c.args.span) (bag h)) 0) same
 
@@ -71,8 +72,8 @@ next_in_slots-next_in_child-requires t c =
     let d = c.decreases in
     let i = c.slot_at-i.result in
     let all = c.slot_at-i.ensures in
-    let at = child-at c.args.span below st.2.commits i c.from.result c.slot.result c.index-children-from.result c.args.children.now st.1 st.2.each all.place c.from.ensures c.slot.ensures c.index-children-from.is in
-    let stands = child-stands below c.args.span.start st.2.commits i c.slot.result c.index-children-from.result at.is at.holds all.place st.2.few in
+    let at = child-at c.args.span below st.2.commits i c.slot.result (node_of c.child.result) c.args.slots.now st.1 st.2.each all.place c.slot.ensures c.child.ensures in
+    let stands = child-stands below c.args.span.start st.2.commits i c.slot.result (node_of c.child.result) at.is at.holds all.place st.2.few in
     let down : c.slot.result.height ≡ below = ap (λ u. u.height) at.is in
     let up = st.1 in
     let x = to_z w64 (of_z w64 c.args.time) in (
@@ -91,7 +92,7 @@ next_in_slots-returns-in-Some-clause-point t c below h e slots each =
     let i = c.slot_at-i.result in
     let all = c.slot_at-i.ensures in
     let same = to_z-of_z w64 c.args.time c.ranges.time in
-    let at = child-at c.args.span below h i c.from.result c.slot.result c.index-children-from.result c.args.children.now e each all.place c.from.ensures c.slot.ensures c.index-children-from.is in
+    let at = child-at c.args.span below h i c.slot.result (node_of c.child.result) c.args.slots.now e each all.place c.slot.ensures c.child.ensures in
     let ends : c.args.time <ℤ end_of c.slot.result = subst (λ x. x <ℤ end_of c.slot.result) same (subst (λ (u : SpanValue). to_z w64 (of_z w64 c.args.time) <ℤ end_of u) (sym c.slot.ensures) all.ends) in
     let found = c.in-Some.ensures.point (is_inner (suc below) c.args.span.start) h at.holds ∙ ap (λ x. slice_get (within x (end_of c.slot.result) (bag h)) 0) same in
     next-here c.args.span below h c.args.time i c.slot.result c.in-Some.point e all.place at.is (omega (arith, ints)) found
@@ -101,7 +102,7 @@ next_in_slots-returns-in-None-clause-point t c below h e slots each =
     let i = c.slot_at-i.result in
     let all = c.slot_at-i.ensures in
     let same = to_z-of_z w64 c.args.time c.ranges.time in
-    let at = child-at c.args.span below h i c.from.result c.slot.result c.index-children-from.result c.args.children.now e each all.place c.from.ensures c.slot.ensures c.index-children-from.is in
+    let at = child-at c.args.span below h i c.slot.result (node_of c.child.result) c.args.slots.now e each all.place c.slot.ensures c.child.ensures in
     let ends : c.args.time <ℤ end_of c.slot.result = subst (λ x. x <ℤ end_of c.slot.result) same (subst (λ (u : SpanValue). to_z w64 (of_z w64 c.args.time) <ℤ end_of u) (sym c.slot.ensures) all.ends) in
     let missed = c.in-None.ensures.point (is_inner (suc below) c.args.span.start) h at.holds ∙ ap (λ x. slice_get (within x (end_of c.slot.result) (bag h)) 0) same in
     next-behind c.args.span below h c.args.time i c.slot.result c.first_in_slots.result e all.place at.is (omega (arith, ints)) missed (c.first_in_slots.ensures.point below h e slots each)

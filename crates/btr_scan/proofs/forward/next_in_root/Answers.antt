@@ -7,6 +7,7 @@ use Rattle.btr_base.specs.Bag.{within}
 use Rattle.btr_base.specs.Span.{SpanValue}
 use Rattle.btr_tree.specs.Change.{end_of}
 use Rattle.btr_tree.specs.History.{bag}
+use Rattle.btr_tree.specs.Slots.{node_of}
 use Rattle.btr_tree.specs.Nodes.{points_of, above_root}
 use Rattle.btr_tree.specs.Shape.{IsChild}
 use Rattle.btr_tree.proofs.RootLemmas.{root_part, end-root, root-points}
@@ -23,7 +24,7 @@ pub returns-then-time-lt-FIRST-clause-point : goal.returns-then-time-lt-FIRST-cl
 returns-then-time-lt-FIRST-clause-point c h holds inside =
     let same = to_z-of_z w64 c.args.time c.ranges.time in
     let early = c.if-time-lt-FIRST.true in
-    let place = subst (λ (u : SpanValue). IsChild u.height u.start above_root h c.args.child.now) (sym c.root_span.ensures) holds in
+    let place = subst (λ (u : SpanValue). IsChild u.height u.start above_root h (node_of c.args.child)) (sym c.root_span.ensures) holds in
     c.first_in_child.ensures.point above_root h place
     ∙ ap (λ (u : SpanValue). slice_get (points_of u.height u.start (bag h)) 0) c.root_span.ensures
     ∙ ap (λ (x : List Point). slice_get x 0) (root-points (bag h) inside ∙ sym (all-from_first c.args.time (bag h) inside (omega (arith, ints))))
@@ -39,7 +40,7 @@ pub returns-clause-point : goal.returns-clause-point
 returns-clause-point c h holds inside =
     let same = to_z-of_z w64 c.args.time c.ranges.time in
     let late = c.if-time-lt-FIRST.false in
-    let place = subst (λ (u : SpanValue). IsChild u.height u.start above_root h c.args.child.now) (sym c.root_span-2.ensures) holds in
+    let place = subst (λ (u : SpanValue). IsChild u.height u.start above_root h (node_of c.args.child)) (sym c.root_span-2.ensures) holds in
     c.next_in_child.ensures.point above_root h place
     ∙ (λ i. slice_get (within (same i) (end_of (c.root_span-2.ensures i)) (bag h)) 0)
     ∙ ap (λ e. slice_get (within c.args.time e (bag h)) 0) end-root
