@@ -1,12 +1,14 @@
 -- Why a commit of a stream is rejected, as the tree of the stream's latest version finds it.
-use Rattle.std.specs.Prelude.{◌≡◌, ℕ, ◌+◌, ◌-◌, ◌<◌, ℤ, nat_le, Bool, List, [], ◌∷◌, ◌++◌, length, slice_index_or, Option, Some, None}
+use Rattle.std.specs.Prelude.{◌≡◌, ℕ, ◌+◌, ◌-◌, ◌<◌, nat_le, Bool, List, [], ◌∷◌, ◌++◌, length, slice_get, slice_index_or, Option, Some, None}
 use Rattle.std.proofs.Common.{refl, sym, ap, ◌∙◌, arith, subst}
 use Rattle.std.proofs.lemmas.Bool.{lt-leb}
+use Rattle.std.proofs.lemmas.Option.{get_or_from_slice_get}
 use Rattle.btr_base.specs.declared.limits.TheConstants.{FIRST, END}
 use Rattle.btr_base.specs.declared.point.Point.{Point}
 use Rattle.btr_base.specs.Point.{InDomain, AreInDomain}
 use Rattle.btr_base.specs.Range.{RangeValue}
 use Rattle.btr_base.specs.Bag.{sort, outside}
+use Rattle.btr_tree.specs.History.{Past, ◌▷◌}
 use Rattle.btr_tree.specs.History as tree
 use Rattle.btr_tree.specs.Crowd.{HasNoCrowdedSpan}
 use Rattle.btr_tree.specs.Root.{TreeValue, IsTree}
@@ -20,7 +22,7 @@ use Rattle.btr_hist.specs.Legal.{first_some, when, first_out_of_domain, change_r
 use Rattle.btr_hist.proofs.HistoryLemmas.{each-after}
 use Rattle.btr_engine.specs.declared.board.PushFault.{PushFault}
 use Rattle.btr_engine.specs.Board.{HasTrees, commits_to}
-use Rattle.btr_engine.specs.Push.{PushCause, IsNext}
+use Rattle.btr_engine.specs.Stage.{PushCause, IsNext}
 use Rattle.btr_engine.proofs.BoardTrees.{made_by, bag-commits_to}
 use Rattle.btr_hist.proofs.RejectionLemmas.{first_none, map_none, none_out_of_domain}
 use Rattle.btr_engine.proofs.Crowded.{room-allowed}
@@ -55,30 +57,29 @@ change-passes cut ranges added points found same_cut same_points is none =
 -- ---- the next version
 
 module _ (h : List Entry) (stream : ℕ) (trees : List TreeValue) (kept : HasTrees h stream trees) where
-  pub latest-is : length trees - 1 ≡ latest h stream
-  latest-is = let counted = kept.counted in omega arith
+  pub latest-is : (count : ℕ) → count ≡ length trees → count - 1 ≡ latest h stream
+  latest-is count is = let counted = kept.counted in omega arith
 
   -- The last tree is that of the latest version.
-  pub last-tree : (t : TreeValue) → t ≡ slice_index_or trees (length trees - 1) t → IsTree (commits_to h stream (latest h stream)) t
-  last-tree t is =
+  pub last-tree : (place : ℕ) (t : TreeValue) → place ≡ latest h stream → slice_get trees place ≡ Some t → IsTree (commits_to h stream (latest h stream)) t
+  last-tree place t last at =
       let version = latest h stream in
-      subst (IsTree (commits_to h stream version)) (ap (λ (v : ℕ). slice_index_or trees v t) (sym latest-is) ∙ sym is) (kept.each version t (omega arith))
+      let here : slice_index_or trees version t ≡ t = ap (λ (v : ℕ). slice_index_or trees v t) (sym last) ∙ get_or_from_slice_get trees place t t at in
+      subst (IsTree (commits_to h stream version)) here (kept.each version t (omega arith))
 
   module _ (c : Change) where
-    abbrev pub next : ℕ → List tree.Commit
-    next version = made_by version c ∷ commits_to h stream (latest h stream)
+    abbrev pub next : ℕ → Past
+    next version = made_by version c ▷ commits_to h stream (latest h stream)
 
     pub next-bag : (version : ℕ) → tree.bag (next version) ≡ next_bag h stream c
     next-bag version = ap (λ b. sort (outside b c.cut ++ c.added)) (bag-commits_to h stream (latest h stream))
 
-    pub next-tree : (t : TreeValue) (version : ℕ) → version ≡ length trees - 1 + 1 → IsTree (next version) t → IsNext h stream c t
-    next-tree t version is k =
-        let same : version ≡ latest h stream + 1 = is ∙ ap (λ (n : ℕ). n + 1) latest-is in
-        subst (λ v. IsTree (next v) t) same k
+    pub next-tree : (t : TreeValue) (version : ℕ) → version ≡ latest h stream + 1 → IsTree (next version) t → IsNext h stream c t
+    next-tree t version same k = subst (λ v. IsTree (next v) t) same k
 
-    module _ (is_there : stream < length (ids h)) (change : change_rejection c ≡ None) (few : length trees - 1 < MAX_VERSIONS) where
+    module _ (is_there : stream < length (ids h)) (change : change_rejection c ≡ None) (few : latest h stream < MAX_VERSIONS) where
       by_points : commit_rejection h stream c ≡ points_rejection (next_bag h stream c)
-      by_points = rejection-points h stream c is_there change (subst (λ n. n < MAX_VERSIONS) latest-is few)
+      by_points = rejection-points h stream c is_there change few
 
       pub next-allowed : (t : TreeValue) (version : ℕ) → IsTree (next version) t → HasNoCrowdedSpan FIRST END (tree.bag (next version)) → commit_rejection h stream c ≡ None
       next-allowed t version k room =

@@ -13,10 +13,9 @@ mod Synced
 mod Reading
 mod Opened
 mod Sound
-mod BoardKeys
-mod BoardNumbers
 mod BoardTrees
+mod BoardStreams
 mod Crowded
 mod BoardCommits
-mod BoardIndex
+mod BoardNext
 mod Questions

@@ -1,8 +1,9 @@
 -- The answer to a question: by the version that is asked, by whether the question is good, and by the tree of the version.
 use Rattle.std.specs.Prelude.{◌≡◌, ℕ, ◌+◌, ◌-◌, ◌^◌, ◌<◌, ◌≤◌, ℤ, nat_le, nat_lt, Bool, true, false, List, [], ◌∷◌, ◌++◌, length, take, cond, slice_get, slice_index_or, Some}
-use Rattle.std.specs.BTreeMap.{BTreeMap}
 use Rattle.std.proofs.Common.{zero, suc, refl, sym, ap, ◌∙◌, arith, subst}
 use Rattle.std.proofs.lemmas.Int.{ints}
+use Rattle.std.proofs.lemmas.List.{take_more}
+use Rattle.std.proofs.lemmas.Option.{slice_get_within, get_or_from_slice_get}
 use Rattle.std.proofs.lemmas.Bool.{lt-leb, le-ltb, le-leb, and_from, false_from_ne_true}
 use Rattle.btr_base.specs.declared.limits.TheConstants.{FIRST, END}
 use Rattle.btr_base.specs.declared.point.Point.{Point}
@@ -10,29 +11,31 @@ use Rattle.btr_base.specs.Range.{RangeValue, IsRange}
 use Rattle.btr_base.specs.Agg.{agg, agg_within}
 use Rattle.btr_base.proofs.WithinLemmas.{within-all}
 use Rattle.btr_tree.specs.History as tree
+use Rattle.btr_tree.specs.Root.{TreeValue}
 use Rattle.btr_base.specs.Point.{AreInDomain}
 use Rattle.btr_hist.specs.declared.entry.Entry.{Entry}
 use Rattle.btr_hist.specs.declared.answer.Answer.TheVariants.{Found, Refused}
 use Rattle.btr_hist.specs.declared.answer.Refusal.TheVariants.{NoStream, NoVersion, BadRange}
 use Rattle.btr_hist.specs.declared.answer.Rows.{Rows}
+use Rattle.btr_hist.specs.declared.answer.StreamRow.{StreamRow}
 use Rattle.btr_hist.specs.History.{ids, latest, bag}
 use Rattle.btr_hist.specs.Answer.{answer_at, is_range, is_power, is_width, rows_from}
-use Rattle.btr_engine.specs.declared.board.Stream.{Stream}
-use Rattle.btr_engine.specs.Board.{commits_to, IsIndexed}
+use Rattle.btr_engine.specs.Board.{Versions, Kept, commits_to, IsBoardOf}
 use Rattle.btr_engine.specs.Answering.{IsVersion, IsAskedRange}
 use Rattle.btr_engine.proofs.BoardTrees.{bag-commits_to}
 
 -- ---- a version that a stream has
 
-module _ (h : List Entry) (stream version asked : ℕ) (there : IsVersion h stream asked version) where
-  -- The answer for a good question, and for a bad one.
-  pub good_or_bad : (good : Bool) (rows : List Point → Rows) → answer_at h stream asked good rows ≡ cond good (Found asked (rows (bag h stream asked))) (Refused BadRange)
-  good_or_bad good rows =
-      let known = lt-leb (length (ids h)) stream there.known in
-      let made = le-ltb (latest h stream) asked (omega (arith, there.made, there.same)) in
-      let told = cond good (Found asked (rows (bag h stream asked))) (Refused BadRange) in
-      ap (λ t. cond t (Refused NoStream) (cond (nat_lt (latest h stream) asked) (Refused (NoVersion asked (latest h stream))) told)) known
-      ∙ ap (λ t. cond t (Refused (NoVersion asked (latest h stream))) told) made
+-- The answer for a good question, and for a bad one.
+pub answer-there : (h : List Entry) (stream asked : ℕ) → stream < length (ids h) → asked ≤ latest h stream → (good : Bool) (rows : List Point → Rows) → answer_at h stream asked good rows ≡ cond good (Found asked (rows (bag h stream asked))) (Refused BadRange)
+answer-there h stream asked is_there made good rows =
+    let told = cond good (Found asked (rows (bag h stream asked))) (Refused BadRange) in
+    ap (λ t. cond t (Refused NoStream) (cond (nat_lt (latest h stream) asked) (Refused (NoVersion asked (latest h stream))) told)) (lt-leb (length (ids h)) stream is_there)
+    ∙ ap (λ t. cond t (Refused (NoVersion asked (latest h stream))) told) (le-ltb (latest h stream) asked made)
+
+module _ (h : List Entry) (stream version asked : ℕ) (t : TreeValue) (there : IsVersion h stream asked version t) where
+  good_or_bad : (good : Bool) (rows : List Point → Rows) → answer_at h stream asked good rows ≡ cond good (Found asked (rows (bag h stream asked))) (Refused BadRange)
+  good_or_bad good rows = answer-there h stream asked there.known (omega (arith, there.made, there.same)) good rows
 
   -- A bad question is refused.
   pub refused : (good : Bool) (rows : List Point → Rows) → good ≡ false → Refused BadRange ≡ answer_at h stream asked good rows
@@ -92,27 +95,29 @@ pub length-rows : (h : List Entry) (n : ℕ) (l : List ℕ) → length (rows_fro
 length-rows h n [] = refl
 length-rows h n (id ∷ l) = ap (λ (k : ℕ). suc k) (length-rows h (n + 1) l)
 
--- One row more.
-pub rows-next : (h : List Entry) (n i id : ℕ) (l : List ℕ) → slice_get l i ≡ Some id → take (suc i) (rows_from h n l) ≡ take i (rows_from h n l) ++ record { id = id; latest = latest h (n + i) } ∷ []
-rows-next h n i id [] at = absurd (cc)
-rows-next h n zero id (x ∷ l) at =
+-- The row at an index.
+pub row-at : (h : List Entry) (n i id : ℕ) (l : List ℕ) → slice_get l i ≡ Some id → slice_get (rows_from h n l) i ≡ Some (record { id = id; latest = latest h (n + i) })
+row-at h n i id [] at = absurd (cc)
+row-at h n zero id (x ∷ l) at =
     let same : x ≡ id = cc in
     let place : n ≡ n + 0 = omega arith in
-    cc
-rows-next h n (suc i) id (x ∷ l) at =
+    ap (λ (y : ℕ). Some (record { id = y; latest = latest h n })) same ∙ ap (λ (k : ℕ). Some (record { id = id; latest = latest h k })) place
+row-at h n (suc i) id (x ∷ l) at =
     let place : (n + 1) + i ≡ n + suc i = omega arith in
-    ap (λ rows. record { id = x; latest = latest h n } ∷ rows) (rows-next h (n + 1) i id l at)
-    ∙ ap (λ k. record { id = x; latest = latest h n } ∷ (take i (rows_from h (n + 1) l) ++ record { id = id; latest = latest h k } ∷ [])) place
+    row-at h (n + 1) i id l at ∙ ap (λ k. Some (record { id = id; latest = latest h k })) place
+
+-- The rows up to an index, and one more.
+pub rows-next : (rows : List StreamRow) (i : ℕ) (r : StreamRow) → slice_get rows i ≡ Some r → take (i + 1) rows ≡ take i rows ++ r ∷ []
+rows-next rows i r at =
+    take_more rows i r (slice_get_within rows i r at) ∙ ap (λ x. take i rows ++ x ∷ []) (get_or_from_slice_get rows i r r at)
 
 -- The row of a stream of the board.
-pub row-kept : (h : List Entry) (streams : List Stream) (numbers : BTreeMap ℕ ℕ) (i : ℕ) (d : Stream) → IsIndexed h streams numbers → i < length (ids h) → d ≡ slice_index_or streams i d → take (i + 1) (rows_from h 0 (ids h)) ≡ take i (rows_from h 0 (ids h)) ++ record { id = d.id; latest = length d.trees.items - 1 } ∷ []
-row-kept h streams numbers i d board low is =
-    let kept = slice_index_or streams i d in
-    let one : i + 1 ≡ suc i = omega arith in
-    let counted = (board.kept i d low).counted in
+pub row-kept : (h : List Entry) (b : Kept) (i : ℕ) (kept : Versions) → IsBoardOf h b → slice_get b.streams i ≡ Some kept → slice_get (rows_from h 0 (ids h)) i ≡ Some (record { id = kept.id; latest = length kept.trees - 1 })
+row-kept h b i kept of at =
+    let low : i < length (ids h) = omega (arith, slice_get_within b.streams i kept at, of.counted) in
+    let read : slice_index_or b.streams i kept ≡ kept = get_or_from_slice_get b.streams i kept kept at in
+    let counted : length kept.trees ≡ latest h i + 1 = subst (λ (x : Versions). length x.trees ≡ latest h i + 1) read (of.kept i kept low).counted in
     let here : 0 + i ≡ i = omega arith in
-    let last : latest h i ≡ length kept.trees.items - 1 = omega (arith, counted) in
-    ap (λ n. take n (rows_from h 0 (ids h))) one
-    ∙ rows-next h 0 i kept.id (ids h) (board.named i d low)
-    ∙ ap (λ n. take i (rows_from h 0 (ids h)) ++ record { id = kept.id; latest = n } ∷ []) (ap (latest h) here ∙ last)
-    ∙ ap (λ e. take i (rows_from h 0 (ids h)) ++ record { id = e.id; latest = length e.trees.items - 1 } ∷ []) (sym is)
+    let last : latest h i ≡ length kept.trees - 1 = omega arith in
+    row-at h 0 i kept.id (ids h) (of.named i kept low ∙ ap (λ (x : Versions). Some x.id) read)
+    ∙ ap (λ n. Some (record { id = kept.id; latest = n })) (ap (latest h) here ∙ last)

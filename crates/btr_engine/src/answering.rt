@@ -178,8 +178,9 @@ impl Board {
         if old > new || p > MAX_EXPONENT {
             return Ok(Answer::Refused(Refusal::BadRange));
         }
-        let Some(older) = self.tree(stream, old) else {
-            unreachable!()
+        let (_, older) = match self.version_at(stream, At::Number(old)) {
+            Ok(asked) => asked,
+            Err(refusal) => return Ok(Answer::Refused(refusal)),
         };
         let mut steps = Steps::new(alloc);
         let found = changes(alloc, older, newer, old, p, &mut steps)?;

@@ -4,7 +4,8 @@ ghost use Rattle.std.specs.Prelude.{MatchOption, None};
 ghost use Rattle.btr_base.specs.declared.point.Point.{Point as PointSpec};
 ghost use Rattle.btr_base.specs.Bag.{IsInOrder};
 ghost use Rattle.btr_base.specs.Point.{AreInDomain};
-ghost use Rattle.btr_tree.specs.Root.{IsTreeFault};
+ghost use Rattle.btr_tree.specs.History.{nothing};
+ghost use Rattle.btr_tree.specs.Root.{TreeValue, IsTree, IsTreeFault};
 ghost use Rattle.btr_hist.specs.declared.entry.Entry.{Entry as EntrySpec};
 ghost use Rattle.btr_hist.specs.declared.entry.Entry.TheVariants as entry;
 ghost use Rattle.btr_hist.specs.History.{ids, stream_of};
@@ -155,10 +156,12 @@ impl Board {
         ensures { (h : List EntrySpec) → IsBoardOf h self.now → IfOk result (IsBoardOf (h ++ entry.Create id ∷ [])) }
     {
         let number = self.streams.len() as u32;
-        let trees = Trail::empty().push(alloc, Tree::empty())?;
+        let first = first_version(alloc, id)?;
+        let streams = self.streams.push(alloc, first)?;
+        let numbers = self.numbers.insert(alloc, id, number)?;
         Ok(Board {
-            streams: self.streams.push(alloc, Stream { id, trees })?,
-            numbers: self.numbers.insert(alloc, id, number)?,
+            streams,
+            numbers,
             entries: self.entries + 1,
         })
     }
@@ -185,9 +188,10 @@ impl Board {
         };
         let tree = next_tree(alloc, &kept.trees, cut, added)?;
         let streams = grown(alloc, &self.streams, place, kept, tree)?;
+        let numbers = self.numbers.share()?;
         let next = Board {
             streams,
-            numbers: self.numbers.share()?,
+            numbers,
             entries: self.entries + 1,
         };
         Ok(Staged { next })
@@ -256,6 +260,15 @@ impl Board {
         }
         None
     }
+}
+
+/// Returns a stream at version 0.
+fn first_version(alloc: Global, id: u128) -> Result<Stream, AllocError>
+    ensures { IfOk result (λ s. (t : TreeValue) × IsTree nothing t × (s ≡ record { id = id; trees = t ∷ [] })) }
+{
+    let none = Trail::empty();
+    let trees = none.push(alloc, Tree::empty())?;
+    Ok(Stream { id, trees })
 }
 
 /// Returns the streams with one tree more for the stream at a place, which is `kept`.

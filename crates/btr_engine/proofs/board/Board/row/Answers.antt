@@ -1,0 +1,13 @@
+use Rattle.std.proofs.Common.{◌-◌, Some, subst, sym, ap, ◌∙◌}
+use Rattle.std.specs.Prelude.{ℕ}
+use Rattle.btr_engine.specs.Board.{Versions, Kept, IsBoardOf}
+use Rattle.btr_engine.proofs.Questions.{row-kept}
+use Rattle.btr_engine.proofs.board.Board.row.Goals as goal
+
+pub returns : goal.returns
+returns c h of =
+    let b : Kept = record { streams = c.self.inside.streams; entries = c.self.inside.entries } in
+    let kept : Versions = record { id = c.kept.inside.id; trees = c.kept.inside.trees } in
+    let was : IsBoardOf h b = subst (IsBoardOf h) (sym c.self.view_is) of in
+    row-kept h b c.args.place kept was (c.in_ok-kept.ensures ∙ ap (λ (x : Versions). Some x) (sym c.kept.view_is))
+    ∙ ap (λ (n : ℕ). Some (record { id = c.kept.inside.id; latest = n - 1 })) (sym c.len.ensures)
