@@ -1,26 +1,29 @@
 -- Lemmas on the slots of a span that a range meets.
-use Rattle.std.specs.Prelude.{length, ◌^◌, ◌≡◌, ℕ, ◌+◌, ◌-◌, ◌*◌, ◌<◌, ◌≤◌, ℤ, pos, ◌+ℤ◌, ◌-ℤ◌, ◌≤ℤ◌, ◌<ℤ◌, false, ◌&&◌, int_le, int_lt, List, [], ◌∷◌}
-use Rattle.std.proofs.Common.{zero, suc, refl, sym, ap, ◌∙◌, arith, subst, mul-le-mul_right, to_z, of_z, w64, inl, inr}
+use Rattle.std.specs.Prelude.{length, Option, ◌++◌, ◌^◌, ◌≡◌, ℕ, ◌+◌, ◌-◌, ◌*◌, ◌<◌, ◌≤◌, ℤ, pos, ◌+ℤ◌, ◌-ℤ◌, ◌≤ℤ◌, ◌<ℤ◌, false, ◌&&◌, int_le, int_lt, List, [], ◌∷◌}
+use Rattle.std.proofs.Common.{zero, suc, refl, sym, ap, ◌∙◌, arith, append-nil, subst, mul-le-mul_right, to_z, of_z, w64, inl, inr}
 use Rattle.std.specs.List.{filter}
 use Rattle.std.proofs.lemmas.Bool.{cases_lt}
 use Rattle.std.proofs.lemmas.Int.{ints, to_z-of_z}
 use Rattle.btr_base.specs.declared.limits.TheConstants.{FIRST, END}
 use Rattle.btr_base.specs.declared.point.Point.{Point}
+use Rattle.btr_base.specs.Agg.{agg}
 use Rattle.btr_base.specs.Bag.{within, is_within}
 use Rattle.btr_base.specs.Range.{RangeValue, IsRange}
 use Rattle.btr_base.proofs.ListLemmas.{filter-filter, filter-same}
 use Rattle.btr_base.proofs.WithinLemmas.{within-empty}
 use Rattle.btr_base.specs.Span.{width, SpanValue, slot_of}
 use Rattle.std.specs.Borrow.{Bor}
-use Rattle.btr_tree.specs.declared.node.Child.{Child}
 use Rattle.btr_tree.specs.declared.node.Node.{Node}
 use Rattle.btr_tree.specs.declared.node.Node.TheVariants.{Inner}
-use Rattle.btr_tree.specs.declared.node.Slot.{Slot}
-use Rattle.btr_tree.specs.History.{bag}
+use Rattle.btr_tree.specs.declared.node.NodeData.{NodeData}
+use Rattle.btr_tree.specs.declared.slots.Slots.{Slots}
+use Rattle.btr_tree.specs.History.{Past, bag}
 use Rattle.btr_tree.specs.Change.{IsSomeChild, AreSomeSlots, end_of}
 use Rattle.btr_tree.specs.Nodes.{points_of}
-use Rattle.btr_tree.specs.Shape.{slot_start, IsNode}
-use Rattle.btr_tree.proofs.NodeLemmas.{inner-is, slot-next, slot-end, slot-first, slot-part}
+use Rattle.btr_tree.specs.Shape.{slot_start, HasSlots, IsNode}
+use Rattle.btr_tree.specs.Slots.{slot_in, AreEmpty}
+use Rattle.btr_tree.proofs.NodeLemmas.{inner-is, slot-next, slot-end, slot-first, slot-part, prefix-next}
+use Rattle.btr_window.proofs.Joined.{no-points}
 
 -- ---- A range as numbers.
 
@@ -92,9 +95,9 @@ within-inside from to a b xs h k =
 -- ---- An inner node.
 
 -- The slots of an inner node belong to some history if its child does.
-pub inner-some : (span : SpanValue) (more : ℕ) (child : Child) (n : Node) (v : ℕ) (ss : Bor (List Slot)) (cs : Bor (List Child)) → (some : IsSomeChild span.height span.start child more) → n ≡ Inner v ss cs → IsNode span.height span.start some.above some.commits n → (below : ℕ) × (span.height ≡ suc below) × AreSomeSlots below span.start ss.now cs.now more
-inner-some span more child n v ss cs some e node =
-    let body = inner-is span.height span.start some.above some.commits n v ss cs e node in (
+pub inner-some : (span : SpanValue) (more : ℕ) (child : Option NodeData) (n : Node) (v : ℕ) (x : Bor Slots) → (some : IsSomeChild span.height span.start child more) → n ≡ Inner v x → IsNode span.height span.start some.above some.commits n → (below : ℕ) × (span.height ≡ suc below) × AreSomeSlots below span.start x.now more
+inner-some span more child n v x some e node =
+    let body = inner-is span.height span.start some.above some.commits n v x e node in (
       body.below,
       body.height,
       record {
@@ -116,6 +119,29 @@ slot-begins below s i part is = ap (λ (u : SpanValue). u.start) is
 
 pub slot-ends : (below : ℕ) (s : ℤ) (i : ℕ) (part : SpanValue) → part ≡ record { start = slot_start below s i; height = below } → end_of part ≡ slot_start below s (i + 1)
 slot-ends below s i part is = ap end_of is ∙ sym (slot-next below s i)
+
+-- Slots without a point add none to the points before them.
+pub prefix-skip : (below : ℕ) (s : ℤ) (h : Past) (x : Slots) (from n : ℕ) → HasSlots below s h x → from + n ≤ 64 → AreEmpty x from (from + n) → within s (slot_start below s (from + n)) (bag h) ≡ within s (slot_start below s from) (bag h)
+prefix-skip below s h x from zero holds le empty =
+    let same : from + 0 ≡ from = omega arith in ap (λ j. within s (slot_start below s j) (bag h)) same
+prefix-skip below s h x from (suc n) holds le empty =
+    let i = from + n in
+    let next : from + suc n ≡ i + 1 = omega arith in
+    let none : (slot_in x i).agg.count ≡ 0 = empty i (omega arith) (omega arith) in
+    let here = points_of below (slot_start below s i) (bag h) in
+    let counted : (slot_in x i).agg ≡ agg here = ap (λ y. y.agg) (holds.each i (omega arith)) in
+    ap (λ j. within s (slot_start below s j) (bag h)) next
+    ∙ prefix-next below s i h
+    ∙ ap (λ b. within s (slot_start below s i) (bag h) ++ b) (no-points here (slot_in x i).agg counted none)
+    ∙ append-nil (within s (slot_start below s i) (bag h))
+    ∙ prefix-skip below s h x from n holds (omega arith) (λ j low high. empty j low (omega arith))
+
+-- The points before a slot are those before an earlier one if no slot from that one on up to it has a point.
+pub prefix-same : (below : ℕ) (s : ℤ) (h : Past) (x : Slots) (from to : ℕ) → HasSlots below s h x → from ≤ to → to ≤ 64 → AreEmpty x from to → within s (slot_start below s to) (bag h) ≡ within s (slot_start below s from) (bag h)
+prefix-same below s h x from to holds order place empty =
+    let whole : from + (to - from) ≡ to = omega arith in
+    ap (λ j. within s (slot_start below s j) (bag h)) (sym whole)
+    ∙ prefix-skip below s h x from (to - from) holds (omega arith) (λ j low high. empty j low (omega arith))
 
 -- The first and the last slot that have times of the range.
 pub record IsBetween (below : ℕ) (start from to : ℤ) (first last : ℕ) : Type 0 where
@@ -159,3 +185,10 @@ between-is span below f t from to first last e p q order place before begins end
       ends = let start = slot-of_start span below last e in omega (arith, ints);
       behind = behind-last below span.start from to last place (λ i lt le. let h = behind i lt le in let start = slot-of_start span below i e in omega (arith, ints));
     }
+
+-- If no slot from one on up to the last that has times of the range has a point, the points before it are all in the range.
+pub rest-empty : (below : ℕ) (start from to : ℤ) (first last : ℕ) (h : Past) (x : Slots) (i : ℕ) → IsBetween below start from to first last → HasSlots below start h x → i ≤ last + 1 → AreEmpty x i (last + 1) → within from to (within start (slot_start below start i) (bag h)) ≡ within from to (points_of (suc below) start (bag h))
+rest-empty below start from to first last h x i between holds order empty =
+    let place = between.place in
+    ap (within from to) (sym (prefix-same below start h x i (last + 1) holds order (omega arith) empty))
+    ∙ between.behind (bag h)

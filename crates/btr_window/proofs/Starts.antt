@@ -1,16 +1,14 @@
 -- Lemmas on the starts of windows: which window a time near a start is in, and that added windows start where those of the grid do.
 use Rattle.std.specs.Prelude.{◌≡◌, ℕ, zero, suc, ◌+◌, ◌*◌, ◌≤◌, nat_eq, ℤ, pos, ◌+ℤ◌, ◌≤ℤ◌, ◌<ℤ◌, true, false, ◌&&◌, int_le, int_lt, List, [], ◌∷◌, Some, slice_get, cond}
 use Rattle.std.specs.Ordering.{int_eq}
-use Rattle.std.specs.List.{AllByRecursion}
-use Rattle.std.proofs.Common.{refl, sym, ap, ◌∙◌, arith, subst}
+use Rattle.std.proofs.Common.{sym, ap, ◌∙◌, arith, subst}
 use Rattle.std.proofs.lemmas.Int.{ints}
 use Rattle.std.proofs.lemmas.Bool.Decides.{nat_tests}
-use Rattle.btr_base.specs.declared.point.Point.{Point}
 use Rattle.btr_base.specs.declared.cell.Cell.{Cell}
 use Rattle.btr_base.specs.declared.grid.Grid.{Grid}
-use Rattle.btr_base.specs.Agg.{AggValue, joined, one_point}
+use Rattle.btr_base.specs.Agg.{AggValue, joined}
 use Rattle.btr_base.specs.Windows.{window_of, window_at, begin_of}
-use Rattle.btr_window.specs.Accumulate.{add_part, add_points, IsStart, AreStarts}
+use Rattle.btr_window.specs.Accumulate.{add_part, IsStart, AreStarts}
 use Rattle.btr_window.proofs.Adding.{cell}
 use Rattle.btr_window.proofs.Cells.{in_window}
 

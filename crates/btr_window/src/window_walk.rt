@@ -1,18 +1,19 @@
 //! The aggregates of the windows of a range.
-ghost use Rattle.std.specs.Prelude.{◌≡◌, ℕ, suc, ◌≤◌, ◌^◌, ◌≤ℤ◌, ◌<ℤ◌, List, IfOk, OnOk};
+ghost use Rattle.std.specs.Prelude.{◌≡◌, ℕ, suc, ◌≤◌, ◌^◌, ◌<◌, ◌≤ℤ◌, ◌<ℤ◌, IfOk, OnOk};
 ghost use Rattle.btr_base.specs.Agg.{agg};
 ghost use Rattle.btr_base.specs.Windows.{IsGrid, cells as cells_between, aligned as aligned_of, windows as windows_of};
-ghost use Rattle.btr_tree.specs.History.{Commit, bag};
+ghost use Rattle.btr_tree.specs.History.{Past, bag};
 ghost use Rattle.btr_tree.specs.Change.{IsSomeChild, AreSomeSlots, IsSomeSlot, end_of};
 ghost use Rattle.btr_tree.specs.EachHistory.{AtEachHistory, AtEachInner, points_in};
 ghost use Rattle.btr_tree.specs.Root.{IsTree};
+ghost use Rattle.btr_tree.specs.Slots.{node_of, slot_in, child_in, IsOccupied};
 ghost use Rattle.btr_window.specs.Accumulate.{AddsWithin, counted, IsStart, AreStarts};
 
 use crate::accumulate::{add_part, add_points, start_around};
 use crate::inside::is_inside;
 use crate::whole_windows::whole_windows;
 use btr_base::{Cell, END, FIRST, Grid, Range, Span, points_between};
-use btr_tree::{Child, Node, Slot, Steps, Tree, root_span, visit};
+use btr_tree::{Child, Node, Slots, Steps, Tree, root_span, visit};
 use std::alloc::{AllocError, Global};
 
 /// Returns the aligned windows that meet a range and have a point, in order, each whole: those of `2^p` ns from the
@@ -22,7 +23,7 @@ use std::alloc::{AllocError, Global};
 /// memory.
 pub fn aligned(alloc: Global, tree: &Tree, range: Range, p: u8) -> Result<Vec<Cell>, AllocError>
     requires { p ≤ 62 }
-    ensures { IfOk result (λ v. (h : List Commit) → IsTree h tree.now → v.items ≡ aligned_of p range.from range.to (bag h)) }
+    ensures { IfOk result (λ v. (h : Past) → IsTree h tree.now → v.items ≡ aligned_of p range.from range.to (bag h)) }
 {
     let grid = Grid::aligned(p);
     let whole = whole_windows(grid, range);
@@ -42,7 +43,7 @@ pub fn windows(
 ) -> Result<Vec<Cell>, AllocError>
     requires some { 1 ≤ width }
     requires most { width ≤ 2 ^ 62 }
-    ensures { IfOk result (λ v. (h : List Commit) → IsTree h tree.now → v.items ≡ windows_of width range.from range.to (bag h)) }
+    ensures { IfOk result (λ v. (h : Past) → IsTree h tree.now → v.items ≡ windows_of width range.from range.to (bag h)) }
 {
     let grid = Grid {
         first: range.from,
@@ -68,7 +69,7 @@ fn cells_of(alloc: Global, tree: &Tree, grid: Grid, range: Range) -> Result<Vec<
     requires grid { IsGrid grid.first grid.width }
     requires begins { IsStart grid range.from }
     requires ends { IsStart grid range.to }
-    ensures { IfOk result (λ v. (h : List Commit) → IsTree h tree.now
+    ensures { IfOk result (λ v. (h : Past) → IsTree h tree.now
         → v.items ≡ cells_between grid.first grid.width range.from range.to (bag h)) }
 {
     prove!(FIRST < range.to && range.from < END);
@@ -82,17 +83,17 @@ fn cells_of(alloc: Global, tree: &Tree, grid: Grid, range: Range) -> Result<Vec<
 fn walk_child(
     alloc: Global,
     span: Span,
-    child: &Child,
+    child: Child<'_>,
     grid: Grid,
     range: Range,
     cells: &mut Vec<Cell>,
 ) -> Result<(), AllocError>
-    requires some { IsSomeChild span.height span.start child.now (counted cells.old.items) }
+    requires some { IsSomeChild span.height span.start (node_of child) (counted cells.old.items) }
     requires grid { IsGrid grid.first grid.width × (grid.first ≤ℤ range.from) }
     requires begins { range.from <ℤ end_of span }
     requires ends { span.start <ℤ range.to }
     requires starts { AreStarts grid cells.old.items }
-    ensures cells { OnOk result (AtEachHistory span child.now (λ h.
+    ensures cells { OnOk result (AtEachHistory span (node_of child.entry) (λ h.
         AddsWithin grid range cells.old.items cells.new.items (points_in span (bag h)))) }
     ensures starts { OnOk result (AreStarts grid cells.new.items) }
 {
@@ -102,81 +103,70 @@ fn walk_child(
             Node::Leaf { points, .. } => {
                 add_points(cells, grid, points_between(points, range.from, range.to))
             }
-            Node::Inner {
-                slots,
-                children,
-                ..
-            } => walk_slots(alloc, span, slots, children, grid, range, cells),
+            Node::Inner { slots, .. } => walk_slots(alloc, span, slots, grid, range, cells),
         },
     }
 }
 
-/// Adds to the windows the points of an inner node in a range that meets it, slot by slot.
+/// Adds to the windows the points of an inner node in a range that meets it. It goes from one slot with a point to the next.
 #[cycle(window_walk)]
 fn walk_slots(
     alloc: Global,
     span: Span,
-    slots: &[Slot],
-    children: &[Child],
+    slots: &Slots,
     grid: Grid,
     range: Range,
     cells: &mut Vec<Cell>,
 ) -> Result<(), AllocError>
     requires some { (below : ℕ) × (span.height ≡ suc below)
-        × AreSomeSlots below span.start slots.now children.now (counted cells.old.items) }
+        × AreSomeSlots below span.start slots.now (counted cells.old.items) }
     requires grid { IsGrid grid.first grid.width × (grid.first ≤ℤ range.from) }
     requires begins { range.from <ℤ end_of span }
     requires ends { span.start <ℤ range.to }
     requires starts { AreStarts grid cells.old.items }
-    ensures cells { OnOk result (AtEachInner span slots.now children.now (λ h.
+    ensures cells { OnOk result (AtEachInner span slots.now (λ h.
         AddsWithin grid range cells.old.items cells.new.items (points_in span (bag h)))) }
     ensures starts { OnOk result (AreStarts grid cells.new.items) }
 {
     let (first, last) = span.slots_between(range.from, range.to);
-    for i in first..last + 1 {
-        let index = usize::from(i);
-        walk_slot(
-            alloc,
-            span.slot(i),
-            &slots[index],
-            &children[index],
-            grid,
-            range,
-            cells,
-        )?;
+    let mut from = first;
+    while let Some(i) = slots.next_occupied(from) {
+        if i > last {
+            return Ok(());
+        }
+        walk_slot(alloc, span.slot(i), slots, i, grid, range, cells)?;
+        from = i + 1;
     }
     Ok(())
 }
 
-/// Adds to the windows the points of a slot in a range that meets it. It visits no node if the slot has no point, or if
-/// it is inside the range and one window.
+/// Adds to the windows the points of slot `i`, which has this span and a point, in a range that meets it. It visits no node
+/// if the slot is inside the range and one window.
 #[cycle(window_walk)]
 fn walk_slot(
     alloc: Global,
     span: Span,
-    slot: &Slot,
-    child: &Child,
+    slots: &Slots,
+    i: u8,
     grid: Grid,
     range: Range,
     cells: &mut Vec<Cell>,
 ) -> Result<(), AllocError>
-    requires some { IsSomeSlot span.height span.start slot.now child.now (counted cells.old.items) }
+    requires place { (i < 64) × IsOccupied slots.now i }
+    requires some { IsSomeSlot span.height span.start (slot_in slots.now i) (child_in slots.now i) (counted cells.old.items) }
     requires grid { IsGrid grid.first grid.width × (grid.first ≤ℤ range.from) }
     requires begins { range.from <ℤ end_of span }
     requires ends { span.start <ℤ range.to }
     requires starts { AreStarts grid cells.old.items }
-    ensures cells { OnOk result (AtEachHistory span child.now (λ h. slot.now.agg ≡ agg (points_in span (bag h))
+    ensures cells { OnOk result (AtEachHistory span (child_in slots.now i) (λ h. (slot_in slots.now i).agg ≡ agg (points_in span (bag h))
         → AddsWithin grid range cells.old.items cells.new.items (points_in span (bag h)))) }
     ensures starts { OnOk result (AreStarts grid cells.new.items) }
 {
-    let agg = slot.agg;
-    if agg.count == 0 {
-        return Ok(());
-    }
     if is_inside(span, range) {
         if let Some(start) = start_around(cells, grid, span) {
-            return add_part(cells, start, &agg);
+            let slot = slots.slot(i);
+            return add_part(cells, start, &slot.agg);
         }
     }
-    walk_child(alloc, span, child, grid, range, cells)
+    walk_child(alloc, span, slots.child(i), grid, range, cells)
 }

@@ -1,5 +1,5 @@
 use Rattle.std.specs.Prelude.{pos, ◌+ℤ◌}
-use Rattle.std.proofs.Common.{◌≡◌, ℕ, suc, ◌+◌, ◌*◌, ◌<◌, ◌≤◌, ◌^◌, length, refl, sym, ap, ◌∙◌, subst, arith, inl, inr, mul-le-mul_left}
+use Rattle.std.proofs.Common.{◌≡◌, ℕ, suc, ◌+◌, ◌*◌, ◌≤◌, refl, sym, ap, ◌∙◌, subst, arith, inl, inr, mul-le-mul_left}
 use Rattle.std.proofs.lemmas.Int.{ints}
 use Rattle.std.proofs.lemmas.Bool.{cases_lt, both_ways}
 use Rattle.btr_base.specs.Agg.{AggValue, agg, agg_within}
@@ -8,7 +8,9 @@ use Rattle.btr_base.specs.Span.{width, SpanValue}
 use Rattle.btr_tree.specs.History.{bag}
 use Rattle.btr_tree.specs.Nodes.{points_of, is_inner}
 use Rattle.btr_tree.specs.Change.{end_of}
-use Rattle.btr_tree.specs.Shape.{HasChildren, slot_start}
+use Rattle.btr_tree.specs.Shape.{slot_start}
+use Rattle.btr_tree.specs.declared.node.Slot.{Slot}
+use Rattle.btr_tree.specs.Slots.{node_of, slot_in, child_in}
 use Rattle.btr_tree.proofs.NodeLemmas.{leaf-is, inner-is, slot-at, slot-few, slot-from, slot-part, slot-end, prefix-part, prefix-fewer}
 use Rattle.btr_tree.proofs.VersionLemmas.{points-in_order}
 use Rattle.btr_window.specs.RangeEnds.{ends_inside}
@@ -32,7 +34,7 @@ agg_in_child-agg_in_slots-requires t c =
     let some = c.requires.some in
     let span = c.args.span in
     let d = c.decreases in
-    let slots = inner-some span 0 c.args.child.now c.in-Some.node c.in-Inner.version c.in-Inner.slots c.in-Inner.children some c.in-Inner.is (c.in-Some.ensures.node span.height span.start some.above some.commits some.holds) in
+    let slots = inner-some span 0 (node_of c.args.child) c.in-Some.node c.in-Inner.version c.in-Inner.slots some c.in-Inner.is (c.in-Some.ensures.node span.height span.start some.above some.commits some.holds) in
     let high = slots.1 in
     (omega arith, (slots, (c.requires.begins, c.requires.ends)))
 
@@ -52,7 +54,7 @@ agg_in_child-returns-in-Leaf-clause-agg t c above h holds =
 pub agg_in_child-returns-in-Inner-clause-agg : goal.agg_in_child-returns-in-Inner-clause-agg
 agg_in_child-returns-in-Inner-clause-agg t c above h holds =
     let span = c.args.span in
-    let body = inner-is span.height span.start above h c.in-Some.node c.in-Inner.version c.in-Inner.slots c.in-Inner.children c.in-Inner.is (c.in-Some.ensures.node span.height span.start above h holds) in
+    let body = inner-is span.height span.start above h c.in-Some.node c.in-Inner.version c.in-Inner.slots c.in-Inner.is (c.in-Some.ensures.node span.height span.start above h holds) in
     c.agg_in_slots.ensures.agg body.below h body.height body.inner.all body.each
 
 -- ---- One slot.
@@ -61,12 +63,13 @@ pub agg_in_slot-returns-then-agg-eq0-clause-agg : goal.agg_in_slot-returns-then-
 agg_in_slot-returns-then-agg-eq0-clause-agg t c above h holds counted =
     let span = c.args.span in
     let range = c.args.range in
+    let whole : c.slot-agg.result.agg ≡ agg (points_of span.height span.start (bag h)) = ap (λ (y : Slot). y.agg) c.slot-agg.ensures ∙ counted in
     elim c.then-agg-eq0.branch [
       | agg_in_slot-then-agg-eq0-via-then-agg-eq0 w ↦
-          agg-empty range.from range.to (points_of span.height span.start (bag h)) c.args.slot.now.agg counted (omega (arith, ap (λ (s : AggValue). s.count) c.agg.view_is, w.if-agg-eq0.true))
+          agg-empty range.from range.to (points_of span.height span.start (bag h)) c.slot-agg.result.agg whole (omega (arith, ap (λ (s : AggValue). s.count) c.agg.view_is, w.if-agg-eq0.true))
       | agg_in_slot-then-agg-eq0-via-else-agg-eq0+then-is_inside w ↦
-          let whole = w.is_inside.ensures.0 w.if-is_inside.true in
-          counted ∙ ap agg (sym (within-inside range.from range.to span.start (end_of span) (bag h) whole.0 whole.1))
+          let inside = w.is_inside.ensures.0 w.if-is_inside.true in
+          whole ∙ ap agg (sym (within-inside range.from range.to span.start (end_of span) (bag h) inside.0 inside.1))
     ]
 
 pub agg_in_slot-returns-clause-bounded : goal.agg_in_slot-returns-clause-bounded
@@ -101,7 +104,7 @@ agg_in_slots-agg_in_slot-part-requires t c =
     let i = c.loop-i.i in
     let d = c.decreases in
     let met = c.loop-i.invariant.between below st.1 in
-    let at = slot-at c.args.span below st.2.commits i c.from-index.result c.slot.result c.index-slots-index.result c.index-children-index.result c.args.slots.now c.args.children.now st.1 st.2.holds st.2.each (omega arith) c.from-index.ensures c.slot.ensures c.index-slots-index.is c.index-children-index.is in
+    let at = slot-at c.args.span below st.2.commits i c.slot.result (slot_in c.args.slots.now i) (child_in c.args.slots.now i) c.args.slots.now st.1 st.2.holds st.2.each (omega arith) c.slot.ensures refl refl in
     let few = slot-few below start st.2.commits i c.slot.result (omega arith) at.is in
     let all = st.2.few in
     let low : c.slot.result.height ≡ below = ap (λ u. u.height) at.is in
@@ -114,14 +117,17 @@ agg_in_slots-agg_in_slot-part-requires t c =
     let last = met.ends in (
       omega arith,
       (
-        record {
-          above = is_inner (suc below) start;
-          commits = st.2.commits;
-          holds = at.holds;
-          counted = at.counted;
-          few = omega arith;
-        },
-        (omega (arith, ints), omega (arith, ints)),
+        omega arith,
+        (
+          record {
+            above = is_inner (suc below) start;
+            commits = st.2.commits;
+            holds = at.holds;
+            counted = at.counted;
+            few = omega arith;
+          },
+          (omega (arith, ints), omega (arith, ints)),
+        ),
       ),
     )
 
@@ -134,7 +140,7 @@ agg_in_slots-join-all-requires t c =
     let i = c.loop-i.i in
     let h = st.2.commits in
     let part = c.slot.result in
-    let at = slot-at c.args.span below h i c.from-index.result part c.index-slots-index.result c.index-children-index.result c.args.slots.now c.args.children.now st.1 st.2.holds st.2.each (omega arith) c.from-index.ensures c.slot.ensures c.index-slots-index.is c.index-children-index.is in
+    let at = slot-at c.args.span below h i part (slot_in c.args.slots.now i) (child_in c.args.slots.now i) c.args.slots.now st.1 st.2.holds st.2.each (omega arith) c.slot.ensures refl refl in
     let here = points_of part.height part.start (bag h) in
     let next = within start (slot_start below start (i + 1)) (bag h) in
     let fits = count-fits range.from range.to (within start (slot_start below start i) (bag h)) here next c.loop-i.all c.agg_in_slot-part.result (prefix-part below start i h part at.is) (c.loop-i.invariant.agg below h st.1 st.2.holds st.2.each) (c.agg_in_slot-part.ensures.agg (is_inner (suc below) start) h at.holds at.counted) in
@@ -151,7 +157,7 @@ agg_in_slots-loop-i-preserved t c =
     record {
       between = c.loop-i.invariant.between;
       agg = λ below h e slots each.
-          let at = slot-at c.args.span below h i c.from-index.result part c.index-slots-index.result c.index-children-index.result c.args.slots.now c.args.children.now e slots each (omega arith) c.from-index.ensures c.slot.ensures c.index-slots-index.is c.index-children-index.is in
+          let at = slot-at c.args.span below h i part (slot_in c.args.slots.now i) (child_in c.args.slots.now i) c.args.slots.now e slots each (omega arith) c.slot.ensures refl refl in
           let here = points_of part.height part.start (bag h) in
           agg-more range.from range.to (within start (slot_start below start i) (bag h)) here (within start (slot_start below start (i + 1)) (bag h)) c.loop-i.all c.agg_in_slot-part.result c.join-all.result (prefix-part below start i h part at.is) (c.loop-i.invariant.agg below h e slots each) (c.agg_in_slot-part.ensures.agg (is_inner (suc below) start) h at.holds at.counted) c.join-all.ensures.numbers;
       none = λ first. absurd (omega arith);

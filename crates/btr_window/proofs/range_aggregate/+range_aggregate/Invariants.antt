@@ -1,7 +1,7 @@
-use Rattle.std.proofs.Common.{◌≡◌, ℕ, suc, ◌+◌, ◌*◌, ◌<◌, ◌≤◌, List}
+use Rattle.std.proofs.Common.{◌≡◌, ℕ, suc, ◌+◌, ◌*◌, ◌<◌, ◌≤◌}
 use Rattle.btr_base.specs.Agg.{agg_within}
 use Rattle.btr_base.specs.Bag.{within}
-use Rattle.btr_tree.specs.History.{Commit, bag}
+use Rattle.btr_tree.specs.History.{Past, bag}
 use Rattle.btr_tree.specs.Shape.{HasSlots, HasChildren, slot_start}
 use Rattle.btr_window.specs.RangeEnds.{ends_inside}
 use Rattle.btr_window.proofs.Slots.{IsBetween}
@@ -11,7 +11,7 @@ use Rattle.btr_window.proofs.range_aggregate.+range_aggregate.Given as goal
 abbrev pub invariant-agg_in_slots-loop-i : goal.invariant-agg_in_slots-loop-i
 invariant-agg_in_slots-loop-i l = record {
   between : (below : ℕ) → l.span.height ≡ suc below → IsBetween below l.span.start l.range.from l.range.to l.first l.last;
-  agg : (below : ℕ) (h : List Commit) → l.span.height ≡ suc below → HasSlots below l.span.start h 64 l.slots l.children → HasChildren below l.span.start h 64 l.children → l.all ≡ agg_within l.range.from l.range.to (within l.span.start (slot_start below l.span.start l.i) (bag h));
+  agg : (below : ℕ) (h : Past) → l.span.height ≡ suc below → HasSlots below l.span.start h l.slots → HasChildren below l.span.start h l.slots → l.all ≡ agg_within l.range.from l.range.to (within l.span.start (slot_start below l.span.start l.i) (bag h));
   none : l.i ≡ l.first → l.steps ≡ l.fn.steps;
   bounded : (below : ℕ) → l.span.height ≡ suc below → l.first < l.i → l.steps ≤ l.fn.steps + l.span.height * ends_inside l.span.start (slot_start below l.span.start l.i) l.range.from l.range.to;
   never_falls : l.fn.steps ≤ l.steps;

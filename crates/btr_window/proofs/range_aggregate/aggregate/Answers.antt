@@ -9,11 +9,12 @@ use Rattle.btr_tree.specs.Nodes.{points_of, above_root}
 use Rattle.btr_tree.specs.Change.{IsSomeChild, end_of}
 use Rattle.btr_tree.proofs.RootLemmas.{end-root, root-points}
 use Rattle.btr_tree.specs.Shape.{IsChild}
+use Rattle.btr_tree.specs.Slots.{node_of}
 use Rattle.btr_window.proofs.EndsInside.{ends-most}
 use Rattle.btr_window.proofs.range_aggregate.aggregate.Goals as goal
 
 pub agg_in_child-requires-clause-some : goal.agg_in_child-requires-clause-some
-agg_in_child-requires-clause-some c = subst (λ (s : SpanValue). IsSomeChild s.height s.start c.root.result.now 0) (sym c.root_span.ensures) c.root.ensures.some
+agg_in_child-requires-clause-some c = subst (λ (s : SpanValue). IsSomeChild s.height s.start (node_of c.root.result) 0) (sym c.root_span.ensures) c.root.ensures.some
 
 pub agg_in_child-requires-clause-begins : goal.agg_in_child-requires-clause-begins
 agg_in_child-requires-clause-begins c =
@@ -25,7 +26,7 @@ agg_in_child-requires-clause-begins c =
 
 pub returns-clause-agg : goal.returns-clause-agg
 returns-clause-agg c h tree =
-    let place = subst (λ (s : SpanValue). IsChild s.height s.start above_root h c.root.result.now) (sym c.root_span.ensures) (c.root.ensures.child h tree) in
+    let place = subst (λ (s : SpanValue). IsChild s.height s.start above_root h (node_of c.root.result)) (sym c.root_span.ensures) (c.root.ensures.child h tree) in
     c.agg_in_child.ensures.agg above_root h place
     ∙ ap (λ (s : SpanValue). agg_within c.args.range.from c.args.range.to (points_of s.height s.start (bag h))) c.root_span.ensures
     ∙ ap (agg_within c.args.range.from c.args.range.to) (root-points (bag h) tree.times)
