@@ -3,8 +3,9 @@ use Rattle.std.specs.Prelude.{◌≡◌, ◌≢◌, ℕ, zero, suc, ◌<◌, ◌
 use Rattle.std.proofs.Common.{refl, sym, ap, ◌∙◌, arith, inl, inr, length-append, length-set}
 use Rattle.std.proofs.lemmas.Bool.{cases_lt}
 use Rattle.std.proofs.lemmas.Option.{slice_get_past}
+use Rattle.std.specs.Option.{option_to_list}
 use Rattle.btr_board.specs.Put.{put_at}
-use Rattle.btr_board.specs.Places.{IsFilled, item_list, listed}
+use Rattle.btr_board.specs.Places.{IsFilled, listed}
 use Rattle.btr_board.proofs.PutLemmas.{same_or_other, put-same, put-other, put-alike}
 use Rattle.btr_board.proofs.ListLemmas.{get-set, get-push, same-elements}
 
@@ -14,7 +15,7 @@ filled-less f n m le h i lt = h i (omega arith)
 -- The list of one item more.
 listed-more : {T : Type 0} (n : ℕ) (f : ℕ → Option T) (x : T) → f n ≡ Some x → listed (suc n) f ≡ listed n f ++ x ∷ []
 unfolding listed
-listed-more n f x e = ap (λ o. listed n f ++ item_list o) e
+listed-more n f x e = ap (λ o. listed n f ++ option_to_list o) e
 
 -- The value, if there is one.
 pub some-value : {T : Type 0} (o : Option T) → IsSome o → (x : T) × (o ≡ Some x)
@@ -54,7 +55,7 @@ listed-alike zero f g h = refl
 listed-alike (suc n) f g h =
     let rest : listed n f ≡ listed n g = listed-alike n f g (λ j lt. h j (omega arith)) in
     let last : f n ≡ g n = h n (omega arith) in
-    ap (λ xs. xs ++ item_list (f n)) rest ∙ ap (λ o. listed n g ++ item_list o) last
+    ap (λ xs. xs ++ option_to_list (f n)) rest ∙ ap (λ o. listed n g ++ option_to_list o) last
 
 -- One item put.
 pub filled-put : {T : Type 0} (n i : ℕ) (x : T) (f g : ℕ → Option T) → ((j : ℕ) → j < n → j ≢ i → IsSome (f j)) → ((j : ℕ) → j < n → g j ≡ put_at i x f j) → IsFilled g n

@@ -1,6 +1,6 @@
 -- What a node of a trail has at each place, and the list that a trail is.
-use Rattle.std.specs.Prelude.{ℕ, zero, suc, ◌+◌, ◌*◌, ◌/◌, ◌%◌, ◌^◌, ◌<◌, ◌≤◌, List, [], ◌∷◌, ◌++◌, slice_get, Option, None, Some, IsSome}
-use Rattle.std.specs.Option.{option_map}
+use Rattle.std.specs.Prelude.{ℕ, zero, suc, ◌+◌, ◌*◌, ◌/◌, ◌%◌, ◌^◌, ◌<◌, ◌≤◌, List, [], ◌++◌, slice_get, Option, None, Some, IsSome}
+use Rattle.std.specs.Option.{option_map, option_to_list}
 use denote.Ref.{Bor}
 use Rattle.std.specs.declared.alloc.Global.{Global}
 use Rattle.std.specs.declared.sync.Arc.{Arc}
@@ -11,11 +11,11 @@ use Rattle.btr_board.specs.declared.trail_node.TrailNode.TheOpen.{TrailNode-F}
 abbrev pub value_at : {X : Type 0} → List (Arc X Global) → ℕ → Option X
 value_at xs i = option_map (λ a. a.value) (slice_get xs i)
 
--- The node behind a link, if there is one.
+-- The node of a link, if there is one.
 abbrev pub node_of : {X : Type 0} → Option (Arc X Global) → Option X
 node_of link = option_map (λ a. a.value) link
 
--- The node behind a reference to a link, if there is one.
+-- The node of a link that is lent, if there is one.
 abbrev pub link_of : {X : Type 0} → Option (Bor (Arc X Global)) → Option X
 link_of link = option_map (λ a. a.now.value) link
 
@@ -37,11 +37,11 @@ abbrev pub children_of : {T : Type 0} → Option (TrailNode T) → List (Arc (Tr
 children_of None = []
 children_of {T = T} (Some n) = children_in (out-TrailNode T n)
 
--- The number of places below a child of a node of this height.
+-- The number of places of each child of a node of this height.
 unfoldable pub width : ℕ → ℕ
 width height = 2 ^ (5 * height)
 
--- The item at a place below a node of this height, if there is one.
+-- The item at a place of a node of this height, if there is one.
 unfoldable pub found : {T : Type 0} → ℕ → Option (TrailNode T) → ℕ → Option T
 found zero root i = value_at (items_of root) i
 found (suc below) root i = found below (value_at (children_of root) (i / width (suc below))) (i % width (suc below))
@@ -50,15 +50,10 @@ found (suc below) root i = found below (value_at (children_of root) (i / width (
 abbrev pub IsFilled : {T : Type 0} → (ℕ → Option T) → ℕ → Type 0
 IsFilled f n = (i : ℕ) → i < n → IsSome (f i)
 
--- The item, if there is one, as a list.
-abbrev pub item_list : {T : Type 0} → Option T → List T
-item_list None = []
-item_list (Some x) = x ∷ []
-
 -- The items at the places below n, in order.
 unfoldable pub listed : {T : Type 0} → ℕ → (ℕ → Option T) → List T
 listed zero f = []
-listed (suc n) f = listed n f ++ item_list (f n)
+listed (suc n) f = listed n f ++ option_to_list (f n)
 
 -- What a trail keeps: there is an item at each place below its length, and a root of its height has room for them.
 pub record IsTrail {T : Type 0} (height len : ℕ) (items : ℕ → Option T) : Type 0 where

@@ -1,4 +1,5 @@
-//! Nodes of an index, by height. The root has height 128. An inner node of height h splits its ids by bit h - 1 of their hash.
+//! Nodes of an index. The root has height 128. An inner node of height h has the ids whose hash has bit h - 1 clear in one
+//! node of height h - 1, and the other ids in a second one.
 ghost use Rattle.std.specs.Prelude.{◌≡◌, ℕ, ◌<◌, ◌≤◌, IfOk};
 ghost use Rattle.btr_board.specs.Put.{put_at};
 ghost use Rattle.btr_board.specs.Numbers.{first, bit, number_in};
@@ -32,7 +33,7 @@ pub(crate) enum IndexNode {
     },
 }
 
-/// A bit of the id's hash.
+/// Returns a bit of the id's hash.
 fn bit_of(height: u8, id: u128) -> bool
     requires { height < 128 }
     ensures { result ≡ bit height id }
@@ -40,7 +41,7 @@ fn bit_of(height: u8, id: u128) -> bool
     (id.wrapping_mul(SCATTER) >> height) % 2 == 1
 }
 
-/// The number of the first entry with this id.
+/// Returns the number of the first entry with this id.
 fn first_number(entries: &[Entry], id: u128) -> Option<u32>
     ensures { result ≡ first entries.now id }
 {
@@ -52,7 +53,7 @@ fn first_number(entries: &[Entry], id: u128) -> Option<u32>
     None
 }
 
-/// The number of an id below a node.
+/// Returns the number that a node has for an id.
 pub(crate) fn find_in(node: &IndexNode, height: u8, id: u128) -> Option<u32>
     requires { height ≤ 128 }
     ensures { result ≡ number_in height node.now id }
@@ -72,7 +73,7 @@ pub(crate) fn find_in(node: &IndexNode, height: u8, id: u128) -> Option<u32>
     }
 }
 
-/// The node with an entry put in.
+/// Returns a node with `entry`, and with the entries of `node` that have another id.
 pub(crate) fn insert_in(
     alloc: Global,
     node: &IndexNode,
@@ -101,7 +102,7 @@ pub(crate) fn insert_in(
     }
 }
 
-/// The node of these entries: a leaf if they are few.
+/// Returns the node of these entries: a leaf if they are few.
 pub(crate) fn build(
     alloc: Global,
     entries: Vec<Entry>,
@@ -119,7 +120,7 @@ pub(crate) fn build(
     Ok(Arc::new(alloc, IndexNode::Inner { zeros, ones })?)
 }
 
-/// The entries whose bit is `one`.
+/// Returns the entries of the ids whose bit is `one`.
 fn half(alloc: Global, entries: &[Entry], place: u8, one: bool) -> Result<Vec<Entry>, AllocError>
     requires { place < 128 }
     ensures { IfOk result (λ v. (j : ℕ) → bit place j ≡ one → first v.items j ≡ first entries.now j) }
@@ -133,7 +134,7 @@ fn half(alloc: Global, entries: &[Entry], place: u8, one: bool) -> Result<Vec<En
     Ok(part)
 }
 
-/// The entries with one put in, in place of that with its id.
+/// Returns the entries that have another id than `new`, and `new`.
 pub(crate) fn with_entry(
     alloc: Global,
     entries: &[Entry],
@@ -141,7 +142,7 @@ pub(crate) fn with_entry(
 ) -> Result<Vec<Entry>, AllocError>
     ensures { IfOk result (λ v. (j : ℕ) → first v.items j ≡ put_at new.id new.number (first entries.now) j) }
 {
-    let mut others = Vec::new(alloc);
+    let mut others = Vec::with_capacity(alloc, entries.len().saturating_add(1))?;
     for entry in entries {
         if entry.id != new.id {
             others.push(*entry)?;

@@ -21,3 +21,6 @@ mod trail_node;
 
 pub use index::Index;
 pub use trail::Trail;
+
+#[cfg(test)]
+mod tests;

@@ -19,7 +19,7 @@ pub(crate) enum TrailNode<T: Drop> {
     Inner(Vec<Arc<TrailNode<T>, Global>>),
 }
 
-/// The items of a leaf.
+/// Returns the items of a leaf. A node that is missing, and an inner node, has none.
 fn items<'a, T: Drop>(root: Option<&'a Arc<TrailNode<T>, Global>>) -> &'a [Arc<T, Global>]
     ensures { result.now ≡ items_of (link_of root.entry) }
 {
@@ -32,7 +32,7 @@ fn items<'a, T: Drop>(root: Option<&'a Arc<TrailNode<T>, Global>>) -> &'a [Arc<T
     }
 }
 
-/// The children of an inner node.
+/// Returns the children of an inner node. A node that is missing, and a leaf, has none.
 fn children<'a, T: Drop>(
     root: Option<&'a Arc<TrailNode<T>, Global>>,
 ) -> &'a [Arc<TrailNode<T>, Global>]
@@ -47,7 +47,7 @@ fn children<'a, T: Drop>(
     }
 }
 
-/// The child of a node that has a place, and the place below the child.
+/// Returns which child of a node has a place, and which place of the child it is.
 fn step(height: u8, place: usize) -> (usize, usize)
     requires { height ≤ 12 }
     ensures child { result.0 ≡ place / width height }
@@ -57,14 +57,14 @@ fn step(height: u8, place: usize) -> (usize, usize)
     (place >> shift, place & ((1 << shift) - 1))
 }
 
-/// Whether a node of this height has more places than this.
+/// Returns whether a node of this height has more than `len` places.
 pub(crate) fn has_room(height: u8, len: usize) -> bool
     ensures { IsTrue result ↔ (len < width (height + 1)) }
 {
     height >= 12 || len < 1 << (5 * (height + 1))
 }
 
-/// The item at a place below a node.
+/// Returns the item at a place of a node, if there is one.
 pub(crate) fn get_at<'a, T: Drop>(
     root: Option<&'a Arc<TrailNode<T>, Global>>,
     height: u8,
@@ -83,7 +83,7 @@ pub(crate) fn get_at<'a, T: Drop>(
     get_at(children(root).get(at), height - 1, rest)
 }
 
-/// The node with an item put at a place, which has one or is the first that has none.
+/// Returns a node with `item` at a place, and else with the items of `root`. Each place before it must have an item.
 pub(crate) fn put<T: Drop>(
     alloc: Global,
     root: Option<&Arc<TrailNode<T>, Global>>,
@@ -107,7 +107,7 @@ pub(crate) fn put<T: Drop>(
     Ok(Arc::new(alloc, TrailNode::Inner(children))?)
 }
 
-/// The values with one put at a place, which is one of theirs or the next.
+/// Returns the values with `value` at a place, which is one of theirs or the next.
 fn with<X: Drop>(
     alloc: Global,
     values: &[Arc<X, Global>],
@@ -126,7 +126,7 @@ fn with<X: Drop>(
     Ok(copy)
 }
 
-/// The same values once more, with room for one more.
+/// Returns the same values, in a vector with room for one more.
 fn copied<X: Drop>(
     alloc: Global,
     values: &[Arc<X, Global>],
@@ -141,13 +141,14 @@ fn copied<X: Drop>(
     Ok(copy)
 }
 
-/// A node one level higher, whose first places are those of this one.
+/// Returns a node one level higher. Its first places are those of `root`.
 pub(crate) fn raised<T: Drop>(
     alloc: Global,
     root: &Option<Arc<TrailNode<T>, Global>>,
     height: u8,
 ) -> Result<Arc<TrailNode<T>, Global>, AllocError>
-    ensures { IfOk result (λ n. (j : ℕ) → j < width (height + 1) → found (height + 1) (Some n.value) j ≡ found height (node_of root.now) j) }
+    ensures { IfOk result (λ n. (j : ℕ) → j < width (height + 1)
+        → found (height + 1) (Some n.value) j ≡ found height (node_of root.now) j) }
 {
     let mut children = Vec::new(alloc);
     match root {

@@ -8,7 +8,7 @@ use Rattle.btr_board.proofs.trail.Trail.push.Goals as goal
 pub put-requires-clause-filled : goal.put-requires-clause-filled
 put-requires-clause-filled g c i lt =
     ap (λ o. is_some (found c.self.inside.height o i)) (link-same c.self.inside.root c.as_ref.result c.as_ref.ensures.value)
-    ∙ c.self.invariant.filled i lt
+    ∙ c.self.invariant.filled i (omega arith)
 
 pub invariant_of-result : goal.invariant_of-result
 invariant_of-result g c =
