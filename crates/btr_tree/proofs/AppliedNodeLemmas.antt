@@ -1,5 +1,5 @@
 -- Lemmas on the walk that applies a commit.
-use Rattle.std.specs.Prelude.{◌≡◌, ℕ, ◌+◌, ◌<◌, ◌≤◌, ℤ, pos, ◌+ℤ◌, ◌≤ℤ◌, ◌<ℤ◌, Bool, true, false, not, ◌||◌, cond, eqb, int_lt, List, [], ◌∷◌, ◌++◌, length, slice_index_or}
+use Rattle.std.specs.Prelude.{◌≡◌, ℕ, ◌+◌, ◌<◌, ◌≤◌, ℤ, pos, ◌+ℤ◌, ◌≤ℤ◌, ◌<ℤ◌, Bool, true, false, not, ◌||◌, cond, eqb, int_lt, List, [], ◌∷◌, ◌++◌, length, Option}
 use Rattle.std.specs.List.{filter, list_any}
 use Rattle.std.proofs.Common.{suc, refl, sym, ap, ◌∙◌, arith, subst, length-append}
 use Rattle.std.proofs.lemmas.Int.{ints}
@@ -15,10 +15,12 @@ use Rattle.btr_tree.specs.declared.node.Slot.{Slot}
 use Rattle.btr_tree.specs.History.{Commit, bag, Past, ◌▷◌}
 use Rattle.btr_tree.specs.Nodes.{points_of, has_points, touches, is_inner, is_node, last_change}
 use Rattle.btr_tree.proofs.VersionLemmas.{points-after}
-use Rattle.btr_tree.specs.declared.node.Child.{Child}
+use Rattle.btr_tree.specs.declared.node.NodeData.{NodeData}
+use Rattle.btr_tree.specs.declared.slots.Slots.{Slots}
+use Rattle.btr_tree.specs.Slots.{slot_in, child_in}
 use Rattle.btr_tree.specs.Shape.{slot_start, HasSlots, HasChildren, IsChild}
 use Rattle.btr_tree.proofs.NodeLemmas.{slot-at, points-slot}
-use Rattle.btr_tree.proofs.CutLemmas.{outside-alike}
+use Rattle.btr_tree.proofs.CutLemmas.{outside-alike, outside-nothing}
 use Rattle.btr_tree.proofs.UntouchedNodeLemmas.{many-inner, some-has}
 use Rattle.btr_tree.proofs.BuiltNodeLemmas.{inner-child}
 use Rattle.btr_tree.proofs.SlotSplitLemmas.{IsPartedAt, parted-at}
@@ -60,9 +62,9 @@ pub last_change-touched : (was : List Point → Bool) (k : ℕ) (s : ℤ) (h : P
 last_change-touched was k s h c v number touched =
     number ∙ sym (ap (λ t. cond (t || not (was (bag h))) c.version (last_change was k s h)) touched)
 
-pub inner-child_on : (k below : ℕ) (s : ℤ) (above : List Point → Bool) (h : Past) (c : Commit) (v : ℕ) (ss : List Slot) (cs : List Child) (p : Child) → k ≡ suc below → v ≡ c.version → touches c k s (bag h) ≡ true → LEAF_POINTS < length (points_of k s (bag (c ▷ h))) → HasSlots below s (c ▷ h) 64 ss cs → HasChildren below s (c ▷ h) 64 cs → IsInnerOf v ss cs p → IsChild k s above (c ▷ h) p
-inner-child_on k below s above h c v ss cs p e number touched many slots each is =
-    subst (λ j. IsChild j s above (c ▷ h) p) (sym e) (inner-child below s above h c v ss cs p number (ap (λ t. t || not (is_node above (suc below) s (bag h))) (subst (λ j. touches c j s (bag h) ≡ true) e touched)) (subst (λ j. LEAF_POINTS < length (points_of j s (bag (c ▷ h)))) e many) slots each is)
+pub inner-child_on : (k below : ℕ) (s : ℤ) (above : List Point → Bool) (h : Past) (c : Commit) (v : ℕ) (x : Slots) (p : Option NodeData) → k ≡ suc below → v ≡ c.version → touches c k s (bag h) ≡ true → LEAF_POINTS < length (points_of k s (bag (c ▷ h))) → HasSlots below s (c ▷ h) x → HasChildren below s (c ▷ h) x → IsInnerOf v x p → IsChild k s above (c ▷ h) p
+inner-child_on k below s above h c v x p e number touched many slots each is =
+    subst (λ j. IsChild j s above (c ▷ h) p) (sym e) (inner-child below s above h c v x p number (ap (λ t. t || not (is_node above (suc below) s (bag h))) (subst (λ j. touches c j s (bag h) ≡ true) e touched)) (subst (λ j. LEAF_POINTS < length (points_of j s (bag (c ▷ h)))) e many) slots each is)
 
 -- ---- whether a commit touches a span
 
@@ -102,6 +104,15 @@ is-touched b t e f = grind arith
 pub is-untouched : (b t : Bool) → b ≡ true → b ≡ not t → t ≡ false
 is-untouched b t e f = grind arith
 
+eqb-same : (n : ℕ) → eqb n n ≡ true
+eqb-same n = grind (arith, nat_tests)
+
+pub untouched-nothing : (k : ℕ) (s : ℤ) (h : Past) (c : Commit) (cut : List RangeValue) (added : List Point) (v : ℕ) → IsChange k s c cut added v → cut ≡ [] → added ≡ [] → touches c k s (bag h) ≡ false
+untouched-nothing k s h c cut added v ch no_cut none =
+    let here = points_of k s (bag h) in
+    let all = ap length (ap (outside here) no_cut ∙ outside-nothing here) in
+    is-untouched (eqb (length here) (length here)) (touches c k s (bag h)) (eqb-same (length here)) (untouched-kept k s h c cut added v (length here) (length here) ch none (sym all) refl)
+
 -- ---- one slot of the walk
 
 points-part : (below : ℕ) (s : ℤ) (i : ℕ) (b : List Point) (part : SpanValue) → i < 64 → part ≡ record { start = slot_start below s i; height = below } → points_of part.height part.start (points_of (suc below) s b) ≡ points_of part.height part.start b
@@ -117,16 +128,16 @@ parted-of span part below i b e place p aligned =
     subst (λ x. IsPartedAt span part below i pts x behind) (at.has ∙ points-part below span.start i b part place at.is) at
 
 -- What the walk knows of a slot.
-pub record IsStep (span part : SpanValue) (below i : ℕ) (h : Past) (c : Commit) (slot : Slot) (child : Child) (cut : List RangeValue) (here : List Point) (v : ℕ) : Type 0 where
+pub record IsStep (span part : SpanValue) (below i : ℕ) (h : Past) (c : Commit) (slot : Slot) (child : Option NodeData) (cut : List RangeValue) (here : List Point) (v : ℕ) : Type 0 where
   pub was : is_inner (suc below) span.start (bag h) ≡ true
   pub holds : IsChild part.height part.start (is_inner (suc below) span.start) h child
   pub slot_is : slot ≡ slot_at (is_inner (suc below) span.start) part.height part.start h
   pub change : IsChange part.height part.start c cut here v
 
-pub step-at : (span part : SpanValue) (below i j : ℕ) (h : Past) (c : Commit) (slot : Slot) (child : Child) (cut : List RangeValue) (added here behind : List Point) (v : ℕ) (ss : List Slot) (cs : List Child) → IsApplied below span h c cut added v ss cs → IsPartedAt span part below i added here behind → i < 64 → j ≡ i → part ≡ slot_of span i → slot ≡ slice_index_or ss j slot → child ≡ slice_index_or cs j child → IsStep span part below i h c slot child cut here v
-step-at span part below i j h c slot child cut added here behind v ss cs applied at place same p q r =
-    let known = slot-at span below h i j part slot child ss cs applied.height applied.all applied.each place same p q r in
-    let slot_is : slot ≡ slot_at (is_inner (suc below) span.start) below (slot_start below span.start i) h = q ∙ ap (λ k. slice_index_or ss k slot) same ∙ applied.all.each i slot place in
+pub step-at : (span part : SpanValue) (below i : ℕ) (h : Past) (c : Commit) (slot : Slot) (child : Option NodeData) (cut : List RangeValue) (added here behind : List Point) (v : ℕ) (x : Slots) → IsApplied below span h c cut added v x → IsPartedAt span part below i added here behind → i < 64 → part ≡ slot_of span i → slot ≡ slot_in x i → child ≡ child_in x i → IsStep span part below i h c slot child cut here v
+step-at span part below i h c slot child cut added here behind v x applied at place p q r =
+    let known = slot-at span below h i part slot child x applied.height applied.all applied.each place p q r in
+    let slot_is : slot ≡ slot_at (is_inner (suc below) span.start) below (slot_start below span.start i) h = q ∙ applied.all.each i place in
     let low = at.low in
     let high = at.high in
     let end : end_of span ≡ span.start +ℤ pos (width (suc below)) = ap (λ k. span.start +ℤ pos (width k)) applied.height in

@@ -1,7 +1,7 @@
 -- Lemmas on what a cut leaves of a span.
-use Rattle.std.specs.Prelude.{◌≡◌, ◌≤◌, ℤ, ◌≤ℤ◌, ◌<ℤ◌, true, false, not, List, [], ◌++◌, length}
+use Rattle.std.specs.Prelude.{◌≡◌, ◌≤◌, ℤ, ◌≤ℤ◌, ◌<ℤ◌, true, false, not, List, [], ◌∷◌, ◌++◌, length}
 use Rattle.std.specs.List.{AllByRecursion}
-use Rattle.std.proofs.Common.{ap, ◌∙◌, arith}
+use Rattle.std.proofs.Common.{refl, ap, ◌∙◌, arith}
 use Rattle.std.proofs.lemmas.Int.{ints}
 use Rattle.btr_base.specs.declared.point.Point.{Point}
 use Rattle.btr_base.specs.Range.{RangeValue, covered}
@@ -31,6 +31,10 @@ outside-whole a b xs rs h =
 pub outside-missed : (a b : ℤ) (xs : List Point) (rs : List RangeValue) → ((t : ℤ) → a ≤ℤ t → t <ℤ b → covered rs t ≡ false) → outside (within a b xs) rs ≡ within a b xs
 outside-missed a b xs rs h =
     filter-all (λ p. not (covered rs p.time)) (within a b xs) (each-weaker (λ p. (a ≤ℤ p.time) × (p.time <ℤ b)) (λ p. not (covered rs p.time) ≡ true) (λ p k. ap not (h p.time k.0 k.1)) (within a b xs) (within-each a b xs))
+
+pub outside-nothing : (xs : List Point) → outside xs [] ≡ xs
+outside-nothing [] = refl
+outside-nothing (p ∷ xs) = ap (λ ys. p ∷ ys) (outside-nothing xs)
 
 pub outside-length : (xs : List Point) (rs : List RangeValue) → length (outside xs rs) ≤ length xs
 outside-length xs rs = length-filter (λ p. not (covered rs p.time)) xs

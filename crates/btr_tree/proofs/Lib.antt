@@ -3,6 +3,7 @@ pub mod BuiltNodeLemmas
 pub mod CrowdLemmas
 pub mod CutLemmas
 pub mod NewNodeCountLemmas
+pub mod KeptSlotLemmas
 pub mod NewNodeLemmas
 pub mod NodeLemmas
 pub mod RootLemmas

@@ -1,25 +1,34 @@
 -- Lemmas on the nodes that have the version of a commit: those that it writes.
-use Rattle.std.specs.Prelude.{◌≡◌, ℕ, ◌+◌, ◌-◌, ◌<◌, ◌≤◌, min, ℤ, Bool, true, false, not, ◌&&◌, ◌||◌, cond, nat_lt, nat_eq, List, [], ◌∷◌, ◌++◌, length, slice_index_or}
+use Rattle.std.specs.Prelude.{◌≡◌, ℕ, ◌+◌, ◌-◌, ◌<◌, ◌≤◌, min, ℤ, Bool, true, false, not, ◌&&◌, ◌||◌, cond, nat_lt, nat_eq, List, [], ◌∷◌, ◌++◌, length, slice_get, Option, Some, None, Vec}
 use Rattle.std.proofs.Common.{zero, suc, refl, sym, ap, ◌∙◌, arith, subst, append-nil, append_assoc, inl, inr}
 use Rattle.std.proofs.lemmas.Bool.Decides.{nat_tests}
-use Rattle.std.proofs.lemmas.List.{get_or_push, length_push, same_lists}
-use Rattle.std.proofs.Math.ListN.{get_or-append}
+use Rattle.std.proofs.lemmas.List.{length_push}
+use Rattle.std.proofs.lemmas.Option.{slice_get_past}
+use Rattle.std.specs.declared.alloc.Global.{Global}
 use Rattle.std.proofs.Math.Nat.{eq-or-lt_of_le}
 use Rattle.btr_base.specs.declared.point.Point.{Point}
 use Rattle.btr_base.specs.Span.{SpanValue}
 use Rattle.btr_base.specs.declared.limits.TheConstants.{LEAF_POINTS}
 use Rattle.btr_tree.specs.declared.node.Slot.{Slot}
-use Rattle.btr_tree.specs.History.{Commit, bag, IsBefore, Past, ◌▷◌}
-use Rattle.btr_tree.specs.Change.{CountsNodes}
+use Rattle.btr_tree.specs.History.{Commit, Past, Opened, ◌▷◌, bag, IsBefore}
+use Rattle.btr_tree.specs.Change.{CountsNodes, IsInnerOf}
 use Rattle.btr_tree.specs.Nodes.{points_of, has_points, touches, is_inner, is_node, last_change, node_version}
 use Rattle.btr_tree.proofs.VersionLemmas.{points-untouched}
-use Rattle.btr_tree.specs.declared.node.Child.{Child}
-use Rattle.btr_tree.specs.Shape.{slot_start, slot_of_points, HasSlots}
+use Rattle.btr_tree.specs.declared.node.Link.{Link}
+use Rattle.btr_tree.specs.declared.node.NodeData.{NodeData, out-NodeData}
+use Rattle.btr_tree.specs.declared.node.NodeData.TheOpen.{NodeData-F}
+use Rattle.btr_tree.specs.declared.node.NodeData.TheVariants.{Leaf, Inner}
+use Rattle.btr_tree.specs.declared.slots.Kept.{Kept}
+use Rattle.btr_tree.specs.declared.slots.Slots.{Slots}
+use Rattle.btr_tree.specs.Slots.{slot_in, first_slots, AreSameSlots}
+use Rattle.btr_tree.proofs.NodeLemmas.{out-leaf, out-inner}
+use Rattle.btr_tree.proofs.KeptSlotLemmas.{get-front, get-last}
+use Rattle.btr_tree.specs.Shape.{slot_start, slot_of_points, ByKind, HasSlots}
 use Rattle.btr_tree.proofs.UntouchedNodeLemmas.{touches-slot, last_change-kept, some-has, many-inner}
-use Rattle.btr_tree.specs.NewNodes.{NewNodeValue, concat_first, slots_of, new_node, own_node, new_nodes}
+use Rattle.btr_tree.specs.NewNodes.{NewNodeValue, slots_of_kind, slots_of_node, concat_first, slots_of, new_node, own_node, new_nodes}
 
 pub last_change-before : (was : List Point → Bool) (k : ℕ) (s : ℤ) (h : Past) (v : ℕ) → 0 < v → IsBefore v h → last_change was k s h < v
-last_change-before was k s [] v some before = some
+last_change-before was k s (Opened b dates) v some before = before k s
 last_change-before was k s (c ▷ h) v some before =
     elim (touches c k s (bag h) || not (was (bag h))) as (λ t. cond t c.version (last_change was k s h) < v) [
       | true ↦ before.0
@@ -36,25 +45,78 @@ first-none (suc n) f h =
 
 -- ---- the slots of an inner node
 
-length-slots : (f : ℕ → Slot) (n : ℕ) → length (concat_first n (λ i. f i ∷ [])) ≡ n
-length-slots f zero = refl
-length-slots f (suc n) = omega (arith, length_push (concat_first n (λ i. f i ∷ [])) (f n), length-slots f n)
+slots-first : (below : ℕ) (s : ℤ) (h : Past) (x : Slots) → HasSlots below s h x → (n : ℕ) → n ≤ 64 → first_slots n x ≡ concat_first n (λ i. slot_of_points (suc below) s below (slot_start below s i) h ∷ [])
+unfolding first_slots
+slots-first below s h x holds zero le = refl
+slots-first below s h x holds (suc n) le =
+    ap (λ xs. xs ++ slot_in x n ∷ []) (slots-first below s h x holds n (omega arith))
+    ∙ ap (λ y. concat_first n (λ i. slot_of_points (suc below) s below (slot_start below s i) h ∷ []) ++ y ∷ []) (holds.each n (omega arith))
 
-get-slots : (f : ℕ → Slot) (n i : ℕ) (d : Slot) → i < n → slice_index_or (concat_first n (λ i. f i ∷ [])) i d ≡ f i
-get-slots f zero i d lt = absurd (omega arith)
-get-slots f (suc n) i d lt =
+pub slots-are : (below : ℕ) (s : ℤ) (h : Past) (x : Slots) → HasSlots below s h x → first_slots 64 x ≡ slots_of below s h
+slots-are below s h x holds = slots-first below s h x holds 64 (omega arith)
+
+first-length : (n : ℕ) (x : Slots) → length (first_slots n x) ≡ n
+unfolding first_slots
+first-length zero x = refl
+first-length (suc n) x = omega (arith, length_push (first_slots n x) (slot_in x n), first-length n x)
+
+first-get : (n : ℕ) (x : Slots) (i : ℕ) → i < n → slice_get (first_slots n x) i ≡ Some (slot_in x i)
+unfolding first_slots
+first-get zero x i lt = absurd (omega arith)
+first-get (suc n) x i lt =
     let le : i ≤ n = omega arith in
-    let long = length-slots f n in
     elim (eq-or-lt_of_le le) [
-      | inl e ↦ get_or_push (concat_first n (λ i. f i ∷ [])) (f n) d i (long ∙ sym e) ∙ ap f (sym e)
-      | inr less ↦ get_or-append (concat_first n (λ i. f i ∷ [])) (f n ∷ []) d i (omega arith) ∙ get-slots f n i d less
+      | inl e ↦ get-last (first_slots n x) (slot_in x n) i (e ∙ sym (first-length n x)) ∙ ap (λ j. Some (slot_in x j)) (sym e)
+      | inr less ↦ let long = first-length n x in get-front (first_slots n x) (slot_in x n) i (omega arith) ∙ first-get n x i less
     ]
 
-pub slots-are : (below : ℕ) (s : ℤ) (h : Past) (ss : List Slot) (cs : List Child) → HasSlots below s h 64 ss cs → ss ≡ slots_of below s h
-slots-are below s h ss cs holds =
-    let f = λ (i : ℕ). slot_of_points (suc below) s below (slot_start below s i) h in
-    let long = holds.slots_length in
-    same_lists ss (slots_of below s h) (long ∙ sym (length-slots f 64)) (λ i d lt. holds.each i d (omega arith) ∙ sym (get-slots f 64 i d (omega arith)))
+-- The slots that are told of no node, of a leaf and of an inner node.
+pub slots-of_none : slots_of_node None ≡ []
+unfolding slots_of_node
+slots-of_none = refl
+
+pub slots-of_leaf : (n : NodeData) (v : ℕ) (ps : Vec Point Global) → n ≡ Leaf v ps → slots_of_node (Some n) ≡ []
+unfolding slots_of_node
+slots-of_leaf n v ps e = ap slots_of_kind (ap out-NodeData e ∙ out-leaf v ps)
+
+pub slots-of_inner : (n : NodeData) (v : ℕ) (x : Slots) → n ≡ Inner v x → slots_of_node (Some n) ≡ first_slots 64 x
+unfolding slots_of_node
+slots-of_inner n v x e = ap slots_of_kind (ap out-NodeData e ∙ out-inner v x)
+
+pub length-of_inner : (n : NodeData) (v : ℕ) (x : Slots) → n ≡ Inner v x → length (slots_of_node (Some n)) ≡ 64
+length-of_inner n v x e = ap length (slots-of_inner n v x e) ∙ first-length 64 x
+
+pub get-of_inner : (n : NodeData) (v : ℕ) (x : Slots) (i : ℕ) → n ≡ Inner v x → i < 64 → slice_get (slots_of_node (Some n)) i ≡ Some (slot_in x i)
+get-of_inner n v x i e lt = ap (λ xs. slice_get xs i) (slots-of_inner n v x e) ∙ first-get 64 x i lt
+
+-- There are at most 64 slots.
+kind-few : (n : NodeData-F NodeData Link Kept Slots) → length (slots_of_kind n) ≤ 64
+kind-few (NodeData-F.Leaf version points) = omega arith
+kind-few (NodeData-F.Inner version slots) = omega (arith, first-length 64 slots)
+
+slots-few : (o : Option NodeData) → length (slots_of_node o) ≤ 64
+unfolding slots_of_node
+slots-few None = omega arith
+slots-few (Some n) = kind-few (out-NodeData n)
+
+pub get-past : (o : Option NodeData) (i : ℕ) → 64 ≤ i → slice_get (slots_of_node o) i ≡ None
+get-past o i le = let few = slots-few o in slice_get_past (slots_of_node o) i (omega arith)
+
+-- The slots that are told of an inner node are its slots.
+same-first : (n : ℕ) (x y : Slots) → AreSameSlots x y → first_slots n y ≡ first_slots n x
+unfolding first_slots
+same-first zero x y same = refl
+same-first (suc n) x y same =
+    ap (λ xs. xs ++ slot_in y n ∷ []) (same-first n x y same) ∙ ap (λ z. first_slots n x ++ z ∷ []) (same.slots n)
+
+kind-inner : (v : ℕ) (x : Slots) (n : NodeData-F NodeData Link Kept Slots) → ByKind (λ w ps. ⊥) (λ w y. (w ≡ v) × AreSameSlots x y) n → slots_of_kind n ≡ first_slots 64 x
+kind-inner v x (NodeData-F.Leaf version points) is = absurd is
+kind-inner v x (NodeData-F.Inner version slots) is = same-first 64 x slots is.1
+
+pub slots-of_made : (v : ℕ) (x : Slots) (o : Option NodeData) → IsInnerOf v x o → slots_of_node o ≡ first_slots 64 x
+unfolding slots_of_node
+slots-of_made v x None is = absurd is
+slots-of_made v x (Some n) is = kind-inner v x (out-NodeData n) is
 
 -- ---- the nodes of a span
 
@@ -89,7 +151,7 @@ new_nodes-none (suc k) s above h v e =
     ap (λ t. cond t (concat_first 64 (λ i. new_nodes k (slot_start k s i) (is_inner (suc k) s) h v)) [] ++ own_node (suc k) s above h v) (few-inner (suc k) s (bag h) (omega arith))
     ∙ own-none (suc k) s above h v (none-node above (suc k) s (bag h) e)
 
-new_node-by : (span : SpanValue) (v w : ℕ) (ps qs : List Point) (ss ts : List Slot) → v ≡ w → ps ≡ qs → ss ≡ ts → (let p : NewNodeValue = record { span = span; version = v; points = ps; slots = ss } in p) ≡ record { span = span; version = w; points = qs; slots = ts }
+pub new_node-by : (span : SpanValue) (v w : ℕ) (ps qs : List Point) (ss ts : List Slot) → v ≡ w → ps ≡ qs → ss ≡ ts → (let p : NewNodeValue = record { span = span; version = v; points = ps; slots = ss } in p) ≡ record { span = span; version = w; points = qs; slots = ts }
 new_node-by span v w ps qs ss ts p q r = cc
 
 -- A leaf of the version.
@@ -104,15 +166,15 @@ new_nodes-leaf (suc k) s above h v points w e same some few =
     ∙ ap (λ p. p ∷ []) (new_node-by _ _ _ _ _ _ _ (sym e) (ap (λ t. cond t [] (points_of (suc k) s (bag h))) no ∙ sym same) (ap (λ t. cond t (slots_of k s h) []) no))
 
 -- An inner node of the version.
-pub new_nodes-inner : (below : ℕ) (s : ℤ) (above : List Point → Bool) (h : Past) (v : ℕ) (ss : List Slot) (cs : List Child) → above (bag h) ≡ true → v ≡ node_version above (suc below) s h → LEAF_POINTS < length (points_of (suc below) s (bag h)) → HasSlots below s h 64 ss cs → new_nodes (suc below) s above h v ≡ concat_first 64 (λ i. new_nodes below (slot_start below s i) (is_inner (suc below) s) h v) ++ record { span = record { start = s; height = suc below }; version = v; points = []; slots = ss } ∷ []
-new_nodes-inner below s above h v ss cs w e many holds =
+pub new_nodes-inner : (below : ℕ) (s : ℤ) (above : List Point → Bool) (h : Past) (v : ℕ) (x : Slots) → above (bag h) ≡ true → v ≡ node_version above (suc below) s h → LEAF_POINTS < length (points_of (suc below) s (bag h)) → HasSlots below s h x → new_nodes (suc below) s above h v ≡ concat_first 64 (λ i. new_nodes below (slot_start below s i) (is_inner (suc below) s) h v) ++ record { span = record { start = s; height = suc below }; version = v; points = []; slots = first_slots 64 x } ∷ []
+new_nodes-inner below s above h v x w e many holds =
     let yes = many-inner (suc below) s (bag h) many in
     ap (λ t. cond t (concat_first 64 (λ i. new_nodes below (slot_start below s i) (is_inner (suc below) s) h v)) [] ++ own_node (suc below) s above h v) yes
-    ∙ ap (λ x. concat_first 64 (λ i. new_nodes below (slot_start below s i) (is_inner (suc below) s) h v) ++ x) (own-here (suc below) s above h v w (omega arith) e ∙ ap (λ p. p ∷ []) (new_node-by _ _ _ _ _ _ _ (sym e) (ap (λ t. cond t [] (points_of (suc below) s (bag h))) yes) (ap (λ t. cond t (slots_of below s h) []) yes ∙ sym (slots-are below s h ss cs holds))))
+    ∙ ap (λ x. concat_first 64 (λ i. new_nodes below (slot_start below s i) (is_inner (suc below) s) h v) ++ x) (own-here (suc below) s above h v w (omega arith) e ∙ ap (λ p. p ∷ []) (new_node-by _ _ _ _ _ _ _ (sym e) (ap (λ t. cond t [] (points_of (suc below) s (bag h))) yes) (ap (λ t. cond t (slots_of below s h) []) yes ∙ sym (slots-are below s h x holds))))
 
-pub new_nodes-inner_at : (k below : ℕ) (s : ℤ) (above : List Point → Bool) (h : Past) (v : ℕ) (ss : List Slot) (cs : List Child) → k ≡ suc below → above (bag h) ≡ true → v ≡ node_version above k s h → LEAF_POINTS < length (points_of k s (bag h)) → HasSlots below s h 64 ss cs → new_nodes k s above h v ≡ concat_first 64 (λ i. new_nodes below (slot_start below s i) (is_inner (suc below) s) h v) ++ record { span = record { start = s; height = k }; version = v; points = []; slots = ss } ∷ []
-new_nodes-inner_at k below s above h v ss cs high w e many holds =
-    subst (λ j. new_nodes j s above h v ≡ concat_first 64 (λ i. new_nodes below (slot_start below s i) (is_inner (suc below) s) h v) ++ record { span = record { start = s; height = j }; version = v; points = []; slots = ss } ∷ []) (sym high) (new_nodes-inner below s above h v ss cs w (subst (λ j. v ≡ node_version above j s h) high e) (subst (λ j. LEAF_POINTS < length (points_of j s (bag h))) high many) holds)
+pub new_nodes-inner_at : (k below : ℕ) (s : ℤ) (above : List Point → Bool) (h : Past) (v : ℕ) (x : Slots) → k ≡ suc below → above (bag h) ≡ true → v ≡ node_version above k s h → LEAF_POINTS < length (points_of k s (bag h)) → HasSlots below s h x → new_nodes k s above h v ≡ concat_first 64 (λ i. new_nodes below (slot_start below s i) (is_inner (suc below) s) h v) ++ record { span = record { start = s; height = k }; version = v; points = []; slots = first_slots 64 x } ∷ []
+new_nodes-inner_at k below s above h v x high w e many holds =
+    subst (λ j. new_nodes j s above h v ≡ concat_first 64 (λ i. new_nodes below (slot_start below s i) (is_inner (suc below) s) h v) ++ record { span = record { start = s; height = j }; version = v; points = []; slots = first_slots 64 x } ∷ []) (sym high) (new_nodes-inner below s above h v x w (subst (λ j. v ≡ node_version above j s h) high e) (subst (λ j. LEAF_POINTS < length (points_of j s (bag h))) high many) holds)
 
 -- ---- what a commit does not touch is not of its version
 

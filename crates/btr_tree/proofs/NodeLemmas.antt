@@ -11,7 +11,7 @@ use Rattle.btr_base.specs.Span.{width, SpanValue, slot_of}
 use Rattle.btr_base.proofs.SpanLemmas.{width-next}
 use Rattle.btr_base.proofs.WithinLemmas.{within-split, within-empty, within-nested}
 use Rattle.btr_base.proofs.ListLemmas.{length-filter}
-use Rattle.btr_base.specs.Agg.{agg, joined}
+use Rattle.btr_base.specs.Agg.{agg, joined, no_points}
 use Rattle.btr_base.proofs.AggLemmas.{agg-append}
 use Rattle.btr_tree.specs.declared.node.Child.{Child}
 use Rattle.btr_tree.specs.declared.node.NodeData.{NodeData, out-NodeData}
@@ -31,10 +31,10 @@ use Rattle.btr_tree.specs.Shape.{ByKind, slot_start, IsLeaf, IsInner, HasSlots, 
 
 -- ---- a node in memory
 
-out-leaf : (v : ℕ) (ps : Vec Point Global) → out-NodeData (Leaf v ps) ≡ NodeData-F.Leaf v ps
+pub out-leaf : (v : ℕ) (ps : Vec Point Global) → out-NodeData (Leaf v ps) ≡ NodeData-F.Leaf v ps
 out-leaf v ps = ap out-NodeData (sym (rolls-Leaf v ps)) ∙ out-roll-NodeData (NodeData-F.Leaf v ps)
 
-out-inner : (v : ℕ) (x : Slots) → out-NodeData (Inner v x) ≡ NodeData-F.Inner v x
+pub out-inner : (v : ℕ) (x : Slots) → out-NodeData (Inner v x) ≡ NodeData-F.Inner v x
 out-inner v x = ap out-NodeData (sym (rolls-Inner v x)) ∙ out-roll-NodeData (NodeData-F.Inner v x)
 
 -- What holds of the kind of a node, at its parts.
@@ -138,7 +138,19 @@ rest-next below s i h place =
 
 -- ---- the aggregates of the slots
 
+joined-suc : (n : ℕ) (x : Slots) → joined_first (suc n) x ≡ joined (joined_first n x) (slot_in x n).agg
+unfolding joined_first
+joined-suc n x = refl
+
+pub joined-none : (x : Slots) → joined_first 0 x ≡ no_points
+unfolding joined_first
+joined-none x = refl
+
+pub joined-next : (n : ℕ) (x : Slots) → joined_first (n + 1) x ≡ joined (joined_first n x) (slot_in x n).agg
+joined-next n x = ap (λ m. joined_first m x) (let e : n + 1 ≡ suc n = omega arith in e) ∙ joined-suc n x
+
 pub total-first : (below : ℕ) (s : ℤ) (h : Past) (x : Slots) → HasSlots below s h x → (n : ℕ) → n ≤ 64 → joined_first n x ≡ agg (within s (slot_start below s n) (bag h))
+unfolding joined_first
 total-first below s h x holds zero le = sym (ap agg (prefix-none below s h))
 total-first below s h x holds (suc n) le =
     let next : n + 1 ≡ suc n = omega arith in

@@ -1,5 +1,5 @@
 -- Lemmas on the root of a tree.
-use Rattle.std.specs.Prelude.{◌≡◌, ◌*◌, ◌≤◌, pos, ◌+ℤ◌, not, List, [], ◌∷◌, ◌++◌, length, Option}
+use Rattle.std.specs.Prelude.{◌≡◌, ◌*◌, ◌≤◌, pos, ◌+ℤ◌, not, List, ◌++◌, length, Option}
 use Rattle.std.proofs.Common.{refl, sym, ap, ◌∙◌, arith, subst}
 use Rattle.std.proofs.lemmas.Int.{ints}
 use Rattle.btr_base.specs.declared.limits.TheConstants.{FIRST, END}
@@ -91,11 +91,11 @@ pub record IsRootStep (span : SpanValue) (h : Past) (c : Commit) (p : Option Nod
   pub times : AreInDomain (bag (c ▷ h))
   pub few : length (points_of span.height span.start (bag h)) ≤ MAX_POINTS
 
-pub root-step : (span : SpanValue) (h : Past) (c : Commit) (p : Option NodeData) (total : AggValue) (cut : List RangeValue) (given : List Point) → span ≡ root_part → cut ≡ c.cut → given ≡ c.added → IsTree h (record { node = p; total = total }) → AreInDomain c.added → IsRootStep span h c p total cut given
-root-step span h c p total cut given e f g tree times =
+pub root-step : (span : SpanValue) (h : Past) (c : Commit) (p q : Option NodeData) (total : AggValue) (cut : List RangeValue) (given : List Point) → span ≡ root_part → cut ≡ c.cut → given ≡ c.added → q ≡ p → IsTree h (record { node = p; total = total }) → AreInDomain c.added → IsRootStep span h c q total cut given
+root-step span h c p q total cut given e f g seen tree times =
     let all = root-points (bag h) tree.times in
-    let whole : IsRootStep root_part h c p total c.cut c.added = record {
-      holds = tree.node;
+    let whole : IsRootStep root_part h c q total c.cut c.added = record {
+      holds = subst (IsChild 10 FIRST above_root h) (sym seen) tree.node;
       counted = tree.total ∙ ap agg (sym all);
       change = root-change c times;
       inside = root-points c.added times;
@@ -103,4 +103,4 @@ root-step span h c p total cut given e f g tree times =
       few = subst (λ x. length x ≤ MAX_POINTS) (sym all) tree.few;
     }
     in
-    subst (λ u. IsRootStep u h c p total cut given) (sym e) (subst (λ x. IsRootStep root_part h c p total x given) (sym f) (subst (λ x. IsRootStep root_part h c p total c.cut x) (sym g) whole))
+    subst (λ u. IsRootStep u h c q total cut given) (sym e) (subst (λ x. IsRootStep root_part h c q total x given) (sym f) (subst (λ x. IsRootStep root_part h c q total c.cut x) (sym g) whole))

@@ -1,5 +1,5 @@
 -- What the private functions that apply a commit promise, and the premises that their clauses share.
-use Rattle.std.specs.Prelude.{◌≡◌, ℕ, zero, suc, ◌+◌, ◌<◌, ◌≤◌, ◌^◌, ℤ, pos, ◌+ℤ◌, ◌≤ℤ◌, ◌<ℤ◌, Bool, true, not, ◌||◌, List, ◌∷◌, ◌++◌, length, Option, MatchOption, [], min, ◌-◌}
+use Rattle.std.specs.Prelude.{◌≡◌, ℕ, zero, suc, ◌+◌, ◌<◌, ◌≤◌, ◌^◌, ℤ, pos, ◌+ℤ◌, ◌≤ℤ◌, ◌<ℤ◌, Bool, true, not, ◌||◌, List, length, Option, MatchOption, min, ◌-◌}
 use Rattle.btr_base.specs.declared.point.Point.{Point}
 use Rattle.btr_base.specs.Range.{RangeValue, covered}
 use Rattle.btr_base.specs.Span.{width, SpanValue}
@@ -20,7 +20,7 @@ abbrev pub end_of : SpanValue → ℤ
 end_of s = s.start +ℤ pos (width s.height)
 
 -- The aggregates of the first n slots, joined.
-abbrev pub joined_first : ℕ → Slots → AggValue
+unfoldable pub joined_first : ℕ → Slots → AggValue
 joined_first zero slots = no_points
 joined_first (suc n) slots = joined (joined_first n slots) (slot_in slots n).agg
 

@@ -1,5 +1,5 @@
 -- What a node keeps of a slot beside its child.
-use Rattle.std.specs.Prelude.{ℕ, ℤ, Option, Some, None, nat_eq, if◌then◌else◌}
+use Rattle.std.specs.Prelude.{ℕ, ℤ, Some, None, nat_eq, if◌then◌else◌}
 use Rattle.btr_tree.specs.declared.node.Slot.{Slot}
 
 -- The slot of these numbers. The least and the greatest value count only if there is a point.

@@ -1,5 +1,5 @@
 -- The tree of a stream's past, and why a commit is not applied.
-use Rattle.std.specs.Prelude.{◌≡◌, ℕ, ◌<◌, ◌≤◌, List, [], length, Option, MatchOption}
+use Rattle.std.specs.Prelude.{◌≡◌, ℕ, ◌<◌, ◌≤◌, List, length, Option}
 use Rattle.btr_base.specs.declared.point.Point.{Point}
 use Rattle.btr_base.specs.Point.{AreInDomain}
 use Rattle.btr_base.specs.Range.{RangeValue}
@@ -8,8 +8,8 @@ use Rattle.btr_base.specs.declared.limits.TheConstants.{FIRST, END, ROOT_HEIGHT,
 use Rattle.btr_tree.specs.declared.node.NodeData.{NodeData}
 use Rattle.btr_tree.specs.declared.fault.TreeFault.{TreeFault}
 use Rattle.btr_tree.specs.declared.fault.TreeFault.TheVariants.{Crowded, TooManyPoints, Want}
-use Rattle.btr_tree.specs.History.{Commit, Past, ◌▷◌, bag}
-use Rattle.btr_tree.specs.Nodes.{points_of, above_root}
+use Rattle.btr_tree.specs.History.{Commit, Past, bag}
+use Rattle.btr_tree.specs.Nodes.{above_root}
 use Rattle.btr_tree.specs.Shape.{IsChild}
 use Rattle.btr_tree.specs.Crowd.{HasNoCrowdedSpan, IsFirstCrowd}
 

@@ -62,7 +62,7 @@ unfoldable pub child_in : Slots → ℕ → Option NodeData
 child_in x i = child_or_none (kept_in x i)
 
 -- The first n slots, as a list.
-abbrev pub first_slots : ℕ → Slots → List Slot
+unfoldable pub first_slots : ℕ → Slots → List Slot
 first_slots zero x = []
 first_slots (suc n) x = first_slots n x ++ slot_in x n ∷ []
 

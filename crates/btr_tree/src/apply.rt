@@ -257,7 +257,7 @@ pub(crate) fn apply_slots(
         let (here, after) = parted(rest, part.end());
         rest = after;
         if cut.is_empty() && here.is_empty() {
-            new_slots.put(i, slots.slot(i), slots.child(i).share()?)?;
+            new_slots.put_from(i, slots)?;
             continue;
         }
         let (slot, child) = apply_slot(

@@ -83,14 +83,12 @@ impl NewSlots {
     pub fn get(&self, i: u8) -> Option<Slot>
         ensures { result ≡ slice_get self.now i }
     {
-        if i >= FAN_OUT {
-            return None;
-        }
         match &self.node.node {
             None => None,
             Some(node) => match &**node {
                 NodeData::Leaf { .. } => None,
-                NodeData::Inner { slots, .. } => Some(slots.slot(i)),
+                NodeData::Inner { slots, .. } if i < FAN_OUT => Some(slots.slot(i)),
+                NodeData::Inner { .. } => None,
             },
         }
     }

@@ -118,6 +118,28 @@ impl Slots {
         if is_as_base(&slot, self.base) && child.node.is_none() {
             return Ok(());
         }
+        self.keep(i, slot, child)
+    }
+
+    /// Puts the next slot and its child as another node with the same base version has them. It shares the child.
+    pub(crate) fn put_from(&mut self, i: u8, other: &Slots) -> Result<(), AllocError>
+        requires place { i < 64 }
+        requires filled { IsFilled i self.now }
+        requires base { base_of self.now ≡ base_of other.now }
+        ensures { OnOk result (IsPut i (slot_in other.now i) (child_in other.now i) self.old self.new) }
+    {
+        match other.kept_at(i) {
+            Some(kept) => self.keep(i, kept.slot.slot(), kept.child.seen().share()?),
+            None => Ok(()),
+        }
+    }
+
+    /// Puts the next slot and its child, which are kept.
+    fn keep(&mut self, i: u8, slot: Slot, child: Link) -> Result<(), AllocError>
+        requires place { i < 64 }
+        requires filled { IsFilled i self.now }
+        ensures { OnOk result (IsPut i slot (linked child) self.old self.new) }
+    {
         self.kept.push(Kept {
             slot: Packed::of(&slot),
             child,

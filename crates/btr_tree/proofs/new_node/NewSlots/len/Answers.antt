@@ -1,0 +1,21 @@
+use Rattle.std.proofs.Common.{◌∙◌, ap, sym, length, option_map}
+use Rattle.std.specs.declared.sync.Arc.{Arc}
+use Rattle.std.specs.declared.alloc.Global.{Global}
+use Rattle.btr_tree.specs.declared.node.NodeData.{NodeData}
+use Rattle.btr_tree.specs.declared.node.Slot.{Slot}
+use Rattle.btr_tree.specs.NewNodes.{slots_of_node}
+use Rattle.btr_tree.proofs.NewNodeLemmas.{slots-of_none, slots-of_leaf, length-of_inner}
+use Rattle.btr_tree.proofs.new_node.NewSlots.len.Goals as goal
+
+pub returns-in-None : goal.returns-in-None
+returns-in-None c =
+    sym (ap (length {A = Slot}) (sym c.self.view_is ∙ ap (λ o. slots_of_node (option_map (λ (a : Arc NodeData Global). a.value) o)) c.in-None.is ∙ slots-of_none))
+
+pub returns-in-Leaf : goal.returns-in-Leaf
+returns-in-Leaf c =
+    sym (ap (length {A = Slot}) (sym c.self.view_is ∙ ap (λ o. slots_of_node (option_map (λ (a : Arc NodeData Global). a.value) o)) c.in-Some.is ∙ slots-of_leaf c.in-Some.node.value c.in-Leaf.version c.in-Leaf.points (sym c.deref.ensures ∙ c.in-Leaf.is)))
+
+pub returns-in-Inner : goal.returns-in-Inner
+returns-in-Inner c =
+    c.from.ensures
+    ∙ sym (ap (length {A = Slot}) (sym c.self.view_is ∙ ap (λ o. slots_of_node (option_map (λ (a : Arc NodeData Global). a.value) o)) c.in-Some.is) ∙ length-of_inner c.in-Some.node.value c.in-Inner.version c.in-Inner.slots (sym c.deref.ensures ∙ c.in-Inner.is))

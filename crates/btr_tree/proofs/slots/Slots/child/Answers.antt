@@ -1,0 +1,11 @@
+use Rattle.std.proofs.Common.{◌∙◌, sym}
+use Rattle.btr_tree.proofs.KeptSlotLemmas.{kept-found, kept-missing, child-some, child-none}
+use Rattle.btr_tree.proofs.slots.Slots.child.Goals as goal
+
+pub returns-in-Some : goal.returns-in-Some
+returns-in-Some c =
+    c.seen.ensures ∙ sym (child-some c.args.self.now c.args.i c.in-Some.kept.now (kept-found c.args.self.now c.args.i c.kept_at.result c.in-Some.kept c.kept_at.ensures c.in-Some.is))
+
+pub returns-in-None : goal.returns-in-None
+returns-in-None c =
+    sym (child-none c.args.self.now c.args.i (kept-missing c.args.self.now c.args.i c.kept_at.result c.kept_at.ensures c.in-None.is))
