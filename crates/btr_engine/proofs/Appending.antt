@@ -16,18 +16,20 @@ use Rattle.btr_log.specs.Append as append
 use Rattle.btr_log.specs.Log as log
 use Rattle.btr_hist.specs.declared.entry.Entry.{Entry}
 use Rattle.btr_hist.specs.Legal.{rejection}
-use Rattle.btr_hist.specs.Machine as machine
 use Rattle.btr_entry.specs.Grammar.{IsSpelled}
 use Rattle.btr_engine.specs.declared.engine.Engine.{Engine}
 use Rattle.btr_engine.specs.declared.step.Receipt.{Receipt}
+use Rattle.btr_engine.specs.declared.step.Pending.{Pending}
 use Rattle.btr_engine.specs.declared.step.StepFault.{StepFault}
 use Rattle.btr_engine.specs.declared.step.StepFault.TheVariants.{DeviceFull, DeviceFault}
 use Rattle.btr_engine.specs.Body.{body_of, need_of, bodies}
 use Rattle.btr_engine.specs.Holds.{HoldsHistoryTo}
-use Rattle.btr_engine.specs.Engine.{device, history_of, blocks_of, tail_of, room_of, is_stopped, IsAtRest}
+use Rattle.btr_engine.specs.Board.{Kept, IsBoardOf}
+use Rattle.btr_engine.specs.Engine.{device, board_of, blocks_of, tail_of, room_of, is_stopped, IsEngineOf, IsAtRest}
 use Rattle.btr_engine.specs.Step.{IsBeforeOrAfter, IsReceipt, IsStepped, StepCause}
+use Rattle.btr_engine.specs.Pending.{IsPending}
 use Rattle.btr_engine.proofs.HoldsLemmas.{holds_with, before_or_after}
-use Rattle.btr_engine.proofs.Stepping.{number_of_receipt, same_engine, no_moment, brings, needs}
+use Rattle.btr_engine.proofs.Stepping.{same_engine, no_moment, brings, needs}
 
 -- The result of an append.
 abbrev pub Answer : Type 0
@@ -39,15 +41,12 @@ pub record IsExtentOf (h : List Entry) (e : Entry) (run : List ℕ) : Type 0 whe
   pub spelled : IsSpelled e
   pub bytes : run ≡ body_of (length h + 1) e ++ zeros 4096
 
--- The entry was added to the history, and its extent was made with the number of its receipt.
-pub extent_of_entry : (h : List Entry) (e : Entry) (number : ℕ) (made run : List ℕ) → rejection h e ≡ None → number ≡ (machine.receipt h e).number → IsSpelled e → made ≡ body_of number e ++ zeros 4096 → run ≡ made → IsExtentOf h e run
-extent_of_entry h e number made run allowed numbered spelled made_is run_is = record {
-  allowed = allowed;
-  spelled = spelled;
-  bytes = run_is ∙ made_is ∙ ap (λ n. body_of n e ++ zeros 4096) (numbered ∙ number_of_receipt h e);
-}
+-- The extent of a pending entry.
+pub extent_of_pending : (h : List Entry) (e : Entry) (p : Pending) (run : List ℕ) → IsPending h e p → run ≡ p.extent.items → IsExtentOf h e run
+extent_of_pending h e p run is same =
+    record { allowed = is.allowed; spelled = is.spelled; bytes = same ∙ is.bytes }
 
-module _ {D : Type 0} {disk : Ghosts D} (old : Engine D disk) (e : Entry) (run : List ℕ) (is : IsExtentOf (history_of old) e run) where
+module _ {D : Type 0} {disk : Ghosts D} (h : List Entry) (old : Engine D disk) (e : Entry) (run : List ℕ) (is : IsExtentOf h e run) where
   -- The result of an append of the run to a log that has too little room for it.
   abbrev pub full : Answer
   full = Err (Full (need (append.body_in_run run)) (room_of old))
@@ -57,7 +56,7 @@ module _ {D : Type 0} {disk : Ghosts D} (old : Engine D disk) (e : Entry) (run :
   AnswersFull answer = IsFalse (is_stopped old) → append.IsTooLong old.log run → answer ≡ full
 
   needed : need (append.body_in_run run) ≡ need_of e
-  needed = needs (length (history_of old) + 1) e run is.bytes
+  needed = needs (length h + 1) e run is.bytes
 
   -- An append with another result had room.
   pub fits_unless_full : (answer : Answer) → IsFalse (is_stopped old) → AnswersFull answer → (answer ≡ full → ⊥) → need_of e ≤ room_of old
@@ -67,15 +66,15 @@ module _ {D : Type 0} {disk : Ghosts D} (old : Engine D disk) (e : Entry) (run :
 
   -- ---- an append that fails
 
-  pub refused : (new : Engine D disk) (fault : AppendFault) (answer : StepFault) → IsFalse (is_stopped old) → AnswersFull (Err fault) → append.AppendCause old.log new.log run fault → history_of new ≡ history_of old → new.opened_with ≡ old.opened_with → new.synced ≡ old.synced → ((n left : ℕ) → fault ≡ Full n left → answer ≡ DeviceFull n left) → (fault ≡ Fault → answer ≡ DeviceFault) → StepCause old new e answer
+  pub refused : (new : Engine D disk) (fault : AppendFault) (answer : StepFault) → IsFalse (is_stopped old) → AnswersFull (Err fault) → append.AppendCause old.log new.log run fault → board_of new ≡ board_of old → new.opened_with ≡ old.opened_with → new.synced ≡ old.synced → ((n left : ℕ) → fault ≡ Full n left → answer ≡ DeviceFull n left) → (fault ≡ Fault → answer ≡ DeviceFault) → StepCause h old new e answer
   refused new (Full n room) answer runs answers_full cause same began synced is_full is_fault =
       let short : room < n = omega (arith, cause.1, cause.2, cause.3) in
-      subst (StepCause old new e) (sym (is_full n room refl)) (runs, is.allowed, cause.2 ∙ needed, cause.3, short, same_engine new old cause.4 same began synced)
+      subst (StepCause h old new e) (sym (is_full n room refl)) (runs, is.allowed, cause.2 ∙ needed, cause.3, short, same_engine new old cause.4 same began synced)
   refused new Fault answer runs answers_full cause same began synced is_full is_fault =
       let fits = fits_unless_full (Err Fault) runs answers_full (λ no. absurd (cc)) in
-      subst (StepCause old new e) (sym (is_fault refl)) (
+      subst (StepCause h old new e) (sym (is_fault refl)) (
         record { runs = runs; allowed = is.allowed; fits = fits },
-        record { called = cause.1.called; at_most = cause.1.at_most; rose = cause.1.rose; stopped = cause.1.stopped; history = same; tail = cause.1.tail },
+        record { called = cause.1.called; at_most = cause.1.at_most; rose = cause.1.rose; stopped = cause.1.stopped; board = same; tail = cause.1.tail },
       )
   refused new (AlreadyStopped n) answer runs answers_full cause same began synced is_full is_fault =
       let stopped = cause.0 in absurd (cc)
@@ -83,8 +82,8 @@ module _ {D : Type 0} {disk : Ghosts D} (old : Engine D disk) (e : Entry) (run :
   -- ---- each moment of an append
 
   -- The body of the run is the entry's.
-  its_body : append.body_in_run run ≡ body_of (length (history_of old) + 1) e
-  its_body = brings (length (history_of old) + 1) e run is.bytes
+  its_body : append.body_in_run run ≡ body_of (length h + 1) e
+  its_body = brings (length h + 1) e run is.bytes
 
   -- A block is left after it for the next gate.
   inside : need_of e ≤ room_of old → tail_of old + need_of e < blocks_of old
@@ -92,18 +91,17 @@ module _ {D : Type 0} {disk : Ghosts D} (old : Engine D disk) (e : Entry) (run :
       let below : tail_of old < blocks_of old = old.log.tail_inside in
       omega arith
 
-  pub moments : (after : Log D disk) → need_of e ≤ room_of old → IsAtRest old → log.LogLeaves old.log after (append.IsMoment (disk.contents (device old)) (tail_of old) (bodies (history_of old)) (append.body_in_run run)) → log.LogLeaves old.log after (IsBeforeOrAfter (disk.size (device old)) (history_of old) e)
+  pub moments : (after : Log D disk) → need_of e ≤ room_of old → IsAtRest h old → log.LogLeaves old.log after (append.IsMoment (disk.contents (device old)) (tail_of old) (bodies h) (append.body_in_run run)) → log.LogLeaves old.log after (IsBeforeOrAfter (disk.size (device old)) h e)
   moments after fits rest leaves =
-      let h = history_of old in
       let contents = disk.contents (device old) in
       weakens disk.calls disk.images_since (device old) (log.device after) (append.IsMoment contents (tail_of old) (bodies h) (append.body_in_run run)) (IsBeforeOrAfter (disk.size (device old)) h e)
       (before_or_after (disk.size (device old)) contents (blocks_of old) (tail_of old) h rest.holds e is.spelled is.allowed (inside fits) (append.body_in_run run) its_body)
       leaves
 
   -- An append that fails made no call of the device, or the device failed.
-  pub moments_of_fault : (after : Log D disk) (fault : AppendFault) → IsFalse (is_stopped old) → AnswersFull (Err fault) → append.AppendCause old.log after run fault → ((c : Image) → disk.images_since (device old) (disk.calls (device old)) c → disk.images_now (device old) c) → IsAtRest old → log.LogLeaves old.log after (append.IsMoment (disk.contents (device old)) (tail_of old) (bodies (history_of old)) (append.body_in_run run)) → log.LogLeaves old.log after (IsBeforeOrAfter (disk.size (device old)) (history_of old) e)
+  pub moments_of_fault : (after : Log D disk) (fault : AppendFault) → IsFalse (is_stopped old) → AnswersFull (Err fault) → append.AppendCause old.log after run fault → ((c : Image) → disk.images_since (device old) (disk.calls (device old)) c → disk.images_now (device old) c) → IsAtRest h old → log.LogLeaves old.log after (append.IsMoment (disk.contents (device old)) (tail_of old) (bodies h) (append.body_in_run run)) → log.LogLeaves old.log after (IsBeforeOrAfter (disk.size (device old)) h e)
   moments_of_fault after (Full n room) runs answers_full cause only_now rest leaves =
-      subst (λ l. log.LogLeaves old.log l (IsBeforeOrAfter (disk.size (device old)) (history_of old) e)) (sym cause.4) (no_moment old e only_now rest)
+      subst (λ l. log.LogLeaves old.log l (IsBeforeOrAfter (disk.size (device old)) h e)) (sym cause.4) (no_moment h old e only_now rest)
   moments_of_fault after Fault runs answers_full cause only_now rest leaves =
       moments after (fits_unless_full (Err Fault) runs answers_full (λ no. absurd (cc))) rest leaves
   moments_of_fault after (AlreadyStopped n) runs answers_full cause only_now rest leaves =
@@ -111,24 +109,23 @@ module _ {D : Type 0} {disk : Ghosts D} (old : Engine D disk) (e : Entry) (run :
 
   -- ---- an append that succeeds
 
-  module _ (new : Engine D disk) (history : history_of new ≡ history_of old ++ e ∷ []) (appended : append.IsAppended old.log new.log run) where
+  module _ (new : Engine D disk) (of : IsEngineOf (h ++ e ∷ []) new) (appended : append.IsAppended old.log new.log run) where
     tail_after : tail_of new ≡ tail_of old + need_of e
     tail_after = appended.tail ∙ ap (λ n. tail_of old + n) needed
 
-    pub stepped : (receipt : Receipt) → need_of e ≤ room_of old → IsReceipt (history_of old) e receipt → IsStepped old new e receipt
+    pub stepped : (receipt : Receipt) → need_of e ≤ room_of old → IsReceipt h e receipt → IsStepped h old new e receipt
     stepped receipt fits is_receipt = record {
       could = record { runs = appended.ran; allowed = is.allowed; fits = fits };
-      history = history;
+      of = of;
       tail = tail_after;
       runs = appended.runs;
       called = appended.calls;
       is_receipt = is_receipt;
     }
 
-    pub at_rest : need_of e ≤ room_of old → log.KeepsBounds old.log new.log → IsAtRest old → Published (disk.contents (device old)) (4096 * (tail_of old + 1)) run (4096 * tail_of old) gate_block (disk.contents (device new)) → log.IsAtRest new.log (bodies (history_of old) ++ append.body_in_run run ∷ []) → IsAtRest new
+    pub at_rest : need_of e ≤ room_of old → log.KeepsBounds old.log new.log → IsAtRest h old → Published (disk.contents (device old)) (4096 * (tail_of old + 1)) run (4096 * tail_of old) gate_block (disk.contents (device new)) → log.IsAtRest new.log (bodies h ++ append.body_in_run run ∷ []) → IsAtRest (h ++ e ∷ []) new
     at_rest fits kept rest written log_rests =
-        let h = history_of old in
-        let size = disk.size (device old) in
+          let size = disk.size (device old) in
         let now = disk.contents (device new) in
         let below : (k : ℕ) → k < 4096 * tail_of old → now k ≡ disk.contents (device old) k = λ k lt. written.elsewhere k (λ le. absurd (omega arith)) (λ le. absurd (omega arith)) in
         let its_log = AtRest-IsLog now (disk.images_now (device new)) (tail_of new) (bodies h ++ append.body_in_run run ∷ []) log_rests in
@@ -136,18 +133,18 @@ module _ {D : Type 0} {disk : Ghosts D} (old : Engine D disk) (e : Entry) (run :
         let sized = subst (λ n. HoldsHistoryTo n now (blocks_of old) (tail_of old + need_of e) (h ++ e ∷ [])) (sym kept.device_kept.same_size) holds in
         let blocked = subst (λ n. HoldsHistoryTo (disk.size (device new)) now n (tail_of old + need_of e) (h ++ e ∷ [])) (sym kept.blocks) sized in
         let tailed = subst (λ n. HoldsHistoryTo (disk.size (device new)) now (blocks_of new) n (h ++ e ∷ [])) (sym tail_after) blocked in
-        record { holds = subst (HoldsHistoryTo (disk.size (device new)) now (blocks_of new) (tail_of new)) (sym history) tailed; only = log_rests.only }
+        record { of = of; holds = tailed; only = log_rests.only }
 
-  -- The ghost fields of the engine with the new log and the new history.
-  pub counted_after : (after : Log D disk) (h : List Entry) → h ≡ history_of old ++ e ∷ [] → append.IsAppended old.log after run → log.extents_of after ≡ length h
-  counted_after after h history appended =
-      omega (arith, ap (length {A = Entry}) history, length-append (history_of old) (e ∷ []), appended.extents, old.counted)
+  -- The numbers of the engine with the new log and the new board.
+  module _ (of : IsEngineOf h old) (after : Log D disk) (board : Kept) (next : IsBoardOf (h ++ e ∷ []) board) (appended : append.IsAppended old.log after run) where
+    pub counted_after : log.extents_of after ≡ board.entries
+    counted_after =
+        omega (arith, next.entries, length-append h (e ∷ []), appended.extents, old.counted, of.entries)
 
-  pub ends_after : (after : Log D disk) (h : List Entry) → h ≡ history_of old ++ e ∷ [] → append.IsAppended old.log after run → 2 * length h + 4 ≤ log.tail_of after
-  ends_after after h history appended =
-      let tail : log.tail_of after ≡ tail_of old + need_of e = appended.tail ∙ ap (λ n. tail_of old + n) needed in
-      omega (arith, ap (length {A = Entry}) history, length-append (history_of old) (e ∷ []), old.ends)
+    pub ends_after : 2 * log.extents_of after + 4 ≤ log.tail_of after
+    ends_after =
+        let tail : log.tail_of after ≡ tail_of old + need_of e = appended.tail ∙ ap (λ n. tail_of old + n) needed in
+        omega (arith, tail, appended.extents, old.ends)
 
-  pub began_after : (h : List Entry) → h ≡ history_of old ++ e ∷ [] → old.opened_with ≤ length h
-  began_after h history =
-      omega (arith, ap (length {A = Entry}) history, length-append (history_of old) (e ∷ []), old.began)
+    pub began_after : old.opened_with ≤ log.extents_of after
+    began_after = omega (arith, appended.extents, old.began)

@@ -15,7 +15,8 @@ use Rattle.btr_engine.specs.declared.engine.Engine.{Engine}
 use Rattle.btr_engine.specs.declared.step.StepFault.{StepFault}
 use Rattle.btr_engine.specs.declared.step.StepFault.TheVariants.{DeviceFull, DeviceFault}
 use Rattle.btr_engine.specs.Holds.{HoldsHistory}
-use Rattle.btr_engine.specs.Engine.{device, history_of, is_stopped, entries_at_open, synced_of, IsAtRest, IsDurable, EngineLeaves, KeepsOpening}
+use Rattle.btr_engine.specs.Board.{IsBoardOf}
+use Rattle.btr_engine.specs.Engine.{device, board_of, is_stopped, entries_at_open, synced_of, IsAtRest, IsDurable, EngineLeaves, KeepsOpening}
 use Rattle.btr_engine.specs.Step.{IsBeforeOrAfter, in_flight_after}
 use Rattle.btr_engine.proofs.EngineLemmas.{durable_held, held_now, holds_in}
 use Rattle.btr_engine.proofs.Stepping.{same_engine}
@@ -45,16 +46,15 @@ module _ {D : Type 0} {disk : Ghosts D} where
   opening_kept old new kept entries synced =
       record { blocks = kept.blocks; entries = entries; synced = synced; device_kept = kept.device_kept }
 
-  module _ (old : Engine D disk) (e : Entry) where
+  module _ (h : List Entry) (old : Engine D disk) (e : Entry) where
     -- At each moment of the step the device holds the history, or the history with the entry.
     abbrev pub LeavesEither : Engine D disk → Type 0
-    LeavesEither new = EngineLeaves old new (IsBeforeOrAfter (disk.size (device old)) (history_of old) e)
+    LeavesEither new = EngineLeaves old new (IsBeforeOrAfter (disk.size (device old)) h e)
 
-    module _ (calls entries : ℕ) (new : Engine D disk) (kept : KeepsOpening old new) (leaves : LeavesEither new) (so_far : IsDurable calls entries old []) where
-      since_step : (c : Image) → disk.images_since (device new) calls c → (n : ℕ) × (entries ≤ n) × HoldsHistory (disk.size (device new)) c (take n (history_of old ++ e ∷ []))
+    module _ (calls entries : ℕ) (new : Engine D disk) (kept : KeepsOpening old new) (leaves : LeavesEither new) (so_far : IsDurable h calls entries old []) where
+      since_step : (c : Image) → disk.images_since (device new) calls c → (n : ℕ) × (entries ≤ n) × HoldsHistory (disk.size (device new)) c (take n (h ++ e ∷ []))
       since_step c left =
           let size = disk.size (device old) in
-          let h = history_of old in
           let earlier = leaves.before calls c so_far.past left in
           let found = prefixes (HoldsHistory size c) h e entries so_far.longer (⊎_elim
           (λ past. let s = so_far.since c past in inl (s.0, s.1, subst (λ l. HoldsHistory size c (take s.0 l)) (append-nil h) s.2))
@@ -63,42 +63,44 @@ module _ {D : Type 0} {disk : Ghosts D} where
           (found.0, found.1, subst (λ n. HoldsHistory n c (take found.0 (h ++ e ∷ []))) (sym kept.device_kept.same_size) found.2)
 
       -- The entry was accepted.
-      durable_with : history_of new ≡ history_of old ++ e ∷ [] → IsAtRest new → IsDurable calls entries new []
-      durable_with history rest = record {
+      durable_with : IsAtRest (h ++ e ∷ []) new → IsDurable (h ++ e ∷ []) calls entries new []
+      durable_with rest = record {
+        of = rest.of;
         past = omega (arith, so_far.past, leaves.later);
-        longer = omega (arith, so_far.longer, ap (length {A = Entry}) history, length-append (history_of old) (e ∷ []));
+        longer = omega (arith, so_far.longer, length-append h (e ∷ []));
         one = omega arith;
         runs = λ _. refl;
-        since = λ c left. let s = since_step c left in (s.0, s.1, subst (λ l. HoldsHistory (disk.size (device new)) c (take s.0 l)) (sym (append-nil (history_of new) ∙ history)) s.2);
-        now = λ c left. inl (holds_in new rest c (rest.only.each c left));
+        since = λ c left. let s = since_step c left in (s.0, s.1, subst (λ l. HoldsHistory (disk.size (device new)) c (take s.0 l)) (sym (append-nil (h ++ e ∷ []))) s.2);
+        now = λ c left. inl (holds_in (h ++ e ∷ []) new rest c (rest.only.each c left));
       }
 
       -- The device failed.
-      durable_without : history_of new ≡ history_of old → is_stopped new ≡ true → ((t : ℕ) (c : Image) → t ≤ disk.calls (device new) → disk.images_now (device new) c → disk.images_since (device new) t c) → IsDurable calls entries new (e ∷ [])
-      durable_without history stopped counts_now =
+      durable_without : board_of new ≡ board_of old → is_stopped new ≡ true → ((t : ℕ) (c : Image) → t ≤ disk.calls (device new) → disk.images_now (device new) c → disk.images_since (device new) t c) → IsDurable h calls entries new (e ∷ [])
+      durable_without same stopped counts_now =
           let size = disk.size (device new) in
-          let either = IsBeforeOrAfter (disk.size (device old)) (history_of old) e in
+          let either = IsBeforeOrAfter (disk.size (device old)) h e in
           record {
+            of = subst (IsBoardOf h) (sym same) so_far.of;
             past = omega (arith, so_far.past, leaves.later);
-            longer = omega (arith, so_far.longer, ap (length {A = Entry}) history);
+            longer = so_far.longer;
             one = omega arith;
             runs = λ runs. absurd (cc);
-            since = λ c left. let s = since_step c left in (s.0, s.1, subst (λ l. HoldsHistory size c (take s.0 (l ++ e ∷ []))) (sym history) s.2);
+            since = since_step;
             now = λ c left.
                 let now = left_now disk.calls disk.images_since (device old) (device new) either (disk.images_now (device new)) counts_now leaves c left in
-                subst (λ l. HoldsHistory size c l ⊎ HoldsHistory size c (l ++ e ∷ [])) (sym history) (subst (λ n. IsBeforeOrAfter n (history_of old) e c) (sym kept.device_kept.same_size) now);
+                subst (λ n. IsBeforeOrAfter n h e c) (sym kept.device_kept.same_size) now;
           }
 
-    pub durable_taken : (calls entries : ℕ) (new : Engine D disk) (more : List Entry) → IsFalse (is_stopped old) → history_of new ≡ history_of old ++ e ∷ [] → KeepsOpening old new → IsAtRest new → LeavesEither new → IsDurable calls entries old more → IsDurable calls entries new more
-    durable_taken calls entries new more runs history kept rest leaves so_far =
+    pub durable_taken : (calls entries : ℕ) (new : Engine D disk) (more : List Entry) → IsFalse (is_stopped old) → KeepsOpening old new → IsAtRest (h ++ e ∷ []) new → LeavesEither new → IsDurable h calls entries old more → IsDurable (h ++ e ∷ []) calls entries new more
+    durable_taken calls entries new more runs kept rest leaves so_far =
         let none : more ≡ [] = so_far.runs runs in
-        subst (IsDurable calls entries new) (sym none) (durable_with calls entries new kept leaves (subst (IsDurable calls entries old) none so_far) history rest)
+        subst (IsDurable (h ++ e ∷ []) calls entries new) (sym none) (durable_with calls entries new kept leaves (subst (IsDurable h calls entries old) none so_far) rest)
 
     -- An append that fails made no call of the device, or the device failed.
-    pub durable_of_fault : (calls entries : ℕ) (new : Engine D disk) (run : List ℕ) (fault : AppendFault) (answer : StepFault) (more : List Entry) → IsFalse (is_stopped old) → append.AppendCause old.log new.log run fault → history_of new ≡ history_of old → new.opened_with ≡ old.opened_with → new.synced ≡ old.synced → ((n left : ℕ) → fault ≡ Full n left → answer ≡ DeviceFull n left) → (fault ≡ Fault → answer ≡ DeviceFault) → KeepsOpening old new → ((t : ℕ) (c : Image) → t ≤ disk.calls (device new) → disk.images_now (device new) c → disk.images_since (device new) t c) → LeavesEither new → IsDurable calls entries old more → IsDurable calls entries new (in_flight_after (Err answer) more e)
+    pub durable_of_fault : (calls entries : ℕ) (new : Engine D disk) (run : List ℕ) (fault : AppendFault) (answer : StepFault) (more : List Entry) → IsFalse (is_stopped old) → append.AppendCause old.log new.log run fault → board_of new ≡ board_of old → new.opened_with ≡ old.opened_with → new.synced ≡ old.synced → ((n left : ℕ) → fault ≡ Full n left → answer ≡ DeviceFull n left) → (fault ≡ Fault → answer ≡ DeviceFault) → KeepsOpening old new → ((t : ℕ) (c : Image) → t ≤ disk.calls (device new) → disk.images_now (device new) c → disk.images_since (device new) t c) → LeavesEither new → IsDurable h calls entries old more → IsDurable h calls entries new (in_flight_after (Err answer) more e)
     durable_of_fault calls entries new run (Full n room) answer more runs cause same began synced is_full is_fault kept counts_now leaves so_far =
-        subst (λ a. IsDurable calls entries new (in_flight_after (Err a) more e)) (sym (is_full n room refl)) (subst (λ g. IsDurable calls entries g more) (sym (same_engine new old cause.4 same began synced)) so_far)
+        subst (λ a. IsDurable h calls entries new (in_flight_after (Err a) more e)) (sym (is_full n room refl)) (subst (λ g. IsDurable h calls entries g more) (sym (same_engine new old cause.4 same began synced)) so_far)
     durable_of_fault calls entries new run Fault answer more runs cause same began synced is_full is_fault kept counts_now leaves so_far =
-        subst (λ a. IsDurable calls entries new (in_flight_after (Err a) more e)) (sym (is_fault refl)) (durable_without calls entries new kept leaves (subst (IsDurable calls entries old) (so_far.runs runs) so_far) same cause.1.stopped counts_now)
+        subst (λ a. IsDurable h calls entries new (in_flight_after (Err a) more e)) (sym (is_fault refl)) (durable_without calls entries new kept leaves (subst (IsDurable h calls entries old) (so_far.runs runs) so_far) same cause.1.stopped counts_now)
     durable_of_fault calls entries new run (AlreadyStopped n) answer more runs cause same began synced is_full is_fault kept counts_now leaves so_far =
         let stopped = cause.0 in absurd (cc)

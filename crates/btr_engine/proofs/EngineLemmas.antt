@@ -11,7 +11,7 @@ use Rattle.btr_hist.specs.declared.entry.Entry.{Entry}
 use Rattle.btr_hist.specs.History.{ids, stream_of, latest}
 use Rattle.btr_engine.specs.declared.engine.Engine.{Engine}
 use Rattle.btr_engine.specs.Holds.{HoldsHistory}
-use Rattle.btr_engine.specs.Engine.{device, history_of, blocks_of, tail_of, is_stopped, faults_at_open, IsAtRest, IsHeldSince, IsDurable}
+use Rattle.btr_engine.specs.Engine.{device, blocks_of, tail_of, is_stopped, faults_at_open, IsEngineOf, IsAtRest, IsHeldSince, IsDurable}
 use Rattle.btr_engine.proofs.HoldsLemmas.{holds_still}
 use Rattle.btr_engine.proofs.Streams.{found_below, few_versions}
 
@@ -30,38 +30,46 @@ module _ {D : Type 0} {disk : Ghosts D} (e : Engine D disk) where
       let rose = (holds_of_log e.log).rose stopped in
       omega (arith, rose, e.failed)
 
+module _ {D : Type 0} {disk : Ghosts D} (h : List Entry) (e : Engine D disk) where
   -- An image that is what a read gives holds the history of an engine at rest.
-  pub holds_in : IsAtRest e → (c : Image) → Same (disk.contents (device e)) c → HoldsHistory (disk.size (device e)) c (history_of e)
+  pub holds_in : IsAtRest h e → (c : Image) → Same (disk.contents (device e)) c → HoldsHistory (disk.size (device e)) c h
   holds_in rest c same = record {
     blocks = blocks_of e;
     tail = tail_of e;
-    holds = holds_still (disk.size (device e)) (disk.contents (device e)) (blocks_of e) (tail_of e) (history_of e) rest.holds c same;
+    holds = holds_still (disk.size (device e)) (disk.contents (device e)) (blocks_of e) (tail_of e) h rest.holds c same;
   }
 
   -- Every image since this moment holds it: `only_now` is the device's law.
-  pub held_now : ((c : Image) → disk.images_since (device e) (disk.calls (device e)) c → disk.images_now (device e) c) → IsAtRest e → IsHeldSince (disk.calls (device e)) e
+  pub held_now : ((c : Image) → disk.images_since (device e) (disk.calls (device e)) c → disk.images_now (device e) c) → IsAtRest h e → IsHeldSince h (disk.calls (device e)) e
   held_now only_now rest = record {
+    of = rest.of;
     since = λ c left. holds_in rest c (rest.only.each c (only_now c left));
     now = λ c left. holds_in rest c (rest.only.each c left);
   }
 
   -- A history that every image holds is durable.
-  pub durable_held : (calls entries : ℕ) → calls ≤ disk.calls (device e) → entries ≤ length (history_of e) → IsHeldSince calls e → IsDurable calls entries e []
+  pub durable_held : (calls entries : ℕ) → calls ≤ disk.calls (device e) → entries ≤ length h → IsHeldSince h calls e → IsDurable h calls entries e []
   durable_held calls entries past longer held = record {
+    of = held.of;
     past = past;
     longer = longer;
     one = omega arith;
     runs = λ _. refl;
-    since = λ c left. (length (history_of e), longer, subst (HoldsHistory (disk.size (device e)) c) (sym (take_whole (history_of e))) (held.since c left));
+    since = λ c left. (length h, longer, subst (HoldsHistory (disk.size (device e)) c) (sym (take_whole h)) (held.since c left));
     now = λ c left. inl (held.now c left);
   }
 
   -- The history of an engine at rest is durable from this moment on.
-  pub durable_from : ((c : Image) → disk.images_since (device e) (disk.calls (device e)) c → disk.images_now (device e) c) → IsAtRest e → IsDurable (disk.calls (device e)) (length (history_of e)) e []
+  pub durable_from : ((c : Image) → disk.images_since (device e) (disk.calls (device e)) c → disk.images_now (device e) c) → IsAtRest h e → IsDurable h (disk.calls (device e)) (length h) e []
   durable_from only_now rest =
-      durable_held (disk.calls (device e)) (length (history_of e)) (omega arith) (omega arith) (held_now only_now rest)
+      durable_held (disk.calls (device e)) (length h) (omega arith) (omega arith) (held_now only_now rest)
+
+  -- The entries of an acknowledged history are durable, however their number is written.
+  pub durable_as : (entries : ℕ) → length h ≡ entries → ((c : Image) → disk.images_since (device e) (disk.calls (device e)) c → disk.images_now (device e) c) → IsAtRest h e → IsDurable h (disk.calls (device e)) entries e []
+  durable_as entries same only_now rest =
+      subst (λ n. IsDurable h (disk.calls (device e)) n e []) same (durable_from only_now rest)
 
   -- A stream has fewer versions than it may have: the device has too few blocks for more.
-  pub few_versions_of : (stream : ℕ) → latest (history_of e) stream < MAX_VERSIONS
-  few_versions_of stream =
-      omega (arith, few_versions (history_of e) stream, e.ends, e.log.tail_inside, e.log.addressable)
+  pub few_versions_of : IsEngineOf h e → (stream : ℕ) → latest h stream < MAX_VERSIONS
+  few_versions_of of stream =
+      omega (arith, few_versions h stream, of.entries, e.counted, e.ends, e.log.tail_inside, e.log.addressable)

@@ -7,12 +7,6 @@ mod HoldsLemmas
 mod Stepping
 mod Appending
 mod Durable
-mod BodyParts
-mod OpenCauses
-mod Synced
-mod Reading
-mod Opened
-mod Sound
 mod BoardTrees
 mod BoardStreams
 mod Crowded

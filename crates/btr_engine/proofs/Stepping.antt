@@ -1,5 +1,6 @@
 -- What a step leaves of an engine: at each moment, and after a refusal.
-use Rattle.std.specs.Prelude.{◌≡◌, ℕ, ◌+◌, ◌*◌, ◌/◌, ◌<◌, ◌≤◌, ◌^◌, List, [], ◌∷◌, ◌++◌, length, Result, Ok, Err, Option, Some, None, IsFalse, IfSome, IsNone, IfErr, IsErr}
+use Rattle.std.specs.Prelude.{◌≡◌, ℕ, ◌+◌, ◌*◌, ◌<◌, ◌≤◌, ◌^◌, List, [], ◌∷◌, ◌++◌, length, nat_le, true, false, cond, Result, Ok, Err, Option, Some, None, IsFalse, IfErr, IsErr}
+use Rattle.std.specs.Option.{unwrap_or}
 use Rattle.std.specs.Result.{IsErrAnd}
 use Rattle.std.specs.Coded.{le_prop}
 use Rattle.std.proofs.Common.{refl, sym, ◌∙◌, ap, subst, inl, arith, length-append}
@@ -17,21 +18,24 @@ use Rattle.btr_log.proofs.AppendLemmas.{body_in_run-append, IsAppendRun-from}
 use Rattle.btr_log.specs.Log as log
 use Rattle.btr_hist.specs.declared.entry.Entry.{Entry}
 use Rattle.btr_hist.specs.declared.entry.Entry.TheVariants.{Create, Commit}
+use Rattle.btr_hist.specs.History.{ids, latest}
 use Rattle.btr_hist.specs.Legal.{rejection}
 use Rattle.btr_hist.specs.Machine as machine
 use Rattle.btr_entry.specs.Grammar.{spelling, IsSpelled}
 use Rattle.btr_engine.specs.declared.engine.Engine.{Engine}
+use Rattle.btr_engine.specs.declared.step.Pending.{Pending}
 use Rattle.btr_engine.specs.declared.step.Receipt.{Receipt}
 use Rattle.btr_engine.specs.declared.step.StepFault.{StepFault}
-use Rattle.btr_engine.specs.declared.step.StepFault.TheVariants as step
 use Rattle.btr_engine.specs.declared.board.PushFault.{PushFault}
 use Rattle.btr_engine.specs.declared.board.PushFault.TheVariants.{Rejected, Want}
 use Rattle.btr_engine.specs.Body.{body_of, need_of, bodies}
 use Rattle.btr_engine.proofs.BodyLemmas.{length-body_of, IsBody-body_of, need-body_of}
-use Rattle.btr_engine.specs.Engine.{device, history_of, blocks_of, tail_of, is_stopped, IsAtRest, EngineLeaves}
-use Rattle.btr_engine.specs.Push.{PushCause, fault_of_push}
-use Rattle.btr_engine.specs.Holds.{HoldsHistory}
-use Rattle.btr_engine.specs.Step.{IsBeforeOrAfter, StepCause}
+use Rattle.btr_engine.specs.Engine.{device, is_stopped, IsAtRest, EngineLeaves}
+use Rattle.btr_engine.specs.Stage.{PushCause}
+use Rattle.btr_engine.specs.Pending.{IsPending, fault_of_push}
+use Rattle.btr_engine.specs.Board.{IsBoardOf, latest_of}
+use Rattle.btr_engine.specs.Step.{IsBeforeOrAfter, IsReceipt, StepCause}
+use Rattle.btr_engine.proofs.Streams.{few_versions}
 use Rattle.btr_engine.proofs.EngineLemmas.{holds_in}
 
 -- ---- the extent of an entry
@@ -48,37 +52,33 @@ module _ (number : ℕ) (e : Entry) (run : List ℕ) (is : run ≡ body_of numbe
   is_append_run some few spelled =
       subst append.IsAppendRun (sym is) (IsAppendRun-from (body_of number e) (entry_head number (length (spelling e))) (IsBody-body_of number e some few spelled))
 
--- The run has the blocks that the entry needs.
-pub blocks_of_run : (number : ℕ) (e : Entry) (n : ℕ) → n ≡ length (body_of number e ++ zeros 4096) → n / 4096 ≡ need_of e
-blocks_of_run number e n is =
-    omega (arith, is, length-append (body_of number e) (zeros 4096), length-body_of number e, length-zeros 4096)
-
 -- The number of a receipt.
 pub number_of_receipt : (h : List Entry) (e : Entry) → (machine.receipt h e).number ≡ length h + 1
 number_of_receipt h (Create id) = refl
 number_of_receipt h (Commit s cut added) = refl
 
--- ---- histories without their last entry
+-- The number of such a receipt is one more than the entries.
+pub numbered : (h : List Entry) (e : Entry) (receipt : Receipt) → IsReceipt h e receipt → receipt.number ≡ length h + 1
+numbered h e receipt is = is.number ∙ number_of_receipt h e
 
--- An entry that is added and removed again leaves the history.
-pub push_pop : (h k : List Entry) (e f : Entry) → h ++ e ∷ [] ≡ k ++ f ∷ [] → k ≡ h
-push_pop [] [] e f same = refl
-push_pop [] (x ∷ []) e f same = absurd (cc)
-push_pop [] (x ∷ y ∷ k) e f same = absurd (cc)
-push_pop (x ∷ []) [] e f same = absurd (cc)
-push_pop (x ∷ y ∷ h) [] e f same = absurd (cc)
-push_pop (x ∷ h) (y ∷ k) e f same =
-    let rest : h ++ e ∷ [] ≡ k ++ f ∷ [] = cc in
-    let more = push_pop h k e f rest in
-    let first : x ≡ y = cc in
-    cc
+-- What is made for an entry that may follow.
+pub pending_of : (h : List Entry) (e : Entry) (p : Pending) → rejection h e ≡ None → IsSpelled e → IsBoardOf (h ++ e ∷ []) p.staged.next → p.extent.items ≡ body_of p.receipt.number e ++ zeros 4096 → IsReceipt h e p.receipt → IsPending h e p
+pending_of h e p allowed spelled of bytes is = record {
+  allowed = allowed;
+  spelled = spelled;
+  of = of;
+  bytes = bytes ∙ ap (λ n. body_of n e ++ zeros 4096) (numbered h e p.receipt is);
+  is_receipt = is;
+}
 
--- What is added and then removed.
-pub popped : (taken : Option Entry) (h pushed k : List Entry) (e : Entry) → pushed ≡ h ++ e ∷ [] → IfSome taken (λ f. pushed ≡ k ++ f ∷ []) → (IsNone taken → (pushed ≡ []) × (k ≡ [])) → k ≡ h
-popped (Some f) h pushed k e grown last none = push_pop h k e f (sym grown ∙ last)
-popped None h pushed k e grown last none =
-    let empty : pushed ≡ [] = (none refl).0 in
-    absurd (omega (arith, ap (length {A = Entry}) grown, ap (length {A = Entry}) empty, length-append h (e ∷ [])))
+-- The next version of a stream is in range.
+pub next_version : (h : List Entry) (stream : ℕ) (found : Option ℕ) → found ≡ latest_of h stream → unwrap_or found 0 ≤ length h
+next_version h stream found is =
+    subst (λ o. unwrap_or o 0 ≤ length h) (sym is)
+    (elim (nat_le (length (ids h)) stream) as (λ t. unwrap_or (cond t None (Some (latest h stream))) 0 ≤ length h) [
+      | true ↦ omega arith
+      | false ↦ few_versions h stream
+    ])
 
 module _ {D : Type 0} {disk : Ghosts D} where
   -- ---- a step that changes nothing
@@ -89,26 +89,27 @@ module _ {D : Type 0} {disk : Ghosts D} where
     board = boards i;
     opened_with = began i;
     synced = synced i;
-    counted = is_prop→PathP (λ j. (logs j).extents ≡ length (boards j)) (λ j. ℕ_set (logs j).extents (length (boards j))) a.counted b.counted i;
-    ends = is_prop→PathP (λ j. 2 * length (boards j) + 4 ≤ (logs j).tail) (λ j. le_prop) a.ends b.ends i;
-    began = is_prop→PathP (λ j. began j ≤ length (boards j)) (λ j. le_prop) a.began b.began i;
+    counted = is_prop→PathP (λ j. (logs j).extents ≡ (boards j).entries) (λ j. ℕ_set (logs j).extents (boards j).entries) a.counted b.counted i;
+    ends = is_prop→PathP (λ j. 2 * (logs j).extents + 4 ≤ (logs j).tail) (λ j. le_prop) a.ends b.ends i;
+    began = is_prop→PathP (λ j. began j ≤ (logs j).extents) (λ j. le_prop) a.began b.began i;
     called = is_prop→PathP (λ j. disk.calls (synced j).value ≤ disk.calls (log.device (logs j))) (λ j. le_prop) a.called b.called i;
     failed = is_prop→PathP (λ j. disk.faults (synced j).value ≤ log.faults_at (logs j)) (λ j. le_prop) a.failed b.failed i;
   }
 
   -- The device has the log of the bodies, at rest.
-  pub log_at_rest : (engine : Engine D disk) → IsAtRest engine → log.IsAtRest engine.log (bodies (history_of engine))
-  log_at_rest engine rest =
+  pub log_at_rest : (h : List Entry) (engine : Engine D disk) → IsAtRest h engine → log.IsAtRest engine.log (bodies h)
+  log_at_rest h engine rest =
       record { extents = rest.holds.extents; closed = rest.holds.closed; only = rest.only }
 
   -- No call of the device was made. `only_now` is its law.
-  pub no_moment : (engine : Engine D disk) (e : Entry) → ((c : Image) → disk.images_since (device engine) (disk.calls (device engine)) c → disk.images_now (device engine) c) → IsAtRest engine → EngineLeaves engine engine (IsBeforeOrAfter (disk.size (device engine)) (history_of engine) e)
-  no_moment engine e only_now rest =
-      begins disk.calls disk.images_since (device engine) (IsBeforeOrAfter (disk.size (device engine)) (history_of engine) e) (λ c now. inl (holds_in engine rest c (rest.only.each c (only_now c now))))
+  pub no_moment : (h : List Entry) (engine : Engine D disk) (e : Entry) → ((c : Image) → disk.images_since (device engine) (disk.calls (device engine)) c → disk.images_now (device engine) c) → IsAtRest h engine → EngineLeaves engine engine (IsBeforeOrAfter (disk.size (device engine)) h e)
+  no_moment h engine e only_now rest =
+      begins disk.calls disk.images_since (device engine) (IsBeforeOrAfter (disk.size (device engine)) h e) (λ c now. inl (holds_in h engine rest c (rest.only.each c (only_now c now))))
 
-  -- The entry was not added to the history.
-  pub not_pushed : (old new : Engine D disk) (e : Entry) (fault : PushFault) (answer : Result Receipt StepFault) → IsErr answer × IsErrAnd answer (λ f. f ≡ fault_of_push fault) → IsFalse (is_stopped old) → PushCause (rejection (history_of old) e) fault → new ≡ old → IfErr answer (StepCause old new e)
-  not_pushed old new e fault (Ok receipt) is runs cause same = absurd (cc)
-  not_pushed old new e Want (Err f) is runs cause same = subst (StepCause old new e) (sym is.1) (runs, cause, same)
-  not_pushed old new e (Rejected why) (Err f) is runs cause same =
-      subst (StepCause old new e) (sym is.1) (runs, cause, same)
+  -- The entry was not staged.
+  pub not_staged : (h : List Entry) (engine : Engine D disk) (e : Entry) (fault : PushFault) (answer : Result Pending StepFault) → IsErr answer × IsErrAnd answer (λ f. f ≡ fault_of_push fault) → IsFalse (is_stopped engine) → PushCause (rejection h e) fault → IfErr answer (StepCause h engine engine e)
+  not_staged h engine e fault (Ok pending) is runs cause = absurd (cc)
+  not_staged h engine e Want (Err f) is runs cause =
+      subst (StepCause h engine engine e) (sym is.1) (runs, cause, refl)
+  not_staged h engine e (Rejected why) (Err f) is runs cause =
+      subst (StepCause h engine engine e) (sym is.1) (runs, cause, refl)

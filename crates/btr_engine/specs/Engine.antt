@@ -1,4 +1,5 @@
--- What contracts see of an engine: its device, its history, the blocks that are left, whether it is stopped, and its opening.
+-- What contracts see of an engine: its device, its board, the blocks that are left, whether it is stopped, its opening, and which
+-- history it is of.
 use Rattle.std.specs.Prelude.{◌≡◌, ◌⊎◌, ℕ, ◌≤◌, Bool, false, List, [], ◌++◌, length, take}
 use Rattle.btr_disk.specs.declared.disk.Disk.{Ghosts}
 use Rattle.btr_disk.specs.Bytes.{Image}
@@ -7,8 +8,10 @@ use Rattle.btr_disk.specs.Moments.{Leaves}
 use Rattle.btr_disk.specs.Causes.{KeepsCounts}
 use Rattle.btr_log.specs.Extents.{left}
 use Rattle.btr_log.specs.Log as log
+use Rattle.btr_log.specs.declared.log.Log.{Log}
 use Rattle.btr_hist.specs.declared.entry.Entry.{Entry}
 use Rattle.btr_engine.specs.declared.engine.Engine.{Engine}
+use Rattle.btr_engine.specs.Board.{Kept, IsBoardOf}
 use Rattle.btr_engine.specs.Holds.{HoldsHistoryTo, HoldsHistory}
 
 module _ {D : Type 0} {disk : Ghosts D} where
@@ -16,9 +19,17 @@ module _ {D : Type 0} {disk : Ghosts D} where
   abbrev pub device : Engine D disk → D
   device e = log.device e.log
 
-  -- The entries, in order.
-  abbrev pub history_of : Engine D disk → List Entry
-  history_of e = e.board
+  -- The board.
+  abbrev pub board_of : Engine D disk → Kept
+  board_of e = e.board
+
+  -- The number of entries.
+  abbrev pub entries_of : Engine D disk → ℕ
+  entries_of e = (board_of e).entries
+
+  -- The engine is of this history.
+  abbrev pub IsEngineOf : List Entry → Engine D disk → Type 0
+  IsEngineOf h e = IsBoardOf h (board_of e)
 
   -- The blocks of the store, from block 0 on.
   abbrev pub blocks_of : Engine D disk → ℕ
@@ -52,32 +63,35 @@ module _ {D : Type 0} {disk : Ghosts D} where
   abbrev pub faults_at_open : Engine D disk → ℕ
   faults_at_open e = disk.faults (synced_of e)
 
-  -- The device holds the history as it reads, and a crash leaves nothing else.
-  pub record IsAtRest (e : Engine D disk) : Type 0 where
-    pub holds : HoldsHistoryTo (disk.size (device e)) (disk.contents (device e)) (blocks_of e) (tail_of e) (history_of e)
+  -- The engine is of this history. The device holds it as it reads, and a crash leaves nothing else.
+  pub record IsAtRest (h : List Entry) (e : Engine D disk) : Type 0 where
+    pub of : IsEngineOf h e
+    pub holds : HoldsHistoryTo (disk.size (device e)) (disk.contents (device e)) (blocks_of e) (tail_of e) h
     pub only : Only (disk.contents (device e)) (disk.images_now (device e))
 
-  -- Every image since the call with this number, and every image now, holds the history.
-  pub record IsHeldSince (calls : ℕ) (e : Engine D disk) : Type 0 where
-    pub since : (c : Image) → disk.images_since (device e) calls c → HoldsHistory (disk.size (device e)) c (history_of e)
-    pub now : (c : Image) → disk.images_now (device e) c → HoldsHistory (disk.size (device e)) c (history_of e)
+  -- The engine is of this history. Every image since the call with this number, and every image now, holds it.
+  pub record IsHeldSince (h : List Entry) (calls : ℕ) (e : Engine D disk) : Type 0 where
+    pub of : IsEngineOf h e
+    pub since : (c : Image) → disk.images_since (device e) calls c → HoldsHistory (disk.size (device e)) c h
+    pub now : (c : Image) → disk.images_now (device e) c → HoldsHistory (disk.size (device e)) c h
 
   -- A crash at any moment between the two leaves an image that has P.
   abbrev pub EngineLeaves : Engine D disk → Engine D disk → (Image → Type 0) → Type 0
   EngineLeaves old new P = Leaves disk.calls disk.images_since (device old) (device new) P
 
-  -- What a crash may have left since the call with the number `calls`, and what it may leave now. Each earlier image holds a
-  -- prefix of the history with at least this many entries. Each image now holds the history. If a step stopped the engine,
-  -- both may have its entry too, which is `more`.
-  pub record IsDurable (calls entries : ℕ) (e : Engine D disk) (more : List Entry) : Type 0 where
+  -- The engine is of this history. The record says what a crash may have left since the call with the number `calls`, and what it
+  -- may leave now. Each earlier image holds a prefix of the history with at least this many entries. Each image now holds the
+  -- history. If a step stopped the engine, both may have its entry too, which is `more`.
+  pub record IsDurable (h : List Entry) (calls entries : ℕ) (e : Engine D disk) (more : List Entry) : Type 0 where
+    pub of : IsEngineOf h e
     pub past : calls ≤ disk.calls (device e)
-    pub longer : entries ≤ length (history_of e)
+    pub longer : entries ≤ length h
     pub one : length more ≤ 1
     pub runs : is_stopped e ≡ false → more ≡ []
     pub since : (c : Image) → disk.images_since (device e) calls c
-        → (n : ℕ) × (entries ≤ n) × HoldsHistory (disk.size (device e)) c (take n (history_of e ++ more))
+        → (n : ℕ) × (entries ≤ n) × HoldsHistory (disk.size (device e)) c (take n (h ++ more))
     pub now : (c : Image) → disk.images_now (device e) c
-        → HoldsHistory (disk.size (device e)) c (history_of e) ⊎ HoldsHistory (disk.size (device e)) c (history_of e ++ more)
+        → HoldsHistory (disk.size (device e)) c h ⊎ HoldsHistory (disk.size (device e)) c (h ++ more)
 
   -- The opening and the blocks of the store are the same, and the device has as many blocks and no lower count.
   pub record KeepsOpening (old new : Engine D disk) : Type 0 where
@@ -85,3 +99,10 @@ module _ {D : Type 0} {disk : Ghosts D} where
     pub entries : entries_at_open new ≡ entries_at_open old
     pub synced : synced_of new ≡ synced_of old
     pub device_kept : KeepsCounts disk.size disk.calls disk.faults (device old) (device new)
+
+  -- The engine has this log and this board, and was opened by this sync, with as many entries as it has.
+  pub record IsMadeOf (l : Log D disk) (b : Kept) (synced : D) (e : Engine D disk) : Type 0 where
+    pub same_log : e.log ≡ l
+    pub same_board : board_of e ≡ b
+    pub same_synced : synced_of e ≡ synced
+    pub same_entries : entries_at_open e ≡ entries_of e

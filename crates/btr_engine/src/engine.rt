@@ -1,18 +1,18 @@
 //! The engine: the board of a history, and the log that holds its entries.
-ghost use Rattle.std.specs.Prelude.{◌≡◌, ◌+◌, ◌*◌, ◌≤◌, length};
+ghost use Rattle.std.specs.Prelude.{◌≡◌, ◌+◌, ◌*◌, ◌≤◌};
 ghost use Rattle.btr_log.specs.Log.{device as device_of, tail_of, extents_of, faults_at};
 
 use crate::board::Board;
+use crate::snapshot::Snapshot;
 use btr_disk::Disk;
-use btr_hist::{Answer, Query};
 use btr_log::Log;
-use std::alloc::{AllocError, Global};
-use std::snapshot::Snapshot;
+use std::alloc::AllocError;
+use std::snapshot::Snapshot as State;
 
-/// An open store: its history, and its device.
+/// An open store: the board of its history, and its device.
 ///
-/// An engine is stopped if its device fails in a step, and stays stopped: it accepts no more entries, but still answers
-/// questions. Only the next opening shows if the entry of that step is durable.
+/// An engine is stopped if its device fails in a step, and stays stopped: it accepts no more entries, but can still be asked
+/// through a snapshot. Only the next opening shows if the entry of that step is durable.
 #[derive(Drop)]
 pub struct Engine<D: Disk> {
     pub(crate) log: Log<D>,
@@ -20,44 +20,55 @@ pub struct Engine<D: Disk> {
     /// The number of entries when the store was opened.
     pub(crate) opened_with: u64,
     /// The device after the first sync of the opening, for its counts. It has no bytes.
-    pub(crate) synced: Snapshot<D>,
-    ghost counted: { extents_of log ≡ length board },
+    pub(crate) synced: State<D>,
+    ghost counted: { extents_of log ≡ board.entries },
     // The first gate is block 4, and each extent has at least two blocks.
-    ghost ends: { 2 * length board + 4 ≤ tail_of log },
-    ghost began: { opened_with ≤ length board },
+    ghost ends: { 2 * extents_of log + 4 ≤ tail_of log },
+    ghost began: { opened_with ≤ extents_of log },
     ghost called: { D.calls synced.value ≤ D.calls (device_of log) },
     ghost failed: { D.faults synced.value ≤ faults_at log },
 }
 
 impl<D: Disk> Engine<D> {
-    ghost use Rattle.std.specs.Prelude.{◌≡◌, length, IfOk, IsTrue};
+    ghost use Rattle.std.specs.Prelude.{◌≡◌, ◌+◌, ◌*◌, ◌≤◌, List, IfOk, IsTrue, length};
     ghost use Rattle.btr_disk.specs.Causes.{Rose};
-    ghost use Rattle.btr_hist.specs.History.{stream_of};
-    ghost use Rattle.btr_hist.specs.Answer.{answer};
-    ghost use Rattle.btr_engine.specs.Engine.{device, history_of, is_stopped, faults_at_open};
+    ghost use Rattle.btr_log.specs.Log.{device as device_of, tail_of, extents_of, faults_at};
+    ghost use Rattle.btr_hist.specs.declared.entry.Entry.{Entry as EntrySpec};
+    ghost use Rattle.btr_engine.specs.Snapshot.{IsSnapshotOf};
+    ghost use Rattle.btr_engine.specs.Engine.{device, entries_of, is_stopped, faults_at_open, IsEngineOf, IsMadeOf};
 
-    /// Answers a question from the history, which has all acknowledged entries. It does not call the device. It costs the
-    /// nodes of the tree that the question needs, and its rows. An `Err` means out of memory.
-    pub fn answer(&self, alloc: Global, query: &Query) -> Result<Answer, AllocError>
-        ensures { IfOk result (λ a. a ≡ answer (history_of self.now) query.now) }
+    /// Returns the engine of a log, of a board with the log's entries, and of the device as the first sync of an opening left it.
+    /// It is for openings: it does not call the device, nor compare the board with it. It takes constant time and no memory.
+    pub fn over(log: Log<D>, board: Board, synced: State<D>) -> Engine<D>
+        requires counted { extents_of log ≡ board.entries }
+        requires ends { 2 * extents_of log + 4 ≤ tail_of log }
+        requires called { D.calls synced.value ≤ D.calls (device_of log) }
+        requires failed { D.faults synced.value ≤ faults_at log }
+        ensures { IsMadeOf log board synced.value result }
     {
-        self.board.answer(alloc, query)
+        let opened_with = log.extents();
+        Engine {
+            log,
+            board,
+            opened_with,
+            synced,
+        }
     }
 
-    /// Returns the number of the stream with this id, if there is one: the first in order of creation. It takes logarithmic
-    /// time and no memory.
-    pub fn find(&self, id: u128) -> Option<u32>
-        ensures { result ≡ stream_of (history_of self.now) id }
+    /// Returns a snapshot of the history, which has all acknowledged entries. It answers questions, also in another thread while
+    /// the engine goes on. It takes constant time and does not call the device. An `Err` means out of memory.
+    pub fn admit(&self) -> Result<Snapshot, AllocError>
+        ensures { (h : List EntrySpec) → IsEngineOf h self.now → IfOk result (IsSnapshotOf h) }
     {
-        let stream = self.board.find(id)?;
-        Some(stream as u32)
+        Snapshot::of(&self.board)
     }
 
     /// Returns the number of entries.
     pub fn entries(&self) -> u64
-        ensures { result ≡ length (history_of self.now) }
+        ensures entries { result ≡ entries_of self.now }
+        ensures of { (h : List EntrySpec) → IsEngineOf h self.now → result ≡ length h }
     {
-        self.log.extents()
+        self.board.entries()
     }
 
     /// Returns whether the engine is stopped. Then its device has failed since the store was opened.

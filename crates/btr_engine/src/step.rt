@@ -1,15 +1,18 @@
 //! The step: it adds one entry, which is durable before the step returns.
-ghost use Rattle.std.specs.Prelude.{◌≡◌, ℕ, ◌+◌, ◌<◌, ◌^◌, List, [], false, IfErr, IfOk, OnOk, IsTrue, length};
+ghost use Rattle.std.specs.Prelude.{◌≡◌, ℕ, ◌+◌, ◌<◌, ◌^◌, List, [], ◌∷◌, ◌++◌, false, IfErr, IfOk, OnOk, IsTrue, length, None};
 ghost use Rattle.btr_log.specs.declared.append.AppendFault.TheVariants.{Full, Fault, Stopped as AlreadyStopped};
 ghost use Rattle.btr_hist.specs.declared.entry.Entry.{Entry as EntrySpec};
+ghost use Rattle.btr_hist.specs.Legal.{rejection};
 ghost use Rattle.btr_engine.specs.declared.step.StepFault.TheVariants.{Stopped, DeviceFull, DeviceFault};
-ghost use Rattle.btr_engine.specs.Engine.{device, history_of, is_stopped, IsAtRest, IsDurable, EngineLeaves, KeepsOpening};
-ghost use Rattle.btr_engine.specs.Step.{IsBeforeOrAfter, IsReceipt, IsStepped, StepCause, in_flight_after};
+ghost use Rattle.btr_engine.specs.Board.{IsBoardOf};
+ghost use Rattle.btr_engine.specs.Engine.{device, is_stopped, IsEngineOf, IsAtRest, IsDurable, EngineLeaves, KeepsOpening};
+ghost use Rattle.btr_engine.specs.Step.{history_after, in_flight_after, IsBeforeOrAfter, IsReceipt, IsStepped, StaysStopped, StepCause};
+ghost use Rattle.btr_engine.specs.Pending.{IsPending};
 
-use crate::board::{Board, PushFault};
+use crate::board::{Board, PushFault, Staged};
 use crate::engine::Engine;
 use crate::extent::encode_extent;
-use btr_disk::{BLOCK, Disk};
+use btr_disk::Disk;
 use btr_hist::{Entry, Rejection};
 use btr_log::AppendFault;
 use std::alloc::{AllocError, Global};
@@ -47,6 +50,18 @@ pub enum StepFault {
     DeviceFault,
 }
 
+/// An entry that may follow the history of an engine, with all that is needed to add it.
+#[derive(Drop)]
+pub(crate) struct Pending {
+    /// The board with the entry.
+    pub(crate) staged: Staged,
+
+    /// The body of the entry, and one block of zeros.
+    pub(crate) extent: Vec<u8>,
+
+    pub(crate) receipt: Receipt,
+}
+
 impl<D: Disk> Engine<D> {
     /// Adds an entry to the history. After `Ok` the entry is durable: no later crash loses it.
     ///
@@ -54,63 +69,72 @@ impl<D: Disk> Engine<D> {
     /// before, except after a `DeviceFault`, which stops it: from then on it returns `Stopped`.
     ///
     /// The step makes no call of the device, or four: a write and a sync for the entry, then a write and a sync for the gate
-    /// before it. It takes all memory before the first call. It costs the bytes of the entry and the nodes of its stream's
-    /// tree that it touches.
+    /// before it. It takes all memory before the first call. It costs the bytes of the entry, the nodes of its stream's tree
+    /// that it touches, and time logarithmic in the streams, versions and ids.
     pub fn step(&mut self, alloc: Global, entry: &Entry) -> Result<Receipt, StepFault>
-        ensures stopped { IsTrue (is_stopped self.old) → result ≡ Err (Stopped (length (history_of self.old))) }
-        ensures cause { IfErr result (StepCause self.old self.new entry.now) }
-        ensures stepped { IfOk result (IsStepped self.old self.new entry.now) }
+        ensures stopped { IsTrue (is_stopped self.old) → StaysStopped self.old self.new result }
+        ensures cause { (h : List EntrySpec) → IsEngineOf h self.old → IfErr result (StepCause h self.old self.new entry.now) }
+        ensures stepped { (h : List EntrySpec) → IsEngineOf h self.old → IfOk result (IsStepped h self.old self.new entry.now) }
         ensures kept { KeepsOpening self.old self.new }
-        ensures at_rest { D.is_observable → IsAtRest self.old → OnOk result (IsAtRest self.new) }
-        ensures moments { D.is_observable → IsAtRest self.old
-            → EngineLeaves self.old self.new (IsBeforeOrAfter (D.size (device self.old)) (history_of self.old) entry.now) }
-        ensures acknowledged { D.is_observable → IsAtRest self.old
-            → OnOk result (IsDurable (D.calls (device self.new)) (length (history_of self.new)) self.new []) }
-        ensures durable { D.is_observable → (is_stopped self.old ≡ false → IsAtRest self.old) → (calls entries : ℕ) (more : List EntrySpec)
-            → IsDurable calls entries self.old more → IsDurable calls entries self.new (in_flight_after result more entry.now) }
+        ensures at_rest { D.is_observable → (h : List EntrySpec) → IsAtRest h self.old
+            → OnOk result (IsAtRest (h ++ entry.now ∷ []) self.new) }
+        ensures moments { D.is_observable → (h : List EntrySpec) → IsAtRest h self.old
+            → EngineLeaves self.old self.new (IsBeforeOrAfter (D.size (device self.old)) h entry.now) }
+        ensures acknowledged { D.is_observable → (h : List EntrySpec) → IsAtRest h self.old
+            → OnOk result (IsDurable (h ++ entry.now ∷ []) (D.calls (device self.new)) (length h + 1) self.new []) }
+        ensures durable { D.is_observable → (h more : List EntrySpec) (calls entries : ℕ) → (is_stopped self.old ≡ false → IsAtRest h self.old)
+            → IsDurable h calls entries self.old more
+            → IsDurable (history_after result h entry.now) calls entries self.new (in_flight_after result more entry.now) }
     {
         if self.log.stopped() {
             return Err(StepFault::Stopped {
-                entries: self.log.extents(),
+                entries: self.board.entries(),
             });
         }
-        let receipt = receipt_of(self.log.extents() + 1, &self.board, entry);
-        self.board.push(alloc, entry)?;
-        let Ok(extent) = encode_extent(alloc, entry, receipt.number) else {
-            self.board.pop();
-            return Err(StepFault::Want);
-        };
-        let need = (extent.as_slice().len() / BLOCK) as u64;
-        let left = self.log.room();
-        if need > left {
-            self.board.pop();
-            return Err(StepFault::DeviceFull { need, left });
-        }
-        if let Err(fault) = self.log.append(&extent) {
-            self.board.pop();
+        let pending = self.stage(alloc, entry)?;
+        if let Err(fault) = self.log.append(&pending.extent) {
             return Err(step_fault(fault));
         }
-        Ok(receipt)
+        self.board.accept(pending.staged);
+        Ok(pending.receipt)
+    }
+
+    /// Tests an entry, and makes all that is needed to add it. It takes all memory of a step, and changes nothing.
+    fn stage(&self, alloc: Global, entry: &Entry) -> Result<Pending, StepFault>
+        requires runs { is_stopped self.now ≡ false }
+        ensures some { IfOk result (λ p. (h : List EntrySpec) × IsEngineOf h self.now × IsPending h entry.now p) }
+        ensures pending { (h : List EntrySpec) → IsEngineOf h self.now → IfOk result (IsPending h entry.now) }
+        ensures cause { (h : List EntrySpec) → IsEngineOf h self.now → IfErr result (StepCause h self.now self.now entry.now) }
+    {
+        self.board.is_of_some();
+        let staged = self.board.stage(alloc, entry)?;
+        let receipt = receipt_of(&self.board, entry);
+        let extent = encode_extent(alloc, entry, receipt.number)?;
+        Ok(Pending {
+            staged,
+            extent,
+            receipt,
+        })
     }
 }
 
-/// Returns the receipt of an entry that follows a history as the entry with this number.
-#[tactic(auto, using(crate::proofs::Streams::few_streams, crate::proofs::Streams::few_versions))]
-fn receipt_of(number: u64, board: &Board, entry: &Entry) -> Receipt
-    requires number { number ≡ length board.now + 1 }
-    requires few { number < 2 ^ 32 }
-    ensures { IsReceipt board.now entry.now result }
+/// Returns the receipt of an entry that may follow the history of a board.
+fn receipt_of(board: &Board, entry: &Entry) -> Receipt
+    requires few { board.now.entries < 2 ^ 32 }
+    ensures { (h : List EntrySpec) → IsBoardOf h board.now → rejection h entry.now ≡ None → IsReceipt h entry.now result }
 {
+    board.is_of_some();
+    let number = board.entries() + 1;
     match entry {
         Entry::Create { .. } => Receipt {
             number,
-            stream: board.streams() as u32,
+            stream: board.streams(),
             version: 0,
         },
         Entry::Commit { stream, .. } => Receipt {
             number,
             stream: *stream,
-            version: board.latest(*stream) as u64 + 1,
+            version: board.latest(*stream).unwrap_or(0) + 1,
         },
     }
 }
@@ -141,7 +165,7 @@ impl From<AllocError> for StepFault {
 
 impl From<PushFault> for StepFault {
     ghost use Rattle.std.specs.Prelude.{◌≡◌};
-    ghost use Rattle.btr_engine.specs.Push.{fault_of_push};
+    ghost use Rattle.btr_engine.specs.Pending.{fault_of_push};
 
     ghost from_gives = { λ f e. e ≡ fault_of_push f };
 

@@ -1,0 +1,27 @@
+-- What a step holds before its first call of the device, and why it has nothing of it.
+use Rattle.std.specs.Prelude.{◌≡◌, ◌+◌, List, [], ◌∷◌, ◌++◌, length, None}
+use Rattle.btr_disk.specs.Gate.{zeros}
+use Rattle.btr_hist.specs.declared.entry.Entry.{Entry}
+use Rattle.btr_hist.specs.Legal.{rejection}
+use Rattle.btr_entry.specs.Grammar.{IsSpelled}
+use Rattle.btr_engine.specs.declared.board.PushFault.{PushFault}
+use Rattle.btr_engine.specs.declared.board.PushFault.TheVariants.{Rejected, Want}
+use Rattle.btr_engine.specs.declared.step.Pending.{Pending}
+use Rattle.btr_engine.specs.declared.step.StepFault.{StepFault}
+use Rattle.btr_engine.specs.declared.step.StepFault.TheVariants as step
+use Rattle.btr_engine.specs.Board.{IsBoardOf}
+use Rattle.btr_engine.specs.Body.{body_of}
+use Rattle.btr_engine.specs.Step.{IsReceipt}
+
+-- The entry may follow this history. The board is of the history with it, and the extent and the receipt are the entry's.
+pub record IsPending (h : List Entry) (e : Entry) (p : Pending) : Type 0 where
+  pub allowed : rejection h e ≡ None
+  pub spelled : IsSpelled e
+  pub of : IsBoardOf (h ++ e ∷ []) p.staged.next
+  pub bytes : p.extent.items ≡ body_of (length h + 1) e ++ zeros 4096
+  pub is_receipt : IsReceipt h e p.receipt
+
+-- Why a step refuses an entry that was not staged.
+abbrev pub fault_of_push : PushFault → StepFault
+fault_of_push (Rejected why) = step.Rejected why
+fault_of_push Want = step.Want

@@ -1,0 +1,6 @@
+mod BodyParts
+mod OpenCauses
+mod Synced
+mod Reading
+mod Sound
+mod Opened

@@ -1,0 +1,93 @@
+-- Why an opening fails: what the faults of a log and of a choice mean for a store.
+use Rattle.std.specs.Prelude.{◌≡◌, ℕ, ◌+◌, ◌*◌, ◌<◌, ◌≤◌, ◌↔◌, List, length, Some, Result, Err}
+use Rattle.std.proofs.Common.{refl, sym, ◌∙◌, ap, subst, arith, inl, inr}
+use Rattle.std.specs.List.{AllByRecursion}
+use Rattle.btr_disk.specs.Bytes.{Image, Has}
+use Rattle.btr_disk.specs.Gate.{IsOpen}
+use Rattle.btr_log.specs.declared.head.Head.{Head}
+use Rattle.btr_log.specs.declared.found.ExtentFault.{ExtentFault}
+use Rattle.btr_log.specs.declared.found.ExtentFault.TheVariants as log
+use Rattle.btr_log.specs.Extents.{need, IsExtent, Extents, first_gate}
+use Rattle.btr_log.specs.Found.{IsWholeExtent, IsDamagedExtent, FindCause}
+use Rattle.btr_log.proofs.FoundLemmas.{next-IsWholeExtent, IsExtent-found}
+use Rattle.btr_super.specs.declared.superblock.Super.{Super}
+use Rattle.btr_super.specs.Choose.{IsChosen, HasNoSuper, IsDamagedSuper}
+use Rattle.btr_disk.specs.Causes.{CausesFault}
+use Rattle.btr_super.specs.declared.choosing.ChooseFault.{ChooseFault}
+use Rattle.btr_super.specs.declared.choosing.ChooseFault.TheVariants as chosen
+use Rattle.btr_hist.specs.declared.entry.Entry.{Entry}
+use Rattle.btr_hist.specs.declared.rejection.Rejection.{Rejection}
+use Rattle.btr_hist.specs.Legal.{rejection, Legal}
+use Rattle.btr_entry.specs.Grammar.{IsSpelled}
+use Rattle.btr_open.specs.declared.opening.OpenCause.{OpenCause}
+use Rattle.btr_open.specs.declared.opening.OpenCause.TheVariants.{NotAStore, Damaged, Fault, Want}
+use Rattle.btr_engine.specs.Body.{body_of, bodies}
+use Rattle.btr_engine.proofs.BodyLemmas.{need-body_of}
+use Rattle.btr_open.specs.Damage.{IsNoEntryBody, IsDamagedEntry, IsDamagedLog, IsDamaged}
+use Rattle.btr_open.specs.Opening.{OpenCauseHolds}
+use Rattle.btr_open.specs.Reading.{IsStoreOf}
+
+module _ (size : ℕ) (image : Image) (blocks gate : ℕ) (h : List Entry) where
+  -- The next extent is damaged in this block.
+  pub damaged_next : (block : ℕ) → IsDamagedEntry image blocks gate h block → AllByRecursion IsSpelled h → Legal h → Extents image first_gate (bodies h) gate → IsStoreOf size image blocks → IsDamaged size image block
+  damaged_next block damage spelled legal extents store =
+      let log : IsDamagedLog image blocks block = record { entries = h; gate = gate; spelled = spelled; legal = legal; extents = extents; damage = damage } in
+      inr (store.0, store.1, subst (λ b. IsDamagedLog image b block) (sym store.2) log)
+
+  module _ (number : ℕ) (at : number ≡ length h + 1) (head : Head) (body : List ℕ) (next : ℕ) (whole : IsWholeExtent blocks gate head body next) (stands : IsOpen image gate × Has image (4096 * (gate + 1)) body) where
+    inside : gate + need body < blocks
+    inside = omega (arith, whole.inside, next-IsWholeExtent image blocks gate head body next whole)
+
+    -- The next extent holds no entry.
+    pub no_entry_next : IsNoEntryBody number body → IsDamagedEntry image blocks gate h (gate + 1)
+    no_entry_next none = inr (inl (record {
+      head = head;
+      body = body;
+      extent = IsExtent-found image blocks gate head body next whole stands;
+      inside = inside;
+      no_entry = subst (λ n. IsNoEntryBody n body) at none;
+      first = refl;
+    }))
+
+    -- The next extent holds an entry that may not follow.
+    pub refused_next : (e : Entry) (why : Rejection) → IsSpelled e → body ≡ body_of number e → rejection h e ≡ Some why → IsDamagedEntry image blocks gate h (gate + 1)
+    refused_next e why spelled is refused =
+        let same : body ≡ body_of (length h + 1) e = is ∙ ap (λ n. body_of n e) at in
+        inr (inr (record {
+          entry = e;
+          spelled = spelled;
+          head = head;
+          extent = subst (λ b. IsExtent image gate b head) same (IsExtent-found image blocks gate head body next whole stands);
+          inside = omega (arith, inside, ap need same, need-body_of (length h + 1) e);
+          why = why;
+          refused = refused;
+          first = refl;
+        }))
+
+module _ (is_observable read : Type 0) (size : ℕ) (image : Image) (blocks gate before after : ℕ) (told : read → is_observable) (damages : read → (block : ℕ) → IsDamagedExtent image blocks gate block → IsDamaged size image block) where
+  -- A fault of the log is a cause of an opening.
+  pub cause_along : (fault : ExtentFault) (cause : OpenCause) → ((block : ℕ) → fault ≡ log.Damaged block → cause ≡ Damaged block) → (fault ≡ log.Fault → cause ≡ Fault) → (fault ≡ log.Want → cause ≡ Want) → FindCause is_observable image blocks gate before after fault → OpenCauseHolds read size image before after cause
+  cause_along (log.Damaged block) cause damaged faulty wanting is =
+      subst (OpenCauseHolds read size image before after) (sym (damaged block refl)) (λ r. damages r block (is (told r)))
+  cause_along log.Fault cause damaged faulty wanting is =
+      subst (OpenCauseHolds read size image before after) (sym (faulty refl)) is
+  cause_along log.Want cause damaged faulty wanting is =
+      subst (OpenCauseHolds read size image before after) (sym (wanting refl)) tt
+
+-- A fault of the choice of a superblock is a cause of an opening.
+pub choice_along : (is_observable : Type 0) (size : ℕ) (image : Image) (before after : ℕ) (result : Result Super ChooseFault) → CausesFault before after (result ≡ Err chosen.Fault) → (is_observable → (result ≡ Err chosen.Fault → ⊥) → (result ≡ Err chosen.NotAStore) ↔ HasNoSuper size image) → (is_observable → (result ≡ Err chosen.Fault → ⊥) → (block : ℕ) → (result ≡ Err (chosen.Damaged block)) ↔ IsDamagedSuper size image block) → (fault : ChooseFault) (cause : OpenCause) → result ≡ Err fault → (fault ≡ chosen.NotAStore → cause ≡ NotAStore) → ((block : ℕ) → fault ≡ chosen.Damaged block → cause ≡ Damaged block) → (fault ≡ chosen.Fault → cause ≡ Fault) → OpenCauseHolds is_observable size image before after cause
+choice_along is_observable size image before after result causes none damaged chosen.NotAStore cause is none_is damaged_is fault_is =
+    subst (OpenCauseHolds is_observable size image before after) (sym (none_is refl)) (λ told. (none told (λ other. cc)).0 is)
+choice_along is_observable size image before after result causes none damaged (chosen.Damaged block) cause is none_is damaged_is fault_is =
+    subst (OpenCauseHolds is_observable size image before after) (sym (damaged_is block refl)) (λ told. inl ((damaged told (λ other. cc) block).0 is))
+choice_along is_observable size image before after result causes none damaged chosen.Fault cause is none_is damaged_is fault_is =
+    subst (OpenCauseHolds is_observable size image before after) (sym (fault_is refl)) (causes.rose is)
+
+-- A cause holds too if less is known, and over more calls, if the bytes are the same.
+pub OpenCauseHolds-along : (is_observable read : Type 0) (size other : ℕ) (image new : Image) (begin before after end : ℕ) (cause : OpenCause) → (read → is_observable) → (read → (size ≡ other) × (image ≡ new)) → begin ≤ before → after ≤ end → OpenCauseHolds is_observable size image before after cause → OpenCauseHolds read other new begin end cause
+OpenCauseHolds-along is_observable read size other image new begin before after end NotAStore told same low high is =
+    λ r. subst (HasNoSuper other) (same r).1 (subst (λ n. HasNoSuper n image) (same r).0 (is (told r)))
+OpenCauseHolds-along is_observable read size other image new begin before after end (Damaged block) told same low high is =
+    λ r. subst (λ i. IsDamaged other i block) (same r).1 (subst (λ n. IsDamaged n image block) (same r).0 (is (told r)))
+OpenCauseHolds-along is_observable read size other image new begin before after end Fault told same low high is = omega (arith, is)
+OpenCauseHolds-along is_observable read size other image new begin before after end Want told same low high is = tt

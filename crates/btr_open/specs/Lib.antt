@@ -1,0 +1,8 @@
+-- what breaks the format of a store
+pub mod Damage
+-- what an opening does
+pub mod Opening
+-- what holds of all devices
+pub mod Laws
+-- what the private functions promise
+pub mod Reading

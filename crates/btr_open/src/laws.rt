@@ -1,0 +1,13 @@
+//! Theorems on the definitions. Each is the contract of a function with an empty body.
+ghost use Rattle.btr_open.specs.Laws.{OneHistoryIsHeld, HeldIsSound};
+
+/// At most one history is held by a device, whatever its bytes are.
+pub fn one_history_is_held()
+    ensures { OneHistoryIsHeld }
+{}
+
+/// A device that holds a history has a store, and no block of it breaks the format. So an observable device that holds a
+/// history is refused only if memory runs out or the device fails.
+pub fn held_is_sound()
+    ensures { HeldIsSound }
+{}

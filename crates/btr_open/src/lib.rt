@@ -1,0 +1,18 @@
+//! The opening of a store: it makes the engine of the history that a device holds.
+//!
+//! [`open_store`] reads the history that a device holds, and returns an engine of it. `specs/Damage.antt` says which block of a
+//! device breaks the format of a store.
+#![tactic(auto)]
+
+// the entry in the bytes of an extent
+mod decoding;
+// the opening
+mod opening;
+// what holds of all devices
+mod laws;
+
+pub use laws::{held_is_sound, one_history_is_held};
+pub use opening::{OpenCause, OpenFault, open_store};
+
+#[cfg(test)]
+mod tests;
