@@ -125,7 +125,7 @@ module _ {D : Type 0} {disk : Ghosts D} (h : List Entry) (old : Engine D disk) (
 
     pub at_rest : need_of e ≤ room_of old → log.KeepsBounds old.log new.log → IsAtRest h old → Published (disk.contents (device old)) (4096 * (tail_of old + 1)) run (4096 * tail_of old) gate_block (disk.contents (device new)) → log.IsAtRest new.log (bodies h ++ append.body_in_run run ∷ []) → IsAtRest (h ++ e ∷ []) new
     at_rest fits kept rest written log_rests =
-          let size = disk.size (device old) in
+        let size = disk.size (device old) in
         let now = disk.contents (device new) in
         let below : (k : ℕ) → k < 4096 * tail_of old → now k ≡ disk.contents (device old) k = λ k lt. written.elsewhere k (λ le. absurd (omega arith)) (λ le. absurd (omega arith)) in
         let its_log = AtRest-IsLog now (disk.images_now (device new)) (tail_of new) (bodies h ++ append.body_in_run run ∷ []) log_rests in

@@ -86,22 +86,25 @@ module _ {D : Type 0} {disk : Ghosts D} where
 
   -- At first none was read. `only_now` is the device's law.
   pub none_read : (log : Log D disk) (board : Kept) → (disk.is_observable → (c : Image) → disk.images_since (device log) (disk.calls (device log)) c → disk.images_now (device log) c) → IsBoardOf [] board → 4 < blocks_of log → HasRead log log board 4 0
-  none_read log board only_now of least = ([], record {
-    of = of;
-    reads = record {
-      kept = record { tail = refl; blocks = refl; extents = refl; stopped = refl; faults = refl };
+  none_read log board only_now of least = (
+    [],
+    record {
+      of = of;
       reads = record {
-        counts = record { same_size = refl; more_calls = omega arith; more_faults = omega arith };
-        nothing = λ told. none_written disk.calls disk.images_since disk.contents disk.images_now (device log) (only_now told);
+        kept = record { tail = refl; blocks = refl; extents = refl; stopped = refl; faults = refl };
+        reads = record {
+          counts = record { same_size = refl; more_calls = omega arith; more_faults = omega arith };
+          nothing = λ told. none_written disk.calls disk.images_since disk.contents disk.images_now (device log) (only_now told);
+        };
       };
-    };
-    counted = sym of.entries;
-    ends = omega arith;
-    inside = least;
-    spelled = tt;
-    legal = legal-none;
-    extents = λ told. refl;
-  })
+      counted = sym of.entries;
+      ends = omega arith;
+      inside = least;
+      spelled = tt;
+      legal = legal-none;
+      extents = λ told. refl;
+    },
+  )
 
   module _ (old mid : Log D disk) (board : Kept) (gate entries : ℕ) (h : List Entry) (so_far : IsRead old mid board gate entries h) where
     same_so_far : disk.is_observable → disk.contents (device mid) ≡ disk.contents (device old)
@@ -112,21 +115,23 @@ module _ {D : Type 0} {disk : Ghosts D} where
     pub read_more : (new : Log D disk) → ReadsLog mid new → (e : Entry) (next : ℕ) (more : Kept) → IsAdded mid gate board more e next → HasRead old new more next (entries + 1)
     read_more new reads e next more added =
         let of = (added h so_far.of).0 in
-        let found = (added h so_far.of).1 in
-        (h ++ e ∷ [], record {
-          of = of;
-          reads = ReadsLog-trans old mid new so_far.reads reads;
-          counted = omega (arith, of.entries, length-append h (e ∷ []), so_far.of.entries, so_far.counted);
-          ends = omega (arith, found.after, so_far.ends);
-          inside = omega (arith, found.inside, so_far.reads.kept.blocks);
-          spelled = spelled-push h e so_far.spelled found.spelled;
-          legal = legal-push h e so_far.legal found.allowed;
-          extents = λ told.
-              let image = disk.contents (device old) in
-              let stands = found.extent told in
-              let here : IsExtent image gate (body_of (length h + 1) e) stands.0 = subst (λ i. IsExtent i gate (body_of (length h + 1) e) stands.0) (same_so_far told) stands.1 in
-              extents-push image gate next h e stands.0 (so_far.extents told) here found.after;
-        })
+        let found = (added h so_far.of).1 in (
+          h ++ e ∷ [],
+          record {
+            of = of;
+            reads = ReadsLog-trans old mid new so_far.reads reads;
+            counted = omega (arith, of.entries, length-append h (e ∷ []), so_far.of.entries, so_far.counted);
+            ends = omega (arith, found.after, so_far.ends);
+            inside = omega (arith, found.inside, so_far.reads.kept.blocks);
+            spelled = spelled-push h e so_far.spelled found.spelled;
+            legal = legal-push h e so_far.legal found.allowed;
+            extents = λ told.
+                let image = disk.contents (device old) in
+                let stands = found.extent told in
+                let here : IsExtent image gate (body_of (length h + 1) e) stands.0 = subst (λ i. IsExtent i gate (body_of (length h + 1) e) stands.0) (same_so_far told) stands.1 in
+                extents-push image gate next h e stands.0 (so_far.extents told) here found.after;
+          },
+        )
 
     -- The gate at the end is closed: all were read.
     pub read_all : (new : Log D disk) (last : Kept) → last ≡ board → ReadsLog mid new → (disk.is_observable → IsClosed (disk.contents (device mid)) gate) → ReadsLog old new × IsReadLog old last gate entries

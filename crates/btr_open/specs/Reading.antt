@@ -55,7 +55,8 @@ module _ {D : Type 0} (disk : Ghosts D) where
     pub runs : is_stopped e ≡ false
     pub entries : entries_at_open e ≡ entries_of e
     pub some : (h : List Entry) × IsEngineOf h e
-        × (disk.is_observable → Only (disk.contents old) (disk.images_now old) → IsStoreOf (disk.size old) (disk.contents old) blocks → IsAtRest h e)
+        × (disk.is_observable → Only (disk.contents old) (disk.images_now old) → IsStoreOf (disk.size old) (disk.contents old) blocks
+        → IsAtRest h e)
 
 module _ {D : Type 0} {disk : Ghosts D} where
   -- The log is as before, but for its device, on which nothing was written.

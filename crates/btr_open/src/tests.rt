@@ -412,9 +412,7 @@ fn log_on(disk: MemDisk) -> Option<Log<MemDisk>> {
 }
 
 #[test]
-fn an_engine_its_device_and_a_snapshot_move_to_other_threads(
-    rt: HostRuntime,
-) -> Result<(), Fail> {
+fn an_engine_its_device_and_a_snapshot_move_to_other_threads(rt: HostRuntime) -> Result<(), Fail> {
     let alloc = rt.alloc();
     let engine = opened(alloc, formatted(alloc, &[])?)?;
     let snapshot = engine.admit()?;

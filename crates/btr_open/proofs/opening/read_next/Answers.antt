@@ -55,16 +55,16 @@ returns-in-Ok-stage-clause-next g c =
     let whole = subst (IsWhole blocks c.args.gate) x.is c.in-Ok.ensures.whole in (
       e,
       λ h of.
-      let same : x.body.items ≡ body_of (length h + 1) e = sym c.deref.ensures.value ∙ found.1 ∙ ap (λ n. body_of n e) (c.requires.number ∙ ap (λ n. n + 1) of.entries) in (
-        subst (IsBoardOf (h ++ e ∷ [])) (sym c.accept.ensures) (c.in-Ok-stage.ensures.staged h of),
-        record {
-          spelled = found.0;
-          allowed = c.in-Ok-stage.ensures.allowed h of;
-          after = gate_behind blocks c.args.gate x.head x.body.items x.next whole (length h + 1) e same;
-          inside = whole.inside;
-          extent = λ told. (x.head, extent_of blocks c.args.gate x.head x.body.items x.next whole (length h + 1) e same image (subst (MatchesDevice image c.args.gate) x.is (c.in-Ok.ensures.matches told)));
-        },
-      ),
+          let same : x.body.items ≡ body_of (length h + 1) e = sym c.deref.ensures.value ∙ found.1 ∙ ap (λ n. body_of n e) (c.requires.number ∙ ap (λ n. n + 1) of.entries) in (
+            subst (IsBoardOf (h ++ e ∷ [])) (sym c.accept.ensures) (c.in-Ok-stage.ensures.staged h of),
+            record {
+              spelled = found.0;
+              allowed = c.in-Ok-stage.ensures.allowed h of;
+              after = gate_behind blocks c.args.gate x.head x.body.items x.next whole (length h + 1) e same;
+              inside = whole.inside;
+              extent = λ told. (x.head, extent_of blocks c.args.gate x.head x.body.items x.next whole (length h + 1) e same image (subst (MatchesDevice image c.args.gate) x.is (c.in-Ok.ensures.matches told)));
+            },
+          ),
     )
 
 pub returns-in-Err-Rejected-clause-cause : goal.returns-in-Err-Rejected-clause-cause

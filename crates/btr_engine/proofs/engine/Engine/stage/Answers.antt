@@ -17,8 +17,7 @@ pub returns-clause-some : goal.returns-clause-some
 returns-clause-some g c =
     let some = c.is_of_some.ensures in
     let allowed = c.in_ok-staged.ensures.allowed some.0 some.1 in
-    let is = c.receipt_of-receipt.ensures some.0 some.1 allowed in
-    (
+    let is = c.receipt_of-receipt.ensures some.0 some.1 allowed in (
       some.0,
       some.1,
       pending_of some.0 c.args.entry.now _ allowed c.in_ok-extent.ensures.spelled (c.in_ok-staged.ensures.staged some.0 some.1) c.in_ok-extent.ensures.bytes is,
