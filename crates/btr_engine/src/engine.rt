@@ -34,6 +34,7 @@ impl<D: Disk> Engine<D> {
     ghost use Rattle.btr_disk.specs.Causes.{Rose};
     ghost use Rattle.btr_log.specs.Log.{device as device_of, tail_of, extents_of, faults_at};
     ghost use Rattle.btr_hist.specs.declared.entry.Entry.{Entry as EntrySpec};
+    ghost use Rattle.btr_hist.specs.History.{stream_of};
     ghost use Rattle.btr_engine.specs.Snapshot.{IsSnapshotOf};
     ghost use Rattle.btr_engine.specs.Engine.{device, entries_of, is_stopped, faults_at_open, IsEngineOf, IsMadeOf};
 
@@ -61,6 +62,14 @@ impl<D: Disk> Engine<D> {
         ensures { (h : List EntrySpec) → IsEngineOf h self.now → IfOk result (IsSnapshotOf h) }
     {
         Snapshot::of(&self.board)
+    }
+
+    /// Returns the number of the stream with this id, if there is one: the first in order of creation. It takes logarithmic
+    /// time and no memory.
+    pub fn find(&self, id: u128) -> Option<u32>
+        ensures { (h : List EntrySpec) → IsEngineOf h self.now → result ≡ stream_of h id }
+    {
+        self.board.find(id)
     }
 
     /// Returns the number of entries.
