@@ -70,7 +70,7 @@ first-get (suc n) x i lt =
       | inr less ↦ let long = first-length n x in get-front (first_slots n x) (slot_in x n) i (omega arith) ∙ first-get n x i less
     ]
 
--- The slots that are told of no node, of a leaf and of an inner node.
+-- The slots of no node, of a leaf and of an inner node.
 pub slots-of_none : slots_of_node None ≡ []
 unfolding slots_of_node
 slots-of_none = refl
@@ -102,7 +102,7 @@ slots-few (Some n) = kind-few (out-NodeData n)
 pub get-past : (o : Option NodeData) (i : ℕ) → 64 ≤ i → slice_get (slots_of_node o) i ≡ None
 get-past o i le = let few = slots-few o in slice_get_past (slots_of_node o) i (omega arith)
 
--- The slots that are told of an inner node are its slots.
+-- The slots of an inner node that was made.
 same-first : (n : ℕ) (x y : Slots) → AreSameSlots x y → first_slots n y ≡ first_slots n x
 unfolding first_slots
 same-first zero x y same = refl

@@ -1,7 +1,7 @@
 -- The 64 slots of an inner node in memory, of which only some are kept.
 --
--- A node has a base version. A slot is kept if it has a point or a version other than that one. A mask of 64 bits says which
--- slots are kept: bit i is set if slot i is. What is kept stands in order of the slots.
+-- A node has a base version. It keeps a slot if the slot has a point, or a version other than the base version. A mask of 64
+-- bits says which slots are kept: bit i is set if slot i is kept. The kept slots are in order.
 use Rattle.std.specs.Prelude.{◌≡◌, ℕ, zero, suc, ◌+◌, ◌^◌, ◌<◌, ◌≤◌, ◌%◌, List, [], ◌∷◌, ◌++◌, length, slice_get, Option, Some, None, option_map, nat_eq, count_ones, if◌then◌else◌}
 use Rattle.std.specs.Int.{bit_at}
 use Rattle.btr_base.specs.Agg.{no_points}
@@ -21,11 +21,11 @@ linked link = option_map (λ a. a.value) (out-Link link).node
 abbrev pub node_of : Child → Option NodeData
 node_of child = option_map (λ a. a.now.value) child.node
 
--- How many bits of a mask are set below bit i: the place of slot i among what is kept.
+-- How many bits of a mask are set below bit i: the place of slot i among the kept slots.
 abbrev pub rank : ℕ → ℕ → ℕ
 rank mask i = count_ones (mask % 2 ^ i)
 
--- The base version, the mask, and what is kept.
+-- The base version, the mask, and the kept slots.
 abbrev pub base_of : Slots → ℕ
 base_of x = (out-Slots x).base
 
@@ -84,17 +84,17 @@ abbrev pub IsPreviousOccupied : Slots → ℕ → Option ℕ → Type 0
 IsPreviousOccupied x to None = AreEmpty x 0 to
 IsPreviousOccupied x to (Some i) = (i < to) × IsOccupied x i × AreEmpty x (i + 1) to
 
--- Both have the same slots and children.
+-- The two have the same slots and the same children.
 pub record AreSameSlots (old new : Slots) : Type 0 where
   pub slots : (i : ℕ) → slot_in new i ≡ slot_in old i
   pub children : (i : ℕ) → child_in new i ≡ child_in old i
 
--- While slots are put in order: what is kept is of the first n slots.
+-- The slots from n on are still to be put: each kept slot is one of the first n.
 pub record IsFilled (n : ℕ) (x : Slots) : Type 0 where
   pub mask : mask_of x < 2 ^ n
   pub kept : length (all_kept x) ≡ count_ones (mask_of x)
 
--- Slot n was put, without an address, and its child. The slots before it are as they were.
+-- Slot n was put, without an address, together with its child. The slots before it and the base version are as before.
 pub record IsPut (n : ℕ) (slot : Slot) (child : Option NodeData) (old new : Slots) : Type 0 where
   pub filled : IsFilled (n + 1) new
   pub is : slot_in new n ≡ without_address slot

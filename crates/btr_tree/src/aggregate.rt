@@ -34,7 +34,9 @@ fn agg_of_slots(slots: &Slots) -> Agg
 {
     let mut all = Agg::none();
     for i in 0..FAN_OUT {
-        let slot = slots.slot(i);
+        let Some(slot) = slots.kept_slot(i) else {
+            continue;
+        };
         all = all.join(&slot.agg);
     }
     all

@@ -1,13 +1,14 @@
 //! The versioned tree over time of one stream (BTrDB, FAST 2016).
 //!
 //! A [`Tree`] has the points of one version. [`Tree::apply`] makes the tree of the next version from a cut and added points.
-//! A span of time with at most 252 points is a leaf. A span with more is an inner node, which keeps the aggregate, the
-//! version and the child of each of its 64 slots. Versions share what a commit does not touch, and any thread can read them.
+//! A span of time with at most 252 points is a leaf. A span with more is an inner node, which has the aggregate, the version
+//! and the child of each of its 64 slots. In memory it keeps only the slots that have a point, or a version other than one
+//! that it keeps once. Versions share what a commit does not touch, and any thread can read them.
 //!
 //! Links to nodes are opaque: [`visit`] is the only way to a node, and it counts each node in a [`Steps`].
 //!
-//! The definitions say over the commits as plain lists which spans are nodes, and the versions of nodes and slots. The crate
-//! knows no bytes, no device and no other stream.
+//! The definitions say over a past as plain data which spans are nodes, and the versions of nodes and slots. A past is a base
+//! and the commits since. The crate knows no bytes, no device and no other stream.
 #![tactic(auto)]
 
 // nodes and their counter

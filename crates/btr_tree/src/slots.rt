@@ -1,5 +1,5 @@
 //! The 64 slots of an inner node in memory.
-ghost use Rattle.std.specs.Prelude.{◌≡◌, ◌<◌, ◌≤◌, true, nat_lt, option_map, IfOk, OnOk};
+ghost use Rattle.std.specs.Prelude.{◌≡◌, ◌<◌, ◌≤◌, true, nat_lt, option_map, IfSome, IsNone, IfOk, OnOk};
 ghost use Rattle.btr_tree.specs.Packed.{without_address};
 ghost use Rattle.btr_tree.specs.Slots.{linked, node_of, kept_in, slot_in, child_in, base_of, empty_slot};
 ghost use Rattle.btr_tree.specs.Slots.{IsNextOccupied, IsPreviousOccupied, IsFilled, IsPut, AreSameSlots};
@@ -9,7 +9,7 @@ use crate::packed::Packed;
 use btr_base::{Agg, FAN_OUT};
 use std::alloc::{AllocError, Global};
 
-/// What is kept of a slot: its aggregate and its version, and its child.
+/// A slot that is kept, and its child.
 #[cycle(node)]
 #[derive(Drop)]
 pub(crate) struct Kept {
@@ -30,7 +30,7 @@ pub struct Slots {
 }
 
 impl Slots {
-    /// No slot is kept yet. There is room for `room` slots.
+    /// Slots of which none is put yet, with room to keep `room` of them.
     pub(crate) fn new(alloc: Global, base: u64, room: usize) -> Result<Slots, AllocError>
         ensures filled { IfOk result (λ s. IsFilled 0 s) }
         ensures base { IfOk result (λ s. base_of s ≡ base) }
@@ -97,6 +97,18 @@ impl Slots {
         None
     }
 
+    /// The slot of a number if it is kept, or `None` if it is the empty slot of the base version.
+    pub(crate) fn kept_slot(&self, i: u8) -> Option<Slot>
+        requires { i < 64 }
+        ensures some { IfSome result (λ s. s ≡ slot_in self.now i) }
+        ensures none { IsNone result → slot_in self.now i ≡ empty_slot (base_of self.now) }
+    {
+        match self.kept_at(i) {
+            Some(kept) => Some(kept.slot.slot()),
+            None => None,
+        }
+    }
+
     /// How many slots are kept.
     pub(crate) fn len(&self) -> usize {
         self.kept.len()
@@ -109,7 +121,7 @@ impl Slots {
         self.base
     }
 
-    /// Puts the next slot and its child. It is kept if it has a point or a child, or a version other than the base version.
+    /// Puts the next slot and its child. The slot is kept if it has a point or a child, or a version other than the base version.
     pub(crate) fn put(&mut self, i: u8, slot: Slot, child: Link) -> Result<(), AllocError>
         requires place { i < 64 }
         requires filled { IsFilled i self.now }
@@ -121,7 +133,7 @@ impl Slots {
         self.keep(i, slot, child)
     }
 
-    /// Puts the next slot and its child as another node with the same base version has them. It shares the child.
+    /// Puts the next slot and its child as they are in a node with the same base version. Both nodes share the child.
     pub(crate) fn put_from(&mut self, i: u8, other: &Slots) -> Result<(), AllocError>
         requires place { i < 64 }
         requires filled { IsFilled i self.now }
@@ -134,7 +146,7 @@ impl Slots {
         }
     }
 
-    /// Puts the next slot and its child, which are kept.
+    /// Puts the next slot and its child, and keeps them.
     fn keep(&mut self, i: u8, slot: Slot, child: Link) -> Result<(), AllocError>
         requires place { i < 64 }
         requires filled { IsFilled i self.now }
@@ -148,7 +160,7 @@ impl Slots {
         Ok(())
     }
 
-    /// Gives back the room that no slot takes.
+    /// Frees the room that no slot takes.
     pub(crate) fn fit(&mut self)
         ensures { AreSameSlots self.old self.new }
     {
