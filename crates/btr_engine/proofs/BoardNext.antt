@@ -1,25 +1,27 @@
--- The next board is that of the history with an entry more, and a board tells the streams of its history.
-use Rattle.std.specs.Prelude.{◌≡◌, ℕ, ◌+◌, ◌<◌, ◌≤◌, List, [], ◌∷◌, ◌++◌, length, take, slice_get, slice_set, slice_index_or, nat_eq, Option, Some, None, IfSome}
-use Rattle.std.specs.List.{position_from}
+-- The next board is that of the history with an entry more, and stays well formed.
+use Rattle.std.specs.Prelude.{◌≡◌, ℕ, ◌+◌, ◌<◌, ◌≤◌, List, [], ◌∷◌, ◌++◌, length, take, slice_get, slice_set, slice_index_or, Option, Some, None, IfSome}
+use Rattle.std.specs.Option.{option_map}
 use Rattle.std.proofs.Common.{sym, ap, ◌∙◌, arith, subst, inl, inr, length-append}
-use Rattle.std.proofs.lemmas.List.{take-append-le, take_all, get_or_append_left, get_or-set_same, get_or-set_other, length-set, ext_get_or}
-use Rattle.std.proofs.lemmas.Option.{slice_get_within, get_or_from_slice_get}
+use Rattle.std.proofs.lemmas.List.{take-append-le, take_all, get_or_append_left, get_or-set_same, get_or-set_other, length-set, length-map, map-append, ext_get_or}
+use Rattle.std.proofs.lemmas.Option.{slice_get_within, slice_get-get_or, slice_get-map, get_or_from_slice_get}
 use Rattle.std.proofs.lemmas.Bool.{cases_lt, cases_eq}
-use Rattle.std.proofs.Math.Seq.{get_or-append_seam}
+use Rattle.std.proofs.Math.Seq.{get_or-append_seam, map-set_same}
 use Rattle.btr_base.specs.declared.point.Point.{Point}
 use Rattle.btr_base.specs.Range.{RangeValue}
 use Rattle.btr_base.specs.Commit.{Change}
+use Rattle.btr_base.specs.declared.limits.TheConstants.{MAX_STREAMS, MAX_VERSIONS}
+use Rattle.btr_board.specs.Put.{put_at}
 use Rattle.btr_base.proofs.ListLemmas.{get-append, get_last}
 use Rattle.btr_tree.specs.History.{nothing, ◌▷◌}
 use Rattle.btr_tree.specs.Root.{TreeValue, IsTree}
 use Rattle.btr_hist.specs.declared.entry.Entry.{Entry}
 use Rattle.btr_hist.specs.declared.entry.Entry.TheVariants.{Create, Commit}
-use Rattle.btr_hist.specs.History.{ids, stream_of, commits, latest}
+use Rattle.btr_hist.specs.History.{ids, commits, latest}
 use Rattle.btr_hist.specs.Legal.{rejection, commit_rejection}
 use Rattle.btr_hist.proofs.HistoryLemmas.{ids-append, legal-push}
-use Rattle.btr_engine.specs.Board.{Versions, Kept, with_commits, commits_to, HasTrees, IsBoardOf}
+use Rattle.btr_engine.specs.Board.{Versions, Kept, with_commits, commits_to, HasTrees, IsBoardOf, IsWellFormed, place_of, ids_of}
 use Rattle.btr_engine.specs.Stage.{IsNext, change_of}
-use Rattle.btr_engine.proofs.BoardStreams.{stream-low, ids-create, ids-commit, commits-create, commits-other, commits-same, known, unknown}
+use Rattle.btr_engine.proofs.BoardStreams.{place-low, places-push, ids-create, ids-commit, commits-create, commits-other, commits-same, known, unknown}
 use Rattle.btr_engine.proofs.BoardTrees.{made_by, with_commits-push}
 
 -- ---- the trees of a stream
@@ -147,22 +149,81 @@ kept-trees h b s kept of at =
     let there : s < length (ids h) = omega (arith, slice_get_within b.streams s kept at, of.counted) in
     (there, subst (λ (x : Versions). HasTrees h s x.trees) (get_or_from_slice_get b.streams s kept kept at) (of.kept s kept there))
 
--- ---- the history of a board
+-- ---- the index of a board
 
--- Two histories of one board have the same streams.
-pub same_ids : (h k : List Entry) (b : Kept) → IsBoardOf h b → IsBoardOf k b → ids h ≡ ids k
-same_ids h k b of other =
+-- The ids of the streams are those of the history.
+pub ids-are : (h : List Entry) (b : Kept) → IsBoardOf h b → ids_of b.streams ≡ ids h
+ids-are h b of =
+    let name : Versions → ℕ = λ s. s.id in
     let d : Versions = record { id = 0; trees = [] } in
-    let size : length (ids h) ≡ length (ids k) = sym of.counted ∙ other.counted in
-    ext_get_or 0 (ids h) (ids k) size (λ i low.
-    let id = (slice_index_or b.streams i d).id in
-    get_or_from_slice_get (ids h) i id 0 (of.named i d low) ∙ sym (get_or_from_slice_get (ids k) i id 0 (other.named i d (omega (arith, size)))))
+    let size : length (ids_of b.streams) ≡ length b.streams = length-map b.streams name in
+    ext_get_or 0 (ids_of b.streams) (ids h) (size ∙ of.counted) (λ i low.
+    let kept = slice_index_or b.streams i d in
+    let at : slice_get b.streams i ≡ Some kept = slice_get-get_or b.streams i d (omega (arith, low, size)) in
+    get_or_from_slice_get (ids_of b.streams) i kept.id 0 (slice_get-map name b.streams i ∙ ap (option_map name) at)
+    ∙ sym (get_or_from_slice_get (ids h) i kept.id 0 (of.named i d (omega (arith, low, size, of.counted)))))
 
--- The numbers of one history's ids are those of each history of the board.
-pub same_numbers : (h k : List Entry) (b : Kept) (id : ℕ) → IsBoardOf h b → IsBoardOf k b → stream_of h id ≡ stream_of k id
-same_numbers h k b id of other = ap (position_from (nat_eq id) 0) (same_ids h k b of other)
+-- The place of an id is that of a stream.
+pub place-below : (streams : List Versions) (id : ℕ) (o : Option ℕ) → o ≡ place_of (ids_of streams) id → IfSome o (λ number. number < length streams)
+place-below streams id None is = tt
+place-below streams id (Some n) is =
+    omega (arith, place-low (ids_of streams) id n (sym is), length-map streams (λ (s : Versions). s.id))
 
--- The number of an id is that of a stream.
-pub number-below : (h : List Entry) (b : Kept) (id : ℕ) (o : Option ℕ) → IsBoardOf h b → o ≡ stream_of h id → IfSome o (λ number. number < length b.streams)
-number-below h b id None of is = tt
-number-below h b id (Some n) of is = omega (arith, stream-low h id n (sym is), of.counted)
+module _ (streams : List Versions) (number : ℕ → Option ℕ) (was : IsWellFormed streams number) where
+  -- A board stays well formed with a new stream at version 0.
+  pub formed-create : (id : ℕ) (t : TreeValue) (next : ℕ → Option ℕ) (last : ℕ) (after : List Versions) → length streams < MAX_STREAMS → place_of (ids_of streams) id ≡ None → after ≡ streams ++ record { id = id; trees = t ∷ [] } ∷ [] → last ≡ length streams → ((q : ℕ) → next q ≡ put_at id last number q) → IsWellFormed after next
+  formed-create id t next last after room fresh more is put =
+      let name : Versions → ℕ = λ s. s.id in
+      let first : Versions = record { id = id; trees = t ∷ [] } in
+      let size : length after ≡ length streams + 1 = ap (length {A = Versions}) more ∙ length-append streams (first ∷ []) in
+      let old : (s : ℕ) (d : Versions) → s < length streams → slice_index_or after s d ≡ slice_index_or streams s d =
+      λ s d low. ap (λ l. slice_index_or l s d) more ∙ get_or_append_left streams (first ∷ []) d s low in
+      let new : (s : ℕ) (d : Versions) → s ≡ length streams → slice_index_or after s d ≡ first =
+      λ s d place. ap (λ l. slice_index_or l s d) more ∙ ap (λ i. slice_index_or (streams ++ first ∷ []) i d) place ∙ get_or-append_seam streams first [] d in
+      let named : ids_of after ≡ ids_of streams ++ id ∷ [] = ap ids_of more ∙ map-append name streams (first ∷ []) in
+      record {
+        few = omega (arith, size, room);
+        some = λ s d low. elim (cases_lt s (length streams)) [
+          | inl before ↦ subst (λ (x : Versions). 1 ≤ length x.trees) (sym (old s d before)) (was.some s d before)
+          | inr end ↦ subst (λ (x : Versions). 1 ≤ length x.trees) (sym (new s d (omega (arith, size)))) (omega arith)
+        ];
+        limited = λ s d low. elim (cases_lt s (length streams)) [
+          | inl before ↦ subst (λ (x : Versions). length x.trees ≤ MAX_VERSIONS + 1) (sym (old s d before)) (was.limited s d before)
+          | inr end ↦ subst (λ (x : Versions). length x.trees ≤ MAX_VERSIONS + 1) (sym (new s d (omega (arith, size)))) (omega arith)
+        ];
+        numbered = λ q. places-push (ids_of streams) id number next last (is ∙ sym (length-map streams name)) fresh was.numbered put q ∙ ap (λ l. place_of l q) (sym named);
+      }
+
+  -- A board stays well formed with one tree more for one stream.
+  pub formed-commit : (s : ℕ) (kept : Versions) (t : TreeValue) (next : ℕ → Option ℕ) (after : List Versions) → slice_get streams s ≡ Some kept → length kept.trees ≤ MAX_VERSIONS → after ≡ slice_set streams s (record { id = kept.id; trees = kept.trees ++ t ∷ [] }) → ((q : ℕ) → next q ≡ number q) → IsWellFormed after next
+  formed-commit s kept t next after at room set same =
+      let name : Versions → ℕ = λ x. x.id in
+      let grown : Versions = record { id = kept.id; trees = kept.trees ++ t ∷ [] } in
+      let there : s < length streams = slice_get_within streams s kept at in
+      let size : length after ≡ length streams = ap (length {A = Versions}) set ∙ length-set streams s grown in
+      let long : length grown.trees ≡ length kept.trees + 1 = length-append kept.trees (t ∷ []) in
+      let here : (i : ℕ) (d : Versions) → i ≡ s → slice_index_or after i d ≡ grown =
+      λ i d is. ap (λ n. slice_index_or after n d) is ∙ ap (λ l. slice_index_or l s d) set ∙ get_or-set_same streams s grown d there in
+      let others : (i : ℕ) (d : Versions) → (i ≡ s → ⊥) → slice_index_or after i d ≡ slice_index_or streams i d =
+      λ i d other. ap (λ l. slice_index_or l i d) set ∙ get_or-set_other streams s i grown d other in
+      let named : ids_of after ≡ ids_of streams =
+      ap ids_of set ∙ map-set_same name streams s grown kept (ap name (sym (get_or_from_slice_get streams s kept kept at))) in
+      record {
+        few = omega (arith, size, was.few);
+        some = λ i d low. elim (cases_eq i s) [
+          | inl is ↦ subst (λ (x : Versions). 1 ≤ length x.trees) (sym (here i d is)) (omega (arith, long))
+          | inr other ↦ subst (λ (x : Versions). 1 ≤ length x.trees) (sym (others i d other)) (was.some i d (omega (arith, size)))
+        ];
+        limited = λ i d low. elim (cases_eq i s) [
+          | inl is ↦ subst (λ (x : Versions). length x.trees ≤ MAX_VERSIONS + 1) (sym (here i d is)) (omega (arith, long, room))
+          | inr other ↦ subst (λ (x : Versions). length x.trees ≤ MAX_VERSIONS + 1) (sym (others i d other)) (was.limited i d (omega (arith, size)))
+        ];
+        numbered = λ q. same q ∙ was.numbered q ∙ ap (λ l. place_of l q) (sym named);
+      }
+
+  -- Each stream has a tree, and not too many.
+  pub tree-count : (s : ℕ) (kept : Versions) → slice_get streams s ≡ Some kept → (1 ≤ length kept.trees) × (length kept.trees ≤ MAX_VERSIONS + 1)
+  tree-count s kept at =
+      let there : s < length streams = slice_get_within streams s kept at in
+      let read : slice_index_or streams s kept ≡ kept = get_or_from_slice_get streams s kept kept at in
+      (subst (λ (x : Versions). 1 ≤ length x.trees) read (was.some s kept there), subst (λ (x : Versions). length x.trees ≤ MAX_VERSIONS + 1) read (was.limited s kept there))

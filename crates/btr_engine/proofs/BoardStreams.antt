@@ -13,11 +13,11 @@ use Rattle.btr_board.specs.Put.{put_at}
 use Rattle.btr_hist.specs.declared.entry.Entry.{Entry}
 use Rattle.btr_hist.specs.declared.entry.Entry.TheVariants.{Create, Commit}
 use Rattle.btr_hist.specs.declared.rejection.Rejection.TheVariants.{NoStream, VersionLimit, StreamExists, StreamLimit}
-use Rattle.btr_hist.specs.History.{ids, stream_of, commits, latest}
+use Rattle.btr_hist.specs.History.{ids, commits, latest}
 use Rattle.btr_hist.specs.Legal.{first_some, when, rejection, create_rejection, change_rejection, commit_rejection, points_rejection, next_bag}
 use Rattle.btr_hist.proofs.HistoryLemmas.{commits-append, ids-append}
-use Rattle.btr_hist.proofs.RejectionLemmas.{first_none, rest_none, when_none}
-use Rattle.btr_engine.specs.Board.{Follows}
+use Rattle.btr_hist.proofs.RejectionLemmas.{first_none, when_none}
+use Rattle.btr_engine.specs.Board.{Follows, place_of}
 
 -- ---- the position of a number in a list
 
@@ -54,13 +54,7 @@ position-any test i (x ∷ xs) =
       | false ↦ position-any test (i + 1) xs
     ]
 
--- ---- ids and their numbers
-
-pub stream-any : (h : List Entry) (id : ℕ) → is_some (stream_of h id) ≡ list_any (nat_eq id) (ids h)
-stream-any h id = position-any (nat_eq id) 0 (ids h)
-
-pub stream-low : (h : List Entry) (id n : ℕ) → stream_of h id ≡ Some n → n < length (ids h)
-stream-low h id n at = let low = position-low (nat_eq id) 0 (ids h) n at in omega arith
+-- ---- the ids of a history
 
 pub ids-create : (h : List Entry) (id : ℕ) → length (ids (h ++ Create id ∷ [])) ≡ length (ids h) + 1
 ids-create h id = grind (arith, ids-append h (Create id ∷ []), length-append)
@@ -68,44 +62,45 @@ ids-create h id = grind (arith, ids-append h (Create id ∷ []), length-append)
 pub ids-commit : (h : List Entry) (s : ℕ) (cut : List RangeValue) (added : List Point) → ids (h ++ Commit s cut added ∷ []) ≡ ids h
 ids-commit h s cut added = ids-append h (Commit s cut added ∷ []) ∙ append-nil (ids h)
 
-pub stream-commit : (h : List Entry) (s : ℕ) (cut : List RangeValue) (added : List Point) (q : ℕ) → stream_of (h ++ Commit s cut added ∷ []) q ≡ stream_of h q
-stream-commit h s cut added q = ap (position_from (nat_eq q) 0) (ids-commit h s cut added)
+-- ---- the places of ids
+
+-- A place is below the number of ids.
+pub place-low : (xs : List ℕ) (id n : ℕ) → place_of xs id ≡ Some n → n < length xs
+place-low xs id n at = let low = position-low (nat_eq id) 0 xs n at in omega arith
+
+pub place-any : (xs : List ℕ) (id : ℕ) → is_some (place_of xs id) ≡ list_any (nat_eq id) xs
+place-any xs id = position-any (nat_eq id) 0 xs
+
+pub none_from : (o : Option ℕ) → is_some o ≡ false → o ≡ None
+none_from None is = refl
+none_from (Some n) is = absurd (cc)
 
 put-is : (i x : ℕ) (f : ℕ → Option ℕ) (j : ℕ) → put_at i x f j ≡ cond (j == i) (Some x) (f j)
 unfolding put_at
 put-is i x f j = refl
 
-none_from : (o : Option ℕ) → is_some o ≡ false → o ≡ None
-none_from None is = refl
-none_from (Some n) is = absurd (cc)
+module _ (xs : List ℕ) (id : ℕ) where
+  place-push : (q : ℕ) → place_of (xs ++ id ∷ []) q ≡ first_of (place_of xs q) (cond (nat_eq q id) (Some (length xs)) None)
+  place-push q =
+      let from : 0 + length xs ≡ length xs = omega arith in
+      position-push (nat_eq q) 0 xs id ∙ ap (λ (n : ℕ). first_of (place_of xs q) (cond (nat_eq q id) (Some n) None)) from
 
-module _ (h : List Entry) (id : ℕ) where
-  stream-push : (q : ℕ) → stream_of (h ++ Create id ∷ []) q ≡ first_of (stream_of h q) (cond (nat_eq q id) (Some (length (ids h))) None)
-  stream-push q =
-      let from : 0 + length (ids h) ≡ length (ids h) = omega arith in
-      ap (position_from (nat_eq q) 0) (ids-append h (Create id ∷ [])) ∙ position-push (nat_eq q) 0 (ids h) id ∙ ap (λ (n : ℕ). first_of (stream_of h q) (cond (nat_eq q id) (Some n) None)) from
+  place-new : place_of xs id ≡ None → place_of (xs ++ id ∷ []) id ≡ Some (length xs)
+  place-new none =
+      place-push id ∙ ap (λ (o : Option ℕ). first_of o (cond (nat_eq id id) (Some (length xs)) None)) none ∙ ap (λ t. cond t (Some (length xs)) None) (eq-eqb id id refl)
 
-  stream-new : stream_of h id ≡ None → stream_of (h ++ Create id ∷ []) id ≡ Some (length (ids h))
-  stream-new none =
-      stream-push id ∙ ap (λ (o : Option ℕ). first_of o (cond (nat_eq id id) (Some (length (ids h))) None)) none ∙ ap (λ t. cond t (Some (length (ids h))) None) (eq-eqb id id refl)
+  place-other : (q : ℕ) → (q ≡ id → ⊥) → place_of (xs ++ id ∷ []) q ≡ place_of xs q
+  place-other q other =
+      let none : first_of (place_of xs q) None ≡ place_of xs q =
+      elim (place_of xs q) as (λ o. first_of o None ≡ o) [ None ↦ refl | Some n ↦ refl ] in
+      place-push q ∙ ap (λ t. first_of (place_of xs q) (cond t (Some (length xs)) None)) (ne_eqb q id other) ∙ none
 
-  stream-other : (q : ℕ) → (q ≡ id → ⊥) → stream_of (h ++ Create id ∷ []) q ≡ stream_of h q
-  stream-other q other =
-      let none : first_of (stream_of h q) None ≡ stream_of h q =
-      elim (stream_of h q) as (λ o. first_of o None ≡ o) [ None ↦ refl | Some n ↦ refl ] in
-      stream-push q ∙ ap (λ t. first_of (stream_of h q) (cond t (Some (length (ids h))) None)) (ne_eqb q id other) ∙ none
-
-  -- An id whose stream may be created has no stream.
-  pub stream-none : rejection h (Create id) ≡ None → stream_of h id ≡ None
-  stream-none allowed =
-      none_from (stream_of h id) (stream-any h id ∙ when_none (list_any (nat_eq id) (ids h)) StreamExists (first_none (when (list_any (nat_eq id) (ids h)) StreamExists) (when (nat_le MAX_STREAMS (length (ids h))) StreamLimit ∷ []) allowed))
-
-  -- With the number of the new stream at its id, the numbers are those of the history with the stream.
-  pub numbers-create : (f g : ℕ → Option ℕ) (number : ℕ) → number ≡ length (ids h) → rejection h (Create id) ≡ None → ((q : ℕ) → f q ≡ stream_of h q) → ((q : ℕ) → g q ≡ put_at id number f q) → (q : ℕ) → g q ≡ stream_of (h ++ Create id ∷ []) q
-  numbers-create f g number last allowed are put q =
+  -- With the next place at a new id, the places are those with the id at the end.
+  pub places-push : (f g : ℕ → Option ℕ) (number : ℕ) → number ≡ length xs → place_of xs id ≡ None → ((q : ℕ) → f q ≡ place_of xs q) → ((q : ℕ) → g q ≡ put_at id number f q) → (q : ℕ) → g q ≡ place_of (xs ++ id ∷ []) q
+  places-push f g number last none are put q =
       elim (cases_eq q id) [
-        | inl same ↦ put q ∙ put-is id number f q ∙ ap (λ t. cond t (Some number) (f q)) (eq-eqb q id same) ∙ ap {A = ℕ} {B = Option ℕ} Some last ∙ sym (stream-new (stream-none allowed)) ∙ ap (stream_of (h ++ Create id ∷ [])) (sym same)
-        | inr other ↦ put q ∙ put-is id number f q ∙ ap (λ t. cond t (Some number) (f q)) (ne_eqb q id other) ∙ are q ∙ sym (stream-other q other)
+        | inl same ↦ put q ∙ put-is id number f q ∙ ap (λ t. cond t (Some number) (f q)) (eq-eqb q id same) ∙ ap {A = ℕ} {B = Option ℕ} Some last ∙ sym (place-new none) ∙ ap (place_of (xs ++ id ∷ [])) (sym same)
+        | inr other ↦ put q ∙ put-is id number f q ∙ ap (λ t. cond t (Some number) (f q)) (ne_eqb q id other) ∙ are q ∙ sym (place-other q other)
       ]
 
 -- ---- why a stream may not be created
@@ -154,25 +149,3 @@ none_of before (Commit u cut added ∷ rest) s legal low =
 -- A stream that the history does not have has no version but 0.
 pub unknown : (h : List Entry) (s : ℕ) → Follows h → length (ids h) ≤ s → latest h s ≡ 0
 unknown h s follows low = ap (length {A = Change}) (none_of [] h s follows low)
-
--- ---- the number of streams
-
--- With entries that are allowed one after the other there are no more streams than may be.
-no_more : (before rest : List Entry) → ((n : ℕ) (e : Entry) → slice_get rest n ≡ Some e → rejection (before ++ take n rest) e ≡ None) → length (ids before) ≤ MAX_STREAMS → length (ids (before ++ rest)) ≤ MAX_STREAMS
-no_more before [] legal few = subst (λ l. length (ids l) ≤ MAX_STREAMS) (sym (append-nil before)) few
-no_more before (Create id ∷ rest) legal few =
-    let allowed : rejection before (Create id) ≡ None = subst (λ l. rejection l (Create id) ≡ None) (append-nil before) (legal 0 (Create id) refl) in
-    let test : nat_le MAX_STREAMS (length (ids before)) ≡ false = when_none (nat_le MAX_STREAMS (length (ids before))) StreamLimit (first_none (when (nat_le MAX_STREAMS (length (ids before))) StreamLimit) [] (rest_none (when (list_any (nat_eq id) (ids before)) StreamExists) (when (nat_le MAX_STREAMS (length (ids before))) StreamLimit ∷ []) allowed)) in
-    let below : length (ids before) < MAX_STREAMS = grind (arith, nat_tests) in
-    subst (λ l. length (ids l) ≤ MAX_STREAMS) (append_assoc before (Create id ∷ []) rest)
-    (no_more (before ++ Create id ∷ []) rest
-    (λ n e at. subst (λ l. rejection l e ≡ None) (sym (append_assoc before (Create id ∷ []) (take n rest))) (legal (suc n) e at))
-    (omega (arith, ids-create before id)))
-no_more before (Commit u cut added ∷ rest) legal few =
-    subst (λ l. length (ids l) ≤ MAX_STREAMS) (append_assoc before (Commit u cut added ∷ []) rest)
-    (no_more (before ++ Commit u cut added ∷ []) rest
-    (λ n e at. subst (λ l. rejection l e ≡ None) (sym (append_assoc before (Commit u cut added ∷ []) (take n rest))) (legal (suc n) e at))
-    (subst (λ (l : List ℕ). length l ≤ MAX_STREAMS) (sym (ids-commit before u cut added)) few))
-
-pub limited_streams : (h : List Entry) → Follows h → length (ids h) ≤ MAX_STREAMS
-limited_streams h follows = no_more [] h follows (omega arith)

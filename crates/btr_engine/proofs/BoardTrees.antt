@@ -77,7 +77,7 @@ up_to-push v w cs le low =
     let made = 0 + length (take w cs) + 1 in
     let long = length-take-le w cs (omega arith) in
     ap (λ (l : List Change). up_to v (with_commits 0 nothing l)) (take_more cs w none low)
-    ∙ ap (up_to v) (with_commits-push 0 [] (take w cs) c)
+    ∙ ap (up_to v) (with_commits-push 0 nothing (take w cs) c)
     ∙ up_to-later v (made_by made c) (with_commits 0 nothing (take w cs)) (omega arith)
 
 up_to-more : (h : List Entry) (stream v more : ℕ) → v + more ≤ latest h stream → up_to v (commits_to h stream (v + more)) ≡ commits_to h stream v

@@ -25,7 +25,7 @@ some_of_them a b h = grind (arith, nat_tests)
 few_of_each : (a b : ℕ) → (nat_lt MAX_COMMIT_RANGES a || nat_lt MAX_COMMIT_POINTS b) ≡ false → (a ≤ MAX_COMMIT_RANGES) × (b ≤ MAX_COMMIT_POINTS)
 few_of_each a b h = (grind (arith, nat_tests), grind (arith, nat_tests))
 
-change_bounded : (c : Change) → change_rejection c ≡ None → IsBounded c.cut c.added
+pub change_bounded : (c : Change) → change_rejection c ≡ None → IsBounded c.cut c.added
 change_bounded c h =
     let a = length c.cut in
     let b = length c.added in

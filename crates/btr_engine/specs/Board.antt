@@ -1,6 +1,8 @@
 -- What a board keeps of a history: the id of each stream, the trees of its versions, and the number of entries.
-use Rattle.std.specs.Prelude.{◌≡◌, ℕ, ◌+◌, ◌<◌, ◌≤◌, nat_le, List, [], ◌∷◌, length, take, slice_get, slice_index_or, Option, Some, None}
+use Rattle.std.specs.Prelude.{◌≡◌, ℕ, ◌+◌, ◌<◌, ◌≤◌, nat_eq, nat_le, List, [], ◌∷◌, length, map, take, slice_get, slice_index_or, Option, Some, None}
 use Rattle.std.specs.Prelude.{if◌then◌else◌}
+use Rattle.std.specs.List.{position_from}
+use Rattle.btr_base.specs.declared.limits.TheConstants.{MAX_STREAMS, MAX_VERSIONS}
 use Rattle.btr_tree.specs.History.{Past, nothing, ◌▷◌}
 use Rattle.btr_tree.specs.Root.{TreeValue, IsTree}
 use Rattle.btr_hist.specs.declared.entry.Entry.{Entry}
@@ -17,6 +19,23 @@ pub record Versions : Type 0 where
 pub record Kept : Type 0 where
   pub streams : List Versions
   pub entries : ℕ
+
+-- The place of an id among ids: that of the first that is equal.
+abbrev pub place_of : List ℕ → ℕ → Option ℕ
+place_of ids id = position_from (nat_eq id) 0 ids
+
+-- The ids of streams, in order of creation.
+abbrev pub ids_of : List Versions → List ℕ
+ids_of streams = map (λ s. s.id) streams
+
+-- What holds of each board, whatever its trees are: there are not too many streams and versions, each stream has a version, and
+-- `number` gives each id the place of the first stream with it.
+pub record IsWellFormed (streams : List Versions) (number : ℕ → Option ℕ) : Type 0 where
+  pub few : length streams ≤ MAX_STREAMS
+  pub some : (place : ℕ) (d : Versions) → place < length streams → 1 ≤ length (slice_index_or streams place d).trees
+  pub limited : (place : ℕ) (d : Versions) → place < length streams
+      → length (slice_index_or streams place d).trees ≤ MAX_VERSIONS + 1
+  pub numbered : (id : ℕ) → number id ≡ place_of (ids_of streams) id
 
 -- Each entry may follow those before it as to streams, versions and numbers of points: that is what the trees of a board need.
 -- It has a name of its own because a legal history may meet more conditions, which say nothing of streams, versions and points.

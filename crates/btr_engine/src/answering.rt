@@ -1,5 +1,5 @@
 //! The answers to questions, which a board reads from the trees of its streams.
-ghost use Rattle.std.specs.Prelude.{◌≡◌, ◌≤◌, List, length, slice_get, IfOk, IfErr, MatchOption, Some};
+ghost use Rattle.std.specs.Prelude.{◌≡◌, ◌≤◌, List, length, slice_get, IfOk, IfErr, IsNone, MatchOption, Some};
 ghost use Rattle.btr_hist.specs.declared.entry.Entry.{Entry as EntrySpec};
 ghost use Rattle.btr_hist.specs.declared.query.Query.TheVariants as ask;
 ghost use Rattle.btr_hist.specs.History.{ids};
@@ -224,7 +224,8 @@ impl Board {
 
     /// Returns the row of the stream with this number, if there is one.
     fn row(&self, place: usize) -> Option<StreamRow>
-        ensures { (h : List EntrySpec) → IsBoardOf h self.now
+        ensures past { IsNone result → length self.now.streams ≤ place }
+        ensures row { (h : List EntrySpec) → IsBoardOf h self.now
             → MatchOption result (length (ids h) ≤ place) (λ r. slice_get (rows_from h 0 (ids h)) place ≡ Some r) }
     {
         let kept = self.streams.get(place)?;

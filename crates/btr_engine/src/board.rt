@@ -1,5 +1,5 @@
 //! The board: what an engine keeps of a history in memory, for its calls and questions.
-ghost use Rattle.std.specs.Prelude.{◌≡◌, ◌-◌, ◌^◌, ◌<◌, ◌≤◌, List, [], ◌∷◌, ◌++◌, length, slice_set, IfOk, IfErr, IfSome, IsNone, OnOk};
+ghost use Rattle.std.specs.Prelude.{◌≡◌, ◌+◌, ◌-◌, ◌^◌, ◌<◌, ◌≤◌, List, [], ◌∷◌, ◌++◌, length, slice_set, IfOk, IfErr, IfSome, IsNone, OnOk};
 ghost use Rattle.std.specs.Prelude.{MatchOption, None};
 ghost use Rattle.btr_base.specs.declared.point.Point.{Point as PointSpec};
 ghost use Rattle.btr_base.specs.Bag.{IsInOrder};
@@ -10,7 +10,8 @@ ghost use Rattle.btr_hist.specs.declared.entry.Entry.{Entry as EntrySpec};
 ghost use Rattle.btr_hist.specs.declared.entry.Entry.TheVariants as entry;
 ghost use Rattle.btr_hist.specs.History.{ids, stream_of};
 ghost use Rattle.btr_hist.specs.Legal.{rejection, commit_rejection, points_rejection};
-ghost use Rattle.btr_engine.specs.Board.{IsBoardOf, HasVersion, IsTreeOf, latest_of};
+ghost use Rattle.btr_entry.specs.Grammar.{IsBounded, IsWithinBounds};
+ghost use Rattle.btr_engine.specs.Board.{IsBoardOf, HasVersion, IsTreeOf, latest_of, place_of, ids_of};
 ghost use Rattle.btr_engine.specs.Stage.{PushCause, IsNext, change_of, OfEachStream};
 
 use btr_base::{Bag, MAX_STREAMS, MAX_VERSIONS, Ranges};
@@ -61,13 +62,10 @@ pub struct Board {
 }
 
 impl Model for Board {
-    ghost use Rattle.std.specs.Prelude.{◌≡◌, ℕ, List};
     ghost use Rattle.std.specs.Coded.{codes};
     ghost use Rattle.btr_board.specs.Numbers.{number_of};
     ghost use Rattle.btr_tree.specs.contracts.tree.Tree as tree_contract;
-    ghost use Rattle.btr_hist.specs.declared.entry.Entry.{Entry};
-    ghost use Rattle.btr_hist.specs.History.{stream_of};
-    ghost use Rattle.btr_engine.specs.Board.{Kept, IsBoardOf};
+    ghost use Rattle.btr_engine.specs.Board.{Kept, IsWellFormed};
 
     ghost Value = { Kept };
 
@@ -75,8 +73,7 @@ impl Model for Board {
 
     ghost view = { λ b. record { streams = b.streams; entries = b.entries } };
 
-    ghost invariant = { λ b. (h : List Entry) × IsBoardOf h (record { streams = b.streams; entries = b.entries })
-        × ((id : ℕ) → number_of b.numbers id ≡ stream_of h id) };
+    ghost invariant = { λ b. IsWellFormed b.streams (number_of b.numbers) };
 }
 
 /// An entry that may follow the history of a board, with the next board. All its memory is taken.
@@ -118,6 +115,8 @@ impl Board {
         ensures allowed { (h : List EntrySpec) → IsBoardOf h self.now → OnOk result (rejection h entry.now ≡ None) }
         ensures staged { (h : List EntrySpec) → IsBoardOf h self.now → IfOk result (λ s. IsBoardOf (h ++ entry.now ∷ []) s.next) }
         ensures cause { (h : List EntrySpec) → IsBoardOf h self.now → IfErr result (PushCause (rejection h entry.now)) }
+        ensures counted { IfOk result (λ s. s.next.entries ≡ self.now.entries + 1) }
+        ensures bounds { OnOk result (IsWithinBounds entry.now) }
     {
         match entry {
             Entry::Create { id } => self.stage_stream(alloc, *id),
@@ -140,6 +139,7 @@ impl Board {
         ensures allowed { (h : List EntrySpec) → IsBoardOf h self.now → OnOk result (rejection h (entry.Create id) ≡ None) }
         ensures staged { (h : List EntrySpec) → IsBoardOf h self.now → IfOk result (λ s. IsBoardOf (h ++ entry.Create id ∷ []) s.next) }
         ensures cause { (h : List EntrySpec) → IsBoardOf h self.now → IfErr result (PushCause (rejection h (entry.Create id))) }
+        ensures counted { IfOk result (λ s. s.next.entries ≡ self.now.entries + 1) }
     {
         if let Some(why) = self.create_rejection(id) {
             return Err(PushFault::Rejected(why));
@@ -152,8 +152,10 @@ impl Board {
     fn with_stream(&self, alloc: Global, id: u128) -> Result<Board, AllocError>
         requires few { self.now.entries < 2 ^ 64 - 1 }
         requires room { length self.now.streams < MAX_STREAMS }
+        requires fresh { place_of (ids_of self.now.streams) id ≡ None }
         requires allowed { (h : List EntrySpec) → IsBoardOf h self.now → rejection h (entry.Create id) ≡ None }
-        ensures { (h : List EntrySpec) → IsBoardOf h self.now → IfOk result (IsBoardOf (h ++ entry.Create id ∷ [])) }
+        ensures next { (h : List EntrySpec) → IsBoardOf h self.now → IfOk result (IsBoardOf (h ++ entry.Create id ∷ [])) }
+        ensures counted { IfOk result (λ b. b.entries ≡ self.now.entries + 1) }
     {
         let number = self.streams.len() as u32;
         let first = first_version(alloc, id)?;
@@ -181,6 +183,8 @@ impl Board {
             → IfOk result (λ s. IsBoardOf (h ++ entry.Commit stream cut.now added.now ∷ []) s.next) }
         ensures cause { (h : List EntrySpec) → IsBoardOf h self.now
             → IfErr result (PushCause (commit_rejection h stream (change_of cut.now added.now))) }
+        ensures counted { IfOk result (λ s. s.next.entries ≡ self.now.entries + 1) }
+        ensures bounds { OnOk result (IsBounded cut.now added.now) }
     {
         let place = stream as usize;
         let Some(kept) = self.streams.get(place) else {
@@ -217,7 +221,8 @@ impl Board {
     /// Returns the latest version of a stream, which is the number of its commits, or `None` if there is no such stream. It
     /// costs logarithmic time and takes no memory.
     pub fn latest(&self, stream: u32) -> Option<u64>
-        ensures { (h : List EntrySpec) → IsBoardOf h self.now → result ≡ latest_of h stream }
+        ensures of { (h : List EntrySpec) → IsBoardOf h self.now → result ≡ latest_of h stream }
+        ensures few { IfSome result (λ version. version < 2 ^ 32) }
     {
         let kept = self.streams.get(stream as usize)?;
         Some((kept.trees.len() - 1) as u64)
@@ -240,17 +245,11 @@ impl Board {
         self.entries
     }
 
-    /// The board is that of some history. A caller learns here what holds of the boards of all histories.
-    pub(crate) fn is_of_some(&self)
-        ensures { (h : List EntrySpec) × IsBoardOf h self.now }
-    {
-        let _ = &self.entries;
-    }
-
     /// Returns why a stream with this id may not be created, or `None` if it may.
     fn create_rejection(&self, id: u128) -> Option<Rejection>
         ensures of { (h : List EntrySpec) → IsBoardOf h self.now → result ≡ rejection h (entry.Create id) }
         ensures room { IsNone result → length self.now.streams < MAX_STREAMS }
+        ensures fresh { IsNone result → place_of (ids_of self.now.streams) id ≡ None }
     {
         if self.numbers.find(id).is_some() {
             return Some(Rejection::StreamExists);
@@ -298,6 +297,8 @@ fn next_tree(
     ensures tree { IfOk result (λ t. OfEachStream trees.now (λ h stream. IsNext h stream (change_of cut.now added.now) t)) }
     ensures cause { IfErr result (λ f. OfEachStream trees.now
         (λ h stream. PushCause (commit_rejection h stream (change_of cut.now added.now)) f)) }
+    ensures bounds { OnOk result (IsBounded cut.now added.now) }
+    ensures room { OnOk result (length trees.now ≤ MAX_VERSIONS) }
 {
     if let Some(found) = change_rejection(cut.as_slice(), added.as_slice()) {
         return Err(PushFault::Rejected(found));

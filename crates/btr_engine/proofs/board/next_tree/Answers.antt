@@ -8,6 +8,7 @@ use Rattle.btr_hist.specs.Legal.{change_rejection}
 use Rattle.btr_base.specs.declared.limits.TheConstants.{MAX_VERSIONS}
 use Rattle.btr_engine.specs.Board.{HasTrees, commits_to}
 use Rattle.btr_engine.proofs.BoardCommits.{change-passes, change-times, latest-is, last-tree, next, next-tree, next-allowed, next-cause, next-times}
+use Rattle.btr_engine.proofs.RejectionBounds.{change_bounded}
 use Rattle.btr_engine.proofs.board.next_tree.Goals.{After-get}
 use Rattle.btr_engine.proofs.board.next_tree.Goals as goal
 
@@ -54,3 +55,7 @@ returns-in-Err-clause-cause c h stream is_there kept =
     let commits = next h stream trees kept change version in
     let inside = next-times h stream trees kept change root version tree (change-times change (passes at)) in
     next-cause h stream trees kept change is_there (passes at) (subst (λ n. n < MAX_VERSIONS) (last at h stream kept) c.if-latest-ge-MAX_VERSIONS.false) version c.push_fault.result (c.push_fault.ensures (bag commits) (c.in-Err.ensures.fault before tree) (bag-in_order commits) inside)
+
+pub returns-in-Ok-clause-bounds : goal.returns-in-Ok-clause-bounds
+returns-in-Ok-clause-bounds c =
+    change_bounded (record { cut = c.args.cut.now; added = c.args.added.now }) (passes (goal.at.returns-in-Ok-clause-bounds c).After-get)

@@ -12,7 +12,7 @@ pub loop-place-preserved : goal.loop-place-preserved
 loop-place-preserved c h of =
     c.in_ok-push.ensures.items
     ∙ ap (λ rows. rows ++ c.in-Some.row ∷ []) (c.loop-place.invariant h of)
-    ∙ sym (rows-next (rows_from h 0 (ids h)) c.loop-place.place c.in-Some.row (c.in-Some.ensures h of))
+    ∙ sym (rows-next (rows_from h 0 (ids h)) c.loop-place.place c.in-Some.row (c.in-Some.ensures.row h of))
 
 pub returns : goal.returns
 returns c h of =

@@ -4,8 +4,8 @@ use Rattle.btr_engine.specs.Board.{Versions, Kept, IsBoardOf}
 use Rattle.btr_engine.proofs.Questions.{row-kept}
 use Rattle.btr_engine.proofs.board.Board.row.Goals as goal
 
-pub returns : goal.returns
-returns c h of =
+pub returns-clause-row : goal.returns-clause-row
+returns-clause-row c h of =
     let b : Kept = record { streams = c.self.inside.streams; entries = c.self.inside.entries } in
     let kept : Versions = record { id = c.kept.inside.id; trees = c.kept.inside.trees } in
     let was : IsBoardOf h b = subst (IsBoardOf h) (sym c.self.view_is) of in

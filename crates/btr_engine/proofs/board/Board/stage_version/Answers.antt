@@ -1,13 +1,13 @@
-use Rattle.std.proofs.Common.{◌≡◌, ◌<◌, ◌+◌, None, refl, sym, ap, subst, ◌∙◌, ◌++◌, [], ◌∷◌, length, List}
+use Rattle.std.proofs.Common.{◌≡◌, ◌<◌, ◌≤◌, ◌+◌, None, refl, sym, ap, subst, ◌++◌, [], ◌∷◌, length, List}
 use Rattle.btr_hist.specs.declared.entry.Entry.{Entry}
 use Rattle.btr_hist.specs.declared.entry.Entry.TheVariants.{Commit}
 use Rattle.btr_hist.specs.History.{ids}
+use Rattle.btr_base.specs.declared.limits.TheConstants.{MAX_VERSIONS}
 use Rattle.btr_hist.specs.Legal.{commit_rejection}
 use Rattle.btr_board.specs.Numbers.{number_of}
 use Rattle.btr_engine.specs.Board.{Versions, Kept, HasTrees, IsBoardOf}
 use Rattle.btr_engine.specs.Stage.{change_of}
-use Rattle.btr_engine.proofs.BoardStreams.{stream-commit}
-use Rattle.btr_engine.proofs.BoardNext.{push-commit, kept-trees}
+use Rattle.btr_engine.proofs.BoardNext.{push-commit, kept-trees, formed-commit}
 use Rattle.btr_engine.proofs.board.Board.stage_version.Goals.{In_ok-tree, In_ok-numbers}
 use Rattle.btr_engine.proofs.board.Board.stage_version.Goals as goal
 
@@ -39,15 +39,10 @@ next c h was =
 
 pub invariant_of-next : goal.invariant_of-next
 invariant_of-next c =
-    let at = (goal.at.invariant_of-next c).In_ok-numbers in
-    let k = c.self.invariant.0 in
     let s = c.args.stream in
-    let cut = c.args.cut.now in
-    let added = c.args.added.now in (
-      k ++ Commit s cut added ∷ [],
-      next at k c.self.invariant.1,
-      λ id. ap (λ m. number_of m id) c.in_ok-numbers.ensures ∙ c.self.invariant.2 id ∙ sym (stream-commit k s cut added id),
-    )
+    let room : length c.in-Some.kept.now.trees ≤ MAX_VERSIONS = subst (λ (x : Versions). length x.trees ≤ MAX_VERSIONS) c.kept.view_is c.in_ok-tree.ensures.room in
+    formed-commit c.self.inside.streams (number_of c.self.inside.numbers) c.self.invariant s c.in-Some.kept.now c.in_ok-tree.tree (number_of c.in_ok-numbers.numbers) c.in_ok-streams.streams c.in-Some.ensures room c.in_ok-streams.ensures
+    (λ id. ap (λ m. number_of m id) c.in_ok-numbers.ensures)
 
 pub returns-clause-allowed : goal.returns-clause-allowed
 returns-clause-allowed c h of =

@@ -1,27 +1,20 @@
-use Rattle.std.proofs.Common.{◌≡◌, None, refl, sym, ap, subst, ◌∙◌, ◌++◌, [], ◌∷◌, ◌+◌}
-use Rattle.btr_hist.specs.declared.entry.Entry.TheVariants.{Create}
-use Rattle.btr_hist.specs.Legal.{rejection}
+use Rattle.std.proofs.Common.{◌≡◌, ◌<◌, None, refl, sym, ap, subst, ◌∙◌, ◌++◌, [], ◌∷◌, ◌+◌, length}
+use Rattle.btr_base.specs.declared.limits.TheConstants.{MAX_STREAMS}
 use Rattle.btr_board.specs.Numbers.{number_of}
-use Rattle.btr_engine.specs.Board.{IsBoardOf}
-use Rattle.btr_engine.proofs.BoardStreams.{numbers-create}
-use Rattle.btr_engine.proofs.BoardNext.{push-create}
+use Rattle.btr_engine.specs.Board.{Kept, IsBoardOf, place_of, ids_of}
+use Rattle.btr_engine.proofs.BoardNext.{push-create, formed-create}
 use Rattle.btr_engine.proofs.board.Board.with_stream.Goals as goal
 
 pub invariant_of-result : goal.invariant_of-result
 invariant_of-result c =
-    let k = c.self.invariant.0 in
-    let id = c.args.id in
-    let was = c.self.invariant.1 in
-    let of : IsBoardOf k c.args.self.now = subst (IsBoardOf k) c.self.view_is was in
-    let allowed : rejection k (Create id) ≡ None = c.requires.allowed k of in
-    let first = c.in_ok-first.ensures in (
-      k ++ Create id ∷ [],
-      push-create k (record { streams = c.self.inside.streams; entries = c.self.inside.entries }) was id first.0 c.in_ok-streams.streams (c.self.inside.entries + 1) allowed first.1 (c.in_ok-streams.ensures ∙ ap (λ x. c.self.inside.streams ++ x ∷ []) first.2) refl,
-      numbers-create k id (number_of c.self.inside.numbers) (number_of c.in_ok-numbers.numbers) c.len-number.result (c.len-number.ensures ∙ was.counted) allowed c.self.invariant.2 c.in_ok-numbers.ensures,
-    )
+    let streams = c.self.inside.streams in
+    let first = c.in_ok-first.ensures in
+    let room = subst (λ (b : Kept). length b.streams < MAX_STREAMS) (sym c.self.view_is) c.requires.room in
+    let fresh = subst (λ (b : Kept). place_of (ids_of b.streams) c.args.id ≡ None) (sym c.self.view_is) c.requires.fresh in
+    formed-create streams (number_of c.self.inside.numbers) c.self.invariant c.args.id first.0 (number_of c.in_ok-numbers.numbers) c.len-number.result c.in_ok-streams.streams room fresh (c.in_ok-streams.ensures ∙ ap (λ x. streams ++ x ∷ []) first.2) c.len-number.ensures c.in_ok-numbers.ensures
 
-pub returns : goal.returns
-returns c h of =
+pub returns-clause-next : goal.returns-clause-next
+returns-clause-next c h of =
     let id = c.args.id in
     let was : IsBoardOf h (record { streams = c.self.inside.streams; entries = c.self.inside.entries }) = subst (IsBoardOf h) (sym c.self.view_is) of in
     let first = c.in_ok-first.ensures in
