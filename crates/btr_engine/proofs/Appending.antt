@@ -24,10 +24,9 @@ use Rattle.btr_engine.specs.declared.step.StepFault.{StepFault}
 use Rattle.btr_engine.specs.declared.step.StepFault.TheVariants.{DeviceFull, DeviceFault}
 use Rattle.btr_engine.specs.Body.{body_of, need_of, bodies}
 use Rattle.btr_engine.specs.Holds.{HoldsHistoryTo}
-use Rattle.btr_engine.specs.Board.{Kept, IsBoardOf}
 use Rattle.btr_engine.specs.Engine.{device, board_of, blocks_of, tail_of, room_of, is_stopped, IsEngineOf, IsAtRest}
 use Rattle.btr_engine.specs.Step.{IsBeforeOrAfter, IsReceipt, IsStepped, StepCause}
-use Rattle.btr_engine.specs.Pending.{IsPending}
+use Rattle.btr_engine.specs.Pending.{IsMade, IsPending}
 use Rattle.btr_engine.proofs.HoldsLemmas.{holds_with, before_or_after}
 use Rattle.btr_engine.proofs.Stepping.{same_engine, no_moment, brings, needs}
 
@@ -42,9 +41,12 @@ pub record IsExtentOf (h : List Entry) (e : Entry) (run : List ℕ) : Type 0 whe
   pub bytes : run ≡ body_of (length h + 1) e ++ zeros 4096
 
 -- The extent of a pending entry.
-pub extent_of_pending : (h : List Entry) (e : Entry) (p : Pending) (run : List ℕ) → IsPending h e p → run ≡ p.extent.items → IsExtentOf h e run
-extent_of_pending h e p run is same =
-    record { allowed = is.allowed; spelled = is.spelled; bytes = same ∙ is.bytes }
+pub extent_of_pending : (h : List Entry) (e : Entry) (p : Pending) (number : ℕ) (run : List ℕ) → number ≡ length h + 1 → IsMade number e p → IsPending h e p → run ≡ p.extent.items → IsExtentOf h e run
+extent_of_pending h e p number run at made is same = record {
+  allowed = is.allowed;
+  spelled = made.spelled;
+  bytes = same ∙ made.bytes ∙ ap (λ n. body_of n e ++ zeros 4096) at;
+}
 
 module _ {D : Type 0} {disk : Ghosts D} (h : List Entry) (old : Engine D disk) (e : Entry) (run : List ℕ) (is : IsExtentOf h e run) where
   -- The result of an append of the run to a log that has too little room for it.
@@ -135,16 +137,11 @@ module _ {D : Type 0} {disk : Ghosts D} (h : List Entry) (old : Engine D disk) (
         let tailed = subst (λ n. HoldsHistoryTo (disk.size (device new)) now (blocks_of new) n (h ++ e ∷ [])) (sym tail_after) blocked in
         record { of = of; holds = tailed; only = log_rests.only }
 
-  -- The numbers of the engine with the new log and the new board.
-  module _ (of : IsEngineOf h old) (after : Log D disk) (board : Kept) (next : IsBoardOf (h ++ e ∷ []) board) (appended : append.IsAppended old.log after run) where
-    pub counted_after : log.extents_of after ≡ board.entries
-    counted_after =
-        omega (arith, next.entries, length-append h (e ∷ []), appended.extents, old.counted, of.entries)
+-- The numbers of the engine with the new log and the new board.
+module _ {D : Type 0} {disk : Ghosts D} (old : Engine D disk) (e : Entry) (run : List ℕ) (number : ℕ) (bytes : run ≡ body_of number e ++ zeros 4096) (after : Log D disk) (appended : append.IsAppended old.log after run) where
+  pub ends_after : 2 * log.extents_of after + 4 ≤ log.tail_of after
+  ends_after =
+      omega (arith, appended.tail, needs number e run bytes, appended.extents, old.ends)
 
-    pub ends_after : 2 * log.extents_of after + 4 ≤ log.tail_of after
-    ends_after =
-        let tail : log.tail_of after ≡ tail_of old + need_of e = appended.tail ∙ ap (λ n. tail_of old + n) needed in
-        omega (arith, tail, appended.extents, old.ends)
-
-    pub began_after : old.opened_with ≤ log.extents_of after
-    began_after = omega (arith, appended.extents, old.began)
+  pub began_after : old.opened_with ≤ log.extents_of after
+  began_after = omega (arith, appended.extents, old.began)

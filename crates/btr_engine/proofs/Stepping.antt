@@ -1,6 +1,5 @@
 -- What a step leaves of an engine: at each moment, and after a refusal.
-use Rattle.std.specs.Prelude.{◌≡◌, ℕ, ◌+◌, ◌*◌, ◌<◌, ◌≤◌, ◌^◌, List, [], ◌∷◌, ◌++◌, length, nat_le, true, false, cond, Result, Ok, Err, Option, Some, None, IsFalse, IfErr, IsErr}
-use Rattle.std.specs.Option.{unwrap_or}
+use Rattle.std.specs.Prelude.{◌≡◌, ℕ, ◌+◌, ◌*◌, ◌<◌, ◌≤◌, ◌^◌, List, [], ◌∷◌, ◌++◌, length, Result, Ok, Err, Option, Some, None, IsFalse, IfErr, IsErr}
 use Rattle.std.specs.Result.{IsErrAnd}
 use Rattle.std.specs.Coded.{le_prop}
 use Rattle.std.proofs.Common.{refl, sym, ◌∙◌, ap, subst, inl, arith, length-append}
@@ -17,14 +16,10 @@ use Rattle.btr_log.specs.Append as append
 use Rattle.btr_log.proofs.AppendLemmas.{body_in_run-append, IsAppendRun-from}
 use Rattle.btr_log.specs.Log as log
 use Rattle.btr_hist.specs.declared.entry.Entry.{Entry}
-use Rattle.btr_hist.specs.declared.entry.Entry.TheVariants.{Create, Commit}
-use Rattle.btr_hist.specs.History.{ids, latest}
 use Rattle.btr_hist.specs.Legal.{rejection}
-use Rattle.btr_hist.specs.Machine as machine
 use Rattle.btr_entry.specs.Grammar.{spelling, IsSpelled}
 use Rattle.btr_engine.specs.declared.engine.Engine.{Engine}
 use Rattle.btr_engine.specs.declared.step.Pending.{Pending}
-use Rattle.btr_engine.specs.declared.step.Receipt.{Receipt}
 use Rattle.btr_engine.specs.declared.step.StepFault.{StepFault}
 use Rattle.btr_engine.specs.declared.board.PushFault.{PushFault}
 use Rattle.btr_engine.specs.declared.board.PushFault.TheVariants.{Rejected, Want}
@@ -32,10 +27,8 @@ use Rattle.btr_engine.specs.Body.{body_of, need_of, bodies}
 use Rattle.btr_engine.proofs.BodyLemmas.{length-body_of, IsBody-body_of, need-body_of}
 use Rattle.btr_engine.specs.Engine.{device, is_stopped, IsAtRest, EngineLeaves}
 use Rattle.btr_engine.specs.Stage.{PushCause}
-use Rattle.btr_engine.specs.Pending.{IsPending, fault_of_push}
-use Rattle.btr_engine.specs.Board.{IsBoardOf, latest_of}
-use Rattle.btr_engine.specs.Step.{IsBeforeOrAfter, IsReceipt, StepCause}
-use Rattle.btr_engine.proofs.Streams.{few_versions}
+use Rattle.btr_engine.specs.Pending.{fault_of_push}
+use Rattle.btr_engine.specs.Step.{IsBeforeOrAfter, StepCause}
 use Rattle.btr_engine.proofs.EngineLemmas.{holds_in}
 
 -- ---- the extent of an entry
@@ -51,34 +44,6 @@ module _ (number : ℕ) (e : Entry) (run : List ℕ) (is : run ≡ body_of numbe
   pub is_append_run : 1 ≤ number → number < 2 ^ 64 → IsSpelled e → append.IsAppendRun run
   is_append_run some few spelled =
       subst append.IsAppendRun (sym is) (IsAppendRun-from (body_of number e) (entry_head number (length (spelling e))) (IsBody-body_of number e some few spelled))
-
--- The number of a receipt.
-pub number_of_receipt : (h : List Entry) (e : Entry) → (machine.receipt h e).number ≡ length h + 1
-number_of_receipt h (Create id) = refl
-number_of_receipt h (Commit s cut added) = refl
-
--- The number of such a receipt is one more than the entries.
-pub numbered : (h : List Entry) (e : Entry) (receipt : Receipt) → IsReceipt h e receipt → receipt.number ≡ length h + 1
-numbered h e receipt is = is.number ∙ number_of_receipt h e
-
--- What is made for an entry that may follow.
-pub pending_of : (h : List Entry) (e : Entry) (p : Pending) → rejection h e ≡ None → IsSpelled e → IsBoardOf (h ++ e ∷ []) p.staged.next → p.extent.items ≡ body_of p.receipt.number e ++ zeros 4096 → IsReceipt h e p.receipt → IsPending h e p
-pending_of h e p allowed spelled of bytes is = record {
-  allowed = allowed;
-  spelled = spelled;
-  of = of;
-  bytes = bytes ∙ ap (λ n. body_of n e ++ zeros 4096) (numbered h e p.receipt is);
-  is_receipt = is;
-}
-
--- The next version of a stream is in range.
-pub next_version : (h : List Entry) (stream : ℕ) (found : Option ℕ) → found ≡ latest_of h stream → unwrap_or found 0 ≤ length h
-next_version h stream found is =
-    subst (λ o. unwrap_or o 0 ≤ length h) (sym is)
-    (elim (nat_le (length (ids h)) stream) as (λ t. unwrap_or (cond t None (Some (latest h stream))) 0 ≤ length h) [
-      | true ↦ omega arith
-      | false ↦ few_versions h stream
-    ])
 
 module _ {D : Type 0} {disk : Ghosts D} where
   -- ---- a step that changes nothing

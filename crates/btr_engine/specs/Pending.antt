@@ -1,5 +1,5 @@
 -- What a step holds before its first call of the device, and why it has nothing of it.
-use Rattle.std.specs.Prelude.{◌≡◌, ◌+◌, List, [], ◌∷◌, ◌++◌, length, None}
+use Rattle.std.specs.Prelude.{◌≡◌, ℕ, List, [], ◌∷◌, ◌++◌, None}
 use Rattle.btr_disk.specs.Gate.{zeros}
 use Rattle.btr_hist.specs.declared.entry.Entry.{Entry}
 use Rattle.btr_hist.specs.Legal.{rejection}
@@ -13,12 +13,16 @@ use Rattle.btr_engine.specs.Board.{IsBoardOf}
 use Rattle.btr_engine.specs.Body.{body_of}
 use Rattle.btr_engine.specs.Step.{IsReceipt}
 
--- The entry may follow this history. The board is of the history with it, and the extent and the receipt are the entry's.
+-- The extent is the entry's, with this number, and the board has this number of entries.
+pub record IsMade (number : ℕ) (e : Entry) (p : Pending) : Type 0 where
+  pub spelled : IsSpelled e
+  pub bytes : p.extent.items ≡ body_of number e ++ zeros 4096
+  pub counted : p.staged.next.entries ≡ number
+
+-- The entry may follow this history. The board is of the history with it, and the receipt is the entry's.
 pub record IsPending (h : List Entry) (e : Entry) (p : Pending) : Type 0 where
   pub allowed : rejection h e ≡ None
-  pub spelled : IsSpelled e
   pub of : IsBoardOf (h ++ e ∷ []) p.staged.next
-  pub bytes : p.extent.items ≡ body_of (length h + 1) e ++ zeros 4096
   pub is_receipt : IsReceipt h e p.receipt
 
 -- Why a step refuses an entry that was not staged.

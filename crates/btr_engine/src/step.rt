@@ -5,9 +5,9 @@ ghost use Rattle.btr_hist.specs.declared.entry.Entry.{Entry as EntrySpec};
 ghost use Rattle.btr_hist.specs.Legal.{rejection};
 ghost use Rattle.btr_engine.specs.declared.step.StepFault.TheVariants.{Stopped, DeviceFull, DeviceFault};
 ghost use Rattle.btr_engine.specs.Board.{IsBoardOf};
-ghost use Rattle.btr_engine.specs.Engine.{device, is_stopped, IsEngineOf, IsAtRest, IsDurable, EngineLeaves, KeepsOpening};
+ghost use Rattle.btr_engine.specs.Engine.{device, entries_of, is_stopped, IsEngineOf, IsAtRest, IsDurable, EngineLeaves, KeepsOpening};
 ghost use Rattle.btr_engine.specs.Step.{history_after, in_flight_after, IsBeforeOrAfter, IsReceipt, IsStepped, StaysStopped, StepCause};
-ghost use Rattle.btr_engine.specs.Pending.{IsPending};
+ghost use Rattle.btr_engine.specs.Pending.{IsMade, IsPending};
 
 use crate::board::{Board, PushFault, Staged};
 use crate::engine::Engine;
@@ -82,8 +82,8 @@ impl<D: Disk> Engine<D> {
             → EngineLeaves self.old self.new (IsBeforeOrAfter (D.size (device self.old)) h entry.now) }
         ensures acknowledged { D.is_observable → (h : List EntrySpec) → IsAtRest h self.old
             → OnOk result (IsDurable (h ++ entry.now ∷ []) (D.calls (device self.new)) (length h + 1) self.new []) }
-        ensures durable { D.is_observable → (h more : List EntrySpec) (calls entries : ℕ) → (is_stopped self.old ≡ false → IsAtRest h self.old)
-            → IsDurable h calls entries self.old more
+        ensures durable { D.is_observable → (h more : List EntrySpec) (calls entries : ℕ)
+            → (is_stopped self.old ≡ false → IsAtRest h self.old) → IsDurable h calls entries self.old more
             → IsDurable (history_after result h entry.now) calls entries self.new (in_flight_after result more entry.now) }
     {
         if self.log.stopped() {
@@ -102,11 +102,10 @@ impl<D: Disk> Engine<D> {
     /// Tests an entry, and makes all that is needed to add it. It takes all memory of a step, and changes nothing.
     fn stage(&self, alloc: Global, entry: &Entry) -> Result<Pending, StepFault>
         requires runs { is_stopped self.now ≡ false }
-        ensures some { IfOk result (λ p. (h : List EntrySpec) × IsEngineOf h self.now × IsPending h entry.now p) }
+        ensures made { IfOk result (IsMade (entries_of self.now + 1) entry.now) }
         ensures pending { (h : List EntrySpec) → IsEngineOf h self.now → IfOk result (IsPending h entry.now) }
         ensures cause { (h : List EntrySpec) → IsEngineOf h self.now → IfErr result (StepCause h self.now self.now entry.now) }
     {
-        self.board.is_of_some();
         let staged = self.board.stage(alloc, entry)?;
         let receipt = receipt_of(&self.board, entry);
         let extent = encode_extent(alloc, entry, receipt.number)?;
@@ -121,9 +120,9 @@ impl<D: Disk> Engine<D> {
 /// Returns the receipt of an entry that may follow the history of a board.
 fn receipt_of(board: &Board, entry: &Entry) -> Receipt
     requires few { board.now.entries < 2 ^ 32 }
-    ensures { (h : List EntrySpec) → IsBoardOf h board.now → rejection h entry.now ≡ None → IsReceipt h entry.now result }
+    ensures number { result.number ≡ board.now.entries + 1 }
+    ensures of { (h : List EntrySpec) → IsBoardOf h board.now → rejection h entry.now ≡ None → IsReceipt h entry.now result }
 {
-    board.is_of_some();
     let number = board.entries() + 1;
     match entry {
         Entry::Create { .. } => Receipt {

@@ -1,14 +1,14 @@
 use Rattle.std.specs.Prelude.{◌≡◌, ◌+◌, ◌≤◌, List, [], ◌∷◌, ◌++◌, length, Ok, IsFalse}
-use Rattle.std.proofs.Common.{refl, sym, ◌∙◌, subst, arith, length-append}
+use Rattle.std.proofs.Common.{refl, sym, ◌∙◌, ap, subst, arith, length-append}
 use Rattle.btr_log.specs.Log as log
 use Rattle.btr_hist.specs.declared.entry.Entry.{Entry}
-use Rattle.btr_engine.specs.Board.{IsBoardOf}
+use Rattle.btr_engine.specs.Board.{Kept, IsBoardOf}
 use Rattle.btr_engine.specs.Body.{need_of}
-use Rattle.btr_engine.specs.Engine.{device, is_stopped, room_of, IsEngineOf, IsAtRest}
+use Rattle.btr_engine.specs.Engine.{device, entries_of, is_stopped, room_of, IsEngineOf, IsAtRest}
 use Rattle.btr_engine.specs.Step.{IsBeforeOrAfter}
 use Rattle.btr_engine.proofs.EngineLemmas.{durable_as}
 use Rattle.btr_engine.proofs.Stepping.{is_append_run, log_at_rest, no_moment}
-use Rattle.btr_engine.proofs.Appending.{IsExtentOf, extent_of_pending, fits_unless_full, refused, moments, moments_of_fault, stepped, at_rest, counted_after, ends_after, began_after}
+use Rattle.btr_engine.proofs.Appending.{IsExtentOf, extent_of_pending, fits_unless_full, refused, moments, moments_of_fault, stepped, at_rest, ends_after, began_after}
 use Rattle.btr_engine.proofs.Durable.{opening_kept, durable_taken, durable_of_fault}
 use Rattle.btr_engine.proofs.engine.Engine.step.Given.{Over}
 use Rattle.btr_engine.proofs.engine.Engine.step.Goals.{After-stage, After-deref, In-Err, In_default, After-accept}
@@ -23,7 +23,8 @@ ran g c = sym c.stopped.ensures.stopped ∙ c.if-stopped.false
 -- the extent is the entry's
 its_extent : (g : Over) (c : After-deref g) (h : List Entry) → IsEngineOf h c.args.self.now → IsExtentOf h c.args.entry.now c.deref.result.now
 its_extent g c h of =
-    extent_of_pending h c.args.entry.now c.in_ok-pending.pending c.deref.result.now (c.in_ok-pending.ensures.pending h of) c.deref.ensures.value
+    let counted : entries_of c.args.self.now + 1 ≡ length h + 1 = omega (arith, of.entries) in
+    extent_of_pending h c.args.entry.now c.in_ok-pending.pending (entries_of c.args.self.now + 1) c.deref.result.now counted c.in_ok-pending.ensures.made (c.in_ok-pending.ensures.pending h of) c.deref.ensures.value
 
 -- the append failed, and left at each moment the history with the entry or without it
 left_by_fault : (g : Over) (c : In-Err g) → g.D.Disk.is_observable → (h : List Entry) → IsAtRest h c.args.self.now → log.LogLeaves c.args.self.now.log c.append.new.self (IsBeforeOrAfter (g.D.Disk.size (device c.args.self.now)) h c.args.entry.now)
@@ -63,9 +64,8 @@ returns-in_err-pending-clause-moments g c is_observable h rest =
 pub append-requires : goal.append-requires
 append-requires g c =
     let old = c.args.self.now in
-    let some = c.in_ok-pending.ensures.some in
-    let is = its_extent g (goal.at.append-requires g c).After-deref some.0 some.1 in
-    is_append_run (length some.0 + 1) c.args.entry.now c.deref.result.now is.bytes (omega arith) (omega (arith, some.1.entries, old.counted, old.ends, old.log.tail_inside, old.log.addressable)) is.spelled
+    let made = c.in_ok-pending.ensures.made in
+    is_append_run (entries_of old + 1) c.args.entry.now c.deref.result.now (c.deref.ensures.value ∙ made.bytes) (omega arith) (omega (arith, old.counted, old.ends, old.log.tail_inside, old.log.addressable)) made.spelled
 
 pub returns-in-Err-clause-cause : goal.returns-in-Err-clause-cause
 returns-in-Err-clause-cause g c h of =
@@ -89,15 +89,13 @@ returns-in-Err-clause-durable g c is_observable h more calls entries rests so_fa
 pub invariant_of-self-2 : goal.invariant_of-self-2
 invariant_of-self-2 g c =
     let old = c.args.self.now in
-    let some = c.in_ok-pending.ensures.some in
-    let e = c.args.entry.now in
-    let run = c.deref.result.now in
-    let is = its_extent g (goal.at.invariant_of-self-2 g c).After-deref some.0 some.1 in
-    let next = of_next g (goal.at.invariant_of-self-2 g c).After-accept some.0 some.1 in
+    let made = c.in_ok-pending.ensures.made in
+    let appended = c.in_default.ensures.appended in
+    let entries : entries_of old + 1 ≡ c.accept.new.self.entries = sym made.counted ∙ sym (ap (λ (b : Kept). b.entries) c.accept.ensures) in
     record {
-      counted = counted_after some.0 old e run is some.1 c.append.new.self c.accept.new.self next c.in_default.ensures.appended;
-      ends = ends_after some.0 old e run is some.1 c.append.new.self c.accept.new.self next c.in_default.ensures.appended;
-      began = began_after some.0 old e run is some.1 c.append.new.self c.accept.new.self next c.in_default.ensures.appended;
+      counted = omega (arith, appended.extents, old.counted, entries);
+      ends = ends_after old c.args.entry.now c.deref.result.now (entries_of old + 1) (c.deref.ensures.value ∙ made.bytes) c.append.new.self appended;
+      began = began_after old c.args.entry.now c.deref.result.now (entries_of old + 1) (c.deref.ensures.value ∙ made.bytes) c.append.new.self appended;
       called = omega (arith, old.called, c.append.ensures.kept.device_kept.more_calls);
       failed = omega (arith, old.failed, c.append.ensures.kept.faults);
     }
