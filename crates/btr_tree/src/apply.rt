@@ -167,7 +167,8 @@ pub(crate) fn apply_inner(
     requires order { IsInOrder added.now }
     requires inside { within span.start (end_of span) added.now ≡ added.now }
     ensures child { IfOk result (λ r. AtEachInnerCommit span slots.now cut.now added.now version (λ below h c.
-        (above : List APoint → Bool) → touches c span.height span.start (bag h) ≡ true → IsChild span.height span.start above (c ▷ h) (linked r))) }
+        (above : List APoint → Bool) → touches c span.height span.start (bag h) ≡ true
+        → IsChild span.height span.start above (c ▷ h) (linked r))) }
     ensures nodes { OnOk result (AtEachInnerCommit span slots.now cut.now added.now version (λ below h c.
         (above : List APoint → Bool) → touches c span.height span.start (bag h) ≡ true → above (bag (c ▷ h)) ≡ true
         → 0 < version → IsBefore version h

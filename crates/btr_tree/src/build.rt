@@ -31,7 +31,8 @@ pub(crate) fn build(
 ) -> Result<Link, TreeFault>
     requires order { IsInOrder points.now }
     requires inside { within span.start (end_of span) points.now ≡ points.now }
-    ensures child { IfOk result (λ r. AtEachFresh span version points.now (λ above h c. IsChild span.height span.start above (c ▷ h) (linked r))) }
+    ensures child { IfOk result (λ r. AtEachFresh span version points.now (λ above h c.
+        IsChild span.height span.start above (c ▷ h) (linked r))) }
     ensures nodes { OnOk result (AtEachFresh span version points.now (λ above h c. above (bag (c ▷ h)) ≡ true
         → nodes.new.items ≡ nodes.old.items ++ new_nodes span.height span.start above (c ▷ h) version)) }
     ensures counted { OnOk result (CountsNodes steps.old steps.new nodes.old.items nodes.new.items) }
@@ -97,7 +98,8 @@ pub(crate) fn build_slot(
     requires order { IsInOrder points.now }
     requires inside { within span.start (end_of span) points.now ≡ points.now }
     ensures slot { IfOk result (λ r. r.0 ≡ record { agg = agg points.now; version = version; child = 0 }) }
-    ensures child { IfOk result (λ r. AtEachFresh span version points.now (λ above h c. IsChild span.height span.start above (c ▷ h) (linked r.1))) }
+    ensures child { IfOk result (λ r. AtEachFresh span version points.now (λ above h c.
+        IsChild span.height span.start above (c ▷ h) (linked r.1))) }
     ensures nodes { OnOk result (AtEachFresh span version points.now (λ above h c. above (bag (c ▷ h)) ≡ true
         → nodes.new.items ≡ nodes.old.items ++ new_nodes span.height span.start above (c ▷ h) version)) }
     ensures counted { OnOk result (CountsNodes steps.old steps.new nodes.old.items nodes.new.items) }

@@ -99,7 +99,8 @@ fn gather_outside_child(
 ) -> Result<(), AllocError>
     requires some { IsSomeChild span.height span.start (node_of child) 0 }
     requires cut { IsCut cut.now }
-    ensures { OnOk result (AtEachHistory span (node_of child.entry) (λ h. out.new.items ≡ out.old.items ++ outside (points_in span (bag h)) cut.now)) }
+    ensures { OnOk result (AtEachHistory span (node_of child.entry) (λ h.
+        out.new.items ≡ out.old.items ++ outside (points_in span (bag h)) cut.now)) }
 {
     match child.node {
         None => Ok(()),
@@ -156,7 +157,8 @@ fn gather_outside_slot(
 ) -> Result<(), AllocError>
     requires some { IsSomeChild span.height span.start (node_of child) 0 }
     requires cut { IsCut cut.now }
-    ensures { OnOk result (AtEachHistory span (node_of child.entry) (λ h. out.new.items ≡ out.old.items ++ outside (points_in span (bag h)) cut.now)) }
+    ensures { OnOk result (AtEachHistory span (node_of child.entry) (λ h.
+        out.new.items ≡ out.old.items ++ outside (points_in span (bag h)) cut.now)) }
 {
     let here = ranges_before(ranges_from(cut, span.start), span.end());
     if covers_all(here, span) {
