@@ -1,6 +1,6 @@
 -- What is durable after a step.
 use Rattle.std.specs.Prelude.{◌≡◌, ◌⊎◌, ℕ, ◌≤◌, true, List, [], ◌∷◌, ◌++◌, length, take, Err, IsFalse}
-use Rattle.std.proofs.Common.{refl, sym, ◌∙◌, ap, subst, inl, inr, ⊎_elim, arith, length-append}
+use Rattle.std.proofs.Common.{refl, sym, ◌∙◌, subst, inl, inr, ⊎_elim, arith, length-append}
 use Rattle.std.proofs.lemmas.Bool.{cases_lt}
 use Rattle.std.proofs.lemmas.List.{append-nil, take_all, take-append-le}
 use Rattle.btr_disk.specs.declared.disk.Disk.{Ghosts}
@@ -18,7 +18,7 @@ use Rattle.btr_engine.specs.Holds.{HoldsHistory}
 use Rattle.btr_engine.specs.Board.{IsBoardOf}
 use Rattle.btr_engine.specs.Engine.{device, board_of, is_stopped, entries_at_open, synced_of, IsAtRest, IsDurable, EngineLeaves, KeepsOpening}
 use Rattle.btr_engine.specs.Step.{IsBeforeOrAfter, in_flight_after}
-use Rattle.btr_engine.proofs.EngineLemmas.{durable_held, held_now, holds_in}
+use Rattle.btr_engine.proofs.EngineLemmas.{holds_in}
 use Rattle.btr_engine.proofs.Stepping.{same_engine}
 
 -- ---- prefixes of a history

@@ -1,22 +1,17 @@
 -- An entry that may follow a history keeps the bounds of entries with a spelling.
-use Rattle.std.specs.Prelude.{◌≡◌, ℕ, ◌+◌, ◌<◌, ◌≤◌, ℤ, int_le, int_lt, ◌&&◌, ◌||◌, not, nat_le, nat_lt, ◌==◌, max, Bool, true, false, List, [], ◌∷◌, length, cond, Option, Some, None}
+use Rattle.std.specs.Prelude.{◌≡◌, ℕ, ◌+◌, ◌<◌, ◌≤◌, ◌&&◌, ◌||◌, nat_le, nat_lt, ◌==◌, max, false, List, [], ◌∷◌, length, None}
 use Rattle.std.specs.Option.{option_map}
-use Rattle.std.proofs.Common.{refl, arith}
-use Rattle.std.proofs.lemmas.Int.{ints}
+use Rattle.std.proofs.Common.{arith}
 use Rattle.std.proofs.lemmas.Bool.Decides.{nat_tests}
 use Rattle.btr_base.specs.declared.point.Point.{Point}
-use Rattle.btr_base.specs.declared.limits.TheConstants.{FIRST, END}
-use Rattle.btr_base.specs.Point.{InDomain}
 use Rattle.btr_hist.specs.declared.entry.Entry.{Entry}
 use Rattle.btr_hist.specs.declared.entry.Entry.TheVariants.{Create, Commit}
-use Rattle.btr_hist.specs.declared.rejection.Rejection.{Rejection}
 use Rattle.btr_hist.specs.declared.rejection.Rejection.TheVariants.{OutOfDomain, NoStream, VersionLimit, Empty, TooMany}
 use Rattle.btr_base.specs.declared.limits.TheConstants.{MAX_VERSIONS, MAX_COMMIT_POINTS, MAX_COMMIT_RANGES}
 use Rattle.btr_base.specs.Commit.{Change}
 use Rattle.btr_hist.specs.History.{ids, latest}
 use Rattle.btr_hist.specs.Legal.{when, first_out_of_domain, next_bag, change_rejection, points_rejection, rejection}
 use Rattle.btr_hist.proofs.RejectionLemmas.{first_none, rest_none, map_none, when_none, none_out_of_domain}
-use Rattle.btr_base.specs.Point.{AreInDomain}
 use Rattle.btr_entry.specs.Grammar.{IsBounded, IsWithinBounds}
 
 some_of_them : (a b : ℕ) → (a == 0 && b == 0) ≡ false → 0 < a + b

@@ -1,14 +1,13 @@
 -- What a step leaves of an engine: at each moment, and after a refusal.
-use Rattle.std.specs.Prelude.{◌≡◌, ℕ, ◌+◌, ◌*◌, ◌<◌, ◌≤◌, ◌^◌, List, [], ◌∷◌, ◌++◌, length, Result, Ok, Err, Option, Some, None, IsFalse, IfErr, IsErr}
+use Rattle.std.specs.Prelude.{◌≡◌, ℕ, ◌+◌, ◌*◌, ◌<◌, ◌≤◌, ◌^◌, List, ◌++◌, length, Result, Ok, Err, IsFalse, IfErr, IsErr}
 use Rattle.std.specs.Result.{IsErrAnd}
 use Rattle.std.specs.Coded.{le_prop}
-use Rattle.std.proofs.Common.{refl, sym, ◌∙◌, ap, subst, inl, arith, length-append}
+use Rattle.std.proofs.Common.{refl, sym, ◌∙◌, ap, subst, inl}
 use Rattle.std.proofs.Math.Nat.{ℕ_set}
 use mathlib.Core.HLevel.{is_prop→PathP}
 use Rattle.btr_disk.specs.declared.disk.Disk.{Ghosts}
-use Rattle.btr_disk.specs.Bytes.{Image, Same}
+use Rattle.btr_disk.specs.Bytes.{Image}
 use Rattle.btr_disk.specs.Gate.{zeros}
-use Rattle.btr_disk.proofs.GateLemmas.{length-zeros}
 use Rattle.btr_disk.proofs.MomentLemmas.{begins}
 use Rattle.btr_log.specs.Extents.{need}
 use Rattle.btr_log.specs.Head.{entry_head}
@@ -24,7 +23,7 @@ use Rattle.btr_engine.specs.declared.step.StepFault.{StepFault}
 use Rattle.btr_engine.specs.declared.board.PushFault.{PushFault}
 use Rattle.btr_engine.specs.declared.board.PushFault.TheVariants.{Rejected, Want}
 use Rattle.btr_engine.specs.Body.{body_of, need_of, bodies}
-use Rattle.btr_engine.proofs.BodyLemmas.{length-body_of, IsBody-body_of, need-body_of}
+use Rattle.btr_engine.proofs.BodyLemmas.{IsBody-body_of, need-body_of}
 use Rattle.btr_engine.specs.Engine.{device, is_stopped, IsAtRest, EngineLeaves}
 use Rattle.btr_engine.specs.Stage.{PushCause}
 use Rattle.btr_engine.specs.Pending.{fault_of_push}

@@ -11,7 +11,7 @@ use Rattle.btr_log.specs.Extents.{need, IsExtent, Extents, first_gate}
 use Rattle.btr_log.specs.Found.{IsWholeExtent, IsDamagedExtent, FindCause}
 use Rattle.btr_log.proofs.FoundLemmas.{next-IsWholeExtent, IsExtent-found}
 use Rattle.btr_super.specs.declared.superblock.Super.{Super}
-use Rattle.btr_super.specs.Choose.{IsChosen, HasNoSuper, IsDamagedSuper}
+use Rattle.btr_super.specs.Choose.{HasNoSuper, IsDamagedSuper}
 use Rattle.btr_disk.specs.Causes.{CausesFault}
 use Rattle.btr_super.specs.declared.choosing.ChooseFault.{ChooseFault}
 use Rattle.btr_super.specs.declared.choosing.ChooseFault.TheVariants as chosen

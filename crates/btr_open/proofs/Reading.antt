@@ -9,7 +9,7 @@ use Rattle.btr_disk.proofs.MomentLemmas.{none_written, nothing_composes}
 use Rattle.btr_disk.specs.Gate.{IsOpen, IsClosed}
 use Rattle.btr_log.specs.declared.head.Head.{Head}
 use Rattle.btr_log.specs.declared.log.Log.{Log}
-use Rattle.btr_log.specs.Log.{device, blocks_of, KeepsLog}
+use Rattle.btr_log.specs.Log.{device, blocks_of}
 use Rattle.btr_log.specs.Extents.{need, IsExtent, Extents, first_gate}
 use Rattle.btr_log.proofs.ExtentLemmas.{Extents-push}
 use Rattle.btr_log.specs.Found.{IsWholeExtent}

@@ -3,7 +3,7 @@ use Rattle.std.proofs.Common.{subst}
 use Rattle.std.proofs.lemmas.Result.{err_from_is_err_and}
 use Rattle.btr_hist.specs.declared.entry.Entry.{Entry}
 use Rattle.btr_open.specs.Reading.{IsAdded}
-use Rattle.btr_open.proofs.Reading.{read_more, read_all, cause_so_far}
+use Rattle.btr_open.proofs.Reading.{read_more, cause_so_far}
 use Rattle.btr_open.proofs.opening.read_log.Goals as goal
 
 pub returns-in_err-next-clause-cause : goal.returns-in_err-next-clause-cause
