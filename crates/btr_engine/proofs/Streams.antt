@@ -1,17 +1,11 @@
--- Bounds on the streams and versions of a history, and on the number of a stream.
-use Rattle.std.specs.Prelude.{◌≡◌, ℕ, ◌+◌, ◌<◌, ◌≤◌, ◌==◌, nat_eq, Bool, true, false, List, [], ◌∷◌, length, cond, Some}
+-- Bounds on the versions of a stream, and on a position that is found.
+use Rattle.std.specs.Prelude.{◌≡◌, ℕ, ◌+◌, ◌<◌, ◌≤◌, ◌==◌, Bool, true, false, List, [], ◌∷◌, length, cond, Some}
 use Rattle.std.specs.List.{position_from}
 use Rattle.std.proofs.Common.{arith}
 use Rattle.btr_hist.specs.declared.entry.Entry.{Entry}
 use Rattle.btr_hist.specs.declared.entry.Entry.TheVariants.{Create, Commit}
 use Rattle.btr_base.specs.Commit.{Change}
-use Rattle.btr_hist.specs.History.{ids, stream_of, commits, latest}
-
--- A history has no more streams than entries.
-pub few_streams : (h : List Entry) → length (ids h) ≤ length h
-few_streams [] = omega arith
-few_streams (Create id ∷ h) = omega (arith, few_streams h)
-few_streams (Commit s cut added ∷ h) = omega (arith, few_streams h)
+use Rattle.btr_hist.specs.History.{commits, latest}
 
 -- A stream has no more versions than the history has entries.
 pub few_versions : (h : List Entry) (stream : ℕ) → latest h stream ≤ length h
@@ -35,7 +29,3 @@ found_below test place (x ∷ xs) found is =
           omega arith
       | false ↦ λ later. omega (arith, found_below test (place + 1) xs found later)
     ] is
-
--- The number of a stream is below the number of entries.
-pub stream_below : (h : List Entry) (id place : ℕ) → stream_of h id ≡ Some place → place < length h
-stream_below h id place is = omega (arith, found_below (nat_eq id) 0 (ids h) place is, few_streams h)
