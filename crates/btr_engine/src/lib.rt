@@ -18,3 +18,6 @@ pub use board::{Board, PushFault, Staged};
 pub use engine::Engine;
 pub use snapshot::Snapshot;
 pub use step::{Receipt, StepFault};
+
+#[cfg(test)]
+mod tests;
