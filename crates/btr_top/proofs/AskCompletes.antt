@@ -6,7 +6,7 @@ use Rattle.btr_io.specs.Faults.{Rose as StreamRose}
 use Rattle.btr_disk.specs.declared.disk.Disk.{Ghosts}
 use Rattle.btr_disk.specs.Causes.{Rose}
 use Rattle.btr_text.specs.declared.script.ScriptLine.{ScriptLine}
-use Rattle.btr_engine.specs.Laws.{HeldIsSound}
+use Rattle.btr_open.specs.Laws.{HeldIsSound}
 use Rattle.btr_top.specs.declared.ending.Ending.{Ending}
 use Rattle.btr_top.specs.declared.ending.Ending.TheVariants.{Usage, NoSource, TooLong, OutOfMemory, NoDevice, NoStore, Damaged, Occupied, TooSmall, Formatted, Replied}
 use Rattle.btr_top.specs.declared.status.Status.{Status}

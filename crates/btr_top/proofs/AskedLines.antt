@@ -1,16 +1,13 @@
 -- Lines that were answered as questions, one line more, and the device that holds the history.
-use Rattle.std.specs.Prelude.{◌≡◌, ℕ, List, [], ◌∷◌, ◌++◌}
+use Rattle.std.specs.Prelude.{◌≡◌, List, [], ◌∷◌, ◌++◌}
 use Rattle.std.proofs.Common.{sym, subst}
 use Rattle.btr_disk.specs.declared.disk.Disk.{Ghosts}
-use Rattle.btr_disk.specs.Bytes.{Image}
-use Rattle.btr_disk.proofs.ByteLemmas.{Same-is}
 use Rattle.btr_hist.specs.declared.entry.Entry.{Entry}
 use Rattle.btr_text.specs.declared.script.ScriptLine.{ScriptLine}
 use Rattle.btr_text.specs.declared.reply.LineReply.{LineReply}
 use Rattle.btr_engine.specs.declared.engine.Engine.{Engine}
-use Rattle.btr_engine.specs.Engine.{device, history_of, blocks_of, tail_of}
-use Rattle.btr_engine.specs.Opening.{IsOpened}
-use Rattle.btr_engine.specs.Holds.{HoldsHistory}
+use Rattle.btr_engine.specs.Engine.{device, blocks_of, tail_of, IsEngineOf, IsAtRest}
+use Rattle.btr_open.specs.Opening.{IsOpened}
 use Rattle.btr_top.specs.declared.script.Transcript.{Transcript}
 use Rattle.btr_top.specs.declared.ending.Ending.{Ending}
 use Rattle.btr_top.specs.declared.ending.Ending.TheVariants.{OutOfMemory, Replied}
@@ -39,28 +36,29 @@ HasAnswered-push h lines line t u has one = record {
 }
 
 module _ {D : Type 0} (disk : Ghosts D) (old : D) (engine : Engine D disk) (opened : IsOpened disk old engine) where
-  -- a crash from now on leaves the history
-  durable : disk.is_observable → (c : Image) → disk.images_now (device engine) c → HoldsHistory (disk.size (device engine)) c (history_of engine)
-  durable told c left =
-      let rest = opened.at_rest told in
-      let still : c ≡ disk.contents (device engine) = Same-is (disk.contents (device engine)) c (rest.only.each c left) in
-      subst (λ (i : Image). HoldsHistory (disk.size (device engine)) i (history_of engine)) (sym still) (record { blocks = blocks_of engine; tail = tail_of engine; holds = rest.holds })
+  -- the history of the opening
+  abbrev h : List Entry
+  h = opened.some.0
 
-  answers_all : (lines : List ScriptLine) (transcript : Transcript) → HasAnswered (history_of engine) lines transcript → AnswersAll disk lines old (device engine) transcript
+  at_rest : disk.is_observable → IsAtRest h engine
+  at_rest told = (opened.some.2 told).at_rest
+
+  answers_all : (lines : List ScriptLine) (transcript : Transcript) → HasAnswered h lines transcript → AnswersAll disk lines old (device engine) transcript
   answers_all lines transcript has = record {
-    history = history_of engine;
+    history = h;
     replies = has.replies;
-    holds = λ told. record { blocks = blocks_of engine; tail = tail_of engine; holds = held_before disk old engine opened told };
+    follows = opened.some.1.follows;
+    holds = λ told. record { blocks = blocks_of engine; tail = tail_of engine; holds = held_before disk old engine opened h (at_rest told) told };
     answers = has.answers;
     is_transcript = has.is_transcript;
     kept = opened.kept.unwritten;
-    durable = durable;
+    durable = λ told. (opened.some.2 told).held.now;
   }
 
-  pub ended_answered : (lines : List ScriptLine) (transcript : Transcript) (new : D) (e : Ending) → e ≡ Replied transcript → new ≡ device engine → HasAnswered (history_of engine) lines transcript → QuestionsCause disk lines old new e
+  pub ended_answered : (lines : List ScriptLine) (transcript : Transcript) (new : D) (e : Ending) → e ≡ Replied transcript → new ≡ device engine → ((k : List Entry) → IsEngineOf k engine → HasAnswered k lines transcript) → QuestionsCause disk lines old new e
   ended_answered lines transcript new e is same has =
       subst (QuestionsCause disk lines old new) (sym is)
-      (subst (λ (d : D). AnswersAll disk lines old d transcript) (sym same) (answers_all lines transcript has))
+      (subst (λ (d : D). AnswersAll disk lines old d transcript) (sym same) (answers_all lines transcript (has h opened.some.1)))
 
   pub ended_unanswered : (lines : List ScriptLine) (new : D) (e : Ending) → e ≡ OutOfMemory → new ≡ device engine → QuestionsCause disk lines old new e
   ended_unanswered lines new e is same =

@@ -1,5 +1,5 @@
 -- What a crash leaves of lines that ran on an engine, from the links that the steps of the engine give.
-use Rattle.std.specs.Prelude.{◌≡◌, ◌⊎◌, ℕ, ◌≤◌, true, List, [], ◌∷◌, ◌++◌, length}
+use Rattle.std.specs.Prelude.{◌≡◌, ◌⊎◌, ℕ, ◌≤◌, true, List, [], ◌∷◌, length}
 use Rattle.std.proofs.Common.{refl, sym, ◌∙◌, ap, subst, inl, inr, ⊎_elim, arith}
 use Rattle.std.proofs.lemmas.List.{append-nil}
 use Rattle.btr_disk.specs.declared.disk.Disk.{Ghosts}
@@ -12,88 +12,87 @@ use Rattle.btr_text.specs.declared.script.ScriptLine.{ScriptLine}
 use Rattle.btr_text.specs.declared.reply.LineReply.{LineReply}
 use Rattle.btr_text.specs.declared.reply.LineReply.TheVariants.{No}
 use Rattle.btr_text.specs.declared.reply.Reason.TheVariants as reasons
-use Rattle.btr_engine.specs.declared.engine.Engine.{Engine}
-use Rattle.btr_engine.specs.Engine.{device, history_of, blocks_of, tail_of, is_stopped, IsAtRest}
+use Rattle.btr_engine.specs.Engine.{device, blocks_of, tail_of, is_stopped, IsAtRest}
 use Rattle.btr_engine.specs.Holds.{HoldsHistory}
 use Rattle.btr_engine.specs.Step.{IsBeforeOrAfter}
 use Rattle.btr_top.specs.Meaning.{Meaning, Commits, meaning}
-use Rattle.btr_top.specs.Crash.{InFlight, IsInFlight, HoldsOneMore, HoldsPrefix, HoldsStoreOrMore, Keeps, CommitCalls, LineMoves, KeepsEachLine, CrashLeavesPrefix}
-use Rattle.btr_top.specs.EngineScript.{store_of, CallsDevice, IsCommitted, IsAnsweredNoDevice, Answers, RunsLines}
+use Rattle.btr_top.specs.Crash.{InFlight, IsInFlight, HoldsOneMore, HoldsPrefix, HoldsStoreOrMore, Keeps, LineMoves, KeepsEachLine, CrashLeavesPrefix}
+use Rattle.btr_top.specs.EngineScript.{EngineOf, store_of, CallsDevice, IsCommitted, IsAnsweredNoDevice, Answers, RunsLines}
 use Rattle.btr_top.proofs.Prefixes.{Grows, Grows-refl, Grows-trans, longer, holds_whole, in_flight_first, in_flight_later}
 
 -- lines change nothing in an engine that is stopped
-stays : {D : Type 0} {disk : Ghosts D} (e last : Engine D disk) (lines : List ScriptLine) (replies : List LineReply) → RunsLines e lines replies last → is_stopped e ≡ true → e ≡ last
+stays : {D : Type 0} {disk : Ghosts D} (e last : EngineOf disk) (lines : List ScriptLine) (replies : List LineReply) → RunsLines e lines replies last → is_stopped e.engine ≡ true → e ≡ last
 stays e last [] [] runs stopped = runs
 stays e last [] (reply ∷ replies) runs stopped = absurd runs
 stays e last (line ∷ lines) [] runs stopped = absurd runs
 stays e last (line ∷ lines) (reply ∷ replies) runs stopped =
     let same : runs.0 ≡ e = runs.1.idle stopped in
-    sym same ∙ stays runs.0 last lines replies runs.2 (ap (λ x. is_stopped x) same ∙ stopped)
+    sym same ∙ stays runs.0 last lines replies runs.2 (ap (λ x. is_stopped x.engine) same ∙ stopped)
 
-module _ {D : Type 0} {disk : Ghosts D} (only_now : (d : D) (c : Image) → disk.images_since d (disk.calls d) c → disk.images_now d c) (counts_now : (d : D) (t : ℕ) (c : Image) → t ≤ disk.calls d → disk.images_now d c → disk.images_since d t c) (is_in_flight : InFlight) (last : Engine D disk) where
+module _ {D : Type 0} {disk : Ghosts D} (only_now : (d : D) (c : Image) → disk.images_since d (disk.calls d) c → disk.images_now d c) (counts_now : (d : D) (t : ℕ) (c : Image) → t ≤ disk.calls d → disk.images_now d c → disk.images_since d t c) (is_in_flight : InFlight) (last : EngineOf disk) where
   abbrev size : ℕ
-  size = disk.size (device last)
+  size = disk.size (device last.engine)
 
   -- ---- one engine
 
   -- the device failed, and a crash leaves the history, perhaps with the entry in flight
-  record IsLeft (e : Engine D disk) : Type 0 where
-    stopped : is_stopped e ≡ true
-    now : (c : Image) → disk.images_now (device e) c → HoldsHistory size c (history_of e) ⊎ HoldsOneMore is_in_flight size (history_of e) c
+  record IsLeft (e : EngineOf disk) : Type 0 where
+    stopped : is_stopped e.engine ≡ true
+    now : (c : Image) → disk.images_now (device e.engine) c → HoldsHistory size c e.history ⊎ HoldsOneMore is_in_flight size e.history c
 
   -- what is known of an engine after each line
-  record Known (e : Engine D disk) : Type 0 where
-    same_size : disk.size (device e) ≡ size
-    state : IsAtRest e ⊎ IsLeft e
+  record Known (e : EngineOf disk) : Type 0 where
+    same_size : disk.size (device e.engine) ≡ size
+    state : IsAtRest e.history e.engine ⊎ IsLeft e
 
-  known_now : (e : Engine D disk) → Known e → (c : Image) → disk.images_now (device e) c → HoldsStoreOrMore is_in_flight size (store_of e) c
+  known_now : (e : EngineOf disk) → Known e → (c : Image) → disk.images_now (device e.engine) c → HoldsStoreOrMore is_in_flight size (store_of e) c
   known_now e known c left =
       ⊎_elim
-      (λ (rest : IsAtRest e).
-      let still : c ≡ disk.contents (device e) = Same-is (disk.contents (device e)) c (rest.only.each c left) in
-      let holds : HoldsHistory (disk.size (device e)) (disk.contents (device e)) (history_of e) = record { blocks = blocks_of e; tail = tail_of e; holds = rest.holds } in
-      inl (subst (λ (i : Image). HoldsHistory size i (history_of e)) (sym still) (subst (λ (n : ℕ). HoldsHistory n (disk.contents (device e)) (history_of e)) known.same_size holds)))
+      (λ (rest : IsAtRest e.history e.engine).
+      let still : c ≡ disk.contents (device e.engine) = Same-is (disk.contents (device e.engine)) c (rest.only.each c left) in
+      let holds : HoldsHistory (disk.size (device e.engine)) (disk.contents (device e.engine)) e.history = record { blocks = blocks_of e.engine; tail = tail_of e.engine; holds = rest.holds } in
+      inl (subst (λ (i : Image). HoldsHistory size i e.history) (sym still) (subst (λ (n : ℕ). HoldsHistory n (disk.contents (device e.engine)) e.history) known.same_size holds)))
       (λ (is : IsLeft e). ⊎_elim (λ holds. inl holds) (λ more. inr (is.stopped, more)) (is.now c left))
       known.state
 
   -- ---- one line
 
   -- a moment of a line that took the engine `e` to `next`
-  abbrev IsBetween : Engine D disk → Engine D disk → Image → Type 0
-  IsBetween e next c = HoldsHistory size c (history_of e) ⊎ HoldsStoreOrMore is_in_flight size (store_of next) c
+  abbrev IsBetween : EngineOf disk → EngineOf disk → Image → Type 0
+  IsBetween e next c = HoldsHistory size c e.history ⊎ HoldsStoreOrMore is_in_flight size (store_of next) c
 
-  record Link (e next : Engine D disk) (asked : Meaning) (reply : LineReply) : Type 0 where
+  record Link (e next : EngineOf disk) (asked : Meaning) (reply : LineReply) : Type 0 where
     known : Known next
-    grows : Grows (history_of e) (history_of next)
-    moves : LineMoves disk is_in_flight (store_of last) (device last) (device e) (device next) (history_of e) asked reply
-    between : Leaves disk.calls disk.images_since (device e) (device next) (IsBetween e next)
+    grows : Grows e.history next.history
+    moves : LineMoves disk is_in_flight (store_of last) (device last.engine) (device e.engine) (device next.engine) e.history asked reply
+    between : Leaves disk.calls disk.images_since (device e.engine) (device next.engine) (IsBetween e next)
 
-  link_same : (e next : Engine D disk) (asked : Meaning) (reply : LineReply) → next ≡ e → Known e → Link e next asked reply
+  link_same : (e next : EngineOf disk) (asked : Meaning) (reply : LineReply) → next ≡ e → Known e → Link e next asked reply
   link_same e next asked reply same known =
-      subst (λ (x : Engine D disk). Link e x asked reply) (sym same) (record {
+      subst (λ (x : EngineOf disk). Link e x asked reply) (sym same) (record {
         known = known;
-        grows = Grows-refl (history_of e) (append-nil (history_of e));
+        grows = Grows-refl e.history (append-nil e.history);
         moves = inl refl;
-        between = begins disk.calls disk.images_since (device e) (IsBetween e e) (λ c left. inr (known_now e known c (only_now (device e) c left)));
+        between = begins disk.calls disk.images_since (device e.engine) (IsBetween e e) (λ c left. inr (known_now e known c (only_now (device e.engine) c left)));
       })
 
-  module _ (e next : Engine D disk) (m : Meaning) (reply : LineReply) (old_size : disk.size (device e) ≡ size) (new_size : disk.size (device next) ≡ size) (called : CallsDevice e next m reply) where
-    moments : Leaves disk.calls disk.images_since (device e) (device next) (IsBeforeOrAfter size (history_of e) called.entry)
-    moments = subst (λ (n : ℕ). Leaves disk.calls disk.images_since (device e) (device next) (IsBeforeOrAfter n (history_of e) called.entry)) old_size called.moments
+  module _ (e next : EngineOf disk) (m : Meaning) (reply : LineReply) (old_size : disk.size (device e.engine) ≡ size) (new_size : disk.size (device next.engine) ≡ size) (called : CallsDevice e next m reply) where
+    moments : Leaves disk.calls disk.images_since (device e.engine) (device next.engine) (IsBeforeOrAfter size e.history called.entry)
+    moments = subst (λ (n : ℕ). Leaves disk.calls disk.images_since (device e.engine) (device next.engine) (IsBeforeOrAfter n e.history called.entry)) old_size called.moments
 
     link_committed : IsCommitted e next called.entry reply → Link e next m reply
     link_committed committed = record {
       known = record { same_size = new_size; state = inl committed.at_rest };
       grows = record { more = called.entry ∷ []; same = committed.history };
       moves = inr (called.entry, called.asked, committed.calls, moments);
-      between = weakens disk.calls disk.images_since (device e) (device next) (IsBeforeOrAfter size (history_of e) called.entry) (IsBetween e next)
+      between = weakens disk.calls disk.images_since (device e.engine) (device next.engine) (IsBeforeOrAfter size e.history called.entry) (IsBetween e next)
           (λ c moment. ⊎_elim (λ before. inl before) (λ after. inr (inl (subst (λ (h : List Entry). HoldsHistory size c h) (sym committed.history) after))) moment)
           moments;
     }
 
-    link_failed : is_in_flight (history_of e) called.entry → IsAnsweredNoDevice e next reply → Link e next m reply
+    link_failed : is_in_flight e.history called.entry → IsAnsweredNoDevice e next reply → Link e next m reply
     link_failed in_flight failed =
-        let after : (c : Image) → IsBeforeOrAfter size (history_of e) called.entry c → HoldsHistory size c (history_of next) ⊎ HoldsOneMore is_in_flight size (history_of next) c =
+        let after : (c : Image) → IsBeforeOrAfter size e.history called.entry c → HoldsHistory size c next.history ⊎ HoldsOneMore is_in_flight size next.history c =
         λ c moment. subst (λ (h : List Entry). HoldsHistory size c h ⊎ HoldsOneMore is_in_flight size h c) (sym failed.history)
         (⊎_elim (λ before. inl before) (λ with. inr (called.entry, in_flight, with)) moment) in
         record {
@@ -101,24 +100,24 @@ module _ {D : Type 0} {disk : Ghosts D} (only_now : (d : D) (c : Image) → disk
             same_size = new_size;
             state = inr (record {
               stopped = failed.stopped;
-              now = λ c left. after c (moments.each c (counts_now (device next) (disk.calls (device e)) c moments.later left));
+              now = λ c left. after c (moments.each c (counts_now (device next.engine) (disk.calls (device e.engine)) c moments.later left));
             });
           };
-          grows = record { more = []; same = failed.history ∙ sym (append-nil (history_of e)) };
+          grows = record { more = []; same = failed.history ∙ sym (append-nil e.history) };
           moves = inr (called.entry, called.asked, failed.calls, moments);
-          between = weakens disk.calls disk.images_since (device e) (device next) (IsBeforeOrAfter size (history_of e) called.entry) (IsBetween e next)
+          between = weakens disk.calls disk.images_since (device e.engine) (device next.engine) (IsBeforeOrAfter size e.history called.entry) (IsBetween e next)
               (λ c moment. ⊎_elim (λ holds. inr (inl holds)) (λ more. inr (inr (failed.stopped, more))) (after c moment))
               moments;
         }
 
-  link : (told : disk.is_observable) (e next : Engine D disk) (m : Meaning) (reply : LineReply) → Known e → Answers e m reply next → ((x : Entry) → reply ≡ No reasons.Device → m ≡ Commits x → is_in_flight (history_of e) x) → Link e next m reply
+  link : (told : disk.is_observable) (e next : EngineOf disk) (m : Meaning) (reply : LineReply) → Known e → Answers e m reply next → ((x : Entry) → reply ≡ No reasons.Device → m ≡ Commits x → is_in_flight e.history x) → Link e next m reply
   link told e next m reply known answers in_flight =
       ⊎_elim
-      (λ (rest : IsAtRest e).
+      (λ (rest : IsAtRest e.history e.engine).
       ⊎_elim
       (λ same. link_same e next m reply same known)
       (λ (called : CallsDevice e next m reply).
-      let new_size : disk.size (device next) ≡ size = answers.kept.device_kept.same_size ∙ known.same_size in
+      let new_size : disk.size (device next.engine) ≡ size = answers.kept.device_kept.same_size ∙ known.same_size in
       ⊎_elim
       (λ committed. link_committed e next m reply known.same_size new_size called committed)
       (λ (failed : IsAnsweredNoDevice e next reply). link_failed e next m reply known.same_size new_size called (in_flight called.entry failed.replied called.asked) failed)
@@ -129,95 +128,95 @@ module _ {D : Type 0} {disk : Ghosts D} (only_now : (d : D) (c : Image) → disk
 
   -- ---- all lines
 
-  abbrev HoldsFrom : Engine D disk → Image → Type 0
-  HoldsFrom e = HoldsPrefix is_in_flight size (length (history_of e)) (history_of last)
+  abbrev HoldsFrom : EngineOf disk → Image → Type 0
+  HoldsFrom e = HoldsPrefix is_in_flight size (length e.history) last.history
 
-  record Chain (e : Engine D disk) (lines : List ScriptLine) (replies : List LineReply) : Type 0 where
-    grows : Grows (history_of e) (history_of last)
-    leaves : Leaves disk.calls disk.images_since (device e) (device last) (HoldsFrom e)
-    each_line : KeepsEachLine disk is_in_flight (store_of last) (device last) (device e) (store_of e) lines replies
+  record Chain (e : EngineOf disk) (lines : List ScriptLine) (replies : List LineReply) : Type 0 where
+    grows : Grows e.history last.history
+    leaves : Leaves disk.calls disk.images_since (device e.engine) (device last.engine) (HoldsFrom e)
+    each_line : KeepsEachLine disk is_in_flight (store_of last) (device last.engine) (device e.engine) (store_of e) lines replies
     known_last : Known last
 
   -- what the last store holds is a prefix from any line on
-  holds_last : (e : Engine D disk) → Grows (history_of e) (history_of last) → (c : Image) → HoldsStoreOrMore is_in_flight size (store_of last) c → HoldsFrom e c
+  holds_last : (e : EngineOf disk) → Grows e.history last.history → (c : Image) → HoldsStoreOrMore is_in_flight size (store_of last) c → HoldsFrom e c
   holds_last e grows c holds =
       ⊎_elim
-      (λ whole. holds_whole is_in_flight size (length (history_of e)) (history_of last) (history_of last) c (longer (history_of e) (history_of last) grows) (Grows-refl (history_of last) (append-nil (history_of last))) whole)
+      (λ whole. holds_whole is_in_flight size (length e.history) last.history last.history c (longer e.history last.history grows) (Grows-refl last.history (append-nil last.history)) whole)
       (λ stopped. inr stopped.1)
       holds
 
-  keeps : (e : Engine D disk) → Known e → Leaves disk.calls disk.images_since (device e) (device last) (HoldsFrom e) → Keeps disk is_in_flight (store_of last) (device last) (device e) (store_of e)
+  keeps : (e : EngineOf disk) → Known e → Leaves disk.calls disk.images_since (device e.engine) (device last.engine) (HoldsFrom e) → Keeps disk is_in_flight (store_of last) (device last.engine) (device e.engine) (store_of e)
   keeps e known leaves = record { now = known_now e known; since = leaves }
 
   chain_none : Known last → Chain last [] []
   chain_none known =
-      let grows = Grows-refl (history_of last) (append-nil (history_of last)) in
-      let leaves : Leaves disk.calls disk.images_since (device last) (device last) (HoldsFrom last) =
-      begins disk.calls disk.images_since (device last) (HoldsFrom last) (λ c left. holds_last last grows c (known_now last known c (only_now (device last) c left))) in
+      let grows = Grows-refl last.history (append-nil last.history) in
+      let leaves : Leaves disk.calls disk.images_since (device last.engine) (device last.engine) (HoldsFrom last) =
+      begins disk.calls disk.images_since (device last.engine) (HoldsFrom last) (λ c left. holds_last last grows c (known_now last known c (only_now (device last.engine) c left))) in
       record { grows = grows; leaves = leaves; each_line = (keeps last known leaves, refl, refl); known_last = known }
 
   -- one line before a chain
-  module _ (e next : Engine D disk) (line : ScriptLine) (lines : List ScriptLine) (reply : LineReply) (replies : List LineReply) (known : Known e) (answers : Answers e (meaning (history_of e) line.line) reply next) (runs : RunsLines next lines replies last) (one : Link e next (meaning (history_of e) line.line) reply) (rest : Chain next lines replies) where
-    grows_all : Grows (history_of e) (history_of last)
-    grows_all = Grows-trans (history_of e) (history_of next) (history_of last) one.grows rest.grows
+  module _ (e next : EngineOf disk) (line : ScriptLine) (lines : List ScriptLine) (reply : LineReply) (replies : List LineReply) (known : Known e) (answers : Answers e (meaning e.history line.line) reply next) (runs : RunsLines next lines replies last) (one : Link e next (meaning e.history line.line) reply) (rest : Chain next lines replies) where
+    grows_all : Grows e.history last.history
+    grows_all = Grows-trans e.history next.history last.history one.grows rest.grows
 
     from_between : (c : Image) → IsBetween e next c → HoldsFrom e c
     from_between c between =
-        let least : ℕ = length (history_of e) in
+        let least : ℕ = length e.history in
         ⊎_elim
-        (λ before. holds_whole is_in_flight size least (history_of e) (history_of last) c (omega arith) grows_all before)
+        (λ before. holds_whole is_in_flight size least e.history last.history c (omega arith) grows_all before)
         (λ now. ⊎_elim
-        (λ holds. holds_whole is_in_flight size least (history_of next) (history_of last) c (longer (history_of e) (history_of next) one.grows) rest.grows holds)
-        (λ (stopped : (is_stopped next ≡ true) × HoldsOneMore is_in_flight size (history_of next) c).
+        (λ holds. holds_whole is_in_flight size least next.history last.history c (longer e.history next.history one.grows) rest.grows holds)
+        (λ (stopped : (is_stopped next.engine ≡ true) × HoldsOneMore is_in_flight size next.history c).
         let same : next ≡ last = stays next last lines replies runs stopped.0 in
-        inr (subst (λ (x : Engine D disk). HoldsOneMore is_in_flight size (history_of x) c) same stopped.1))
+        inr (subst (λ (x : EngineOf disk). HoldsOneMore is_in_flight size x.history c) same stopped.1))
         now)
         between
 
     from_later : (c : Image) → HoldsFrom next c → HoldsFrom e c
     from_later c later =
         ⊎_elim
-        (λ (prefix : (n : ℕ) × (length (history_of next) ≤ n) × HoldsHistory size c _). inl (prefix.0, omega (arith, prefix.1, longer (history_of e) (history_of next) one.grows), prefix.2))
+        (λ (prefix : (n : ℕ) × (length next.history ≤ n) × HoldsHistory size c _). inl (prefix.0, omega (arith, prefix.1, longer e.history next.history one.grows), prefix.2))
         (λ more. inr more)
         later
 
     chain_more : Chain e (line ∷ lines) (reply ∷ replies)
     chain_more =
-        let leaves : Leaves disk.calls disk.images_since (device e) (device last) (HoldsFrom e) =
-        composes disk.calls disk.images_since (device e) (device next) (device last) (HoldsFrom e)
-        (weakens disk.calls disk.images_since (device e) (device next) (IsBetween e next) (HoldsFrom e) from_between one.between)
-        (weakens disk.calls disk.images_since (device next) (device last) (HoldsFrom next) (HoldsFrom e) from_later rest.leaves) in
+        let leaves : Leaves disk.calls disk.images_since (device e.engine) (device last.engine) (HoldsFrom e) =
+        composes disk.calls disk.images_since (device e.engine) (device next.engine) (device last.engine) (HoldsFrom e)
+        (weakens disk.calls disk.images_since (device e.engine) (device next.engine) (IsBetween e next) (HoldsFrom e) from_between one.between)
+        (weakens disk.calls disk.images_since (device next.engine) (device last.engine) (HoldsFrom next) (HoldsFrom e) from_later rest.leaves) in
         record {
           grows = grows_all;
           leaves = leaves;
-          each_line = (keeps e known leaves, device next, store_of next, answers.replied, one.moves, rest.each_line);
+          each_line = (keeps e known leaves, device next.engine, store_of next, answers.replied, one.moves, rest.each_line);
           known_last = rest.known_last;
         }
 
-  chain : (told : disk.is_observable) (e : Engine D disk) (lines : List ScriptLine) (replies : List LineReply) → RunsLines e lines replies last → Known e → ((h : List Entry) (x : Entry) → IsInFlight lines replies h x → is_in_flight h x) → Chain e lines replies
+  chain : (told : disk.is_observable) (e : EngineOf disk) (lines : List ScriptLine) (replies : List LineReply) → RunsLines e lines replies last → Known e → ((h : List Entry) (x : Entry) → IsInFlight lines replies h x → is_in_flight h x) → Chain e lines replies
   chain told e [] [] runs known in_flight =
-      subst (λ (x : Engine D disk). Chain x [] []) (sym runs) (chain_none (subst (λ (x : Engine D disk). Known x) runs known))
+      subst (λ (x : EngineOf disk). Chain x [] []) (sym runs) (chain_none (subst (λ (x : EngineOf disk). Known x) runs known))
   chain told e [] (reply ∷ replies) runs known in_flight = absurd runs
   chain told e (line ∷ lines) [] runs known in_flight = absurd runs
   chain told e (line ∷ lines) (reply ∷ replies) runs known in_flight =
-      let m : Meaning = meaning (history_of e) line.line in
-      let one : Link e runs.0 m reply = link told e runs.0 m reply known runs.1 (λ x replied asked. in_flight (history_of e) x (in_flight_first lines replies line reply (history_of e) x replied asked)) in
+      let m : Meaning = meaning e.history line.line in
+      let one : Link e runs.0 m reply = link told e runs.0 m reply known runs.1 (λ x replied asked. in_flight e.history x (in_flight_first lines replies line reply e.history x replied asked)) in
       let rest : Chain runs.0 lines replies = chain told runs.0 lines replies runs.2 one.known (λ h x is. in_flight h x (in_flight_later lines replies line reply h x is)) in
       chain_more e runs.0 line lines reply replies known runs.1 runs.2 one rest
 
 -- what a crash leaves of the whole run: the engine `first` was opened on the device `old`, at rest
 module _ {D : Type 0} (disk : Ghosts D) (told : disk.is_observable) (only_now : (d : D) (c : Image) → disk.images_since d (disk.calls d) c → disk.images_now d c) (counts_now : (d : D) (t : ℕ) (c : Image) → t ≤ disk.calls d → disk.images_now d c → disk.images_since d t c) where
-  pub crash_leaves : (old : D) (first last : Engine D disk) (lines : List ScriptLine) (replies : List LineReply) → IsUnwritten disk.calls disk.contents disk.images_now disk.images_since old (device first) → IsAtRest first → disk.size (device first) ≡ disk.size (device last) → RunsLines first lines replies last → CrashLeavesPrefix disk lines replies (store_of first) (store_of last) old (device last)
+  pub crash_leaves : (old : D) (first last : EngineOf disk) (lines : List ScriptLine) (replies : List LineReply) → IsUnwritten disk.calls disk.contents disk.images_now disk.images_since old (device first.engine) → IsAtRest first.history first.engine → disk.size (device first.engine) ≡ disk.size (device last.engine) → RunsLines first lines replies last → CrashLeavesPrefix disk lines replies (store_of first) (store_of last) old (device last.engine)
   crash_leaves old first last lines replies unwritten rest same_size runs =
       let P : InFlight = IsInFlight lines replies in
-      let Q : Image → Type 0 = λ c. disk.images_now old c ⊎ HoldsPrefix P (disk.size (device last)) (length (history_of first)) (history_of last) c in
+      let Q : Image → Type 0 = λ c. disk.images_now old c ⊎ HoldsPrefix P (disk.size (device last.engine)) (length first.history) last.history c in
       let all = chain only_now counts_now P last told first lines replies runs (record { same_size = same_size; state = inl rest }) (λ h x is. is) in
       record {
-        opened = device first;
+        opened = device first.engine;
         opening = unwritten;
-        moments = composes disk.calls disk.images_since old (device first) (device last) Q
-            (weakens disk.calls disk.images_since old (device first) (disk.images_now old) Q (λ c left. inl left) unwritten.moments)
-            (weakens disk.calls disk.images_since (device first) (device last) (HoldsPrefix P (disk.size (device last)) (length (history_of first)) (history_of last)) Q (λ c holds. inr holds) all.leaves);
+        moments = composes disk.calls disk.images_since old (device first.engine) (device last.engine) Q
+            (weakens disk.calls disk.images_since old (device first.engine) (disk.images_now old) Q (λ c left. inl left) unwritten.moments)
+            (weakens disk.calls disk.images_since (device first.engine) (device last.engine) (HoldsPrefix P (disk.size (device last.engine)) (length first.history) last.history) Q (λ c holds. inr holds) all.leaves);
         each_line = all.each_line;
         now = known_now only_now counts_now P last last all.known_last;
       }

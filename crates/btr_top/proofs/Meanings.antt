@@ -1,7 +1,7 @@
 -- What lines mean: a delete of a stream that is there, and a question, which changes nothing.
-use Rattle.std.specs.Prelude.{◌≡◌, ◌⊎◌, ◌<◌, ℕ, ℤ, Bool, true, false, cond, nat_le, nat_lt, length, List, [], ◌∷◌, Option, None, Some}
+use Rattle.std.specs.Prelude.{◌≡◌, ℕ, ℤ, Bool, true, false, cond, nat_le, nat_lt, length, List, [], ◌∷◌, Option, None, Some}
 use Rattle.std.specs.Option.{option_map}
-use Rattle.std.proofs.Common.{refl, sym, ap, ◌∙◌, subst, arith, inl, inr, ⊎_elim}
+use Rattle.std.proofs.Common.{refl, ap, ◌∙◌, subst, arith, inl, inr, ⊎_elim}
 use Rattle.std.proofs.lemmas.Bool.{lt-leb}
 use Rattle.std.proofs.lemmas.Int.{ints}
 use Rattle.btr_base.specs.declared.point.Point.{Point}
@@ -20,15 +20,16 @@ use Rattle.btr_hist.specs.Answer.{is_range}
 use Rattle.btr_text.specs.declared.script.Line.{Line}
 use Rattle.btr_text.specs.declared.script.Line.TheVariants as lines
 use Rattle.btr_text.specs.declared.reply.LineReply.{LineReply}
+use Rattle.btr_text.specs.declared.reply.LineReply.TheVariants.{No}
 use Rattle.btr_text.specs.declared.reply.Reason.TheVariants as reasons
 use Rattle.btr_engine.specs.declared.engine.Engine.{Engine}
-use Rattle.btr_engine.specs.Engine.{history_of}
-use Rattle.btr_engine.specs.Step.{MayLackMemory}
+use Rattle.btr_engine.specs.Engine.{is_stopped, IsEngineOf}
+use Rattle.btr_engine.specs.Stage.{MayLackMemory}
 use Rattle.btr_engine.proofs.EngineLemmas.{known_below, few_versions_of}
 use Rattle.btr_top.specs.Meaning.{Meaning, Commits, Asks, Refuses, on_stream, delete, meaning, question}
 use Rattle.btr_top.specs.Replies.{Store, Replies}
 use Rattle.btr_top.specs.Ask.{IsAnswerOrNoMemory}
-use Rattle.btr_top.specs.EngineScript.{store_of, Answers}
+use Rattle.btr_top.specs.EngineScript.{engine_of, history_after, store_of, Answers, AnswersFrom}
 use Rattle.btr_top.proofs.KeptOpening.{KeepsOpening-refl}
 
 -- ---- a delete
@@ -53,13 +54,22 @@ tested false false true None count e f = tt
 tested false false false None count e f = tt
 
 -- nothing that is tested before memory is taken refuses the removal of a range from a stream that is there
-pub delete-lacks : {D : Type 0} {disk : Ghosts D} (e : Engine D disk) (id stream : ℕ) (range : RangeValue) → stream_of (history_of e) id ≡ Some stream → MayLackMemory (rejection (history_of e) (entries.Commit stream (range ∷ []) []))
-delete-lacks e id stream range is =
-    let h = history_of e in
+pub delete-lacks : {D : Type 0} {disk : Ghosts D} (h : List Entry) (e : Engine D disk) (id stream : ℕ) (range : RangeValue) → IsEngineOf h e → stream_of h id ≡ Some stream → MayLackMemory (rejection h (entries.Commit stream (range ∷ []) []))
+delete-lacks h e id stream range of is =
     let points : List Point = next_bag h stream (record { cut = range ∷ []; added = [] }) in
     tested (nat_le (length (ids h)) stream) (nat_le MAX_VERSIONS (latest h stream)) (nat_lt MAX_POINTS (length points)) (crowded points) (length points)
     (lt-leb (length (ids h)) stream (known_below h id stream is))
-    (lt-leb MAX_VERSIONS (latest h stream) (few_versions_of e stream))
+    (lt-leb MAX_VERSIONS (latest h stream) (few_versions_of h e of stream))
+
+-- a stopped engine commits nothing
+pub answers_stopped : {D : Type 0} {disk : Ghosts D} (h : List Entry) (e : Engine D disk) (entry : Entry) (entries : ℕ) → IsEngineOf h e → is_stopped e ≡ true → entries ≡ length h → AnswersFrom h e (Commits entry) (No (reasons.Stopped entries)) e
+answers_stopped h e entry entries of stopped same = record {
+  of = of;
+  replied = inr (inl (inr (inr (record { stopped = stopped; replied = ap (λ n. No (reasons.Stopped n)) same; store = refl }))));
+  kept = KeepsOpening-refl e;
+  idle = λ _. refl;
+  leaves = λ told rest. inl refl;
+}
 
 -- ---- a question
 
@@ -90,15 +100,23 @@ replies_question s (Asks query) reply is answered =
     answered
 replies_question s (Refuses reason) reply is answered = inl (record { allowed = tt; replied = answered; store = refl })
 
+-- a question leaves the history as it is
+history_after-question : (h : List Entry) (m : Meaning) (reply : LineReply) → IsQuestion m → h ≡ history_after h m reply
+history_after-question h (Commits e) reply is = absurd is
+history_after-question h (Asks query) reply is = refl
+history_after-question h (Refuses reason) reply is = refl
+
 -- a question leaves the engine as it is
-pub answers_question : {D : Type 0} {disk : Ghosts D} (e : Engine D disk) (m : Meaning) (reply : LineReply) → IsQuestion m → IsAnswerOrNoMemory (history_of e) m reply → Answers e m reply e
-answers_question e m reply is answered = record {
-  replied = replies_question (store_of e) m reply is answered;
-  kept = KeepsOpening-refl e;
-  idle = λ stopped. refl;
-  leaves = λ told rest. inl refl;
-}
+pub answers_question : {D : Type 0} {disk : Ghosts D} (h : List Entry) (e : Engine D disk) (m : Meaning) (reply : LineReply) → IsEngineOf h e → IsQuestion m → IsAnswerOrNoMemory h m reply → AnswersFrom h e m reply e
+answers_question h e m reply of is answered =
+    subst (λ (k : List Entry). Answers (engine_of h e) m reply (engine_of k e)) (history_after-question h m reply is) (record {
+      of = of;
+      replied = replies_question (store_of (engine_of h e)) m reply is answered;
+      kept = KeepsOpening-refl e;
+      idle = λ stopped. refl;
+      leaves = λ told rest. inl refl;
+    })
 
 -- the lines that are questions, and one that is none
-pub answers_ask : {D : Type 0} {disk : Ghosts D} (e : Engine D disk) (id : ℕ) (query : StreamQuery) (reply : LineReply) → IsAnswerOrNoMemory (history_of e) (on_stream (stream_of (history_of e) id) (λ stream. Asks (of_stream query stream))) reply → Answers e (meaning (history_of e) (Some (lines.Ask id query))) reply e
-answers_ask e id query reply answered = answers_question e _ reply (on_stream-question (stream_of (history_of e) id) query) answered
+pub answers_ask : {D : Type 0} {disk : Ghosts D} (h : List Entry) (e : Engine D disk) (id : ℕ) (query : StreamQuery) (reply : LineReply) → IsEngineOf h e → IsAnswerOrNoMemory h (on_stream (stream_of h id) (λ stream. Asks (of_stream query stream))) reply → AnswersFrom h e (meaning h (Some (lines.Ask id query))) reply e
+answers_ask h e id query reply of answered = answers_question h e _ reply of (on_stream-question (stream_of h id) query) answered

@@ -1,22 +1,23 @@
 -- Lines that ran on an engine that was opened on a device ran on that device.
-use Rattle.std.specs.Prelude.{◌≡◌, ℕ, ◌≤◌, true, false, List, length, take}
+use Rattle.std.specs.Prelude.{◌≡◌, ℕ, ◌≤◌, true, false, List, take}
 use Rattle.std.proofs.Common.{refl, sym, ap, subst, arith, inr, ◌∙◌}
 use Rattle.btr_disk.specs.declared.disk.Disk.{Ghosts}
 use Rattle.btr_disk.proofs.ByteLemmas.{Same-is}
 use Rattle.btr_disk.specs.Bytes.{Image}
 use Rattle.btr_disk.specs.Causes.{Rose}
+use Rattle.btr_hist.specs.declared.entry.Entry.{Entry}
 use Rattle.btr_text.specs.declared.script.ScriptLine.{ScriptLine}
 use Rattle.btr_text.specs.declared.reply.LineReply.{LineReply}
 use Rattle.btr_engine.specs.declared.engine.Engine.{Engine}
-use Rattle.btr_engine.specs.Engine.{device, history_of, blocks_of, tail_of, is_stopped, faults_at_open, IsAtRest, KeepsOpening}
-use Rattle.btr_engine.specs.Opening.{IsOpened}
-use Rattle.btr_engine.specs.Holds.{HoldsHistory, HoldsHistoryTo}
+use Rattle.btr_engine.specs.Engine.{device, blocks_of, tail_of, is_stopped, faults_at_open, IsEngineOf, IsAtRest, KeepsOpening}
+use Rattle.btr_engine.specs.Holds.{HoldsHistoryTo}
 use Rattle.btr_engine.proofs.EngineLemmas.{stopped_by_fault}
+use Rattle.btr_open.specs.Opening.{IsOpened}
 use Rattle.btr_top.specs.declared.script.Transcript.{Transcript}
 use Rattle.btr_top.specs.declared.ending.Ending.{Ending}
 use Rattle.btr_top.specs.declared.ending.Ending.TheVariants.{OutOfMemory, Replied}
-use Rattle.btr_top.specs.Live.{HoldsStore, HoldsSafely, RunsOnDevice, RunsPrefix, RunsAll, ScriptCause}
-use Rattle.btr_top.specs.EngineScript.{store_of, RunsLines, HasRun, HasRunPrefix}
+use Rattle.btr_top.specs.Live.{HoldsSafely, RunsOnDevice, RunsPrefix, RunsAll, ScriptCause}
+use Rattle.btr_top.specs.EngineScript.{EngineOf, engine_of, store_of, RunsLines, HasRun, HasRunPrefix}
 use Rattle.btr_top.proofs.ScriptLemmas.{script_of_run, opening_of_run, rest_of_run}
 use Rattle.btr_top.proofs.Crashes.{crash_leaves}
 
@@ -25,65 +26,85 @@ rose-from : (before old new : ℕ) → before ≤ old → Rose old new → Rose 
 rose-from before old new le rose = omega (arith, rose)
 
 -- the history that the device held before the opening
-pub held_before : {D : Type 0} (disk : Ghosts D) (old : D) (first : Engine D disk) → IsOpened disk old first → disk.is_observable → HoldsHistoryTo (disk.size old) (disk.contents old) (blocks_of first) (tail_of first) (history_of first)
-held_before {D} disk old first opened told =
-    let is = (opened.at_rest told).holds in
+pub held_before : {D : Type 0} (disk : Ghosts D) (old : D) (first : Engine D disk) → IsOpened disk old first → (h : List Entry) → IsAtRest h first → disk.is_observable → HoldsHistoryTo (disk.size old) (disk.contents old) (blocks_of first) (tail_of first) h
+held_before {D} disk old first opened h rest told =
     let bytes : disk.contents (device first) ≡ disk.contents old = Same-is (disk.contents old) (disk.contents (device first)) (opened.kept.unwritten told).same in
-    let sized = subst (λ (n : ℕ). HoldsHistoryTo n (disk.contents (device first)) (blocks_of first) (tail_of first) (history_of first)) opened.kept.counts.same_size is in
-    subst (λ (c : Image). HoldsHistoryTo (disk.size old) c (blocks_of first) (tail_of first) (history_of first)) bytes sized
+    let sized = subst (λ (n : ℕ). HoldsHistoryTo n (disk.contents (device first)) (blocks_of first) (tail_of first) h) opened.kept.counts.same_size rest.holds in
+    subst (λ (c : Image). HoldsHistoryTo (disk.size old) c (blocks_of first) (tail_of first) h) bytes sized
 
 -- the device has as many blocks as before the opening
-size_of_run : {D : Type 0} (disk : Ghosts D) (old : D) (first : Engine D disk) → IsOpened disk old first → (last : Engine D disk) (lines : List ScriptLine) (replies : List LineReply) → RunsLines first lines replies last → disk.size (device last) ≡ disk.size old
+size_of_run : {D : Type 0} (disk : Ghosts D) (old : D) (first : EngineOf disk) → IsOpened disk old first.engine → (last : EngineOf disk) (lines : List ScriptLine) (replies : List LineReply) → RunsLines first lines replies last → disk.size (device last.engine) ≡ disk.size old
 size_of_run disk old first opened last lines replies runs = (opening_of_run first last lines replies runs).device_kept.same_size ∙ opened.kept.counts.same_size
 
-pub size_all : {D : Type 0} (disk : Ghosts D) (old : D) (first : Engine D disk) → IsOpened disk old first → (last : Engine D disk) (lines : List ScriptLine) (transcript : Transcript) → HasRun first lines last transcript → disk.size (device last) ≡ disk.size old
-size_all disk old first opened last lines transcript has = size_of_run disk old first opened last lines has.replies has.runs
+module _ {D : Type 0} (disk : Ghosts D) (old : D) (first : Engine D disk) (opened : IsOpened disk old first) (last : Engine D disk) where
+  pub size_all : (lines : List ScriptLine) (transcript : Transcript) → ((h : List Entry) → IsEngineOf h first → HasRun (engine_of h first) lines last transcript) → disk.size (device last) ≡ disk.size old
+  size_all lines transcript runs =
+      let has = runs opened.some.0 opened.some.1 in
+      size_of_run disk old (engine_of opened.some.0 first) opened (engine_of has.history last) lines has.replies has.runs
 
-pub size_prefix : {D : Type 0} (disk : Ghosts D) (old : D) (first : Engine D disk) → IsOpened disk old first → (last : Engine D disk) (lines : List ScriptLine) → HasRunPrefix first lines last → disk.size (device last) ≡ disk.size old
-size_prefix disk old first opened last lines has = size_of_run disk old first opened last (take has.count lines) has.replies has.runs
+  pub size_prefix : (lines : List ScriptLine) → ((h : List Entry) → IsEngineOf h first → HasRunPrefix (engine_of h first) lines last) → disk.size (device last) ≡ disk.size old
+  size_prefix lines runs =
+      let has = runs opened.some.0 opened.some.1 in
+      size_of_run disk old (engine_of opened.some.0 first) opened (engine_of has.history last) (take has.count lines) has.replies has.runs
 
-module _ {D : Type 0} (disk : Ghosts D) (only_now : disk.is_observable → (d : D) (c : Image) → disk.images_since d (disk.calls d) c → disk.images_now d c) (counts_now : disk.is_observable → (d : D) (t : ℕ) (c : Image) → t ≤ disk.calls d → disk.images_now d c → disk.images_since d t c) (old : D) (first : Engine D disk) (opened : IsOpened disk old first) (last : Engine D disk) where
-  safe : (lines : List ScriptLine) (replies : List LineReply) → RunsLines first lines replies last → disk.is_observable → is_stopped last ≡ false → HoldsSafely disk (device last) (store_of last)
-  safe lines replies runs told not_stopped =
-      let rest : IsAtRest last = rest_of_run first last lines replies told runs (opened.at_rest told) not_stopped in record {
-        holds = record { blocks = blocks_of last; tail = tail_of last; holds = rest.holds };
-        only = rest.only;
-      }
+-- `first` is of the history of the opening
+module _ {D : Type 0} (disk : Ghosts D) (only_now : disk.is_observable → (d : D) (c : Image) → disk.images_since d (disk.calls d) c → disk.images_now d c) (counts_now : disk.is_observable → (d : D) (t : ℕ) (c : Image) → t ≤ disk.calls d → disk.images_now d c → disk.images_since d t c) (old : D) (first : Engine D disk) (opened : IsOpened disk old first) where
+  abbrev start : EngineOf disk
+  start = engine_of opened.some.0 first
 
-  -- the device of a stopped engine has failed since the opening
-  failed : KeepsOpening first last → is_stopped last ≡ true → Rose (disk.faults old) (disk.faults (device last))
-  failed kept stopped =
-      rose-from (disk.faults old) (faults_at_open last) (disk.faults (device last))
-      (omega (arith, opened.synced.before.more_faults, ap disk.faults kept.synced))
-      (stopped_by_fault last stopped)
+  at_rest : disk.is_observable → IsAtRest opened.some.0 first
+  at_rest told = (opened.some.2 told).at_rest
 
-  runs_on : (lines : List ScriptLine) (replies : List LineReply) → RunsLines first lines replies last → RunsOnDevice disk lines replies old (device last)
-  runs_on lines replies runs =
-      let kept : KeepsOpening first last = opening_of_run first last lines replies runs in record {
-        first = store_of first;
-        last = store_of last;
-        not_stopped = opened.runs;
-        script = script_of_run first last lines replies runs;
-        before = λ told. record { blocks = blocks_of first; tail = tail_of first; holds = held_before disk old first opened told; same_left = refl };
-        after = safe lines replies runs;
-        failed = failed kept;
-        crash = λ told. crash_leaves disk told (only_now told) (counts_now told) old first last lines replies (opened.kept.unwritten told) (opened.at_rest told) (sym kept.device_kept.same_size) runs;
-      }
+  module _ (last : EngineOf disk) (lines : List ScriptLine) (replies : List LineReply) (runs : RunsLines start lines replies last) where
+    safe : disk.is_observable → is_stopped last.engine ≡ false → HoldsSafely disk (device last.engine) (store_of last)
+    safe told not_stopped =
+        let rest : IsAtRest last.history last.engine = rest_of_run start last lines replies told runs (at_rest told) not_stopped in record {
+          holds = record { blocks = blocks_of last.engine; tail = tail_of last.engine; holds = rest.holds };
+          only = rest.only;
+        }
 
-  pub ended_all : (lines : List ScriptLine) (transcript : Transcript) (new : D) (e : Ending) → e ≡ Replied transcript → new ≡ device last → HasRun first lines last transcript → ScriptCause disk lines old new e
-  ended_all lines transcript new e is same has =
+    -- the device of a stopped engine has failed since the opening
+    failed : KeepsOpening first last.engine → is_stopped last.engine ≡ true → Rose (disk.faults old) (disk.faults (device last.engine))
+    failed kept stopped =
+        rose-from (disk.faults old) (faults_at_open last.engine) (disk.faults (device last.engine))
+        (omega (arith, opened.synced.before.more_faults, ap disk.faults kept.synced))
+        (stopped_by_fault last.engine stopped)
+
+    runs_on : RunsOnDevice disk lines replies old (device last.engine)
+    runs_on =
+        let kept : KeepsOpening first last.engine = opening_of_run start last lines replies runs in record {
+          first = store_of start;
+          last = store_of last;
+          follows = opened.some.1.follows;
+          not_stopped = opened.runs;
+          script = script_of_run start last lines replies runs;
+          before = λ told. record {
+            blocks = blocks_of first;
+            tail = tail_of first;
+            holds = held_before disk old first opened opened.some.0 (at_rest told) told;
+            same_left = refl;
+          };
+          after = safe;
+          failed = failed kept;
+          crash = λ told. crash_leaves disk told (only_now told) (counts_now told) old start last lines replies (opened.kept.unwritten told) (at_rest told) (sym kept.device_kept.same_size) runs;
+        }
+
+  pub ended_all : (last : Engine D disk) (lines : List ScriptLine) (transcript : Transcript) (new : D) (e : Ending) → e ≡ Replied transcript → new ≡ device last → ((h : List Entry) → IsEngineOf h first → HasRun (engine_of h first) lines last transcript) → ScriptCause disk lines old new e
+  ended_all last lines transcript new e is same run =
+      let has = run opened.some.0 opened.some.1 in
       subst (ScriptCause disk lines old new) (sym is)
       (subst (λ (d : D). RunsAll disk lines old d transcript) (sym same) (record {
         replies = has.replies;
-        runs = runs_on lines has.replies has.runs;
+        runs = runs_on (engine_of has.history last) lines has.replies has.runs;
         is_transcript = has.is_transcript;
       }))
 
-  pub ended_prefix : (lines : List ScriptLine) (new : D) (e : Ending) → e ≡ OutOfMemory → new ≡ device last → HasRunPrefix first lines last → ScriptCause disk lines old new e
-  ended_prefix lines new e is same has =
+  pub ended_prefix : (last : Engine D disk) (lines : List ScriptLine) (new : D) (e : Ending) → e ≡ OutOfMemory → new ≡ device last → ((h : List Entry) → IsEngineOf h first → HasRunPrefix (engine_of h first) lines last) → ScriptCause disk lines old new e
+  ended_prefix last lines new e is same run =
+      let has = run opened.some.0 opened.some.1 in
       subst (ScriptCause disk lines old new) (sym is)
       (inr (subst (λ (d : D). RunsPrefix disk lines old d) (sym same) (record {
         count = has.count;
         replies = has.replies;
-        runs = runs_on (take has.count lines) has.replies has.runs;
+        runs = runs_on (engine_of has.history last) (take has.count lines) has.replies has.runs;
       })))

@@ -9,11 +9,12 @@ use Rattle.btr_text.specs.declared.script.ScriptLine.{ScriptLine}
 use Rattle.btr_text.specs.declared.reply.LineReply.{LineReply}
 use Rattle.btr_text.specs.declared.reply.LineReply.TheVariants.{No}
 use Rattle.btr_text.specs.declared.reply.Reason.TheVariants as reasons
+use Rattle.btr_engine.specs.Board.{Follows}
 use Rattle.btr_engine.specs.Holds.{HoldsHistory}
 use Rattle.btr_top.specs.declared.script.TheConstants.{MAX_INPUT}
 use Rattle.btr_top.specs.declared.script.Transcript.{Transcript}
 use Rattle.btr_top.specs.declared.ending.Ending.{Ending}
-use Rattle.btr_top.specs.declared.ending.Ending.TheVariants.{OutOfMemory, Replied}
+use Rattle.btr_top.specs.declared.ending.Ending.TheVariants.{Replied}
 use Rattle.btr_top.specs.Meaning.{Meaning, Asks, question}
 use Rattle.btr_top.specs.Replies.{reply_of_answer, reply_to}
 use Rattle.btr_top.specs.Script.{IsKept, OpeningCause, IsTranscript, CommandCause}
@@ -31,11 +32,12 @@ AnswersEach h (line ∷ lines) [] = ⊥
 AnswersEach h (line ∷ lines) (reply ∷ replies) = IsAnswerOrNoMemory h (question h line.line) reply × AnswersEach h lines replies
 
 module _ {D : Type 0} (disk : Ghosts D) where
-  -- Each line was answered from the history that the device `old` holds, and this is the transcript. Nothing was written. Every crash
-  -- from now on leaves the history that was answered from.
+  -- Each line was answered from the history that the device `old` holds, and this is the transcript. Each entry of the history may
+  -- follow those before it, also if the device is not observable. Nothing was written. Every crash from now on leaves the history.
   pub record AnswersAll (lines : List ScriptLine) (old new : D) (transcript : Transcript) : Type 0 where
     pub history : List Entry
     pub replies : List LineReply
+    pub follows : Follows history
     pub holds : disk.is_observable → HoldsHistory (disk.size old) (disk.contents old) history
     pub answers : AnswersEach history lines replies
     pub is_transcript : IsTranscript replies transcript

@@ -9,6 +9,7 @@ use Rattle.btr_hist.specs.declared.entry.Entry.{Entry}
 use Rattle.btr_text.specs.Input.{script_of}
 use Rattle.btr_text.specs.declared.script.ScriptLine.{ScriptLine}
 use Rattle.btr_text.specs.declared.reply.LineReply.{LineReply}
+use Rattle.btr_engine.specs.Board.{Follows}
 use Rattle.btr_engine.specs.Holds.{HoldsHistory, HoldsHistoryTo}
 use Rattle.btr_top.specs.declared.script.TheConstants.{MAX_INPUT}
 use Rattle.btr_top.specs.declared.script.Transcript.{Transcript}
@@ -31,11 +32,12 @@ module _ {D : Type 0} (disk : Ghosts D) where
     pub holds : HoldsHistory (disk.size d) (disk.contents d) s.history
     pub only : Only (disk.contents d) (disk.images_now d)
 
-  -- These lines ran, with these replies, from the store on the device `old` to that on the device `new`. If the latter is stopped,
-  -- a call of the device failed.
+  -- These lines ran, with these replies, from the store on the device `old` to that on the device `new`. Each entry of the former
+  -- may follow those before it, also if the device is not observable. If the latter is stopped, a call of the device failed.
   pub record RunsOnDevice (lines : List ScriptLine) (replies : List LineReply) (old new : D) : Type 0 where
     pub first : Store
     pub last : Store
+    pub follows : Follows first.history
     pub not_stopped : first.stopped ≡ false
     pub script : RunsScript first lines replies last
     pub before : disk.is_observable → HoldsStore old first

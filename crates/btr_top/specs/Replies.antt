@@ -19,7 +19,7 @@ use Rattle.btr_text.specs.declared.reply.Reason.TheVariants as reasons
 use Rattle.btr_text.specs.Reasons.{reason_of_rejection, reason_of_refusal}
 use Rattle.btr_text.specs.Text.{text}
 use Rattle.btr_engine.specs.Body.{need_of}
-use Rattle.btr_engine.specs.Step.{MayLackMemory}
+use Rattle.btr_engine.specs.Stage.{MayLackMemory}
 use Rattle.btr_top.specs.Meaning.{Meaning, Commits, Asks, Refuses, meaning}
 
 -- ---- what the model replies

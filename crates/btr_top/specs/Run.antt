@@ -1,5 +1,5 @@
 -- Why a run ends as it does: by its words, its input, its device and its sink; and what is promised if nothing fails.
-use Rattle.std.specs.Prelude.{◌≡◌, ℕ, ◌+◌, List, Option, Some, None}
+use Rattle.std.specs.Prelude.{◌≡◌, ℕ, Option, Some, None}
 use Rattle.btr_io.specs.declared.source.Source.{Ghosts as SourceGhosts}
 use Rattle.btr_io.specs.declared.sink.Sink.{Ghosts as SinkGhosts}
 use Rattle.btr_io.specs.Faults.{Rose as StreamRose}

@@ -10,7 +10,7 @@ use Rattle.btr_super.specs.Choose.{HasNoSuper}
 use Rattle.btr_text.specs.Input.{script_of}
 use Rattle.btr_text.specs.declared.script.ScriptLine.{ScriptLine}
 use Rattle.btr_text.specs.declared.reply.LineReply.{LineReply}
-use Rattle.btr_engine.specs.Damage.{IsDamaged}
+use Rattle.btr_open.specs.Damage.{IsDamaged}
 use Rattle.btr_top.specs.declared.script.TheConstants.{MAX_INPUT}
 use Rattle.btr_top.specs.declared.script.Transcript.{Transcript}
 use Rattle.btr_top.specs.declared.ending.Ending.{Ending}

@@ -1,9 +1,11 @@
 //! The command `ask`, which answers questions from the store of a device.
-ghost use Rattle.std.specs.Prelude.{◌≡◌, ◌+◌, IfOk, OnOk};
+ghost use Rattle.std.specs.Prelude.{◌≡◌, ◌+◌, List, IfOk, OnOk};
 ghost use Rattle.btr_io.specs.Bytes.{Gives};
+ghost use Rattle.btr_hist.specs.declared.entry.Entry.{Entry as EntrySpec};
 ghost use Rattle.btr_text.specs.declared.reply.LineReply.{LineReply as ReplySpec};
-ghost use Rattle.btr_engine.specs.Engine.{history_of};
-ghost use Rattle.btr_engine.specs.Opening.{IsOpened};
+ghost use Rattle.btr_engine.specs.Engine.{IsEngineOf};
+ghost use Rattle.btr_engine.specs.Snapshot.{IsSnapshotOf};
+ghost use Rattle.btr_open.specs.Opening.{IsOpened};
 ghost use Rattle.btr_top.specs.declared.script.TheConstants.{MAX_INPUT};
 ghost use Rattle.btr_top.specs.Meaning.{question};
 ghost use Rattle.btr_top.specs.Script.{IsKept};
@@ -14,8 +16,9 @@ use crate::ending::Ending;
 use crate::line::answer_question;
 use crate::script::{CommandResult, Transcript, open_refusal, read_lines};
 use btr_disk::Disk;
-use btr_engine::{Engine, open_store};
+use btr_engine::{Engine, Snapshot};
 use btr_io::Source;
+use btr_open::open_store;
 use btr_text::{Line, ScriptLine};
 use std::alloc::{AllocError, Global};
 
@@ -56,7 +59,7 @@ fn ask_opened<D: Disk>(alloc: Global, lines: Vec<ScriptLine>, engine: Engine<D>)
         → QuestionsCause ⟦<D as Disk>⟧ lines.items old result.disk result.ending }
     ensures kept { (old : D) → IsOpened ⟦<D as Disk>⟧ old engine → IsKept ⟦<D as Disk>⟧ old result.disk }
 {
-    let answered = answer_questions(alloc, &engine, lines);
+    let answered = answer_all(alloc, &engine, lines);
     let disk = engine.into_disk();
     match answered {
         Ok(transcript) => CommandResult {
@@ -70,32 +73,45 @@ fn ask_opened<D: Disk>(alloc: Global, lines: Vec<ScriptLine>, engine: Engine<D>)
     }
 }
 
-/// Answers all lines in order, and returns the replies. An `Err` is that there is no memory for the text of a reply.
-#[tactic(auto, using(crate::proofs::AskedLines::none_answered))]
-fn answer_questions<D: Disk>(
+/// Answers all lines from one snapshot of the store, and returns the replies. An `Err` is that there is no memory for the
+/// snapshot, or for the text of a reply.
+fn answer_all<D: Disk>(
     alloc: Global,
     engine: &Engine<D>,
     lines: Vec<ScriptLine>,
 ) -> Result<Transcript, AllocError>
-    ensures { IfOk result (λ t. HasAnswered (history_of engine.now) lines.items t) }
+    ensures { (h : List EntrySpec) → IsEngineOf h engine.now → IfOk result (HasAnswered h lines.items) }
+{
+    let snapshot = engine.admit()?;
+    answer_questions(alloc, &snapshot, lines)
+}
+
+/// Answers all lines in order, and returns the replies. An `Err` is that there is no memory for the text of a reply.
+#[tactic(auto, using(crate::proofs::AskedLines::none_answered))]
+fn answer_questions(
+    alloc: Global,
+    snapshot: &Snapshot,
+    lines: Vec<ScriptLine>,
+) -> Result<Transcript, AllocError>
+    ensures { (h : List EntrySpec) → IsSnapshotOf h snapshot.now → IfOk result (HasAnswered h lines.items) }
 {
     let mut transcript = Transcript::new(alloc);
     for line in lines {
-        ask_line(alloc, engine, line.line, &mut transcript)?;
+        ask_line(alloc, snapshot, line.line, &mut transcript)?;
     }
     Ok(transcript)
 }
 
 /// Answers a line, and adds the reply. An `Err` is that there is no memory for the reply's text.
-fn ask_line<D: Disk>(
+fn ask_line(
     alloc: Global,
-    engine: &Engine<D>,
+    snapshot: &Snapshot,
     line: Option<Line>,
     transcript: &mut Transcript,
 ) -> Result<(), AllocError>
-    ensures { OnOk result ((reply : ReplySpec) × IsAnswerOrNoMemory (history_of engine.now) (question (history_of engine.now) line) reply
-        × AddsReply reply transcript.old transcript.new) }
+    ensures { (h : List EntrySpec) → IsSnapshotOf h snapshot.now
+        → OnOk result ((reply : ReplySpec) × IsAnswerOrNoMemory h (question h line) reply × AddsReply reply transcript.old transcript.new) }
 {
-    let reply = answer_question(alloc, engine, line);
+    let reply = answer_question(alloc, snapshot, line);
     transcript.add(&reply)
 }

@@ -1,20 +1,22 @@
 //! One line of a script: what it asks for is done, and it has its reply.
-ghost use Rattle.std.specs.Prelude.{◌≡◌, [], ◌∷◌, false, true, Some, IfOk};
+ghost use Rattle.std.specs.Prelude.{◌≡◌, List, [], ◌∷◌, false, true, Some, IfOk};
 ghost use Rattle.btr_hist.specs.History.{stream_of};
 ghost use Rattle.btr_hist.specs.Legal.{rejection};
 ghost use Rattle.btr_hist.specs.Query.{of_stream};
+ghost use Rattle.btr_hist.specs.declared.entry.Entry.{Entry as EntrySpec};
 ghost use Rattle.btr_hist.specs.declared.entry.Entry.TheVariants.{Commit as CommitSpec};
 ghost use Rattle.btr_text.specs.declared.script.Line.TheVariants as lines;
-ghost use Rattle.btr_engine.specs.Engine.{history_of, is_stopped, IsAtRest, KeepsOpening};
-ghost use Rattle.btr_engine.specs.Step.{MayLackMemory};
+ghost use Rattle.btr_engine.specs.Engine.{is_stopped, IsEngineOf, IsAtRest, KeepsOpening};
+ghost use Rattle.btr_engine.specs.Snapshot.{IsSnapshotOf};
+ghost use Rattle.btr_engine.specs.Stage.{MayLackMemory};
 ghost use Rattle.btr_top.specs.Meaning.{Asks, Commits, meaning, on_stream, question};
 ghost use Rattle.btr_top.specs.Replies.{Replies};
 ghost use Rattle.btr_top.specs.Ask.{IsAnswerOrNoMemory};
-ghost use Rattle.btr_top.specs.EngineScript.{Answers, LineLeaves, store_of};
+ghost use Rattle.btr_top.specs.EngineScript.{AnswersFrom, LineLeaves, engine_of, history_after, store_of};
 
 use btr_base::{Bag, Range, Ranges};
 use btr_disk::Disk;
-use btr_engine::{Engine, StepFault};
+use btr_engine::{Engine, Snapshot, StepFault};
 use btr_hist::{Answer, Entry, Query, StreamQuery};
 use btr_text::{Line, LineReply, Reason};
 use std::alloc::{AllocError, Global};
@@ -25,21 +27,22 @@ pub(crate) fn answer_line<D: Disk>(
     engine: &mut Engine<D>,
     line: Option<Line>,
 ) -> LineReply
-    ensures { Answers engine.old (meaning (history_of engine.old) line) result engine.new }
+    ensures { (h : List EntrySpec) → IsEngineOf h engine.old → AnswersFrom h engine.old (meaning h line) result engine.new }
 {
     match line {
         Some(Line::Create { id }) => commit(alloc, engine, &Entry::Create { id }),
         Some(Line::Insert { id, added }) => insert(alloc, engine, id, added),
         Some(Line::Delete { id, from, to }) => delete(alloc, engine, id, from, to),
-        Some(Line::Ask { id, query }) => ask_stream(alloc, engine, id, query),
-        Some(Line::Streams) => ask(alloc, engine, &Query::Streams),
+        Some(Line::Ask { id, query }) => ask_stream_now(alloc, engine, id, query),
+        Some(Line::Streams) => ask_now(alloc, engine, &Query::Streams),
         None => LineReply::No(Reason::Line),
     }
 }
 
 /// Commits points to the stream with this id.
 fn insert<D: Disk>(alloc: Global, engine: &mut Engine<D>, id: u128, added: Bag) -> LineReply
-    ensures { Answers engine.old (meaning (history_of engine.old) (Some (lines.Insert id added))) result engine.new }
+    ensures { (h : List EntrySpec) → IsEngineOf h engine.old
+        → AnswersFrom h engine.old (meaning h (Some (lines.Insert id added))) result engine.new }
 {
     match engine.find(id) {
         None => LineReply::No(Reason::Stream),
@@ -58,7 +61,8 @@ fn insert<D: Disk>(alloc: Global, engine: &mut Engine<D>, id: u128, added: Bag) 
 /// Commits the removal of the points of a range from the stream with this id. The bounds, and whether the engine is
 /// stopped, are tested before memory is taken.
 fn delete<D: Disk>(alloc: Global, engine: &mut Engine<D>, id: u128, from: i64, to: i64) -> LineReply
-    ensures { Answers engine.old (meaning (history_of engine.old) (Some (lines.Delete id from to))) result engine.new }
+    ensures { (h : List EntrySpec) → IsEngineOf h engine.old
+        → AnswersFrom h engine.old (meaning h (Some (lines.Delete id from to))) result engine.new }
 {
     let Some(stream) = engine.find(id) else {
         return LineReply::No(Reason::Stream);
@@ -82,8 +86,9 @@ fn delete_range<D: Disk>(
     range: Range,
 ) -> LineReply
     requires not_stopped { is_stopped engine.old ≡ false }
-    requires testable { MayLackMemory (rejection (history_of engine.old) (CommitSpec stream (range ∷ []) [])) }
-    ensures { Answers engine.old (Commits (CommitSpec stream (range ∷ []) [])) result engine.new }
+    requires testable { (h : List EntrySpec) → IsEngineOf h engine.old → MayLackMemory (rejection h (CommitSpec stream (range ∷ []) [])) }
+    ensures { (h : List EntrySpec) → IsEngineOf h engine.old
+        → AnswersFrom h engine.old (Commits (CommitSpec stream (range ∷ []) [])) result engine.new }
 {
     let Ok(cut) = one_range(alloc, range) else {
         return LineReply::No(Reason::Memory);
@@ -106,10 +111,15 @@ fn one_range(alloc: Global, range: Range) -> Result<Ranges, AllocError>
 
 /// Commits an entry.
 fn commit<D: Disk>(alloc: Global, engine: &mut Engine<D>, entry: &Entry) -> LineReply
-    ensures replied { Replies (store_of engine.old) (Commits entry.now) result (store_of engine.new) }
+    ensures of { (h : List EntrySpec) → IsEngineOf h engine.old
+        → IsEngineOf (history_after h (Commits entry.now) result) engine.new }
+    ensures replied { (h : List EntrySpec) → IsEngineOf h engine.old → Replies (store_of (engine_of h engine.old)) (Commits entry.now)
+        result (store_of (engine_of (history_after h (Commits entry.now) result) engine.new)) }
     ensures kept { KeepsOpening engine.old engine.new }
-    ensures idle { is_stopped engine.old ≡ true → engine.new ≡ engine.old }
-    ensures leaves { D.is_observable → IsAtRest engine.old → LineLeaves engine.old engine.new (Commits entry.now) result }
+    ensures idle { (h : List EntrySpec) → IsEngineOf h engine.old → is_stopped engine.old ≡ true
+        → engine_of (history_after h (Commits entry.now) result) engine.new ≡ engine_of h engine.old }
+    ensures leaves { D.is_observable → (h : List EntrySpec) → IsAtRest h engine.old → LineLeaves (engine_of h engine.old)
+        (engine_of (history_after h (Commits entry.now) result) engine.new) (Commits entry.now) result }
 {
     match engine.step(alloc, entry) {
         Ok(receipt) => LineReply::Done {
@@ -123,20 +133,42 @@ fn commit<D: Disk>(alloc: Global, engine: &mut Engine<D>, entry: &Entry) -> Line
     }
 }
 
-/// Answers a line that is a question. Any other line fits no form here. It changes nothing.
-pub(crate) fn answer_question<D: Disk>(
+/// Answers a question about the stream with this id from the store as it is now. The id is looked up first, which takes no memory.
+fn ask_stream_now<D: Disk>(
     alloc: Global,
     engine: &Engine<D>,
-    line: Option<Line>,
+    id: u128,
+    query: StreamQuery,
 ) -> LineReply
-    ensures { IsAnswerOrNoMemory (history_of engine.now) (question (history_of engine.now) line) result }
+    ensures { (h : List EntrySpec) → IsEngineOf h engine.now
+        → IsAnswerOrNoMemory h (on_stream (stream_of h id) (λ stream. Asks (of_stream query stream))) result }
+{
+    match engine.find(id) {
+        None => LineReply::No(Reason::Stream),
+        Some(stream) => ask_now(alloc, engine, &query.of(stream)),
+    }
+}
+
+/// Answers a question from a snapshot of the store as it is now.
+fn ask_now<D: Disk>(alloc: Global, engine: &Engine<D>, query: &Query) -> LineReply
+    ensures { (h : List EntrySpec) → IsEngineOf h engine.now → IsAnswerOrNoMemory h (Asks query.now) result }
+{
+    match engine.admit() {
+        Ok(snapshot) => ask(alloc, &snapshot, query),
+        Err(_) => LineReply::No(Reason::Memory),
+    }
+}
+
+/// Answers a line that is a question. Any other line fits no form here.
+pub(crate) fn answer_question(alloc: Global, snapshot: &Snapshot, line: Option<Line>) -> LineReply
+    ensures { (h : List EntrySpec) → IsSnapshotOf h snapshot.now → IsAnswerOrNoMemory h (question h line) result }
 {
     let Some(line) = line else {
         return LineReply::No(Reason::Line);
     };
     match line {
-        Line::Ask { id, query } => ask_stream(alloc, engine, id, query),
-        Line::Streams => ask(alloc, engine, &Query::Streams),
+        Line::Ask { id, query } => ask_stream(alloc, snapshot, id, query),
+        Line::Streams => ask(alloc, snapshot, &Query::Streams),
         Line::Create { .. } | Line::Insert { .. } | Line::Delete { .. } => {
             LineReply::No(Reason::Line)
         }
@@ -144,21 +176,21 @@ pub(crate) fn answer_question<D: Disk>(
 }
 
 /// Answers a question about the stream with this id.
-fn ask_stream<D: Disk>(alloc: Global, engine: &Engine<D>, id: u128, query: StreamQuery) -> LineReply
-    ensures { IsAnswerOrNoMemory (history_of engine.now)
-        (on_stream (stream_of (history_of engine.now) id) (λ stream. Asks (of_stream query stream))) result }
+fn ask_stream(alloc: Global, snapshot: &Snapshot, id: u128, query: StreamQuery) -> LineReply
+    ensures { (h : List EntrySpec) → IsSnapshotOf h snapshot.now
+        → IsAnswerOrNoMemory h (on_stream (stream_of h id) (λ stream. Asks (of_stream query stream))) result }
 {
-    match engine.find(id) {
+    match snapshot.find(id) {
         None => LineReply::No(Reason::Stream),
-        Some(stream) => ask(alloc, engine, &query.of(stream)),
+        Some(stream) => ask(alloc, snapshot, &query.of(stream)),
     }
 }
 
 /// Answers a question.
-fn ask<D: Disk>(alloc: Global, engine: &Engine<D>, query: &Query) -> LineReply
-    ensures { IsAnswerOrNoMemory (history_of engine.now) (Asks query.now) result }
+fn ask(alloc: Global, snapshot: &Snapshot, query: &Query) -> LineReply
+    ensures { (h : List EntrySpec) → IsSnapshotOf h snapshot.now → IsAnswerOrNoMemory h (Asks query.now) result }
 {
-    match engine.answer(alloc, query) {
+    match snapshot.answer(alloc, query) {
         Ok(Answer::Found { version, rows }) => LineReply::Found { version, rows },
         Ok(Answer::Refused(refusal)) => LineReply::No(Reason::of_refusal(refusal)),
         Err(_) => LineReply::No(Reason::Memory),

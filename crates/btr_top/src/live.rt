@@ -1,20 +1,22 @@
 //! The command `live`, which runs lines on the store of a device.
-ghost use Rattle.std.specs.Prelude.{◌≡◌, ◌+◌, IfOk, OnErr, OnOk};
+ghost use Rattle.std.specs.Prelude.{◌≡◌, ◌+◌, List, IfOk, OnErr, OnOk};
 ghost use Rattle.btr_io.specs.Bytes.{Gives};
+ghost use Rattle.btr_hist.specs.declared.entry.Entry.{Entry as EntrySpec};
 ghost use Rattle.btr_text.specs.declared.reply.LineReply.{LineReply as ReplySpec};
-ghost use Rattle.btr_engine.specs.Engine.{history_of};
-ghost use Rattle.btr_engine.specs.Opening.{IsOpened};
+ghost use Rattle.btr_engine.specs.Engine.{IsEngineOf};
+ghost use Rattle.btr_open.specs.Opening.{IsOpened};
 ghost use Rattle.btr_top.specs.declared.script.TheConstants.{MAX_INPUT};
 ghost use Rattle.btr_top.specs.Meaning.{meaning};
 ghost use Rattle.btr_top.specs.Live.{LiveCause, ScriptCause};
-ghost use Rattle.btr_top.specs.EngineScript.{AddsReply, Answers, HasRun, HasRunPrefix};
+ghost use Rattle.btr_top.specs.EngineScript.{AddsReply, AnswersFrom, engine_of, HasRun, HasRunPrefix};
 
 use crate::ending::Ending;
 use crate::line::answer_line;
 use crate::script::{CommandResult, Transcript, open_refusal, read_lines};
 use btr_disk::Disk;
-use btr_engine::{Engine, open_store};
+use btr_engine::Engine;
 use btr_io::Source;
+use btr_open::open_store;
 use btr_text::{Line, ScriptLine};
 use std::alloc::{AllocError, Global};
 
@@ -75,8 +77,10 @@ fn answer_lines<D: Disk>(
     engine: &mut Engine<D>,
     lines: Vec<ScriptLine>,
 ) -> Result<Transcript, AllocError>
-    ensures all { IfOk result (λ t. HasRun engine.old lines.items engine.new t) }
-    ensures part { OnErr result (HasRunPrefix engine.old lines.items engine.new) }
+    ensures all { (h : List EntrySpec) → IsEngineOf h engine.old
+        → IfOk result (HasRun (engine_of h engine.old) lines.items engine.new) }
+    ensures part { (h : List EntrySpec) → IsEngineOf h engine.old
+        → OnErr result (HasRunPrefix (engine_of h engine.old) lines.items engine.new) }
 {
     let mut transcript = Transcript::new(alloc);
     for line in lines {
@@ -92,7 +96,8 @@ fn run_line<D: Disk>(
     line: Option<Line>,
     transcript: &mut Transcript,
 ) -> Result<(), AllocError>
-    ensures { (reply : ReplySpec) × Answers engine.old (meaning (history_of engine.old) line) reply engine.new
+    ensures { (h : List EntrySpec) → IsEngineOf h engine.old
+        → (reply : ReplySpec) × AnswersFrom h engine.old (meaning h line) reply engine.new
         × OnOk result (AddsReply reply transcript.old transcript.new) }
 {
     let reply = answer_line(alloc, engine, line);

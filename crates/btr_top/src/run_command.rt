@@ -17,8 +17,8 @@ use crate::format_store::format_store;
 use crate::live::run_live;
 use crate::script::CommandResult;
 use btr_disk::Disk;
-use btr_engine::held_is_sound;
 use btr_io::{Sink, Source};
+use btr_open::held_is_sound;
 use std::alloc::Global;
 
 /// What a run gives back.

@@ -2,15 +2,15 @@
 ghost use Rattle.std.specs.Prelude.{◌≡◌, ◌+◌, [], ◌++◌, IfOk, IfErr, OnOk};
 ghost use Rattle.btr_io.specs.Bytes.{Gives};
 ghost use Rattle.btr_text.specs.Input.{script_of};
-ghost use Rattle.btr_engine.specs.Opening.{IsNotOpened};
+ghost use Rattle.btr_open.specs.Opening.{IsNotOpened};
 ghost use Rattle.btr_top.specs.Script.{HasRead, InputCause, IsKept, IsTranscript, OpeningCause};
 ghost use Rattle.btr_top.specs.EngineScript.{AddsReply};
 
 use crate::ending::Ending;
 use crate::status::Status;
 use btr_disk::Disk;
-use btr_engine::{OpenCause, OpenFault};
 use btr_io::{ReadAllFault, Source, read_all};
+use btr_open::{OpenCause, OpenFault};
 use btr_text::{LineReply, ScriptLine, read_script, write_reply};
 use std::alloc::{AllocError, Global};
 

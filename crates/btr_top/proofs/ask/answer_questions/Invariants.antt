@@ -1,12 +1,13 @@
 -- The loop over the lines of a list of questions.
-use Rattle.std.proofs.Common.{◌≡◌, ◌++◌}
-use Rattle.btr_engine.specs.Engine.{history_of}
+use Rattle.std.proofs.Common.{◌≡◌, ◌++◌, List}
+use Rattle.btr_hist.specs.declared.entry.Entry.{Entry}
+use Rattle.btr_engine.specs.Snapshot.{IsSnapshotOf}
 use Rattle.btr_top.specs.EngineScript.{HasAnswered}
 use Rattle.btr_top.proofs.ask.answer_questions.Given as goal
 
 -- the lines up to here were answered, and the others are left
 abbrev pub invariant-loop-line : goal.invariant-loop-line
-invariant-loop-line g l = record {
+invariant-loop-line l = record {
   split : l.yielded ++ l.line-iterator.rest.items ≡ l.fn.lines.items;
-  has_answered : HasAnswered (history_of l.fn.engine) l.yielded l.transcript;
+  has_answered : (h : List Entry) → IsSnapshotOf h l.fn.snapshot → HasAnswered h l.yielded l.transcript;
 }
