@@ -68,6 +68,25 @@ fn latest_points(
 }
 
 #[test]
+fn a_snapshot_answers_as_before_after_later_commits(rt: HostRuntime) -> Result<(), Fail> {
+    let alloc = rt.alloc();
+    let mut board = small(alloc)?;
+    let snapshot = Snapshot::of(&board)?;
+    let shared = snapshot.share()?;
+    for index in 0..300u32 {
+        let entry = commit(alloc, 1, 10 + i64::from(index))?;
+        assert!(rt; add(alloc, &mut board, &entry).is_ok());
+        assert_eq!(rt; latest_points(alloc, &shared, 1)?, Some((1, 3)));
+    }
+    assert_eq!(rt; latest_points(alloc, &snapshot, 1)?, Some((1, 3)));
+    let later = Snapshot::of(&board)?;
+    assert_eq!(rt; latest_points(alloc, &later, 1)?, Some((301, 903)));
+    assert_eq!(rt; (snapshot.entries(), later.entries()), (3, 303));
+    assert_eq!(rt; (snapshot.latest(1), later.latest(1)), (Some(1), Some(301)));
+    Ok(())
+}
+
+#[test]
 fn a_snapshot_has_streams_versions_and_trees(rt: HostRuntime) -> Result<(), Fail> {
     let alloc = rt.alloc();
     let snapshot = Snapshot::of(&small(alloc)?)?;
