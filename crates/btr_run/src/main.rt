@@ -2,14 +2,15 @@
 //! [`btr_top::run`].
 #![tactic(auto)]
 
-ghost use Rattle.std.specs.Prelude.{◌≡◌, ◌↔◌, map, string_bytes, Some};
+ghost use Rattle.std.specs.Prelude.{◌≡◌, ◌↔◌, map, string_bytes, IfOk, Some};
 ghost use Rattle.btr_host.specs.declared.file_disk.Lock.TheVariants.{Shared};
-ghost use Rattle.btr_top.specs.Command.{command_of};
-ghost use Rattle.btr_top.specs.declared.command.Command.TheVariants.{Ask};
+ghost use Rattle.btr_words.specs.Words.{command_of};
+ghost use Rattle.btr_words.specs.declared.command.Command.TheVariants.{Ask};
 
 use btr_host::{FileDisk, Lock, NoDisk, StdSink, StdSource};
-use btr_top::{Command, read_words, run};
-use std::alloc::AllocError;
+use btr_top::run;
+use btr_words::{Command, read_words};
+use std::alloc::{AllocError, Global};
 use std::env;
 use std::io::ErrorKind;
 use std::process::ExitCode;
@@ -24,26 +25,37 @@ fn main(rt: HostRuntime) -> ExitCode {
 
 /// Runs the words of the command line on the device that the second of them names. The first is the program's name.
 fn run_words(rt: &HostRuntime, words: &[String]) -> u8 {
-    let alloc = rt.alloc();
+    match words {
+        [_, path, rest @ ..] => match lock_of(rt.alloc(), rest) {
+            Ok(lock) => run_on(rt, path.as_str(), lock, rest),
+            Err(_) => end_without_memory(rt),
+        },
+        _ => {
+            let mut source = StdSource::new(rt.stdin());
+            let mut sink = StdSink::new(rt.stdout());
+            run(rt, rt.alloc(), &[], &mut source, &mut sink, NoDisk::new()).status
+        }
+    }
+}
+
+/// Runs words on the device with this path.
+fn run_on(rt: &HostRuntime, path: &str, lock: Lock, words: &[String]) -> u8 {
     let mut source = StdSource::new(rt.stdin());
     let mut sink = StdSink::new(rt.stdout());
-    match words {
-        [_, path, rest @ ..] => match FileDisk::open(rt, path.as_str(), lock_of(rest)) {
-            Ok(disk) => run(rt, alloc, rest, &mut source, &mut sink, disk).status,
-            Err(_) => run(rt, alloc, rest, &mut source, &mut sink, NoDisk::new()).status,
-        },
-        _ => run(rt, alloc, &[], &mut source, &mut sink, NoDisk::new()).status,
+    match FileDisk::open(rt, path, lock) {
+        Ok(disk) => run(rt, rt.alloc(), words, &mut source, &mut sink, disk).status,
+        Err(_) => run(rt, rt.alloc(), words, &mut source, &mut sink, NoDisk::new()).status,
     }
 }
 
 /// The lock that a run takes on its device: a shared one for `ask`, which writes nothing there, and an exclusive one
-/// for all else.
-fn lock_of(words: &[String]) -> Lock
-    ensures { (result ≡ Shared) ↔ (command_of (map string_bytes words.now) ≡ Some Ask) }
+/// for all else. An `Err` means out of memory.
+fn lock_of(alloc: Global, words: &[String]) -> Result<Lock, AllocError>
+    ensures { IfOk result (λ l. (l ≡ Shared) ↔ (command_of (map string_bytes words.now) ≡ Some Ask)) }
 {
-    match read_words(words) {
-        Some(Command::Ask) => Lock::Shared,
-        _ => Lock::Exclusive,
+    match read_words(alloc, words)? {
+        Some(Command::Ask) => Ok(Lock::Shared),
+        _ => Ok(Lock::Exclusive),
     }
 }
 

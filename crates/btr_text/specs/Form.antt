@@ -5,10 +5,10 @@ use Rattle.btr_base.specs.Bag.{sort}
 use Rattle.btr_hist.specs.declared.query.StreamQuery.{StreamQuery}
 use Rattle.btr_hist.specs.declared.query.StreamQuery.TheVariants.{Points, Nearest, Aligned, Windows, Changes, Info}
 use Rattle.btr_text.specs.declared.script.Line.{Line}
-use Rattle.btr_text.specs.declared.script.Line.TheVariants.{Create, Insert, Delete, Ask, Streams}
+use Rattle.btr_text.specs.declared.script.Line.TheVariants.{Create, Insert, Delete, Feed, Flush, Discard, Ask, Streams}
 use Rattle.btr_text.specs.Word.{signed_of, unsigned_of, power_of, toward_of, id_of, at_of}
 
--- ---- commits
+-- ---- commits and feeds
 
 -- The point that a time and a value say.
 abbrev pub point_of : List ℕ → List ℕ → Option Point
@@ -20,6 +20,11 @@ points_of [] = Some []
 points_of (t ∷ []) = None
 points_of (t ∷ v ∷ ws) = option_and_then (λ p. option_map (λ ps. p ∷ ps) (points_of ws)) (point_of t v)
 
+-- An id, and points in order: `ID T V [T V ..]`.
+abbrev pub added_form : List (List ℕ) → Option (ℕ × List Point)
+added_form (id ∷ t ∷ ws) = option_and_then (λ i. option_map (λ ps. (i, sort ps)) (points_of (t ∷ ws))) (id_of id)
+added_form _ = None
+
 -- `create ID`.
 abbrev pub create_form : List (List ℕ) → Option Line
 create_form (id ∷ []) = option_map (λ i. Create i) (id_of id)
@@ -27,14 +32,27 @@ create_form _ = None
 
 -- `insert ID T V [T V ..]`.
 abbrev pub insert_form : List (List ℕ) → Option Line
-insert_form (id ∷ t ∷ ws) = option_and_then (λ i. option_map (λ ps. Insert i (sort ps)) (points_of (t ∷ ws))) (id_of id)
-insert_form _ = None
+insert_form ws = option_map (λ a. Insert a.0 a.1) (added_form ws)
 
 -- `delete ID S E`.
 abbrev pub delete_form : List (List ℕ) → Option Line
 delete_form (id ∷ s ∷ e ∷ []) =
     option_and_then (λ i. option_and_then (λ from. option_map (λ to. Delete i from to) (signed_of e)) (signed_of s)) (id_of id)
 delete_form _ = None
+
+-- `feed ID T V [T V ..]`.
+abbrev pub feed_form : List (List ℕ) → Option Line
+feed_form ws = option_map (λ a. Feed a.0 a.1) (added_form ws)
+
+-- `flush ID`.
+abbrev pub flush_form : List (List ℕ) → Option Line
+flush_form (id ∷ []) = option_map (λ i. Flush i) (id_of id)
+flush_form _ = None
+
+-- `discard ID`.
+abbrev pub discard_form : List (List ℕ) → Option Line
+discard_form (id ∷ []) = option_map (λ i. Discard i) (id_of id)
+discard_form _ = None
 
 -- ---- questions about one stream, after their name and the id
 
@@ -107,5 +125,8 @@ line_of (name ∷ ws) =
     if bytes_eq name (codes "create") then create_form ws
     else if bytes_eq name (codes "insert") then insert_form ws
     else if bytes_eq name (codes "delete") then delete_form ws
+    else if bytes_eq name (codes "feed") then feed_form ws
+    else if bytes_eq name (codes "flush") then flush_form ws
+    else if bytes_eq name (codes "discard") then discard_form ws
     else if bytes_eq name (codes "streams") then streams_form ws
     else ask_form name ws

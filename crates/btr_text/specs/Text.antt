@@ -14,7 +14,7 @@ use Rattle.btr_hist.specs.declared.answer.StreamRow.{StreamRow}
 use Rattle.btr_base.specs.declared.limits.TheConstants.{MAX_STREAMS, MAX_VERSIONS}
 use Rattle.btr_text.specs.declared.word.TheConstants.{SPACE, LINE_FEED}
 use Rattle.btr_text.specs.declared.reply.LineReply.{LineReply}
-use Rattle.btr_text.specs.declared.reply.LineReply.TheVariants.{Done, Found, No}
+use Rattle.btr_text.specs.declared.reply.LineReply.TheVariants.{Done, Held, Found, No}
 use Rattle.btr_text.specs.declared.reply.Reason.{Reason}
 use Rattle.btr_text.specs.declared.reply.Reason.TheVariants as reasons
 
@@ -94,8 +94,13 @@ rows_text (rows.Ranges rs) = flat_map range_row rs
 rows_text (rows.Info a) = info_row a
 rows_text (rows.Streams ss) = flat_map stream_row ss
 
+-- The line of a feed: the number of its points.
+abbrev pub held_text : ℕ → List ℕ
+held_text count = line_text (codes "held" ∷ decimal count ∷ [])
+
 -- The text of a reply.
 abbrev pub text : LineReply → List ℕ
 text (Done version) = ok_text version 0
+text (Held count) = held_text count
 text (Found version r) = ok_text version (row_count r) ++ rows_text r
 text (No reason) = line_text (codes "no" ∷ reason_words reason)

@@ -1,6 +1,7 @@
 ghost use Rattle.std.specs.Prelude.{◌≡◌, IfOk, option_map};
 ghost use Rattle.btr_text.specs.Word.{words_of};
-ghost use Rattle.btr_text.specs.Form.{point_of, points_of, create_form, insert_form, delete_form};
+ghost use Rattle.btr_text.specs.Form.{point_of, points_of, added_form, create_form, insert_form, delete_form};
+ghost use Rattle.btr_text.specs.Form.{feed_form, flush_form, discard_form};
 ghost use Rattle.btr_text.specs.Form.{range_form, nearest_form, aligned_form, windows_form, changes_form, info_form};
 ghost use Rattle.btr_text.specs.Form.{query_form, ask_form, streams_form, line_of};
 
@@ -25,6 +26,12 @@ pub fn read_form(alloc: Global, words: &[u8]) -> Result<Option<Line>, AllocError
         read_insert(alloc, rest)
     } else if name == b"delete".as_slice() {
         Ok(read_delete(rest))
+    } else if name == b"feed".as_slice() {
+        read_feed(alloc, rest)
+    } else if name == b"flush".as_slice() {
+        Ok(read_flush(rest))
+    } else if name == b"discard".as_slice() {
+        Ok(read_discard(rest))
     } else if name == b"streams".as_slice() {
         Ok(read_streams(rest))
     } else {
@@ -47,19 +54,9 @@ fn read_create(words: &[u8]) -> Option<Line>
 fn read_insert(alloc: Global, words: &[u8]) -> Result<Option<Line>, AllocError>
     ensures { IfOk result (λ l. l ≡ insert_form (words_of words.now)) }
 {
-    let Some((id, rest)) = next_word(words) else {
+    let Some((id, added)) = read_added(alloc, words)? else {
         return Ok(None);
     };
-    let Some(id) = read_id(id) else {
-        return Ok(None);
-    };
-    let Some(_) = next_word(rest) else {
-        return Ok(None);
-    };
-    let Some(points) = read_points(alloc, rest)? else {
-        return Ok(None);
-    };
-    let added = Bag::from_points(points);
     Ok(Some(Line::Insert { id, added }))
 }
 
@@ -78,6 +75,38 @@ fn read_delete(words: &[u8]) -> Option<Line>
         from: read_signed(from)?,
         to: read_signed(to)?,
     })
+}
+
+/// Reads `feed ID T V [T V ..]`, after its name.
+fn read_feed(alloc: Global, words: &[u8]) -> Result<Option<Line>, AllocError>
+    ensures { IfOk result (λ l. l ≡ feed_form (words_of words.now)) }
+{
+    let Some((id, added)) = read_added(alloc, words)? else {
+        return Ok(None);
+    };
+    Ok(Some(Line::Feed { id, added }))
+}
+
+/// Reads `flush ID`, after its name.
+fn read_flush(words: &[u8]) -> Option<Line>
+    ensures { result ≡ flush_form (words_of words.now) }
+{
+    let (id, rest) = next_word(words)?;
+    if let Some(_) = next_word(rest) {
+        return None;
+    }
+    Some(Line::Flush { id: read_id(id)? })
+}
+
+/// Reads `discard ID`, after its name.
+fn read_discard(words: &[u8]) -> Option<Line>
+    ensures { result ≡ discard_form (words_of words.now) }
+{
+    let (id, rest) = next_word(words)?;
+    if let Some(_) = next_word(rest) {
+        return None;
+    }
+    Some(Line::Discard { id: read_id(id)? })
 }
 
 /// Reads `streams`, after its name.
@@ -220,6 +249,25 @@ fn read_info(words: &[u8]) -> Option<StreamQuery>
         return None;
     }
     Some(StreamQuery::Info { at: read_at(at)? })
+}
+
+/// Reads `ID T V [T V ..]`: an id, and at least one point. The points are then in order.
+fn read_added(alloc: Global, words: &[u8]) -> Result<Option<(u128, Bag)>, AllocError>
+    ensures { IfOk result (λ a. a ≡ added_form (words_of words.now)) }
+{
+    let Some((id, rest)) = next_word(words) else {
+        return Ok(None);
+    };
+    let Some(id) = read_id(id) else {
+        return Ok(None);
+    };
+    let Some(_) = next_word(rest) else {
+        return Ok(None);
+    };
+    let Some(points) = read_points(alloc, rest)? else {
+        return Ok(None);
+    };
+    Ok(Some((id, Bag::from_points(points))))
 }
 
 /// Reads points: a time and a value each. Returns `None` if a word is no number or the last time has no value.

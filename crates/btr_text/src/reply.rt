@@ -92,6 +92,9 @@ pub enum LineReply {
     /// The line was done. This is the version that it made, 0 for a new stream.
     Done { version: u64 },
 
+    /// The points of a feed wait. This is their number.
+    Held { count: u32 },
+
     /// The answer to a question: the version and the rows. Of two versions it is the second, of `streams` the number of
     /// entries.
     Found { version: u64, rows: Rows },

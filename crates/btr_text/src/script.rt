@@ -16,6 +16,15 @@ pub enum Line {
     /// `delete ID S E`: one commit that removes the points with `from <= time < to`.
     Delete { id: u128, from: i64, to: i64 },
 
+    /// `feed ID T V [T V ..]`: these points wait in the feed of the stream until they are a commit.
+    Feed { id: u128, added: Bag },
+
+    /// `flush ID`: one commit that adds the points of the feed.
+    Flush { id: u128 },
+
+    /// `discard ID`: the points of the feed are dropped.
+    Discard { id: u128 },
+
     /// `range`, `nearest`, `aligned`, `windows`, `changes` or `info`, then ID and the words of the question: a question
     /// about one stream.
     Ask { id: u128, query: StreamQuery },

@@ -1,6 +1,6 @@
 ghost use Rattle.std.specs.Prelude.{◌≡◌, [], ◌∷◌, ◌++◌, length, take, map, flat_map, codes, decimal, OnOk, OnErr};
 ghost use Rattle.std.specs.List.{join_with_byte};
-ghost use Rattle.btr_text.specs.Text.{text, line_text, ok_text, reason_words};
+ghost use Rattle.btr_text.specs.Text.{text, line_text, ok_text, held_text, reason_words};
 
 use crate::reply::{LineReply, Reason};
 use crate::row::{append_rows, row_count};
@@ -12,7 +12,7 @@ use std::alloc::AllocError;
 /// Appends the text of a reply to `out`. It takes time linear in the text, and the memory that `out` needs to grow.
 /// An `Err` means out of memory, and leaves `out` as it was.
 ///
-/// A reply is `ok VERSION ROWS` and its rows, or `no WORD` with numbers. A row is `TIME VALUE` for a point, `START COUNT
+/// A reply is `ok VERSION ROWS` and its rows, `held COUNT`, or `no WORD` with numbers. A row is `TIME VALUE` for a point, `START COUNT
 /// SUM LEAST GREATEST` for a window, `FROM TO` for a changed range, `plain COUNT SUM [LEAST GREATEST]` for all points of
 /// a version, and `ID LATEST plain` for a stream. Each line ends with a line feed, and one space separates two words.
 /// Numbers are plain decimal. An id is hyphenated and in lower case (RFC 9562).
@@ -35,6 +35,7 @@ fn append_reply(reply: &LineReply, out: &mut Vec<u8>) -> Result<(), AllocError>
 {
     match reply {
         LineReply::Done { version } => append_ok(out, *version, 0),
+        LineReply::Held { count } => append_held(out, *count),
         LineReply::Found { version, rows } => {
             append_ok(out, *version, row_count(rows))?;
             append_rows(out, rows)
@@ -58,6 +59,15 @@ fn append_ok(out: &mut Vec<u8>, version: u64, rows: usize) -> Result<(), AllocEr
             second.format(rows).as_bytes(),
         ],
     )
+}
+
+/// Appends the line of a feed. An `Err` may leave a part of it.
+fn append_held(out: &mut Vec<u8>, count: u32) -> Result<(), AllocError>
+    ensures ok { OnOk result (out.new.items ≡ out.old.items ++ held_text count) }
+    ensures err { OnErr result (take (length out.old.items) out.new.items ≡ out.old.items) }
+{
+    let mut text = Buffer::new();
+    append_line(out, b"held", &[text.format(count).as_bytes()])
 }
 
 /// Appends the line of a refusal. An `Err` may leave a part of it.

@@ -1,5 +1,7 @@
 -- why a format ends so
 mod FormatCauses
+-- the points that wait
+mod WaitingLemmas
 -- what lines do to a store, and to an engine
 mod StoppedStores
 mod KeptOpening
@@ -13,7 +15,9 @@ mod OpenedStore
 mod AskedLines
 -- if nothing fails
 mod BlocksNeeded
+mod FeedRoom
 mod BenignStatuses
 mod LiveCompletes
 mod AskCompletes
 mod Meanings
+mod FeedLines

@@ -20,10 +20,11 @@ use Rattle.btr_top.specs.declared.ending.Ending.{Ending}
 use Rattle.btr_top.specs.declared.ending.Ending.TheVariants.{Usage, NoSource, TooLong, OutOfMemory, NoDevice, NoStore, Damaged, Occupied, TooSmall, Formatted, Replied}
 use Rattle.btr_top.specs.declared.status.Status.{Status}
 use Rattle.btr_top.specs.Ending.{status_of, text_of, Writes, Shows}
-use Rattle.btr_top.specs.Replies.{Store, needs_of}
+use Rattle.btr_top.specs.Replies.{Store, begun, needs_of}
 use Rattle.btr_top.specs.Status.{code_of, status_of_replies}
 use Rattle.btr_top.specs.Script.{HasRead, InputCause, ExceedsInputLimit}
 use Rattle.btr_top.specs.Live.{HoldsStore, RunsOnDevice, ScriptCause, LiveCause, CanLive}
+use Rattle.btr_top.proofs.FeedRoom.{pending-none}
 use Rattle.btr_top.proofs.BenignStatuses.{IsBenignStatus, benign_code, benign_script}
 
 never : (b : Bool) → (b ≡ true → ⊥) → b ≡ false
@@ -57,7 +58,7 @@ benign_input source given rest works within (TooSmall asked has) why = absurd wh
 benign_input source given rest works within (Formatted blocks) why = absurd why
 benign_input source given rest works within (Replied transcript) why = absurd why
 
-module _ {S D : Type 0} (source : SourceGhosts S) (disk : Ghosts D) (given rest : S) (old new : D) (sound : HeldIsSound) (can : CanLive source disk given old) (source_told : source.is_observable) (told : disk.is_observable) (source_works : StreamRose (source.faults given) (source.faults rest) → ⊥) (device_works : Rose (disk.faults old) (disk.faults new) → ⊥) where
+module _ {S D : Type 0} (source : SourceGhosts S) (disk : Ghosts D) (batch : ℕ) (given rest : S) (old new : D) (sound : HeldIsSound) (can : CanLive source disk given old) (source_told : source.is_observable) (told : disk.is_observable) (source_works : StreamRose (source.faults given) (source.faults rest) → ⊥) (device_works : Rose (disk.faults old) (disk.faults new) → ⊥) where
   holds : HoldsHistory (disk.size old) (disk.contents old) can.history
   holds = record { blocks = can.blocks; tail = can.tail; holds = can.holds }
 
@@ -74,14 +75,14 @@ module _ {S D : Type 0} (source : SourceGhosts S) (disk : Ghosts D) (given rest 
       let tails : is.tail ≡ can.tail = (Extents-one image first_gate (bodies first.history) (bodies can.history) is.tail can.tail is.holds.extents is.holds.closed can.holds.extents can.holds.closed).1 in
       is.same_left ∙ ap (λ b. left b is.tail) blocks ∙ ap (λ t. left can.blocks t) tails
 
-  benign_replies : (lines : List ScriptLine) (replies : List LineReply) → lines ≡ script_of (source.left given) → RunsOnDevice disk lines replies old new → IsBenignStatus (code_of (status_of_replies replies))
+  benign_replies : (lines : List ScriptLine) (replies : List LineReply) → lines ≡ script_of (source.left given) → RunsOnDevice disk batch lines replies old new → IsBenignStatus (code_of (status_of_replies replies))
   benign_replies lines replies all runs =
-      let running : runs.last.stopped ≡ false = never runs.last.stopped (λ stopped. device_works (runs.failed stopped)) in
+      let running : runs.last.store.stopped ≡ false = never runs.last.store.stopped (λ stopped. device_works (runs.failed stopped)) in
       let needs : needs_of lines ≡ needs_of (script_of (source.left given)) = ap (λ (ls : List ScriptLine). needs_of ls) all in
       let same : runs.first.left ≡ left can.blocks can.tail = same_room runs.first (runs.before told) in
-      benign_code (status_of_replies replies) (benign_script runs.first runs.last lines replies runs.script (omega (arith, needs, same, can.room)) running)
+      benign_code (status_of_replies replies) (benign_script batch (begun runs.first) runs.last lines replies runs.script (λ k. omega (arith, pending-none k, needs, same, can.room)) running)
 
-  benign_cause : (lines : List ScriptLine) → HasRead source lines given rest → (e : Ending) → ScriptCause disk lines old new e → IsBenignStatus (status_of e)
+  benign_cause : (lines : List ScriptLine) → HasRead source lines given rest → (e : Ending) → ScriptCause disk batch lines old new e → IsBenignStatus (status_of e)
   benign_cause lines read Usage why = absurd why.0
   benign_cause lines read NoSource why = absurd why.0
   benign_cause lines read TooLong why = absurd why.0
@@ -97,9 +98,9 @@ module _ {S D : Type 0} (source : SourceGhosts S) (disk : Ghosts D) (given rest 
       let all : lines ≡ script_of (source.left given) = read.same_lines ∙ ap (λ (i : List ℕ). script_of i) (read.all source_told) in
       subst (λ (s : Status). IsBenignStatus (code_of s)) (sym why.is_transcript.same_status) (benign_replies lines why.replies all why.runs)
 
-  pub benign_live : (e : Ending) → LiveCause source disk given rest old new e → IsBenignStatus (status_of e)
+  pub benign_live : (e : Ending) → LiveCause source disk batch given rest old new e → IsBenignStatus (status_of e)
   benign_live e why =
       ⊎_elim
       (λ unread. benign_input source given rest source_works (λ exceeds. not_too_long exceeds) e unread.0)
-      (λ (read : (lines : List ScriptLine) × HasRead source lines given rest × ScriptCause disk lines old new e). benign_cause read.0 read.1 e read.2)
+      (λ (read : (lines : List ScriptLine) × HasRead source lines given rest × ScriptCause disk batch lines old new e). benign_cause read.0 read.1 e read.2)
       why

@@ -26,7 +26,7 @@ use Rattle.btr_engine.specs.declared.engine.Engine.{Engine}
 use Rattle.btr_engine.specs.Engine.{is_stopped, IsEngineOf}
 use Rattle.btr_engine.specs.Stage.{MayLackMemory}
 use Rattle.btr_engine.proofs.EngineLemmas.{known_below, few_versions_of}
-use Rattle.btr_top.specs.Meaning.{Meaning, Commits, Asks, Refuses, on_stream, delete, meaning, question}
+use Rattle.btr_top.specs.Meaning.{Meaning, Commits, Asks, Holds, Refuses, on_stream, delete, question}
 use Rattle.btr_top.specs.Replies.{Store, Replies}
 use Rattle.btr_top.specs.Ask.{IsAnswerOrNoMemory}
 use Rattle.btr_top.specs.EngineScript.{engine_of, history_after, store_of, Answers, AnswersFrom}
@@ -77,6 +77,7 @@ answers_stopped h e entry entries of stopped same = record {
 abbrev pub IsQuestion : Meaning → Type 0
 IsQuestion (Commits e) = ⊥
 IsQuestion (Asks query) = Unit {0}
+IsQuestion (Holds count) = Unit {0}
 IsQuestion (Refuses reason) = Unit {0}
 
 on_stream-question : (found : Option ℕ) (query : StreamQuery) → IsQuestion (on_stream found (λ s. Asks (of_stream query s)))
@@ -88,6 +89,9 @@ question-is h None = tt
 question-is h (Some (lines.Create id)) = tt
 question-is h (Some (lines.Insert id added)) = tt
 question-is h (Some (lines.Delete id from to)) = tt
+question-is h (Some (lines.Feed id added)) = tt
+question-is h (Some (lines.Flush id)) = tt
+question-is h (Some (lines.Discard id)) = tt
 question-is h (Some (lines.Ask id query)) = on_stream-question _ query
 question-is h (Some lines.Streams) = tt
 
@@ -98,12 +102,14 @@ replies_question s (Asks query) reply is answered =
     (λ e. inl (record { allowed = tt; replied = e; store = refl }))
     (λ e. inr (inr (record { needs = tt; replied = e; store = refl })))
     answered
+replies_question s (Holds count) reply is answered = inl (record { allowed = tt; replied = answered; store = refl })
 replies_question s (Refuses reason) reply is answered = inl (record { allowed = tt; replied = answered; store = refl })
 
 -- a question leaves the history as it is
 history_after-question : (h : List Entry) (m : Meaning) (reply : LineReply) → IsQuestion m → h ≡ history_after h m reply
 history_after-question h (Commits e) reply is = absurd is
 history_after-question h (Asks query) reply is = refl
+history_after-question h (Holds count) reply is = refl
 history_after-question h (Refuses reason) reply is = refl
 
 -- a question leaves the engine as it is
@@ -117,6 +123,6 @@ answers_question h e m reply of is answered =
       leaves = λ told rest. inl refl;
     })
 
--- the lines that are questions, and one that is none
-pub answers_ask : {D : Type 0} {disk : Ghosts D} (h : List Entry) (e : Engine D disk) (id : ℕ) (query : StreamQuery) (reply : LineReply) → IsEngineOf h e → IsAnswerOrNoMemory h (on_stream (stream_of h id) (λ stream. Asks (of_stream query stream))) reply → AnswersFrom h e (meaning h (Some (lines.Ask id query))) reply e
+-- a question about a stream
+pub answers_ask : {D : Type 0} {disk : Ghosts D} (h : List Entry) (e : Engine D disk) (id : ℕ) (query : StreamQuery) (reply : LineReply) → IsEngineOf h e → IsAnswerOrNoMemory h (on_stream (stream_of h id) (λ stream. Asks (of_stream query stream))) reply → AnswersFrom h e (on_stream (stream_of h id) (λ stream. Asks (of_stream query stream))) reply e
 answers_ask h e id query reply of answered = answers_question h e _ reply of (on_stream-question (stream_of h id) query) answered

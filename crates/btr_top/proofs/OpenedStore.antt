@@ -16,8 +16,9 @@ use Rattle.btr_open.specs.Opening.{IsOpened}
 use Rattle.btr_top.specs.declared.script.Transcript.{Transcript}
 use Rattle.btr_top.specs.declared.ending.Ending.{Ending}
 use Rattle.btr_top.specs.declared.ending.Ending.TheVariants.{OutOfMemory, Replied}
-use Rattle.btr_top.specs.Live.{HoldsSafely, RunsOnDevice, RunsPrefix, RunsAll, ScriptCause}
-use Rattle.btr_top.specs.EngineScript.{EngineOf, engine_of, store_of, RunsLines, HasRun, HasRunPrefix}
+use Rattle.btr_top.specs.Feeds.{Waiting, none_waiting}
+use Rattle.btr_top.specs.Live.{HoldsStore, HoldsSafely, RunsOnDevice, RunsPrefix, RunsAll, ScriptCause}
+use Rattle.btr_top.specs.EngineScript.{EngineOf, LaneOf, engine_of, lane_of, store_of, state_of, RunsLines, HasRun, HasRunPrefix}
 use Rattle.btr_top.proofs.ScriptLemmas.{script_of_run, opening_of_run, rest_of_run}
 use Rattle.btr_top.proofs.Crashes.{crash_leaves}
 
@@ -33,51 +34,51 @@ held_before {D} disk old first opened h rest told =
     subst (λ (c : Image). HoldsHistoryTo (disk.size old) c (blocks_of first) (tail_of first) h) bytes sized
 
 -- the device has as many blocks as before the opening
-size_of_run : {D : Type 0} (disk : Ghosts D) (old : D) (first : EngineOf disk) → IsOpened disk old first.engine → (last : EngineOf disk) (lines : List ScriptLine) (replies : List LineReply) → RunsLines first lines replies last → disk.size (device last.engine) ≡ disk.size old
-size_of_run disk old first opened last lines replies runs = (opening_of_run first last lines replies runs).device_kept.same_size ∙ opened.kept.counts.same_size
+size_of_run : {D : Type 0} (disk : Ghosts D) (batch : ℕ) (old : D) (first : LaneOf disk) → IsOpened disk old first.on.engine → (last : LaneOf disk) (lines : List ScriptLine) (replies : List LineReply) → RunsLines batch first lines replies last → disk.size (device last.on.engine) ≡ disk.size old
+size_of_run disk batch old first opened last lines replies runs = (opening_of_run batch first last lines replies runs).device_kept.same_size ∙ opened.kept.counts.same_size
 
-module _ {D : Type 0} (disk : Ghosts D) (old : D) (first : Engine D disk) (opened : IsOpened disk old first) (last : Engine D disk) where
-  pub size_all : (lines : List ScriptLine) (transcript : Transcript) → ((h : List Entry) → IsEngineOf h first → HasRun (engine_of h first) lines last transcript) → disk.size (device last) ≡ disk.size old
+module _ {D : Type 0} (disk : Ghosts D) (batch : ℕ) (old : D) (first : Engine D disk) (opened : IsOpened disk old first) (last : Engine D disk) where
+  pub size_all : (lines : List ScriptLine) (transcript : Transcript) → ((h : List Entry) → IsEngineOf h first → (w : Waiting) × HasRun batch (lane_of h first none_waiting) lines last w transcript) → disk.size (device last) ≡ disk.size old
   size_all lines transcript runs =
       let has = runs opened.some.0 opened.some.1 in
-      size_of_run disk old (engine_of opened.some.0 first) opened (engine_of has.history last) lines has.replies has.runs
+      size_of_run disk batch old (lane_of opened.some.0 first none_waiting) opened (lane_of has.1.history last has.0) lines has.1.replies has.1.runs
 
-  pub size_prefix : (lines : List ScriptLine) → ((h : List Entry) → IsEngineOf h first → HasRunPrefix (engine_of h first) lines last) → disk.size (device last) ≡ disk.size old
+  pub size_prefix : (lines : List ScriptLine) → ((h : List Entry) → IsEngineOf h first → HasRunPrefix batch (lane_of h first none_waiting) lines last) → disk.size (device last) ≡ disk.size old
   size_prefix lines runs =
       let has = runs opened.some.0 opened.some.1 in
-      size_of_run disk old (engine_of opened.some.0 first) opened (engine_of has.history last) (take has.count lines) has.replies has.runs
+      size_of_run disk batch old (lane_of opened.some.0 first none_waiting) opened (lane_of has.history last has.waiting) (take has.count lines) has.replies has.runs
 
 -- `first` is of the history of the opening
-module _ {D : Type 0} (disk : Ghosts D) (only_now : disk.is_observable → (d : D) (c : Image) → disk.images_since d (disk.calls d) c → disk.images_now d c) (counts_now : disk.is_observable → (d : D) (t : ℕ) (c : Image) → t ≤ disk.calls d → disk.images_now d c → disk.images_since d t c) (old : D) (first : Engine D disk) (opened : IsOpened disk old first) where
-  abbrev start : EngineOf disk
-  start = engine_of opened.some.0 first
+module _ {D : Type 0} (disk : Ghosts D) (only_now : disk.is_observable → (d : D) (c : Image) → disk.images_since d (disk.calls d) c → disk.images_now d c) (counts_now : disk.is_observable → (d : D) (t : ℕ) (c : Image) → t ≤ disk.calls d → disk.images_now d c → disk.images_since d t c) (batch : ℕ) (old : D) (first : Engine D disk) (opened : IsOpened disk old first) where
+  abbrev start : LaneOf disk
+  start = lane_of opened.some.0 first none_waiting
 
   at_rest : disk.is_observable → IsAtRest opened.some.0 first
   at_rest told = (opened.some.2 told).at_rest
 
-  module _ (last : EngineOf disk) (lines : List ScriptLine) (replies : List LineReply) (runs : RunsLines start lines replies last) where
-    safe : disk.is_observable → is_stopped last.engine ≡ false → HoldsSafely disk (device last.engine) (store_of last)
+  module _ (last : LaneOf disk) (lines : List ScriptLine) (replies : List LineReply) (runs : RunsLines batch start lines replies last) where
+    safe : disk.is_observable → is_stopped last.on.engine ≡ false → HoldsSafely disk (device last.on.engine) (store_of last.on)
     safe told not_stopped =
-        let rest : IsAtRest last.history last.engine = rest_of_run start last lines replies told runs (at_rest told) not_stopped in record {
-          holds = record { blocks = blocks_of last.engine; tail = tail_of last.engine; holds = rest.holds };
+        let rest : IsAtRest last.on.history last.on.engine = rest_of_run batch start last lines replies told runs (at_rest told) not_stopped in record {
+          holds = record { blocks = blocks_of last.on.engine; tail = tail_of last.on.engine; holds = rest.holds };
           only = rest.only;
         }
 
     -- the device of a stopped engine has failed since the opening
-    failed : KeepsOpening first last.engine → is_stopped last.engine ≡ true → Rose (disk.faults old) (disk.faults (device last.engine))
+    failed : KeepsOpening first last.on.engine → is_stopped last.on.engine ≡ true → Rose (disk.faults old) (disk.faults (device last.on.engine))
     failed kept stopped =
-        rose-from (disk.faults old) (faults_at_open last.engine) (disk.faults (device last.engine))
+        rose-from (disk.faults old) (faults_at_open last.on.engine) (disk.faults (device last.on.engine))
         (omega (arith, opened.synced.before.more_faults, ap disk.faults kept.synced))
-        (stopped_by_fault last.engine stopped)
+        (stopped_by_fault last.on.engine stopped)
 
-    runs_on : RunsOnDevice disk lines replies old (device last.engine)
+    runs_on : RunsOnDevice disk batch lines replies old (device last.on.engine)
     runs_on =
-        let kept : KeepsOpening first last.engine = opening_of_run start last lines replies runs in record {
-          first = store_of start;
-          last = store_of last;
+        let kept : KeepsOpening first last.on.engine = opening_of_run batch start last lines replies runs in record {
+          first = store_of start.on;
+          last = state_of last;
           follows = opened.some.1.follows;
           not_stopped = opened.runs;
-          script = script_of_run start last lines replies runs;
+          script = script_of_run batch start last lines replies runs;
           before = λ told. record {
             blocks = blocks_of first;
             tail = tail_of first;
@@ -86,25 +87,25 @@ module _ {D : Type 0} (disk : Ghosts D) (only_now : disk.is_observable → (d : 
           };
           after = safe;
           failed = failed kept;
-          crash = λ told. crash_leaves disk told (only_now told) (counts_now told) old start last lines replies (opened.kept.unwritten told) (at_rest told) (sym kept.device_kept.same_size) runs;
+          crash = λ told. crash_leaves disk told (only_now told) (counts_now told) batch old start.on last lines replies (opened.kept.unwritten told) (at_rest told) (sym kept.device_kept.same_size) runs;
         }
 
-  pub ended_all : (last : Engine D disk) (lines : List ScriptLine) (transcript : Transcript) (new : D) (e : Ending) → e ≡ Replied transcript → new ≡ device last → ((h : List Entry) → IsEngineOf h first → HasRun (engine_of h first) lines last transcript) → ScriptCause disk lines old new e
+  pub ended_all : (last : Engine D disk) (lines : List ScriptLine) (transcript : Transcript) (new : D) (e : Ending) → e ≡ Replied transcript → new ≡ device last → ((h : List Entry) → IsEngineOf h first → (w : Waiting) × HasRun batch (lane_of h first none_waiting) lines last w transcript) → ScriptCause disk batch lines old new e
   ended_all last lines transcript new e is same run =
       let has = run opened.some.0 opened.some.1 in
-      subst (ScriptCause disk lines old new) (sym is)
-      (subst (λ (d : D). RunsAll disk lines old d transcript) (sym same) (record {
-        replies = has.replies;
-        runs = runs_on (engine_of has.history last) lines has.replies has.runs;
-        is_transcript = has.is_transcript;
+      subst (ScriptCause disk batch lines old new) (sym is)
+      (subst (λ (d : D). RunsAll disk batch lines old d transcript) (sym same) (record {
+        replies = has.1.replies;
+        runs = runs_on (lane_of has.1.history last has.0) lines has.1.replies has.1.runs;
+        is_transcript = has.1.is_transcript;
       }))
 
-  pub ended_prefix : (last : Engine D disk) (lines : List ScriptLine) (new : D) (e : Ending) → e ≡ OutOfMemory → new ≡ device last → ((h : List Entry) → IsEngineOf h first → HasRunPrefix (engine_of h first) lines last) → ScriptCause disk lines old new e
+  pub ended_prefix : (last : Engine D disk) (lines : List ScriptLine) (new : D) (e : Ending) → e ≡ OutOfMemory → new ≡ device last → ((h : List Entry) → IsEngineOf h first → HasRunPrefix batch (lane_of h first none_waiting) lines last) → ScriptCause disk batch lines old new e
   ended_prefix last lines new e is same run =
       let has = run opened.some.0 opened.some.1 in
-      subst (ScriptCause disk lines old new) (sym is)
-      (inr (subst (λ (d : D). RunsPrefix disk lines old d) (sym same) (record {
+      subst (ScriptCause disk batch lines old new) (sym is)
+      (inr (subst (λ (d : D). RunsPrefix disk batch lines old d) (sym same) (record {
         count = has.count;
         replies = has.replies;
-        runs = runs_on (engine_of has.history last) (take has.count lines) has.replies has.runs;
+        runs = runs_on (lane_of has.history last has.waiting) (take has.count lines) has.replies has.runs;
       })))

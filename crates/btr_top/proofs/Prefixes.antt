@@ -10,7 +10,8 @@ use Rattle.btr_text.specs.declared.reply.LineReply.{LineReply}
 use Rattle.btr_text.specs.declared.reply.LineReply.TheVariants.{No}
 use Rattle.btr_text.specs.declared.reply.Reason.TheVariants as reasons
 use Rattle.btr_engine.specs.Holds.{HoldsHistory}
-use Rattle.btr_top.specs.Meaning.{Commits, meaning}
+use Rattle.btr_top.specs.Meaning.{Meaning, Commits, meaning}
+use Rattle.btr_top.specs.Replies.{State, RepliesToLine}
 use Rattle.btr_top.specs.Crash.{InFlight, IsInFlight, HoldsPrefix}
 
 -- the second history has more entries than the first
@@ -37,21 +38,27 @@ holds_whole is_in_flight size least h k c enough grows holds =
     inl (length h, enough, subst (λ (x : List Entry). HoldsHistory size c x) (sym seam) holds)
 
 -- the first line was in flight
-pub in_flight_first : (lines : List ScriptLine) (replies : List LineReply) (line : ScriptLine) (reply : LineReply) (h : List Entry) (e : Entry) → reply ≡ No reasons.Device → meaning h line.line ≡ Commits e → IsInFlight (line ∷ lines) (reply ∷ replies) h e
-in_flight_first lines replies line reply h e replied asked = record {
+pub in_flight_first : (batch : ℕ) (first : State) (lines : List ScriptLine) (replies : List LineReply) (line : ScriptLine) (reply : LineReply) (e : Entry) → reply ≡ No reasons.Device → meaning batch first.store.history first.waiting line.line ≡ Commits e → IsInFlight batch first (line ∷ lines) (reply ∷ replies) first.store.history e
+in_flight_first batch first lines replies line reply e replied asked = record {
   index = 0;
   line = line;
+  state = first;
   at_line = refl;
   failed = ap (λ (r : LineReply). Some r) replied;
+  reached = refl;
+  history = refl;
   asked = asked;
 }
 
 -- a later line was in flight
-pub in_flight_later : (lines : List ScriptLine) (replies : List LineReply) (line : ScriptLine) (reply : LineReply) (h : List Entry) (e : Entry) → IsInFlight lines replies h e → IsInFlight (line ∷ lines) (reply ∷ replies) h e
-in_flight_later lines replies line reply h e is = record {
+pub in_flight_later : (batch : ℕ) (first next : State) (m : Meaning) (lines : List ScriptLine) (replies : List LineReply) (line : ScriptLine) (reply : LineReply) (h : List Entry) (e : Entry) → RepliesToLine batch first line.line m reply next → IsInFlight batch next lines replies h e → IsInFlight batch first (line ∷ lines) (reply ∷ replies) h e
+in_flight_later batch first next m lines replies line reply h e one is = record {
   index = suc is.index;
   line = is.line;
+  state = is.state;
   at_line = is.at_line;
   failed = is.failed;
+  reached = (next, m, one, is.reached);
+  history = is.history;
   asked = is.asked;
 }

@@ -12,15 +12,20 @@ use Rattle.btr_text.specs.declared.reply.Reason.TheVariants as reasons
 use Rattle.btr_engine.specs.Holds.{HoldsHistory}
 use Rattle.btr_engine.specs.Step.{IsBeforeOrAfter}
 use Rattle.btr_top.specs.Meaning.{Meaning, Commits, meaning}
-use Rattle.btr_top.specs.Replies.{Store, Replies}
+use Rattle.btr_top.specs.Replies.{Store, State, begun, RepliesToLine, RunsScript}
 
--- The entry was in flight when the device failed: a line asked for it after this history, and its reply was `no device`.
-pub record IsInFlight (lines : List ScriptLine) (replies : List LineReply) (h : List Entry) (e : Entry) : Type 0 where
+-- The entry was in flight when the device failed: after the lines before it, which left this history, a line asked for it, and its
+-- reply was `no device`. The run began with the state `first`.
+pub record IsInFlight (batch : ℕ) (first : State) (lines : List ScriptLine) (replies : List LineReply) (h : List Entry)
+    (e : Entry) : Type 0 where
   pub index : ℕ
   pub line : ScriptLine
+  pub state : State
   pub at_line : slice_get lines index ≡ Some line
   pub failed : slice_get replies index ≡ Some (No reasons.Device)
-  pub asked : meaning h line.line ≡ Commits e
+  pub reached : RunsScript batch first (take index lines) (take index replies) state
+  pub history : state.store.history ≡ h
+  pub asked : meaning batch h state.waiting line.line ≡ Commits e
 
 -- Which entries were in flight, and after which history: in the clauses below, `IsInFlight` of the lines and replies of the run.
 abbrev pub InFlight : Type 1
@@ -46,12 +51,12 @@ CommitCalls (Done version) before after = CountedTimes 4 before after
 CommitCalls (No reasons.Device) before after = Rose before after × (after ≤ before + 4)
 CommitCalls reply before after = ⊥
 
-module _ {D : Type 0} (disk : Ghosts D) (is_in_flight : InFlight) (last : Store) (new : D) where
-  -- The store was on the device `d`, and the run went on to the device `new` and the store `last`. A crash at `d` leaves the
+module _ {D : Type 0} (disk : Ghosts D) (batch : ℕ) (is_in_flight : InFlight) (last : State) (new : D) where
+  -- The store was on the device `d`, and the run went on to the device `new` and the state `last`. A crash at `d` leaves the
   -- store's history. A crash at any moment from `d` to `new` leaves a prefix of the last history that has all its entries.
   pub record Keeps (d : D) (s : Store) : Type 0 where
     pub now : (c : Image) → disk.images_now d c → HoldsStoreOrMore is_in_flight (disk.size new) s c
-    pub since : Leaves disk.calls disk.images_since d new (HoldsPrefix is_in_flight (disk.size new) (length s.history) last.history)
+    pub since : Leaves disk.calls disk.images_since d new (HoldsPrefix is_in_flight (disk.size new) (length s.history) last.store.history)
 
   -- What a line did to the device: nothing; or the calls that commit an entry, in which a crash leaves the history before the line, or
   -- that with the entry.
@@ -62,25 +67,27 @@ module _ {D : Type 0} (disk : Ghosts D) (is_in_flight : InFlight) (last : Store)
       × Leaves disk.calls disk.images_since d c (IsBeforeOrAfter (disk.size new) h e))
 
   -- There is a device after each line, and a crash from then on keeps the entries of the lines so far. `d` and `s` are the device and
-  -- the store before these lines.
-  abbrev pub KeepsEachLine : D → Store → List ScriptLine → List LineReply → Type 0
-  KeepsEachLine d s [] [] = Keeps d s × (d ≡ new) × (s ≡ last)
+  -- the state before these lines.
+  abbrev pub KeepsEachLine : D → State → List ScriptLine → List LineReply → Type 0
+  KeepsEachLine d s [] [] = Keeps d s.store × (d ≡ new) × (s ≡ last)
   KeepsEachLine d s [] (reply ∷ replies) = ⊥
   KeepsEachLine d s (line ∷ lines) [] = ⊥
   KeepsEachLine d s (line ∷ lines) (reply ∷ replies) =
-      Keeps d s × (c : D) × (t : Store) × Replies s (meaning s.history line.line) reply t
-      × LineMoves d c s.history (meaning s.history line.line) reply × KeepsEachLine c t lines replies
+      Keeps d s.store × (c : D) × (t : State) × (m : Meaning) × RepliesToLine batch s line.line m reply t
+      × LineMoves d c s.store.history m reply × KeepsEachLine c t lines replies
 
-module _ {D : Type 0} (disk : Ghosts D) (lines : List ScriptLine) (replies : List LineReply) where
-  -- What a crash leaves of a run from the device `old` and the store `first` to the device `new` and the store `last`.
-  pub record CrashLeavesPrefix (first last : Store) (old new : D) : Type 0 where
+module _ {D : Type 0} (disk : Ghosts D) (batch : ℕ) (lines : List ScriptLine) (replies : List LineReply) where
+  -- What a crash leaves of a run from the device `old` and the store `first` to the device `new` and the state `last`.
+  pub record CrashLeavesPrefix (first : Store) (last : State) (old new : D) : Type 0 where
     -- The opening of the store left the device so, and wrote nothing.
     pub opened : D
     pub opening : IsUnwritten disk.calls disk.contents disk.images_now disk.images_since old opened
     -- At each moment of the run a crash leaves what it might have left before, or a prefix with all entries from before.
     pub moments : Leaves disk.calls disk.images_since old new
-        (λ c. disk.images_now old c ⊎ HoldsPrefix (IsInFlight lines replies) (disk.size new) (length first.history) last.history c)
+        (λ c. disk.images_now old c
+        ⊎ HoldsPrefix (IsInFlight batch (begun first) lines replies) (disk.size new) (length first.history) last.store.history c)
     -- From the opening on, and from each line on, a crash keeps the entries so far.
-    pub each_line : KeepsEachLine disk (IsInFlight lines replies) last new opened first lines replies
+    pub each_line : KeepsEachLine disk batch (IsInFlight batch (begun first) lines replies) last new opened (begun first) lines replies
     -- At the end of the run a crash leaves the whole history.
-    pub now : (c : Image) → disk.images_now new c → HoldsStoreOrMore (IsInFlight lines replies) (disk.size new) last c
+    pub now : (c : Image) → disk.images_now new c →
+        HoldsStoreOrMore (IsInFlight batch (begun first) lines replies) (disk.size new) last.store c

@@ -1,17 +1,17 @@
 -- The laws: what holds of all scripts, and the limits as numerals.
-use Rattle.std.specs.Prelude.{◌≡◌, List}
+use Rattle.std.specs.Prelude.{◌≡◌, ℕ, List}
 use Rattle.btr_super.specs.declared.superblock.TheConstants.{MIN_BLOCKS, MAX_BLOCKS}
 use Rattle.btr_hist.specs.Legal.{Legal}
 use Rattle.btr_text.specs.declared.script.ScriptLine.{ScriptLine}
 use Rattle.btr_text.specs.declared.reply.LineReply.{LineReply}
 use Rattle.btr_top.specs.declared.script.TheConstants.{MAX_INPUT}
-use Rattle.btr_top.specs.Replies.{Store, RunsScript}
+use Rattle.btr_top.specs.Replies.{State, RunsScript}
 
 -- Lines keep a history legal, whatever is replied to them.
 abbrev pub LinesKeepLegal : Type 0
 LinesKeepLegal =
-    (s t : Store) (lines : List ScriptLine) (replies : List LineReply) → RunsScript s lines replies t
-    → Legal s.history → Legal t.history
+    (batch : ℕ) (s t : State) (lines : List ScriptLine) (replies : List LineReply) → RunsScript batch s lines replies t
+    → Legal s.store.history → Legal t.store.history
 
 -- The limits of a run: the bytes of an input, and the blocks of a store.
 pub record RunLimits : Type 0 where

@@ -1,5 +1,5 @@
 -- what is typed, what a line asks for, and what it replies
-pub mod Command
+pub mod Feeds
 pub mod Meaning
 pub mod Replies
 pub mod Status

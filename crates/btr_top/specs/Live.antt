@@ -15,7 +15,7 @@ use Rattle.btr_top.specs.declared.script.TheConstants.{MAX_INPUT}
 use Rattle.btr_top.specs.declared.script.Transcript.{Transcript}
 use Rattle.btr_top.specs.declared.ending.Ending.{Ending}
 use Rattle.btr_top.specs.declared.ending.Ending.TheVariants.{OutOfMemory, Replied}
-use Rattle.btr_top.specs.Replies.{Store, RunsScript, needs_of}
+use Rattle.btr_top.specs.Replies.{Store, State, begun, RunsScript, needs_of}
 use Rattle.btr_top.specs.Crash.{CrashLeavesPrefix}
 use Rattle.btr_top.specs.Script.{IsKept, OpeningCause, IsTranscript, CommandCause}
 
@@ -34,39 +34,39 @@ module _ {D : Type 0} (disk : Ghosts D) where
 
   -- These lines ran, with these replies, from the store on the device `old` to that on the device `new`. Each entry of the former
   -- may follow those before it, also if the device is not observable. If the latter is stopped, a call of the device failed.
-  pub record RunsOnDevice (lines : List ScriptLine) (replies : List LineReply) (old new : D) : Type 0 where
+  pub record RunsOnDevice (batch : ℕ) (lines : List ScriptLine) (replies : List LineReply) (old new : D) : Type 0 where
     pub first : Store
-    pub last : Store
+    pub last : State
     pub follows : Follows first.history
     pub not_stopped : first.stopped ≡ false
-    pub script : RunsScript first lines replies last
+    pub script : RunsScript batch (begun first) lines replies last
     pub before : disk.is_observable → HoldsStore old first
-    pub after : disk.is_observable → last.stopped ≡ false → HoldsSafely new last
-    pub failed : last.stopped ≡ true → Rose (disk.faults old) (disk.faults new)
-    pub crash : disk.is_observable → CrashLeavesPrefix disk lines replies first last old new
+    pub after : disk.is_observable → last.store.stopped ≡ false → HoldsSafely new last.store
+    pub failed : last.store.stopped ≡ true → Rose (disk.faults old) (disk.faults new)
+    pub crash : disk.is_observable → CrashLeavesPrefix disk batch lines replies first last old new
 
   -- A prefix of the lines ran.
-  pub record RunsPrefix (lines : List ScriptLine) (old new : D) : Type 0 where
+  pub record RunsPrefix (batch : ℕ) (lines : List ScriptLine) (old new : D) : Type 0 where
     pub count : ℕ
     pub replies : List LineReply
-    pub runs : RunsOnDevice (take count lines) replies old new
+    pub runs : RunsOnDevice batch (take count lines) replies old new
 
   -- All lines ran, and this is the transcript.
-  pub record RunsAll (lines : List ScriptLine) (old new : D) (transcript : Transcript) : Type 0 where
+  pub record RunsAll (batch : ℕ) (lines : List ScriptLine) (old new : D) (transcript : Transcript) : Type 0 where
     pub replies : List LineReply
-    pub runs : RunsOnDevice lines replies old new
+    pub runs : RunsOnDevice batch lines replies old new
     pub is_transcript : IsTranscript replies transcript
 
   -- Why `live` ends so, after its lines were read.
-  abbrev pub ScriptCause : List ScriptLine → D → D → Ending → Type 0
-  ScriptCause lines old new (Replied transcript) = RunsAll lines old new transcript
-  ScriptCause lines old new OutOfMemory = IsKept disk old new ⊎ RunsPrefix lines old new
-  ScriptCause lines old new e = OpeningCause disk old new e × IsKept disk old new
+  abbrev pub ScriptCause : ℕ → List ScriptLine → D → D → Ending → Type 0
+  ScriptCause batch lines old new (Replied transcript) = RunsAll batch lines old new transcript
+  ScriptCause batch lines old new OutOfMemory = IsKept disk old new ⊎ RunsPrefix batch lines old new
+  ScriptCause batch lines old new e = OpeningCause disk old new e × IsKept disk old new
 
 module _ {S D : Type 0} (source : SourceGhosts S) (disk : Ghosts D) where
   -- Why `live` ends so.
-  abbrev pub LiveCause : S → S → D → D → Ending → Type 0
-  LiveCause given rest old new e = CommandCause source (ScriptCause disk) given rest old new e
+  abbrev pub LiveCause : ℕ → S → S → D → D → Ending → Type 0
+  LiveCause batch given rest old new e = CommandCause source (ScriptCause disk batch) given rest old new e
 
   -- The device holds a store with room for what all lines of the input need, and the input is within the limit.
   pub record CanLive (given : S) (old : D) : Type 0 where

@@ -1,5 +1,12 @@
--- What a line asks for, by the streams of a history.
-use Rattle.std.specs.Prelude.{ℕ, ℤ, List, [], ◌∷◌, if◌then◌else◌, Option, Some, None}
+-- What a line asks for, by the streams of a history and the points that wait for them.
+use Rattle.std.specs.Prelude.{ℕ, ℤ, List, [], ◌∷◌, ◌++◌, if◌then◌else◌, Option, Some, None}
+use Rattle.btr_base.specs.declared.point.Point.{Point}
+use Rattle.btr_base.specs.Bag.{sort}
+use Rattle.btr_feed.specs.Feed.{held, insert_fault}
+use Rattle.btr_feed.specs.declared.feed.Held.{Held}
+use Rattle.btr_feed.specs.declared.feed.Held.TheVariants.{Buffered, Due}
+use Rattle.btr_feed.specs.declared.feed.FeedFault.{FeedFault}
+use Rattle.btr_feed.specs.declared.feed.FeedFault.TheVariants.{OutOfDomain, TooMany, Want}
 use Rattle.btr_hist.specs.declared.entry.Entry.{Entry}
 use Rattle.btr_hist.specs.declared.entry.Entry.TheVariants as entries
 use Rattle.btr_hist.specs.declared.query.Query.{Query}
@@ -11,6 +18,7 @@ use Rattle.btr_text.specs.declared.script.Line.{Line}
 use Rattle.btr_text.specs.declared.script.Line.TheVariants as lines
 use Rattle.btr_text.specs.declared.reply.Reason.{Reason}
 use Rattle.btr_text.specs.declared.reply.Reason.TheVariants as reasons
+use Rattle.btr_top.specs.Feeds.{Waiting, feed_of}
 
 -- What a line asks for.
 pub data Meaning : Type 0 where
@@ -18,6 +26,8 @@ pub data Meaning : Type 0 where
   Commits : Entry → Meaning
   -- To answer a question.
   Asks : Query → Meaning
+  -- To let points wait: so many then wait for the stream.
+  Holds : ℕ → Meaning
   -- Nothing that can be done, for this reason.
   Refuses : Reason → Meaning
 
@@ -31,18 +41,54 @@ abbrev pub delete : ℕ → ℤ → ℤ → Meaning
 delete stream from to =
     if is_range from to then Commits (entries.Commit stream (record { from = from; to = to } ∷ []) []) else Refuses reasons.Range
 
--- What a line asks for in `live`.
-abbrev pub meaning : List Entry → Option Line → Meaning
-meaning h None = Refuses reasons.Line
-meaning h (Some (lines.Create id)) = Commits (entries.Create id)
-meaning h (Some (lines.Insert id added)) = on_stream (stream_of h id) (λ stream. Commits (entries.Commit stream [] added))
-meaning h (Some (lines.Delete id from to)) = on_stream (stream_of h id) (λ stream. delete stream from to)
-meaning h (Some (lines.Ask id query)) = on_stream (stream_of h id) (λ stream. Asks (of_stream query stream))
-meaning h (Some lines.Streams) = Asks queries.Streams
+-- ---- feeds
+
+-- To commit the points that wait, as one insert.
+abbrev pub insert : ℕ → List Point → Meaning
+insert stream points = Commits (entries.Commit stream [] (sort points))
+
+-- To commit the points if they are due.
+abbrev pub when_due : ℕ → List Point → Held → Meaning
+when_due stream points (Buffered count) = Holds count
+when_due stream points (Due count) = insert stream points
+
+-- The reason why a feed does not accept points.
+abbrev pub reason_of_fault : FeedFault → Reason
+reason_of_fault (OutOfDomain time) = reasons.Domain time
+reason_of_fault (TooMany count) = reasons.Many count
+reason_of_fault Want = reasons.Memory
+
+-- What is asked for if the feed accepts the points.
+abbrev pub unless_fault : Option FeedFault → Meaning → Meaning
+unless_fault None asked = asked
+unless_fault (Some fault) asked = Refuses (reason_of_fault fault)
+
+-- To add points to those that wait for a stream, and to commit all if they are then due.
+abbrev pub feed : ℕ → ℕ → List Point → List Point → Meaning
+feed batch stream points added = unless_fault (insert_fault (feed_of batch stream points) added)
+    (when_due stream (points ++ added) (held (feed_of batch stream (points ++ added))))
+
+-- To commit the points that wait for a stream.
+abbrev pub flush : ℕ → List Point → Meaning
+flush stream [] = Refuses reasons.Empty
+flush stream (p ∷ ps) = insert stream (p ∷ ps)
+
+-- ---- lines
+
+-- What a line asks for in `live`, in which points are due if there are as many as `batch`.
+abbrev pub meaning : ℕ → List Entry → Waiting → Option Line → Meaning
+meaning batch h w None = Refuses reasons.Line
+meaning batch h w (Some (lines.Create id)) = Commits (entries.Create id)
+meaning batch h w (Some (lines.Insert id added)) = on_stream (stream_of h id) (λ stream. Commits (entries.Commit stream [] added))
+meaning batch h w (Some (lines.Delete id from to)) = on_stream (stream_of h id) (λ stream. delete stream from to)
+meaning batch h w (Some (lines.Feed id added)) = on_stream (stream_of h id) (λ stream. feed batch stream (w stream) added)
+meaning batch h w (Some (lines.Flush id)) = on_stream (stream_of h id) (λ stream. flush stream (w stream))
+meaning batch h w (Some (lines.Discard id)) = on_stream (stream_of h id) (λ stream. Holds 0)
+meaning batch h w (Some (lines.Ask id query)) = on_stream (stream_of h id) (λ stream. Asks (of_stream query stream))
+meaning batch h w (Some lines.Streams) = Asks queries.Streams
 
 -- What a line asks for in `ask`, where only questions are lines.
 abbrev pub question : List Entry → Option Line → Meaning
-question h (Some (lines.Create id)) = Refuses reasons.Line
-question h (Some (lines.Insert id added)) = Refuses reasons.Line
-question h (Some (lines.Delete id from to)) = Refuses reasons.Line
-question h line = meaning h line
+question h (Some (lines.Ask id query)) = on_stream (stream_of h id) (λ stream. Asks (of_stream query stream))
+question h (Some lines.Streams) = Asks queries.Streams
+question h line = Refuses reasons.Line

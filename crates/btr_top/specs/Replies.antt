@@ -20,7 +20,12 @@ use Rattle.btr_text.specs.Reasons.{reason_of_rejection, reason_of_refusal}
 use Rattle.btr_text.specs.Text.{text}
 use Rattle.btr_engine.specs.Body.{need_of}
 use Rattle.btr_engine.specs.Stage.{MayLackMemory}
-use Rattle.btr_top.specs.Meaning.{Meaning, Commits, Asks, Refuses, meaning}
+use Rattle.btr_base.specs.declared.point.Point.{Point}
+use Rattle.btr_base.specs.Bag.{sort}
+use Rattle.btr_feed.specs.Feed.{insert_fault}
+use Rattle.btr_hist.specs.History.{stream_of}
+use Rattle.btr_top.specs.Feeds.{Waiting, none_waiting, with_points, feed_of, fed}
+use Rattle.btr_top.specs.Meaning.{Meaning, Commits, Asks, Holds, Refuses, meaning}
 
 -- ---- what the model replies
 
@@ -36,6 +41,7 @@ reply_of_commit h e (Some why) = No (reason_of_rejection why)
 abbrev pub reply_to : List Entry → Meaning → LineReply
 reply_to h (Commits e) = reply_of_commit h e (rejection h e)
 reply_to h (Asks query) = reply_of_answer (answer h query)
+reply_to h (Holds count) = replies.Held count
 reply_to h (Refuses reason) = No reason
 
 -- ---- a store
@@ -62,14 +68,16 @@ after_commit s e (Some why) = s
 abbrev pub after : Store → Meaning → Store
 after s (Commits e) = after_commit s e (rejection s.history e)
 after s (Asks query) = s
+after s (Holds count) = s
 after s (Refuses reason) = s
 
--- ---- the reply to one line
+-- ---- the reply to what is asked for
 
 -- The store can do it: it is not stopped, and an entry that the model accepts fits.
 abbrev pub Allows : Store → Meaning → Type 0
 Allows s (Commits e) = (s.stopped ≡ false) × (rejection s.history e ≡ None → need_of e ≤ s.left)
 Allows s (Asks query) = Unit {0}
+Allows s (Holds count) = Unit {0}
 Allows s (Refuses reason) = Unit {0}
 
 -- The reply is the model's, and so is the store after it.
@@ -104,6 +112,7 @@ pub record IsStopped (s : Store) (reply : LineReply) (t : Store) : Type 0 where
 abbrev pub NeedsMemory : Store → Meaning → Type 0
 NeedsMemory s (Commits e) = (s.stopped ≡ false) × MayLackMemory (rejection s.history e)
 NeedsMemory s (Asks query) = Unit {0}
+NeedsMemory s (Holds count) = ⊥
 NeedsMemory s (Refuses reason) = ⊥
 
 -- Memory ran out.
@@ -116,28 +125,76 @@ pub record IsOutOfMemory (s : Store) (m : Meaning) (reply : LineReply) (t : Stor
 abbrev pub IsNotDone : Store → Meaning → LineReply → Store → Type 0
 IsNotDone s (Commits e) reply t = IsFull s e reply t ⊎ IsDeviceFault s e reply t ⊎ IsStopped s reply t
 IsNotDone s (Asks query) reply t = ⊥
+IsNotDone s (Holds count) reply t = ⊥
 IsNotDone s (Refuses reason) reply t = ⊥
 
 -- The reply to what is asked for, and the store after it: by the model, or with the reason why it was not done.
 abbrev pub Replies : Store → Meaning → LineReply → Store → Type 0
 Replies s m reply t = IsModel s m reply t ⊎ IsNotDone s m reply t ⊎ IsOutOfMemory s m reply t
 
+-- ---- the reply to one line
+
+-- A store, and the points that wait for its streams.
+pub record State : Type 0 where
+  pub store : Store
+  pub waiting : Waiting
+
+-- The state of a store when a run begins.
+abbrev pub begun : Store → State
+begun s = record { store = s; waiting = none_waiting }
+
+-- The points that wait after the commit of all had this reply: none, or all in order if it was refused.
+abbrev pub left_over : List Point → LineReply → List Point
+left_over all (Done version) = []
+left_over all reply = sort all
+
+-- The points of a feed after a reply, which had the points `before`, and has `all` with what the line adds or drops.
+abbrev pub points_after : Meaning → LineReply → List Point → List Point → List Point
+points_after (Commits e) reply before all = left_over all reply
+points_after (Asks query) reply before all = before
+points_after (Holds count) reply before all = all
+points_after (Refuses reason) reply before all = before
+
+-- The points that wait after a reply to a line that changes this feed, if it changes one.
+abbrev pub waiting_after : Waiting → Option (ℕ × List Point) → Meaning → LineReply → Waiting
+waiting_after w None m reply = w
+waiting_after w (Some f) m reply = with_points f.0 (points_after m reply (w f.0) f.1) w
+
+-- The line adds points to a feed, which accepts them.
+abbrev pub AddsPoints : ℕ → State → Option Line → Type 0
+AddsPoints batch s (Some (lines.Feed id added)) =
+    (stream : ℕ) × (stream_of s.store.history id ≡ Some stream)
+    × (insert_fault (feed_of batch stream (s.waiting stream)) added ≡ None)
+AddsPoints batch s line = ⊥
+
+-- What is done of a line: what it asks for; or nothing, if there is no memory for the points that it adds to a feed.
+abbrev pub Means : ℕ → State → Option Line → Meaning → Type 0
+Means batch s line m =
+    (m ≡ meaning batch s.store.history s.waiting line) ⊎ (AddsPoints batch s line × (m ≡ Refuses reasons.Memory))
+
+-- The reply to a line of which this is done, and the state after it.
+pub record RepliesToLine (batch : ℕ) (s : State) (line : Option Line) (m : Meaning) (reply : LineReply) (t : State) : Type 0 where
+  pub means : Means batch s line m
+  pub replied : Replies s.store m reply t.store
+  pub waiting : t.waiting ≡ waiting_after s.waiting (fed s.store.history s.waiting line) m reply
+
 -- ---- a script
 
--- The replies to lines, one for each in order, and the store after them.
-abbrev pub RunsScript : Store → List ScriptLine → List LineReply → Store → Type 0
-RunsScript s [] [] t = s ≡ t
-RunsScript s [] (reply ∷ replies) t = ⊥
-RunsScript s (line ∷ lines) [] t = ⊥
-RunsScript s (line ∷ lines) (reply ∷ replies) t =
-    (m : Store) × Replies s (meaning s.history line.line) reply m × RunsScript m lines replies t
+-- The replies to lines, one for each in order, and the state after them.
+abbrev pub RunsScript : ℕ → State → List ScriptLine → List LineReply → State → Type 0
+RunsScript batch s [] [] t = s ≡ t
+RunsScript batch s [] (reply ∷ replies) t = ⊥
+RunsScript batch s (line ∷ lines) [] t = ⊥
+RunsScript batch s (line ∷ lines) (reply ∷ replies) t =
+    (u : State) × (m : Meaning) × RepliesToLine batch s line.line m reply u × RunsScript batch u lines replies t
 
--- The most blocks that a line may need.
+-- The most blocks that a line may need. Those for the points of a feed count at the line that adds them.
 abbrev pub need_of_line : Option Line → ℕ
 need_of_line None = 0
 need_of_line (Some (lines.Create id)) = need_of (entries.Create id)
 need_of_line (Some (lines.Insert id added)) = need_of (entries.Commit 0 [] added)
 need_of_line (Some (lines.Delete id from to)) = need_of (entries.Commit 0 (record { from = from; to = to } ∷ []) [])
+need_of_line (Some (lines.Feed id added)) = need_of (entries.Commit 0 [] added)
 need_of_line (Some line) = 0
 
 -- The most blocks that lines may need.

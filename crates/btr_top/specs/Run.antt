@@ -1,14 +1,14 @@
 -- Why a run ends as it does: by its words, its input, its device and its sink; and what is promised if nothing fails.
-use Rattle.std.specs.Prelude.{◌≡◌, ℕ, Option, Some, None}
+use Rattle.std.specs.Prelude.{◌≡◌, ◌⊎◌, ℕ, Option, Some, None}
 use Rattle.btr_io.specs.declared.source.Source.{Ghosts as SourceGhosts}
 use Rattle.btr_io.specs.declared.sink.Sink.{Ghosts as SinkGhosts}
 use Rattle.btr_io.specs.Faults.{Rose as StreamRose}
 use Rattle.btr_disk.specs.declared.disk.Disk.{Ghosts}
 use Rattle.btr_disk.specs.Causes.{Rose}
-use Rattle.btr_top.specs.declared.command.Command.{Command}
-use Rattle.btr_top.specs.declared.command.Command.TheVariants.{Format, Live, Ask}
+use Rattle.btr_words.specs.declared.command.Command.{Command}
+use Rattle.btr_words.specs.declared.command.Command.TheVariants.{Format, Live, Ask}
 use Rattle.btr_top.specs.declared.ending.Ending.{Ending}
-use Rattle.btr_top.specs.declared.ending.Ending.TheVariants.{Usage}
+use Rattle.btr_top.specs.declared.ending.Ending.TheVariants.{Usage, OutOfMemory}
 use Rattle.btr_top.specs.Live.{LiveCause}
 use Rattle.btr_top.specs.Ask.{AskCause}
 use Rattle.btr_top.specs.Format.{FormatCause}
@@ -19,8 +19,17 @@ use Rattle.btr_top.specs.Ending.{Shows}
 abbrev pub Cause : {S D : Type 0} → SourceGhosts S → Ghosts D → Option Command → S → S → D → D → Ending → Type 0
 Cause source disk None given rest old new e = (e ≡ Usage) × (rest ≡ given) × (new ≡ old)
 Cause source disk (Some (Format blocks)) given rest old new e = (rest ≡ given) × FormatCause disk blocks old new e
-Cause source disk (Some Live) given rest old new e = LiveCause source disk given rest old new e
+Cause source disk (Some (Live batch)) given rest old new e = LiveCause source disk batch given rest old new e
 Cause source disk (Some Ask) given rest old new e = AskCause source disk given rest old new e
+
+-- There was no memory to read the words, and nothing was done.
+abbrev pub WordsLackMemory : {S D : Type 0} → S → S → D → D → Ending → Type 0
+WordsLackMemory given rest old new e = (e ≡ OutOfMemory) × (rest ≡ given) × (new ≡ old)
+
+-- Why a run with these words ends so.
+abbrev pub RunCause : {S D : Type 0} → SourceGhosts S → Ghosts D → Option Command → S → S → D → D → Ending → Type 0
+RunCause source disk command given rest old new e =
+    Cause source disk command given rest old new e ⊎ WordsLackMemory given rest old new e
 
 -- No call of the device or the sink failed.
 pub record DeviceAndSinkWork {K D : Type 0} (sink : SinkGhosts K) (disk : Ghosts D) (before after : K) (old new : D) : Type 0 where
@@ -31,7 +40,7 @@ module _ {S K D : Type 0} (source : SourceGhosts S) (sink : SinkGhosts K) (disk 
   -- The run ended in one of the ways above, and what it says of that was written to the sink.
   pub record Ends (command : Option Command) (given rest : S) (before after : K) (old new : D) (status : ℕ) : Type 0 where
     pub ending : Ending
-    pub cause : Cause source disk command given rest old new ending
+    pub cause : RunCause source disk command given rest old new ending
     pub shown : Shows sink ending before after status
 
   -- No call of the source, the device or the sink failed.

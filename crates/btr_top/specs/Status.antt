@@ -29,6 +29,7 @@ greater a b = if nat_lt (rank a) (rank b) then b else a
 -- The status that one reply asks for.
 abbrev pub status_of_reply : LineReply → Status
 status_of_reply (replies.Done version) = Done
+status_of_reply (replies.Held count) = Done
 status_of_reply (replies.Found version rows) = Done
 status_of_reply (replies.No reasons.Device) = DeviceFault
 status_of_reply (replies.No reasons.Memory) = OutOfMemory

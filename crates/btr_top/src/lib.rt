@@ -4,12 +4,13 @@
 //! crash at any moment of the run.
 #![tactic(auto)]
 
-// what is typed
-mod command;
 // the commands
 mod ask;
 mod format_store;
 mod live;
+// the lines of feeds
+mod feed_line;
+mod feeds;
 // what `live` and `ask` share
 mod line;
 mod script;
@@ -21,7 +22,6 @@ mod run_command;
 // what holds of all scripts
 mod laws;
 
-pub use command::{Command, read_words};
 pub use ending::Ending;
 pub use laws::{lines_keep_legal, run_limits_are_these};
 pub use run_command::{Outcome, run};

@@ -5,15 +5,17 @@ ghost use Rattle.btr_hist.specs.Legal.{rejection};
 ghost use Rattle.btr_hist.specs.Query.{of_stream};
 ghost use Rattle.btr_hist.specs.declared.entry.Entry.{Entry as EntrySpec};
 ghost use Rattle.btr_hist.specs.declared.entry.Entry.TheVariants.{Commit as CommitSpec};
-ghost use Rattle.btr_text.specs.declared.script.Line.TheVariants as lines;
 ghost use Rattle.btr_engine.specs.Engine.{is_stopped, IsEngineOf, IsAtRest, KeepsOpening};
 ghost use Rattle.btr_engine.specs.Snapshot.{IsSnapshotOf};
 ghost use Rattle.btr_engine.specs.Stage.{MayLackMemory};
-ghost use Rattle.btr_top.specs.Meaning.{Asks, Commits, meaning, on_stream, question};
+ghost use Rattle.btr_top.specs.Meaning.{Asks, Commits, delete, on_stream, question};
 ghost use Rattle.btr_top.specs.Replies.{Replies};
 ghost use Rattle.btr_top.specs.Ask.{IsAnswerOrNoMemory};
-ghost use Rattle.btr_top.specs.EngineScript.{AnswersFrom, LineLeaves, engine_of, history_after, store_of};
+ghost use Rattle.btr_top.specs.Feeds.{waiting_of};
+ghost use Rattle.btr_top.specs.EngineScript.{AnswersFrom, AnswersLineFrom, LineLeaves, engine_of, history_after, store_of};
 
+use crate::feed_line::{discard, feed, flush};
+use crate::feeds::Feeds;
 use btr_base::{Bag, Range, Ranges};
 use btr_disk::Disk;
 use btr_engine::{Engine, Snapshot, StepFault};
@@ -25,14 +27,20 @@ use std::alloc::{AllocError, Global};
 pub(crate) fn answer_line<D: Disk>(
     alloc: Global,
     engine: &mut Engine<D>,
+    feeds: &mut Feeds,
     line: Option<Line>,
 ) -> LineReply
-    ensures { (h : List EntrySpec) → IsEngineOf h engine.old → AnswersFrom h engine.old (meaning h line) result engine.new }
+    ensures line { (h : List EntrySpec) → IsEngineOf h engine.old
+        → AnswersLineFrom feeds.old.batch h engine.old (waiting_of feeds.old) line result engine.new (waiting_of feeds.new) }
+    ensures batch { feeds.new.batch ≡ feeds.old.batch }
 {
     match line {
         Some(Line::Create { id }) => commit(alloc, engine, &Entry::Create { id }),
         Some(Line::Insert { id, added }) => insert(alloc, engine, id, added),
         Some(Line::Delete { id, from, to }) => delete(alloc, engine, id, from, to),
+        Some(Line::Feed { id, added }) => feed(alloc, engine, feeds, id, &added),
+        Some(Line::Flush { id }) => flush(alloc, engine, feeds, id),
+        Some(Line::Discard { id }) => discard(engine, feeds, id),
         Some(Line::Ask { id, query }) => ask_stream_now(alloc, engine, id, query),
         Some(Line::Streams) => ask_now(alloc, engine, &Query::Streams),
         None => LineReply::No(Reason::Line),
@@ -42,7 +50,7 @@ pub(crate) fn answer_line<D: Disk>(
 /// Commits points to the stream with this id.
 fn insert<D: Disk>(alloc: Global, engine: &mut Engine<D>, id: u128, added: Bag) -> LineReply
     ensures { (h : List EntrySpec) → IsEngineOf h engine.old
-        → AnswersFrom h engine.old (meaning h (Some (lines.Insert id added))) result engine.new }
+        → AnswersFrom h engine.old (on_stream (stream_of h id) (λ stream. Commits (CommitSpec stream [] added))) result engine.new }
 {
     match engine.find(id) {
         None => LineReply::No(Reason::Stream),
@@ -62,7 +70,7 @@ fn insert<D: Disk>(alloc: Global, engine: &mut Engine<D>, id: u128, added: Bag) 
 /// stopped, are tested before memory is taken.
 fn delete<D: Disk>(alloc: Global, engine: &mut Engine<D>, id: u128, from: i64, to: i64) -> LineReply
     ensures { (h : List EntrySpec) → IsEngineOf h engine.old
-        → AnswersFrom h engine.old (meaning h (Some (lines.Delete id from to))) result engine.new }
+        → AnswersFrom h engine.old (on_stream (stream_of h id) (λ stream. delete stream from to)) result engine.new }
 {
     let Some(stream) = engine.find(id) else {
         return LineReply::No(Reason::Stream);
@@ -110,7 +118,7 @@ fn one_range(alloc: Global, range: Range) -> Result<Ranges, AllocError>
 }
 
 /// Commits an entry.
-fn commit<D: Disk>(alloc: Global, engine: &mut Engine<D>, entry: &Entry) -> LineReply
+pub(crate) fn commit<D: Disk>(alloc: Global, engine: &mut Engine<D>, entry: &Entry) -> LineReply
     ensures of { (h : List EntrySpec) → IsEngineOf h engine.old
         → IsEngineOf (history_after h (Commits entry.now) result) engine.new }
     ensures replied { (h : List EntrySpec) → IsEngineOf h engine.old → Replies (store_of (engine_of h engine.old)) (Commits entry.now)
@@ -170,6 +178,9 @@ pub(crate) fn answer_question(alloc: Global, snapshot: &Snapshot, line: Option<L
         Line::Ask { id, query } => ask_stream(alloc, snapshot, id, query),
         Line::Streams => ask(alloc, snapshot, &Query::Streams),
         Line::Create { .. } | Line::Insert { .. } | Line::Delete { .. } => {
+            LineReply::No(Reason::Line)
+        }
+        Line::Feed { .. } | Line::Flush { .. } | Line::Discard { .. } => {
             LineReply::No(Reason::Line)
         }
     }

@@ -1,17 +1,16 @@
 //! The whole run of a command.
 ghost use Rattle.std.specs.Prelude.{◌≡◌, ◌⊎◌, ℕ, ◌+◌, ◌≤◌, ◌^◌, map, string_bytes, Some};
 ghost use Rattle.btr_io.specs.Bytes.{Gives};
-ghost use Rattle.btr_top.specs.declared.command.Command.TheVariants.{Ask, Format, Live};
+ghost use Rattle.btr_words.specs.declared.command.Command.TheVariants.{Ask, Format, Live};
 ghost use Rattle.btr_top.specs.declared.script.TheConstants.{MAX_INPUT};
-ghost use Rattle.btr_top.specs.Command.{command_of};
+ghost use Rattle.btr_words.specs.Words.{command_of};
 ghost use Rattle.btr_top.specs.Script.{IsKept};
 ghost use Rattle.btr_top.specs.Live.{CanLive};
 ghost use Rattle.btr_top.specs.Ask.{CanAsk};
 ghost use Rattle.btr_top.specs.Format.{CanFormat, FormatCause, FormatLeaves};
-ghost use Rattle.btr_top.specs.Run.{AllWork, Cause, DeviceAndSinkWork, Ends};
+ghost use Rattle.btr_top.specs.Run.{AllWork, DeviceAndSinkWork, Ends, RunCause};
 
 use crate::ask::run_ask;
-use crate::command::{Command, read_words};
 use crate::ending::{Ending, show};
 use crate::format_store::format_store;
 use crate::live::run_live;
@@ -19,6 +18,7 @@ use crate::script::CommandResult;
 use btr_disk::Disk;
 use btr_io::{Sink, Source};
 use btr_open::held_is_sound;
+use btr_words::{Command, read_words};
 use std::alloc::Global;
 
 /// What a run gives back.
@@ -55,7 +55,7 @@ pub fn run<R, S: Source, K: Sink, D: Disk + Send>(
         → DeviceAndSinkWork ⟦<K as Sink>⟧ ⟦<D as Disk>⟧ sink.old sink.new disk result.disk
         → (result.status ≡ 0) ⊎ (result.status ≡ 9) }
     // if a store has room and nothing fails, each line is done, or refused as the model refuses it
-    ensures lives { S.is_observable → D.is_observable → command_of (map string_bytes words.now) ≡ Some Live
+    ensures lives { S.is_observable → D.is_observable → (batch : ℕ) → command_of (map string_bytes words.now) ≡ Some (Live batch)
         → CanLive ⟦<S as Source>⟧ ⟦<D as Disk>⟧ source.old disk
         → AllWork ⟦<S as Source>⟧ ⟦<K as Sink>⟧ ⟦<D as Disk>⟧ source.old source.new sink.old sink.new disk result.disk
         → (result.status ≡ 0) ⊎ (result.status ≡ 1) ⊎ (result.status ≡ 9) }
@@ -83,20 +83,24 @@ fn dispatch<S: Source, D: Disk>(
 ) -> CommandResult<D>
     ensures size { D.size result.disk ≡ D.size disk }
     ensures input { S.is_observable → Gives (MAX_INPUT + 1) (S.left source.old) (S.left source.new) }
-    ensures cause { Cause ⟦<S as Source>⟧ ⟦<D as Disk>⟧ (command_of (map string_bytes words.now)) source.old source.new
+    ensures cause { RunCause ⟦<S as Source>⟧ ⟦<D as Disk>⟧ (command_of (map string_bytes words.now)) source.old source.new
         disk result.disk result.ending }
     ensures format_leaves { D.is_observable → (blocks : ℕ) → command_of (map string_bytes words.now) ≡ Some (Format blocks)
         → FormatLeaves ⟦<D as Disk>⟧ blocks disk result.disk }
     ensures kept { command_of (map string_bytes words.now) ≡ Some Ask → IsKept ⟦<D as Disk>⟧ disk result.disk }
 {
-    match read_words(words) {
-        None => CommandResult {
+    match read_words(alloc, words) {
+        Err(_) => CommandResult {
+            ending: Ending::OutOfMemory,
+            disk,
+        },
+        Ok(None) => CommandResult {
             ending: Ending::Usage,
             disk,
         },
-        Some(Command::Format { blocks }) => make_store(disk, blocks),
-        Some(Command::Live) => run_live(alloc, source, disk),
-        Some(Command::Ask) => run_ask(alloc, source, disk),
+        Ok(Some(Command::Format { blocks })) => make_store(disk, blocks),
+        Ok(Some(Command::Live { batch })) => run_live(alloc, batch, source, disk),
+        Ok(Some(Command::Ask)) => run_ask(alloc, source, disk),
     }
 }
 

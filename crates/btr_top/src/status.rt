@@ -31,7 +31,9 @@ impl Status {
         ensures { result ≡ status_of_reply reply.now }
     {
         match reply {
-            LineReply::Done { .. } | LineReply::Found { .. } => Status::Done,
+            LineReply::Done { .. } | LineReply::Held { .. } | LineReply::Found { .. } => {
+                Status::Done
+            }
             LineReply::No(reason) => Status::of_refusal(*reason),
         }
     }

@@ -20,11 +20,18 @@ fn points_of_an_insert_are_read_and_sorted(rt: HostRuntime) -> Result<(), Fail> 
             "insert ID -9223372036854775808 9223372036854775807",
             &[point(i64::MIN, i64::MAX)],
         ),
+        ("feed ID 3 1 1 2 3 0 1 2", &ordered[..]),
     ] {
         match read_one(&rt, line)? {
             Some(Line::Insert { id, added }) => {
                 assert_eq!(rt; id, ID, "at {line}");
                 assert_eq!(rt; added.as_slice(), want, "at {line}");
+                assert!(rt; !line.starts_with("feed"), "at {line}");
+            }
+            Some(Line::Feed { id, added }) => {
+                assert_eq!(rt; id, ID, "at {line}");
+                assert_eq!(rt; added.as_slice(), want, "at {line}");
+                assert!(rt; line.starts_with("feed"), "at {line}");
             }
             _ => assert!(rt; false, "no insert at {line}"),
         }
@@ -39,6 +46,14 @@ fn creates_deletes_and_streams_are_read(rt: HostRuntime) -> Result<(), Fail> {
             matches!(read_one(&rt, line)?, Some(Line::Create { id: 5 })),
             "at {line}"
         );
+    }
+    for (line, is_flush) in [("flush ID", true), (" @0  discard   ID ", false)] {
+        let fits = match read_one(&rt, line)? {
+            Some(Line::Flush { id }) => is_flush && id == ID,
+            Some(Line::Discard { id }) => !is_flush && id == ID,
+            _ => false,
+        };
+        assert!(rt; fits, "at {line}");
     }
     for (line, bounds) in [
         ("delete ID -5 7", (-5, 7)),
@@ -101,6 +116,14 @@ fn a_line_that_fits_no_form_has_none(rt: HostRuntime) -> Result<(), Fail> {
          delete ID latest 1\n\
          delete ID -9223372036854775809 0\n\
          delete ID 0 9223372036854775808\n\
+         feed\n\
+         feed ID\n\
+         feed ID 1\n\
+         feed ID 1 2 3\n\
+         flush\n\
+         flush ID ID\n\
+         discard 5\n\
+         discard ID 1\n\
          streams streams\n\
          streams ID\n\
          streams #\n\

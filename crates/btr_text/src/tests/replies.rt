@@ -126,7 +126,9 @@ fn replies_follow_one_another(rt: HostRuntime) -> Result<(), Fail> {
         &mut out,
     )?;
     write_reply(&LineReply::No(Reason::Line), &mut out)?;
-    let want = b"ok 0 0\nok 12 0\nok 3 2\n-9223372036854775808 0\n1000 -25\nok 1 0\nno line\n";
+    write_reply(&LineReply::Held { count: 65535 }, &mut out)?;
+    let want =
+        b"ok 0 0\nok 12 0\nok 3 2\n-9223372036854775808 0\n1000 -25\nok 1 0\nno line\nheld 65535\n";
     assert_eq!(rt; out.as_slice(), want.as_slice());
     Ok(())
 }

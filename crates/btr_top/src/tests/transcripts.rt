@@ -35,13 +35,16 @@ $ format --blocks 7
 $ format --blocks 4294967297
 < no usage
 = 2
-$ format --blocks +64
+$ format --help
+< no usage
+= 2
+$ live --batch 0
+< no usage
+= 2
+$ live --batch 65537
 < no usage
 = 2
 $ format --blocks 64 64
-< no usage
-= 2
-$ format --blocks=64
 < no usage
 = 2
 $ Format --blocks 64
@@ -146,6 +149,147 @@ $ live
 < no full 2 1
 < ok 0 0
 = 8
+";
+
+// points wait for two streams, and are dropped at the end of a run
+const FEEDS: &str = "\
+$ format --blocks 64
+< formatted 64
+= 0
+$ live --batch 3
+> create U
+> feed U 1 1 2 2
+> range U 0 5 latest
+> feed U 3 3
+> feed U 4 4
+> flush U
+> flush U
+> discard U
+< ok 0 0
+< held 2
+< ok 0 0
+< ok 1 0
+< held 1
+< ok 2 0
+< no empty
+< held 0
+= 1
+$ live
+> create V
+> feed V 2 2
+> feed U 9 9 8 8
+> flush V
+> range V 0 9 latest
+> flush U
+> range U 5 9 latest
+> feed U 10 10
+< ok 0 0
+< held 1
+< held 2
+< ok 1 0
+< ok 1 1
+< 2 2
+< ok 3 0
+< ok 3 1
+< 8 8
+< held 1
+= 0
+$ ask
+> feed U 1 1
+> flush U
+> discard U
+> range U 9 99 latest
+< no line
+< no line
+< no line
+< ok 3 1
+< 9 9
+= 1
+";
+
+// a line that fits no form, a stream that is not there, a time outside the domain, and nothing to commit
+const REFUSED_FEEDS: &str = "\
+$ format --blocks 64
+< formatted 64
+= 0
+$ live --batch=2
+> create U
+> feed V 1
+> feed V 3458764513820540928 1
+> flush V
+> discard V
+> feed U 0 0 3458764513820540928 1 -1152921504606846977 2
+> flush U
+> discard U
+> feed U 5 5
+> discard U
+> feed U 6 6
+> feed U 6 7
+> range U 0 9 latest
+< ok 0 0
+< no line
+< no stream
+< no stream
+< no stream
+< no domain -1152921504606846977
+< no empty
+< held 0
+< held 1
+< held 0
+< held 1
+< ok 1 0
+< ok 1 2
+< 6 6
+< 6 7
+= 1
+";
+
+// the least store has room for one entry
+const FULL_FEEDS: &str = "\
+$ format --blocks 8
+< formatted 8
+= 0
+$ live --batch 3
+> create U
+> feed U 3 3 1 1
+> flush U
+> feed U 2 2
+> flush U
+> discard U
+> flush U
+< ok 0 0
+< held 2
+< no full 2 1
+< no full 2 1
+< no full 2 1
+< held 0
+< no empty
+= 8
+";
+
+// the device fails in the first commit
+const FAILED_FEEDS: &str = "\
+$ format --blocks 64
+< formatted 64
+= 0
+$ live --batch 2
+> create U
+> feed U 1 1
+> feed U 2 2
+> feed U 3 3
+> flush U
+> discard U
+> flush U
+> feed U 4 4
+< ok 0 0
+< held 1
+< no device
+< no stopped 1
+< no stopped 1
+< held 0
+< no empty
+< held 1
+= 5
 ";
 
 // each question; the window at 7 does not end in the range, and version 4's point is removed again in version 5
@@ -258,6 +402,14 @@ fn an_id_is_the_same_in_each_form(rt: HostRuntime) -> Result<(), Fail> {
 #[test]
 fn a_full_store_answers_on(rt: HostRuntime) -> Result<(), Fail> {
     play(&rt, &[], FULL)
+}
+
+#[test]
+fn points_wait_in_feeds(rt: HostRuntime) -> Result<(), Fail> {
+    play(&rt, &[], FEEDS)?;
+    play(&rt, &[], REFUSED_FEEDS)?;
+    play(&rt, &[], FULL_FEEDS)?;
+    play(&rt, &[16], FAILED_FEEDS)
 }
 
 #[test]

@@ -2,12 +2,14 @@
 use Rattle.std.proofs.Common.{◌≡◌, ◌++◌, List}
 use Rattle.btr_hist.specs.declared.entry.Entry.{Entry}
 use Rattle.btr_engine.specs.Engine.{IsEngineOf}
-use Rattle.btr_top.specs.EngineScript.{engine_of, HasRun}
+use Rattle.btr_top.specs.Feeds.{none_waiting, waiting_of}
+use Rattle.btr_top.specs.EngineScript.{lane_of, HasRun}
 use Rattle.btr_top.proofs.live.answer_lines.Given as goal
 
 -- the lines up to here ran, and the others are left
 abbrev pub invariant-loop-line : goal.invariant-loop-line
 invariant-loop-line g l = record {
   split : l.yielded ++ l.line-iterator.rest.items ≡ l.fn.lines.items;
-  has_run : (h : List Entry) → IsEngineOf h l.fn.engine → HasRun (engine_of h l.fn.engine) l.yielded l.engine l.transcript;
+  batch : l.feeds.batch ≡ l.fn.batch;
+  has_run : (h : List Entry) → IsEngineOf h l.fn.engine → HasRun l.fn.batch (lane_of h l.fn.engine none_waiting) l.yielded l.engine (waiting_of l.feeds) l.transcript;
 }

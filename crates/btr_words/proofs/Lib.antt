@@ -1,0 +1,6 @@
+mod WordCases
+mod Turns
+mod Leaf
+mod Meaning
+mod Reading
+mod Bounds

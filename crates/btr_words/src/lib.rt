@@ -1,0 +1,18 @@
+//! The words of a command line, and the command that they give.
+//!
+//! The words are read with `clap`. Nothing is printed, and the process does not exit: words that give no command are `None`,
+//! also those that ask for help or for a version.
+#![tactic(auto)]
+
+mod command;
+mod program;
+mod read;
+// what the definitions entail
+mod laws;
+
+pub use command::Command;
+pub use laws::commands_are_these;
+pub use read::read_words;
+
+#[cfg(test)]
+mod tests;

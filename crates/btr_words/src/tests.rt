@@ -1,0 +1,135 @@
+use crate::{Command, read_words};
+use std::alloc::{AllocError, Global};
+use std::test::Fail;
+
+fn words_of(alloc: Global, line: &[&str]) -> Result<Vec<String>, AllocError> {
+    let mut words = Vec::new(alloc);
+    for text in line {
+        let mut word = String::new(alloc);
+        word.push_str(text)?;
+        words.push(word)?;
+    }
+    Ok(words)
+}
+
+fn format(blocks: u64) -> Option<Command> {
+    Some(Command::Format { blocks })
+}
+
+fn live(batch: u32) -> Option<Command> {
+    Some(Command::Live { batch })
+}
+
+#[test]
+fn lines_that_give_a_command(rt: HostRuntime) -> Result<(), Fail> {
+    let alloc = rt.alloc();
+    let lines: [(&[&str], Option<Command>); 18] = [
+        (&["ask"], Some(Command::Ask)),
+        (&["ask", "--"], Some(Command::Ask)),
+        (&["live"], live(4096)),
+        (&["live", "--"], live(4096)),
+        (&["live", "--batch", "1"], live(1)),
+        (&["live", "--batch", "65536"], live(65536)),
+        (&["live", "--batch=7"], live(7)),
+        (&["live", "--batch=+07", "--"], live(7)),
+        (&["format", "--blocks", "8"], format(8)),
+        (&["format", "--blocks", "64"], format(64)),
+        (&["format", "--blocks=64"], format(64)),
+        (&["format", "--blocks", "4294967296"], format(4294967296)),
+        (&["format", "--blocks", "008"], format(8)),
+        (
+            &[
+                "format",
+                "--blocks",
+                "00000000000000000000000000000000000064",
+            ],
+            format(64),
+        ),
+        (&["format", "--blocks", "+8"], format(8)),
+        (&["format", "--blocks=+0064"], format(64)),
+        (&["format", "--blocks", "8", "--"], format(8)),
+        (&["format", "--blocks=8", "--"], format(8)),
+    ];
+    for (line, want) in lines {
+        assert!(rt; read_words(alloc, &words_of(alloc, line)?)? == want);
+    }
+    Ok(())
+}
+
+#[test]
+fn lines_that_give_none(rt: HostRuntime) -> Result<(), Fail> {
+    let alloc = rt.alloc();
+    let lines: [&[&str]; 62] = [
+        // no command, or another word in its place
+        &[],
+        &[""],
+        &["--"],
+        &["-"],
+        &["--", "ask"],
+        &["ASK"],
+        &["ask "],
+        &["as"],
+        &["form", "--blocks", "64"],
+        &["lively"],
+        &["--blocks", "64", "format"],
+        &["--blocks=64"],
+        &["--batch", "8", "live"],
+        // help and versions
+        &["--help"],
+        &["-h"],
+        &["help"],
+        &["help", "format"],
+        &["format", "--help"],
+        &["format", "--blocks", "64", "--help"],
+        &["live", "-h"],
+        &["ask", "--help"],
+        &["--version"],
+        &["-V"],
+        &["ask", "--version"],
+        // options that lack, are broken or are of another command
+        &["format"],
+        &["format", "--"],
+        &["format", "64"],
+        &["format", "--blocks"],
+        &["format", "--blocks="],
+        &["format", "--blocks", ""],
+        &["format", "--blocks", "--", "64"],
+        &["format", "--", "--blocks", "64"],
+        &["format", "--block", "64"],
+        &["format", "--b=64"],
+        &["format", "--Blocks", "64"],
+        &["format", "-b", "64"],
+        &["format", "-blocks", "64"],
+        &["format", "--batch", "64"],
+        &["live", "--blocks", "64"],
+        &["live", "--batch"],
+        &["live", "--bat", "8"],
+        &["ask", "--batch", "8"],
+        // twice, and words after
+        &["format", "--blocks", "64", "--blocks", "64"],
+        &["format", "--blocks=64", "--blocks=65"],
+        &["format", "--blocks", "64", "64"],
+        &["live", "--batch", "8", "--batch", "8"],
+        &["live", "8"],
+        &["live", "--batch", "8", "--", "8"],
+        &["live", "--", "--"],
+        &["ask", ""],
+        &["ask", "ask"],
+        // numbers
+        &["format", "--blocks", "7"],
+        &["format", "--blocks", "4294967297"],
+        &["format", "--blocks", "18446744073709551616"],
+        &["format", "--blocks", "-8"],
+        &["format", "--blocks=-8"],
+        &["format", "--blocks", "8.0"],
+        &["format", "--blocks", "0x10"],
+        &["format", "--blocks", "++8"],
+        &["live", "--batch", "0"],
+        &["live", "--batch", "65537"],
+        &["live", "--batch", " 8"],
+    ];
+    for line in lines {
+        assert!(rt; read_words(alloc, &words_of(alloc, line)?)? == None);
+    }
+    Ok(())
+}
