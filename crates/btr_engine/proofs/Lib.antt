@@ -13,3 +13,4 @@ mod Crowded
 mod BoardCommits
 mod BoardNext
 mod Questions
+pub mod CrossingLemmas

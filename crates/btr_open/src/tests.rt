@@ -4,7 +4,7 @@ ghost use Rattle.std.specs.Prelude.{◌≡◌, IfOk};
 use super::*;
 use btr_base::{Bag, END, FIRST, Point, Range, Ranges, Toward};
 use btr_disk::{Capacity, Disk, MemDisk};
-use btr_engine::{Engine, Receipt, StepFault};
+use btr_engine::{Engine, Receipt, Snapshot, StepFault};
 use btr_hist::{Answer, At, Entry, History, Query, Rejection, Rows};
 use btr_log::Log;
 use btr_super::format;
@@ -51,23 +51,27 @@ fn insert(alloc: Global, count: u32) -> Result<Entry, AllocError> {
     })
 }
 
-/// Returns the latest version of stream 0 and the number of its points.
-fn latest(alloc: Global, engine: &Engine<MemDisk>) -> Result<(u64, usize), Fail> {
+/// Returns the latest version of stream 0 in a snapshot and the number of its points.
+fn latest_in(alloc: Global, snapshot: &Snapshot) -> Result<Option<(u64, usize)>, AllocError> {
     let query = Query::Points {
         stream: 0,
         from: 0,
         to: 4000,
         at: At::Latest,
     };
-    match engine.admit()?.answer(alloc, &query)? {
-        Answer::Found { version, rows } => {
-            let Rows::Points(points) = rows else {
-                return Err("no points were answered".into());
-            };
-            Ok((version, points.as_slice().len()))
-        }
-        Answer::Refused(_) => Err("it was refused".into()),
+    match snapshot.answer(alloc, &query)? {
+        Answer::Found {
+            version,
+            rows: Rows::Points(points),
+        } => Ok(Some((version, points.as_slice().len()))),
+        _ => Ok(None),
     }
+}
+
+/// Returns the latest version of stream 0 and the number of its points.
+fn latest(alloc: Global, engine: &Engine<MemDisk>) -> Result<(u64, usize), Fail> {
+    let found = latest_in(alloc, &engine.admit()?)?;
+    Ok(found.ok_or("no points were answered")?)
 }
 
 #[test]
@@ -396,10 +400,11 @@ fn the_engine_answers_as_the_history(rt: HostRuntime) -> Result<(), Fail> {
     Ok(())
 }
 
-/// Opens the store on a device, and returns its number of entries.
-fn entries_on(alloc: Global, disk: MemDisk) -> Option<u64> {
-    let engine = open_store(alloc, disk).ok()?;
-    Some(engine.entries())
+/// Adds a stream, and returns the engine.
+fn with_stream(alloc: Global, engine: Engine<MemDisk>, id: u128) -> Option<Engine<MemDisk>> {
+    let mut engine = engine;
+    engine.step(alloc, &Entry::Create { id }).ok()?;
+    Some(engine)
 }
 
 /// Returns the log of an empty store on a device, if the device has its blocks.
@@ -411,13 +416,81 @@ fn log_on(disk: MemDisk) -> Option<Log<MemDisk>> {
 }
 
 #[test]
-fn a_device_and_a_log_move_to_other_threads(rt: HostRuntime) -> Result<(), Fail> {
+fn an_engine_its_device_and_a_snapshot_move_to_other_threads(rt: HostRuntime) -> Result<(), Fail> {
     let alloc = rt.alloc();
-    let disk = formatted(alloc, &[])?;
-    let (entries, _) = thread::join(&rt, move || entries_on(alloc, disk), || ());
-    assert_eq!(rt; entries, Some(0));
-    let log = log_on(formatted(alloc, &[])?).ok_or("too few blocks")?;
+    let engine = opened(alloc, formatted(alloc, &[])?)?;
+    let snapshot = engine.admit()?;
+    // the engine goes to another thread and back, while this one has the snapshot
+    let (moved, entries) = thread::join(
+        &rt,
+        move || with_stream(alloc, engine, 7),
+        || snapshot.entries(),
+    );
+    assert_eq!(rt; entries, 0);
+    let engine = moved.ok_or("no stream was added")?;
+    let later = engine.admit()?;
+    // the snapshots go to another thread, while this one has the engine
+    let (found, moved) = thread::join(
+        &rt,
+        move || (snapshot.find(7), later.find(7)),
+        move || with_stream(alloc, engine, 8),
+    );
+    assert_eq!(rt; found, (None, Some(0)));
+    let disk = moved.ok_or("no stream was added")?.into_disk();
+    // the device goes to another thread, and comes back as an engine
+    let (reopened, _) = thread::join(&rt, move || open_store(alloc, disk).ok(), || ());
+    let engine = reopened.ok_or("it was not opened")?;
+    assert_eq!(rt; engine.entries(), 2);
+    let log = log_on(engine.into_disk()).ok_or("too few blocks")?;
     let (room, _) = thread::join(&rt, move || log.room(), || ());
     assert_eq!(rt; room, 11);
+    Ok(())
+}
+
+/// Asks a snapshot many times for the latest version of stream 0 and the number of its points. Returns them if all answers are
+/// the same.
+fn steady(alloc: Global, snapshot: &Snapshot) -> Option<(u64, usize)> {
+    let first = latest_in(alloc, snapshot).ok()??;
+    for _ in 0..100 {
+        if latest_in(alloc, snapshot).ok()?? != first {
+            return None;
+        }
+    }
+    Some(first)
+}
+
+/// Adds `count` commits of three points to stream 0, and returns the engine.
+fn with_commits(alloc: Global, engine: Engine<MemDisk>, count: u32) -> Option<Engine<MemDisk>> {
+    let mut engine = engine;
+    for _ in 0..count {
+        let entry = insert(alloc, 3).ok()?;
+        engine.step(alloc, &entry).ok()?;
+    }
+    Some(engine)
+}
+
+#[test]
+fn a_snapshot_answers_as_before_in_another_thread_while_commits_go_on(
+    rt: HostRuntime,
+) -> Result<(), Fail> {
+    let alloc = rt.alloc();
+    let capacity = Capacity {
+        calls: 256,
+        blocks: 256,
+    };
+    let mut disk = MemDisk::new(alloc, 64, capacity, Vec::new(alloc))?;
+    assert!(rt; format(&mut disk, 64).is_ok());
+    let mut engine = opened(alloc, disk)?;
+    assert!(rt; engine.step(alloc, &Entry::Create { id: 7 }).is_ok());
+    assert!(rt; engine.step(alloc, &insert(alloc, 3)?).is_ok());
+    let snapshot = engine.admit()?;
+    let (found, moved) = thread::join(
+        &rt,
+        move || steady(alloc, &snapshot),
+        move || with_commits(alloc, engine, 8),
+    );
+    assert_eq!(rt; found, Some((1, 3)));
+    let engine = moved.ok_or("a commit was refused")?;
+    assert_eq!(rt; latest(alloc, &engine)?, (9, 27));
     Ok(())
 }
