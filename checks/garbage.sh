@@ -125,16 +125,31 @@ refused format --blocks 7
 refused format --blocks 4294967297
 refused format --blocks 99999999999999999999999999
 refused format --blocks -64
-refused format --blocks +64
+refused format --blocks ++64
 refused format --blocks 0x40
 refused format --blocks ' 64'
 refused format --blocks 64 64
-refused format --blocks=64
+refused format --blocks=
+refused format --blo 64
+refused format --blocks 64 --blocks 64
+refused format --batch 64
+refused live --batch
+refused live --batch 0
+refused live --batch 65537
+refused live --batch 1 --batch 1
+refused live --blocks 64
+refused ask --batch 5
+refused -- ask
+refused ask -- --
 refused format --Blocks 64
 refused --blocks 64 format
 refused --help
 refused -h
 refused live --help
+refused --version
+refused -V
+refused help
+refused help live
 refused live live
 refused ask ''
 refused Ask
@@ -146,3 +161,15 @@ refused $'\xff\xfe'
 refused ask $'\xc3'
 for _ in $(seq 10); do refused "$(random 12 | tr -d '\0')" "$(random 5 | tr -d '\0')"; done
 expect 'words that are no command' "$wrong" ''
+
+# Spellings that the command-line library takes.
+wrong=
+taken() {
+    play device "$@" </dev/null
+    [ "$(ended)" = '6: no occupied/' ] && cmp -s device before || wrong="$wrong [$(one_line "$*")] $(ended)"
+}
+taken format --blocks=64
+taken format --blocks +64
+taken format --blocks 0064
+taken format --blocks 64 --
+expect 'spellings of a number and an option' "$wrong" ''

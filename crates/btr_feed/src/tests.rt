@@ -6,10 +6,10 @@ use std::test::Fail;
 /// Points at these times. Each has the same value as its place.
 fn points_at(alloc: Global, times: &[i64]) -> Result<Vec<Point>, AllocError> {
     let mut points = Vec::new(alloc);
-    let mut value = 0;
+    let mut value: i64 = 0;
     for time in times {
         points.push(Point { time: *time, value })?;
-        value += 1;
+        value = value.wrapping_add(1);
     }
     Ok(points)
 }
