@@ -1,5 +1,6 @@
 //! The board: what an engine keeps of a history in memory, for its calls and questions.
-ghost use Rattle.std.specs.Prelude.{◌≡◌, ◌+◌, ◌-◌, ◌^◌, ◌<◌, ◌≤◌, List, [], ◌∷◌, ◌++◌, length, slice_set, IfOk, IfErr, IfSome, IsNone, OnOk};
+ghost use Rattle.std.specs.Prelude.{◌≡◌, ◌+◌, ◌-◌, ◌^◌, ◌<◌, ◌≤◌, List, []};
+ghost use Rattle.std.specs.Prelude.{◌∷◌, ◌++◌, length, slice_set, IfOk, IfErr, IfSome, IsNone, OnOk};
 ghost use Rattle.std.specs.Prelude.{MatchOption, None};
 ghost use Rattle.btr_base.specs.declared.point.Point.{Point as PointSpec};
 ghost use Rattle.btr_base.specs.Bag.{IsInOrder};

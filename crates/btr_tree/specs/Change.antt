@@ -1,5 +1,6 @@
 -- What the private functions that apply a commit promise, and the premises that their clauses share.
-use Rattle.std.specs.Prelude.{◌≡◌, ℕ, zero, suc, ◌+◌, ◌<◌, ◌≤◌, ◌^◌, ℤ, pos, ◌+ℤ◌, ◌≤ℤ◌, ◌<ℤ◌, Bool, true, not, ◌||◌, List, length, Option, MatchOption, min, ◌-◌}
+use Rattle.std.specs.Prelude.{◌≡◌, ℕ, zero, suc, ◌+◌, ◌<◌, ◌≤◌, ◌^◌, ℤ, pos, ◌+ℤ◌}
+use Rattle.std.specs.Prelude.{◌≤ℤ◌, ◌<ℤ◌, Bool, true, not, ◌||◌, List, length, Option, MatchOption, min, ◌-◌}
 use Rattle.btr_base.specs.declared.point.Point.{Point}
 use Rattle.btr_base.specs.Range.{RangeValue, covered}
 use Rattle.btr_base.specs.Span.{width, SpanValue}

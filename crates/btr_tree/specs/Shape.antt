@@ -1,5 +1,6 @@
 -- Which trees in memory are those of a stream's past, and what a walk learns of a node that it visits.
-use Rattle.std.specs.Prelude.{◌≡◌, ℕ, zero, suc, ◌+◌, ◌*◌, ◌<◌, ◌≤◌, ℤ, pos, ◌+ℤ◌, Bool, List, [], length, min, Option, MatchOption, IfSome, IsNone, IsSome}
+use Rattle.std.specs.Prelude.{◌≡◌, ℕ, zero, suc, ◌+◌, ◌*◌, ◌<◌, ◌≤◌, ℤ, pos}
+use Rattle.std.specs.Prelude.{◌+ℤ◌, Bool, List, [], length, min, Option, MatchOption, IfSome, IsNone, IsSome}
 use Rattle.btr_base.specs.declared.point.Point.{Point}
 use Rattle.btr_base.specs.Span.{width}
 use Rattle.btr_base.specs.Agg.{agg}

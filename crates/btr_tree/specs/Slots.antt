@@ -2,7 +2,8 @@
 --
 -- A node has a base version. It keeps a slot if the slot has a point, or a version other than the base version. A mask of 64
 -- bits says which slots are kept: bit i is set if slot i is kept. The kept slots are in order.
-use Rattle.std.specs.Prelude.{◌≡◌, ℕ, zero, suc, ◌+◌, ◌^◌, ◌<◌, ◌≤◌, ◌%◌, List, [], ◌∷◌, ◌++◌, length, slice_get, Option, Some, None, option_map, nat_eq, count_ones, if◌then◌else◌}
+use Rattle.std.specs.Prelude.{◌≡◌, ℕ, zero, suc, ◌+◌, ◌^◌, ◌<◌, ◌≤◌, ◌%◌, List, []}
+use Rattle.std.specs.Prelude.{◌∷◌, ◌++◌, length, slice_get, Option, Some, None, option_map, nat_eq, count_ones, if◌then◌else◌}
 use Rattle.std.specs.Int.{bit_at}
 use Rattle.btr_base.specs.Agg.{no_points}
 use Rattle.btr_tree.specs.declared.node.Child.{Child}

@@ -1,5 +1,6 @@
 //! A commit, applied to the nodes of a span.
-ghost use Rattle.std.specs.Prelude.{◌≡◌, ◌<◌, ◌≤◌, ◌+◌, ◌++◌, ◌∷◌, ◌||◌, [], ◌+ℤ◌, ℕ, ℤ, pos, suc, true, false, not, Bool, List, length, IfOk, IfErr, OnOk};
+ghost use Rattle.std.specs.Prelude.{◌≡◌, ◌<◌, ◌≤◌, ◌+◌, ◌++◌, ◌∷◌, ◌||◌, [], ◌+ℤ◌, ℕ, ℤ};
+ghost use Rattle.std.specs.Prelude.{pos, suc, true, false, not, Bool, List, length, IfOk, IfErr, OnOk};
 ghost use Rattle.btr_base.specs.Agg.{agg};
 ghost use Rattle.btr_base.specs.Bag.{IsInOrder, within, outside, sort};
 ghost use Rattle.btr_base.specs.Range.{IsCut};

@@ -10,5 +10,6 @@ pub fn commands_are_these()
     ensures ask { command_of (codes "ask" ∷ []) ≡ Some Ask }
     ensures live { command_of (codes "live" ∷ []) ≡ Some (Live 4096) }
     ensures batch { (b : Text) → command_of (codes "live" ∷ codes "--batch" ∷ b ∷ []) ≡ option_map (λ n. Live n) (number_of 1 65536 b) }
-    ensures format { (n : Text) → command_of (codes "format" ∷ codes "--blocks" ∷ n ∷ []) ≡ option_map (λ k. Format k) (number_of 8 4294967296 n) }
+    ensures format { (n : Text) → command_of (codes "format" ∷ codes "--blocks" ∷ n ∷ [])
+        ≡ option_map (λ k. Format k) (number_of 8 4294967296 n) }
 {}
