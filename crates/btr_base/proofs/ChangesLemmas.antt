@@ -1,18 +1,21 @@
 -- Lemmas on the longest runs of ranges in order, such as aligned slots.
-use Rattle.std.specs.Prelude.{◌≡◌, ℕ, ◌+◌, ◌-◌, ◌*◌, ◌/◌, ◌^◌, ◌<◌, ◌≤◌, ℤ, pos, ◌+ℤ◌, ◌-ℤ◌, unsigned_abs, Bool, true, false, ◌&&◌, ◌||◌, int_le, int_lt, ◌≤ℤ◌, ◌<ℤ◌, List, [], ◌∷◌, ◌++◌, map, cond, IsTrue}
+use Rattle.std.specs.Prelude.{◌≡◌, ℕ, ◌+◌, ◌-◌, ◌*◌, ◌/◌, ◌^◌, ◌<◌, ◌≤◌, not, length, ℤ, pos, ◌+ℤ◌, ◌-ℤ◌, unsigned_abs, Bool, true, false, ◌&&◌, ◌||◌, int_le, int_lt, ◌≤ℤ◌, ◌<ℤ◌, List, [], ◌∷◌, ◌++◌, map, cond, IsTrue}
 use Rattle.std.specs.List.{list_any, AllByRecursion}
-use Rattle.std.proofs.Common.{refl, sym, ap, ◌∙◌, arith, mul-le-mul_right}
+use Rattle.std.proofs.Common.{refl, sym, ap, ◌∙◌, arith, mul-le-mul_right, subst}
+use Rattle.std.proofs.lemmas.Bool.{both_ways, and_parts, or_parts}
+use Rattle.std.proofs.lemmas.List.{length-append, length-map}
+use Rattle.std.specs.Ordering.{int_eq}
 use Rattle.std.proofs.lemmas.Int.{ints}
 use Rattle.std.proofs.lemmas.Nat.{pow-add, pow_pos, le-div}
 use Rattle.std.proofs.Math.Nat.{div-mul-le_self, lt-div-mul-add}
 use Rattle.btr_base.specs.declared.limits.TheConstants.{FIRST, END}
 use Rattle.btr_base.specs.declared.point.Point.{Point}
-use Rattle.btr_base.specs.Point.{is_not_after, InDomain}
+use Rattle.btr_base.specs.Point.{is_not_after, InDomain, AreInDomain, in_domain, same_point}
 use Rattle.btr_base.specs.Range.{RangeValue, IsRange, IsCut, AreApart, contains, covered}
 use Rattle.btr_base.specs.Bag.{IsInOrder, sort}
-use Rattle.btr_base.specs.Changes.{differ_at, changed, slot_around, joined_before, runs, changes}
-use Rattle.btr_base.proofs.ListLemmas.{each-weaker, each-both, filter-passes}
-use Rattle.btr_base.proofs.PointLemmas.{sort-in_order, filter-in_order, is_not_after-times}
+use Rattle.btr_base.specs.Changes.{points_at, same_points, differ_at, changed, slot_around, joined_before, runs, changes}
+use Rattle.btr_base.proofs.ListLemmas.{each-weaker, each-both, filter-passes, filter-append, filter-all, filter-none, filter-swap, length-filter}
+use Rattle.btr_base.proofs.PointLemmas.{sort-in_order, filter-in_order, is_not_after-times, same_point-true, filter-sort, length-sort}
 use Rattle.btr_base.proofs.SpanLemmas.{less-times, times-up_to}
 
 -- ---- ranges in order
@@ -213,3 +216,120 @@ changes-covered p a b t low =
     let in_domain = changed-domain a b in
     runs-covered (map (λ q. slot_around p q.time) (changed a b)) t (slots-each p (changed a b) low in_domain) (slots-rise p (changed a b) in_domain (changed-in_order a b))
     ∙ covered-map p (changed a b) t
+
+-- ---- how many there are
+
+joined-length : (r : RangeValue) (rs : List RangeValue) → length (joined_before r rs) ≤ 1 + length rs
+joined-length r [] = omega arith
+joined-length r (s ∷ rs) =
+    elim (int_le s.from r.to) as (λ t. length (cond t (record { from = r.from; to = s.to } ∷ rs) (r ∷ s ∷ rs)) ≤ 1 + length (s ∷ rs)) [
+      | true ↦ omega arith
+      | false ↦ omega arith
+    ]
+
+pub runs-length : (rs : List RangeValue) → length (runs rs) ≤ length rs
+runs-length [] = omega arith
+runs-length (r ∷ rs) = let more = joined-length r (runs rs) in let rest = runs-length rs in omega arith
+
+-- There are no more changed runs than points of both bags.
+pub changes-length : (p : ℕ) (a b : List Point) → length (changes p a b) ≤ length a + length b
+changes-length p a b =
+    let few = runs-length (map (λ q. slot_around p q.time) (changed a b)) in
+    let slots : length (map (λ q. slot_around p q.time) (changed a b)) ≡ length (changed a b) = length-map (changed a b) (λ q. slot_around p q.time) in
+    let kept : length (changed a b) ≤ length (sort (a ++ b)) = length-filter (λ q. differ_at a b q.time && in_domain q.time) (sort (a ++ b)) in
+    let sorted : length (sort (a ++ b)) ≡ length (a ++ b) = length-sort (a ++ b) in
+    let both : length (a ++ b) ≡ length a + length b = length-append a b in
+    omega arith
+
+-- ---- a time that no changed run covers
+
+pub same_points-true : (a b : List Point) → same_points a b ≡ true → a ≡ b
+same_points-true [] [] h = refl
+same_points-true [] (q ∷ b) h = absurd (both_ways false refl h)
+same_points-true (p ∷ a) [] h = absurd (both_ways false refl h)
+same_points-true (p ∷ a) (q ∷ b) h =
+    let parts = and_parts (same_point p q) (same_points a b) h in
+    let first = same_point-true p q parts.0 in
+    let rest = same_points-true a b parts.1 in
+    λ i. first i ∷ rest i
+
+contains-between : (r : RangeValue) (t : ℤ) → r.from ≤ℤ t → t <ℤ r.to → contains r t ≡ true
+contains-between r t h k = grind (arith, ints)
+
+-- The slot around a time contains it.
+pub slot-contains : (p : ℕ) (t : ℤ) → FIRST ≤ℤ t → contains (slot_around p t) t ≡ true
+slot-contains p t low =
+    let is = slot-is p t low in
+    let time = is.time in
+    let from = is.from in
+    let to = is.to in
+    let begins = is.begins in
+    let ends = is.ends in
+    let early : (slot_around p t).from ≤ℤ t = omega (arith, ints) in
+    let late : t <ℤ (slot_around p t).to = omega (arith, ints) in
+    contains-between (slot_around p t) t early late
+
+time-is : (q : Point) (t : ℤ) → int_eq q.time t ≡ true → q.time ≡ t
+time-is q t h = grind (arith, ints)
+
+-- If none of the slots around points contains the time, no point has it.
+none-at : (p : ℕ) (t : ℤ) (ps : List Point) → FIRST ≤ℤ t → list_any (λ q. contains (slot_around p q.time) t) ps ≡ false → points_at t ps ≡ []
+none-at p t [] low h = refl
+none-at p t (q ∷ ps) low h =
+    let parts = or_parts (contains (slot_around p q.time) t) (list_any (λ r. contains (slot_around p r.time) t) ps) h in
+    elim (int_eq q.time t) as (λ s. int_eq q.time t ≡ s → cond s (q ∷ points_at t ps) (points_at t ps) ≡ []) [
+      | true ↦ λ e. absurd (both_ways (contains (slot_around p t) t) (subst (λ u. contains (slot_around p u) t ≡ false) (time-is q t e) parts.0) (slot-contains p t low))
+      | false ↦ λ _. none-at p t ps low parts.1
+    ] refl
+
+no_points : (a : List Point) → length a ≡ 0 → a ≡ []
+no_points [] h = refl
+no_points (p ∷ a) h = absurd (omega arith)
+
+domain-test : (t : ℤ) → InDomain t → in_domain t ≡ true
+domain-test t h = let low = h.0 in let high = h.1 in grind (arith, ints)
+
+-- The points at a time of the domain at which the bags differ are changed points.
+at-changed : (a b : List Point) (t : ℤ) → InDomain t → differ_at a b t ≡ true → points_at t (changed a b) ≡ points_at t (sort (a ++ b))
+at-changed a b t inside differs =
+    let test : Point → Bool = λ q. differ_at a b q.time && in_domain q.time in
+    let here : Point → Bool = λ q. int_eq q.time t in
+    let domain = domain-test t inside in
+    let passes : AllByRecursion (λ q. test q ≡ true) (points_at t (sort (a ++ b))) =
+    each-weaker (λ q. here q ≡ true) (λ q. test q ≡ true) (λ q e. ap (λ u. differ_at a b u && in_domain u) (time-is q t e) ∙ (λ i. differs i && domain i)) (points_at t (sort (a ++ b))) (filter-passes here (sort (a ++ b))) in
+    filter-swap here test (sort (a ++ b)) ∙ filter-all test (points_at t (sort (a ++ b))) passes
+
+same-if_none : (a b : List Point) (t : ℤ) → points_at t (sort (a ++ b)) ≡ [] → points_at t a ≡ points_at t b
+same-if_none a b t h =
+    let here : Point → Bool = λ q. int_eq q.time t in
+    let both : sort (points_at t a ++ points_at t b) ≡ [] = ap sort (sym (filter-append here a b)) ∙ sym (filter-sort here (a ++ b)) ∙ h in
+    let size : length (sort (points_at t a ++ points_at t b)) ≡ 0 = ap (λ ps. length ps) both in
+    let sorted = length-sort (points_at t a ++ points_at t b) in
+    let parts = length-append (points_at t a) (points_at t b) in
+    no_points (points_at t a) (omega arith) ∙ sym (no_points (points_at t b) (omega arith))
+
+-- At a time of the domain that no changed run covers both bags have the same points.
+pub changes-covered-unchanged : (p : ℕ) (a b : List Point) (t : ℤ) → p ≤ 62 → InDomain t → covered (changes p a b) t ≡ false → points_at t a ≡ points_at t b
+changes-covered-unchanged p a b t low inside h =
+    elim (same_points (points_at t a) (points_at t b)) as (λ s. same_points (points_at t a) (points_at t b) ≡ s → points_at t a ≡ points_at t b) [
+      | true ↦ λ e. same_points-true (points_at t a) (points_at t b) e
+      | false ↦ λ e. same-if_none a b t (sym (at-changed a b t inside (ap not e)) ∙ none-at p t (changed a b) inside.0 (sym (changes-covered p a b t low) ∙ h))
+    ] refl
+
+other-time : (q : Point) (t : ℤ) → InDomain q.time → in_domain t ≡ false → int_eq q.time t ≡ false
+other-time q t h out =
+    let low = h.0 in
+    let high = h.1 in
+    grind (arith, ints)
+
+none-outside : (b : List Point) (t : ℤ) → AreInDomain b → in_domain t ≡ false → points_at t b ≡ []
+none-outside b t h out =
+    filter-none (λ q. int_eq q.time t) b (each-weaker (λ q. InDomain q.time) (λ q. int_eq q.time t ≡ false) (λ q k. other-time q t k out) b h)
+
+-- In bags of the domain this holds of each time.
+pub changes-unchanged : (p : ℕ) (a b : List Point) (t : ℤ) → p ≤ 62 → AreInDomain a → AreInDomain b → covered (changes p a b) t ≡ false → points_at t a ≡ points_at t b
+changes-unchanged p a b t low h k e =
+    elim (in_domain t) as (λ s. in_domain t ≡ s → points_at t a ≡ points_at t b) [
+      | true ↦ λ inside. changes-covered-unchanged p a b t low (in_domain-test true t inside) e
+      | false ↦ λ out. none-outside a t h out ∙ sym (none-outside b t k out)
+    ] refl

@@ -1,6 +1,7 @@
 pub mod AggLemmas
 pub mod ChangesLemmas
 pub mod CrowdedLemmas
+pub mod CutLemmas
 pub mod Joining
 pub mod Last
 pub mod ListLemmas

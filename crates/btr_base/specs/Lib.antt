@@ -1,6 +1,7 @@
 -- data
 pub mod Point
 pub mod Range
+pub mod Cut
 pub mod Span
 -- what a stream holds, and what a commit does to it
 pub mod Bag

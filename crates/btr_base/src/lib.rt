@@ -12,6 +12,8 @@ mod point;
 // what a commit removes
 mod range;
 mod ranges;
+// sets of times that are lengthened or united
+mod cut;
 // what a version holds
 mod bag;
 // what is asked of it

@@ -131,6 +131,70 @@ fn times_that_are_covered(rt: HostRuntime) -> Result<(), Fail> {
 }
 
 #[test]
+fn ranges_with_a_lead(rt: HostRuntime) -> Result<(), Fail> {
+    let alloc = rt.alloc();
+    let three = [(0, 10), (20, 30), (END - 100, END - 50)];
+    for (lead, want) in [
+        (0, [(0, 10), (20, 30), (END - 100, END - 50)].as_slice()),
+        (5, [(0, 15), (20, 35), (END - 100, END - 45)].as_slice()),
+        (9, [(0, 19), (20, 39), (END - 100, END - 41)].as_slice()),
+        (10, [(0, 40), (END - 100, END - 40)].as_slice()),
+        (15, [(0, 45), (END - 100, END - 35)].as_slice()),
+        (51, [(0, 81), (END - 100, END)].as_slice()),
+        // 2^60
+        (
+            1152921504606846976,
+            [(0, 1152921504606847006), (END - 100, END)].as_slice(),
+        ),
+        (u64::MAX, [(0, END)].as_slice()),
+    ] {
+        let ranges = ranges_of(alloc, &three)?;
+        let longer = ranges.with_lead(alloc, lead)?;
+        assert_eq!(rt; bounds_of(alloc, &longer)?.as_slice(), want, "{lead}");
+    }
+    let last = ranges_of(alloc, &[(FIRST, FIRST + 1)])?;
+    let whole = last.with_lead(alloc, u64::MAX)?;
+    assert_eq!(rt;
+        bounds_of(alloc, &whole)?.as_slice(),
+        [(FIRST, END)].as_slice()
+    );
+    Ok(())
+}
+
+#[test]
+fn times_of_both(rt: HostRuntime) -> Result<(), Fail> {
+    let alloc = rt.alloc();
+    let two = [(0, 10), (20, 30)];
+    for (other, want) in [
+        ([].as_slice(), [(0, 10), (20, 30)].as_slice()),
+        ([(20, 30)].as_slice(), [(0, 10), (20, 30)].as_slice()),
+        ([(5, 25)].as_slice(), [(0, 30)].as_slice()),
+        ([(10, 20)].as_slice(), [(0, 30)].as_slice()),
+        (
+            [(11, 19)].as_slice(),
+            [(0, 10), (11, 19), (20, 30)].as_slice(),
+        ),
+        (
+            [(-9, 0), (30, 40)].as_slice(),
+            [(-9, 10), (20, 40)].as_slice(),
+        ),
+        (
+            [(-9, -5), (12, 15), (40, 50), (60, 70)].as_slice(),
+            [(-9, -5), (0, 10), (12, 15), (20, 30), (40, 50), (60, 70)].as_slice(),
+        ),
+        ([(FIRST, END)].as_slice(), [(FIRST, END)].as_slice()),
+    ] {
+        let ranges = ranges_of(alloc, &two)?;
+        let others = ranges_of(alloc, other)?;
+        let all = ranges.union(alloc, &others)?;
+        assert_eq!(rt; bounds_of(alloc, &all)?.as_slice(), want);
+        let back = others.union(alloc, &ranges)?;
+        assert_eq!(rt; bounds_of(alloc, &back)?.as_slice(), want);
+    }
+    Ok(())
+}
+
+#[test]
 fn points_in_a_bag(rt: HostRuntime) -> Result<(), Fail> {
     let alloc = rt.alloc();
     let bag = bag_of(
