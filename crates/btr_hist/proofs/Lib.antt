@@ -1,9 +1,17 @@
 pub mod HistoryLemmas
 pub mod RejectionLemmas
+pub mod KernelLemmas
+pub mod LocalityLemmas
+pub mod DistilLemmas
+pub mod VersionLemmas
+pub mod ReadsLemmas
+pub mod AcceptedLemmas
+pub mod OutputLemmas
+pub mod RightLemmas
+pub mod LandingLemmas
 mod Steps
 mod CrowdedWalk
 mod Stays
-mod Domain
 mod Machine
 mod WindowWalk
 mod Bounds

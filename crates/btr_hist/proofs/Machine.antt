@@ -1,25 +1,92 @@
--- The machine that many users share keeps its history legal.
-use Rattle.std.specs.Prelude.{◌≡◌, ℕ, List, [], ◌∷◌, Option, Some, None}
+-- The machine that many users share keeps its history legal, each admitted history a front of it, and each plan standing.
+use Rattle.std.specs.Prelude.{◌≡◌, ℕ, ◌==◌, true, false, List, [], ◌∷◌, cond, Option, Some, None}
 use Rattle.std.proofs.Common.{refl}
 use Rattle.btr_hist.specs.declared.entry.Entry.{Entry}
 use Rattle.btr_hist.specs.declared.rejection.Rejection.{Rejection}
-use Rattle.btr_hist.specs.Legal.{rejection, Legal}
-use Rattle.btr_hist.specs.Machine.{Event, Machine, committed, next, run}
-use Rattle.btr_hist.specs.Machine.Event.{Commit, Admit, Ask}
-use Rattle.btr_hist.proofs.HistoryLemmas.{legal-push}
+use Rattle.btr_hist.specs.History.{spec_of}
+use Rattle.btr_hist.specs.Legal.{Legal}
+use Rattle.btr_hist.specs.Machine.{Event, Landing, Machine, start, offered, committed, plan_of, after_landing, next_plan, next, run}
+use Rattle.btr_hist.specs.Machine.Event.{Commit, Admit, Ask, Plan, Land}
+use Rattle.btr_hist.proofs.HistoryLemmas.{legal-none, legal-push, allowed-of_offered}
+use Rattle.btr_hist.proofs.OutputLemmas.{legal-sound}
+use Rattle.btr_hist.proofs.LandingLemmas.{IsFront, front-itself, front-trans, legal-front, committed-front, Stands, stands-front, plan-stands}
+use Rattle.btr_hist.proofs.LandingLemmas.{landing-legal, landing-front}
 
-committed-legal : (h : List Entry) (e : Entry) → Legal h → Legal (committed h e (rejection h e))
+-- The history is legal, each user is admitted to a front of it, and each plan stands for it.
+record IsFair (m : Machine) : Type 0 where
+  legal : Legal m.history
+  front : (user : ℕ) → IsFront (m.admitted user) m.history
+  stands : (user : ℕ) → Stands m.history (m.plan user)
+
+-- ---- a user's entry
+
+committed-legal : (h : List Entry) (e : Entry) → Legal h → Legal (committed h e (offered h e))
 committed-legal h e legal =
-    elim (rejection h e) as (λ (r : Option Rejection). rejection h e ≡ r → Legal (committed h e r)) [
-      | None ↦ λ allowed. legal-push h e legal allowed
+    elim (offered h e) as (λ (r : Option Rejection). offered h e ≡ r → Legal (committed h e r)) [
+      | None ↦ λ accepted. legal-push h e legal (allowed-of_offered h e accepted)
       | Some r ↦ λ _. legal
     ] refl
 
-next-legal : (m : Machine) (user : ℕ) (event : Event) → Legal m.history → Legal (next m user event).history
-next-legal m user (Commit e) legal = committed-legal m.history e legal
-next-legal m user Admit legal = legal
-next-legal m user (Ask q) legal = legal
+-- ---- an event
 
-pub run-legal : (m : Machine) (events : List (ℕ × Event)) → Legal m.history → Legal (run m events).history
-run-legal m [] legal = legal
-run-legal m (e ∷ es) legal = run-legal (next m e.0 e.1) es (next-legal m e.0 e.1 legal)
+-- A machine with a longer history, and the same users.
+grown-fair : (m : Machine) (h : List Entry) → IsFair m → IsFront m.history h → Legal h → IsFair (record { history = h; admitted = m.admitted; plan = m.plan })
+grown-fair m h fair longer legal = record {
+  legal = legal;
+  front = λ user. front-trans (m.admitted user) m.history h (fair.front user) longer;
+  stands = λ user. stands-front m.history h (m.plan user) longer (fair.stands user);
+}
+
+next_plan-stands : (h : List Entry) (old new : Option Landing) → Stands h old → Stands h new → Stands h (next_plan old new)
+next_plan-stands h old None a b = a
+next_plan-stands h old (Some p) a b = b
+
+next-fair : (m : Machine) (user : ℕ) (event : Event) → IsFair m → IsFair (next m user event)
+next-fair m user (Commit e) fair =
+    grown-fair m (committed m.history e (offered m.history e)) fair (committed-front m.history e (offered m.history e)) (committed-legal m.history e fair.legal)
+next-fair m user Admit fair = record {
+  legal = fair.legal;
+  front = λ other. elim (other == user) as (λ t. IsFront (cond t m.history (m.admitted other)) m.history) [
+    | true ↦ front-itself m.history
+    | false ↦ fair.front other
+  ];
+  stands = fair.stands;
+}
+next-fair m user (Ask q) fair = fair
+next-fair m user (Plan stream) fair =
+    let g = m.admitted user in
+    let sound = legal-sound g (legal-front g m.history (fair.front user) fair.legal) in
+    let new = plan_of g stream (spec_of g stream) in
+    let is = stands-front g m.history new (fair.front user) (plan-stands g stream (spec_of g stream) sound refl) in
+    record {
+      legal = fair.legal;
+      front = fair.front;
+      stands = λ other. elim (other == user) as (λ t. Stands m.history (cond t (next_plan (m.plan user) new) (m.plan other))) [
+        | true ↦ next_plan-stands m.history (m.plan user) new (fair.stands user) is
+        | false ↦ fair.stands other
+      ];
+    }
+next-fair m user Land fair =
+    let h = after_landing m.history (m.plan user) in
+    let longer = landing-front m.history (m.plan user) in
+    let grown = grown-fair m h fair longer (landing-legal m.history (m.plan user) fair.legal (fair.stands user)) in
+    record {
+      legal = grown.legal;
+      front = grown.front;
+      stands = λ other. elim (other == user) as (λ t. Stands h (cond t None (m.plan other))) [
+        | true ↦ tt
+        | false ↦ grown.stands other
+      ];
+    }
+
+-- ---- all events
+
+run-fair : (m : Machine) (events : List (ℕ × Event)) → IsFair m → IsFair (run m events)
+run-fair m [] fair = fair
+run-fair m (e ∷ es) fair = run-fair (next m e.0 e.1) es (next-fair m e.0 e.1 fair)
+
+start-fair : IsFair start
+start-fair = record { legal = legal-none; front = λ user. front-itself []; stands = λ user. tt }
+
+pub run-legal : (events : List (ℕ × Event)) → Legal (run start events).history
+run-legal events = (run-fair start events start-fair).legal

@@ -1,5 +1,5 @@
 -- The answer about versions that exist never changes.
-use Rattle.std.specs.Prelude.{◌≡◌, ℕ, ◌+◌, ◌≤◌, ◌<◌, nat_lt, nat_le, max, true, ◌&&◌, Bool, List, ◌++◌, length, cond}
+use Rattle.std.specs.Prelude.{◌≡◌, ℕ, ◌+◌, ◌≤◌, ◌<◌, nat_lt, nat_le, max, true, ◌&&◌, Bool, List, ◌++◌, length, cond, Option}
 use Rattle.std.proofs.Common.{sym, ap, ◌∙◌, arith}
 use Rattle.std.proofs.lemmas.Bool.{lt-leb, le-ltb}
 use Rattle.std.proofs.lemmas.List.{length-append}
@@ -11,6 +11,7 @@ use Rattle.btr_base.specs.Changes.{changes}
 use Rattle.btr_base.specs.Nearest.{nearest}
 use Rattle.btr_base.specs.Windows.{aligned, windows}
 use Rattle.btr_hist.specs.declared.entry.Entry.{Entry}
+use Rattle.btr_hist.specs.declared.kernel.Reads.{Reads}
 use Rattle.btr_hist.specs.declared.query.At.{At}
 use Rattle.btr_hist.specs.declared.query.At.TheVariants.{Number, Latest}
 use Rattle.btr_hist.specs.declared.query.Query.{Query}
@@ -20,10 +21,10 @@ use Rattle.btr_hist.specs.declared.answer.Answer.TheVariants.{Found, Refused}
 use Rattle.btr_hist.specs.declared.answer.Refusal.TheVariants.{NoStream, NoVersion, BadRange}
 use Rattle.btr_hist.specs.declared.answer.Rows.{Rows}
 use Rattle.btr_hist.specs.declared.answer.Rows.TheVariants.{Points, Cells, Ranges, Info}
-use Rattle.btr_hist.specs.History.{ids, latest, bag}
+use Rattle.btr_hist.specs.History.{ids, is_output, latest, bag, read_by}
 use Rattle.btr_hist.specs.Answer.{answer, answer_at, version_of, is_range, is_power, is_width, list_of}
 use Rattle.btr_hist.specs.Query.{IsThere, IsSettled}
-use Rattle.btr_hist.proofs.HistoryLemmas.{ids-append, latest-append, bag-append}
+use Rattle.btr_hist.proofs.HistoryLemmas.{ids-append, is_output-append, latest-append, bag-append, read_by-append}
 
 -- The answer about a version that exists.
 pub answer_at-there : (h : List Entry) (stream version : ℕ) (good : Bool) (rows : List Point → Rows) → stream < length (ids h) → version ≤ latest h stream → answer_at h stream version good rows ≡ cond good (Found version (rows (bag h stream version))) (Refused BadRange)
@@ -60,6 +61,11 @@ answer-stays h more (ask.Changes stream old new p) there =
     let before = bag-append h more stream old there.0.1 in
     ap (λ (a : List Point). answer_at (h ++ more) stream (max old new) (nat_le old new && is_power p) (λ b. Ranges (changes p a b))) before
     ∙ answer_at-stays h more stream (max old new) (nat_le old new && is_power p) (λ b. Ranges (changes p (bag h stream old) b)) there.0.0 (omega arith)
-answer-stays h more (ask.Info stream at) there =
-    at-stays h more stream at true (λ b. Info (agg_within FIRST END b)) there
+answer-stays h more (ask.Info stream (Number version)) there =
+    let kind = is_output-append h more stream there.0 in
+    let read = read_by-append h more stream version there.1 in
+    ap (λ (o : Bool). answer_at (h ++ more) stream version true (λ b. Info o (agg_within FIRST END b) (read_by (h ++ more) stream version))) kind
+    ∙ ap (λ (r : Option Reads). answer_at (h ++ more) stream version true (λ b. Info (is_output h stream) (agg_within FIRST END b) r)) read
+    ∙ answer_at-stays h more stream version true (λ b. Info (is_output h stream) (agg_within FIRST END b) (read_by h stream version)) there.0 there.1
+answer-stays h more (ask.Info stream Latest) there = absurd there
 answer-stays h more ask.Streams there = absurd there

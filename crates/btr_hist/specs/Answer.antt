@@ -19,7 +19,7 @@ use Rattle.btr_hist.specs.declared.answer.Refusal.TheVariants.{NoStream, NoVersi
 use Rattle.btr_hist.specs.declared.answer.Rows.{Rows}
 use Rattle.btr_hist.specs.declared.answer.Rows.TheVariants.{Points, Cells, Ranges, Info, Streams}
 use Rattle.btr_hist.specs.declared.answer.StreamRow.{StreamRow}
-use Rattle.btr_hist.specs.History.{ids, latest, bag}
+use Rattle.btr_hist.specs.History.{ids, is_output, latest, bag, read_by}
 
 -- The number of the version that a question is about.
 abbrev pub version_of : List Entry → ℕ → At → ℕ
@@ -51,10 +51,10 @@ abbrev pub list_of : Option Point → List Point
 list_of None = []
 list_of (Some p) = p ∷ []
 
--- The streams with these ids, numbered from the given number on, each with its latest version.
+-- The streams with these ids, numbered from the given number on, each with its latest version and its kind.
 abbrev pub rows_from : List Entry → ℕ → List ℕ → List StreamRow
 rows_from h number [] = []
-rows_from h number (id ∷ rest) = record { id = id; latest = latest h number } ∷ rows_from h (number + 1) rest
+rows_from h number (id ∷ rest) = record { id = id; latest = latest h number; output = is_output h number } ∷ rows_from h (number + 1) rest
 
 -- The answer to a question.
 abbrev pub answer : List Entry → Query → Answer
@@ -69,5 +69,5 @@ answer h (ask.Windows stream from to width at) =
 answer h (ask.Changes stream old new p) =
     answer_at h stream (max old new) (nat_le old new && is_power p) (λ b. Ranges (changes p (bag h stream old) b))
 answer h (ask.Info stream at) =
-    answer_at h stream (version_of h stream at) true (λ b. Info (agg_within FIRST END b))
+    answer_at h stream (version_of h stream at) true (λ b. Info (is_output h stream) (agg_within FIRST END b) (read_by h stream (version_of h stream at)))
 answer h ask.Streams = Found (length h) (Streams (rows_from h 0 (ids h)))

@@ -1,15 +1,20 @@
 -- The laws of all histories.
-use Rattle.std.specs.Prelude.{◌≡◌, ℕ, ◌+◌, ◌<◌, ◌≤◌, List, [], ◌∷◌, ◌++◌, length, take, if◌then◌else◌}
+use Rattle.std.specs.Prelude.{◌≡◌, ℕ, ◌+◌, ◌<◌, ◌≤◌, true, List, [], ◌∷◌, ◌++◌, take, if◌then◌else◌, Some}
 use Rattle.std.specs.List.{AllByRecursion}
+use Rattle.btr_base.specs.declared.limits.TheConstants.{MAX_VERSIONS}
 use Rattle.btr_base.specs.declared.point.Point.{Point}
-use Rattle.btr_base.specs.Point.{InDomain}
+use Rattle.btr_base.specs.Point.{InDomain, AreInDomain}
 use Rattle.btr_base.specs.Range.{covered}
-use Rattle.btr_base.specs.Bag.{copies}
+use Rattle.btr_base.specs.Bag.{IsInOrder, copies}
+use Rattle.btr_base.specs.Commit.{Change, after}
 use Rattle.btr_hist.specs.declared.entry.Entry.{Entry}
+use Rattle.btr_hist.specs.declared.entry.Entry.TheVariants.{Distillate}
+use Rattle.btr_hist.specs.declared.kernel.Spec.{Spec}
+use Rattle.btr_hist.specs.declared.kernel.Reads.{Reads}
 use Rattle.btr_hist.specs.declared.query.Query.{Query}
-use Rattle.btr_base.specs.Commit.{Change}
-use Rattle.btr_hist.specs.History.{ids, commits, latest, bag}
-use Rattle.btr_hist.specs.Legal.{Legal}
+use Rattle.btr_hist.specs.Distil.{Inputs, IsLocal, value_of, kernel_points, distillate}
+use Rattle.btr_hist.specs.History.{spec_of, commits, latest, bag, reads, inputs_at}
+use Rattle.btr_hist.specs.Legal.{Legal, Allowed, IsDistillate, takes_reads}
 use Rattle.btr_hist.specs.Query.{IsSettled}
 use Rattle.btr_hist.specs.Answer.{answer}
 use Rattle.btr_hist.specs.Machine.{Event, start, run}
@@ -30,6 +35,42 @@ HoldsWhatWasPutIn =
     (h : List Entry) (stream version : ℕ) (p : Point)
     → copies p (bag h stream version) ≡ copies_after p 0 (take version (commits h stream))
 
+-- The value of an output at a time depends on the points of its inputs in the window of its lead alone.
+abbrev pub KernelsAreLocal : Type 0
+KernelsAreLocal = (spec : Spec) → IsLocal spec.lead (value_of spec)
+
+-- The points of the inputs are bags of the domain.
+pub record AreBags (i : Inputs) : Type 0 where
+  pub first_in_order : IsInOrder i.first
+  pub first_in_domain : AreInDomain i.first
+  pub second_in_order : IsInOrder i.second
+  pub second_in_domain : AreInDomain i.second
+
+-- The distillate brings the output from the old inputs to the new ones, whatever changed in them.
+abbrev pub DistillatesAreRight : Type 0
+DistillatesAreRight =
+    (spec : Spec) (old new : Inputs) → spec.grain ≤ 62 → AreBags old → AreBags new
+    → after (kernel_points spec old) (distillate spec old new) ≡ kernel_points spec new
+
+-- Each version of each output is its kernel over all time, at the versions of its inputs that it has read. Version 0 of each is
+-- empty.
+abbrev pub Right : List Entry → Type 0
+Right h =
+    (stream : ℕ) (spec : Spec) → spec_of h stream ≡ Some spec → (version : ℕ) → version ≤ latest h stream
+    → bag h stream version ≡ kernel_points spec (inputs_at h spec (reads h stream spec version))
+
+-- Every legal history is right.
+abbrev pub LegalIsRight : Type 0
+LegalIsRight = (h : List Entry) → Legal h → Right h
+
+-- The distillate of the definition, with reads that may follow, is allowed after a legal history, unless its stream has as many
+-- versions as a stream can have.
+abbrev pub DistillatesAreAllowed : Type 0
+DistillatesAreAllowed =
+    (h : List Entry) (stream : ℕ) (c : Change) (new : Reads) → Legal h → IsDistillate h stream c new
+    → takes_reads h stream (spec_of h stream) new ≡ true → latest h stream < MAX_VERSIONS
+    → Allowed h (Distillate stream c.cut c.added new)
+
 -- A prefix of a legal history is legal.
 abbrev pub PrefixesAreLegal : Type 0
 PrefixesAreLegal = (h more : List Entry) → Legal (h ++ more) → Legal h
@@ -39,6 +80,6 @@ abbrev pub PointsLieInTheDomain : Type 0
 PointsLieInTheDomain =
     (h : List Entry) (stream version : ℕ) → Legal h → AllByRecursion (λ p. InDomain p.time) (bag h stream version)
 
--- The history is legal, whatever users do and in whatever order.
+-- The history is legal, and so each version of each output is right, whatever users do and in whatever order.
 abbrev pub MachineStaysLegal : Type 0
 MachineStaysLegal = (events : List (ℕ × Event)) → Legal (run start events).history

@@ -1,19 +1,23 @@
 -- The entries that may follow a history, and legal histories.
-use Rattle.std.specs.Prelude.{◌≡◌, ℕ, max, Bool, not, ◌&&◌, ◌||◌, nat_eq, nat_lt, nat_le, ◌==◌, List, [], ◌∷◌, length, take, slice_get}
-use Rattle.std.specs.Prelude.{if◌then◌else◌, Option, Some, None}
+use Rattle.std.specs.Prelude.{◌≡◌, ℕ, ◌^◌, max, Bool, true, false, not, ◌&&◌, ◌||◌, nat_eq, nat_lt, nat_le, ◌==◌}
+use Rattle.std.specs.Prelude.{List, [], ◌∷◌, length, take, slice_get, if◌then◌else◌, Option, Some, None}
 use Rattle.std.specs.List.{list_any, find}
 use Rattle.std.specs.Option.{option_map}
 use Rattle.btr_base.specs.declared.point.Point.{Point}
 use Rattle.btr_base.specs.Point.{in_domain}
 use Rattle.btr_hist.specs.declared.entry.Entry.{Entry}
-use Rattle.btr_hist.specs.declared.entry.Entry.TheVariants.{Create, Commit}
+use Rattle.btr_hist.specs.declared.entry.Entry.TheVariants.{Create, Commit, Define, Distillate}
+use Rattle.btr_hist.specs.declared.kernel.Spec.{Spec}
+use Rattle.btr_hist.specs.declared.kernel.Reads.{Reads}
 use Rattle.btr_hist.specs.declared.rejection.Rejection.{Rejection}
-use Rattle.btr_hist.specs.declared.rejection.Rejection.TheVariants.{NoStream, StreamExists, OutOfDomain, Empty, TooMany, StreamLimit}
-use Rattle.btr_hist.specs.declared.rejection.Rejection.TheVariants.{VersionLimit, Crowded, TooManyPoints}
+use Rattle.btr_hist.specs.declared.rejection.Rejection.TheVariants.{NoStream, StreamExists, NotWritable, OutOfDomain, Empty, TooMany}
+use Rattle.btr_hist.specs.declared.rejection.Rejection.TheVariants.{StreamLimit, VersionLimit, BadSpec, Crowded, TooManyPoints}
 use Rattle.btr_base.specs.declared.limits.TheConstants.{MAX_STREAMS, MAX_VERSIONS, MAX_POINTS, MAX_COMMIT_POINTS, MAX_COMMIT_RANGES}
 use Rattle.btr_base.specs.Commit.{Change, after}
-use Rattle.btr_hist.specs.History.{ids, latest, bag}
 use Rattle.btr_base.specs.Crowded.{crowded}
+use Rattle.btr_hist.specs.Kernel.{is_good}
+use Rattle.btr_hist.specs.Distil.{distillate}
+use Rattle.btr_hist.specs.History.{ids, spec_of, is_output, latest, bag, reads, inputs_at}
 
 -- The first that there is.
 abbrev pub first_some : {A : Type 0} → List (Option A) → Option A
@@ -56,11 +60,69 @@ points_rejection b = first_some (
     ∷ when (nat_lt MAX_POINTS (length b)) (TooManyPoints (length b))
     ∷ [])
 
--- The reason why a commit of this stream may not follow h.
+-- A stream with this number exists.
+abbrev pub is_stream : List Entry → ℕ → Bool
+is_stream h stream = nat_lt stream (length (ids h))
+
+-- The second input, if there is one, is a stream.
+abbrev pub second_is_stream : List Entry → Option ℕ → Bool
+second_is_stream h None = true
+second_is_stream h (Some stream) = is_stream h stream
+
+-- The inputs of a spec are streams.
+abbrev pub has_inputs : List Entry → Spec → Bool
+has_inputs h spec = is_stream h spec.first && second_is_stream h spec.second
+
+-- The reason why an output with this id and spec may not be created after h.
+abbrev pub define_rejection : List Entry → ℕ → Spec → Option Rejection
+define_rejection h id spec = first_some (
+    when (not (has_inputs h spec)) NoStream
+    ∷ when (list_any (nat_eq id) (ids h)) StreamExists
+    ∷ when (nat_le MAX_STREAMS (length (ids h))) StreamLimit
+    ∷ when (not (is_good spec)) BadSpec
+    ∷ [])
+
+-- The reason why a user's commit of this stream may not follow h.
 abbrev pub commit_rejection : List Entry → ℕ → Change → Option Rejection
 commit_rejection h stream c = first_some (
     when (nat_le (length (ids h)) stream) NoStream
+    ∷ when (is_output h stream) NotWritable
     ∷ change_rejection c
+    ∷ when (nat_le MAX_VERSIONS (latest h stream)) VersionLimit
+    ∷ points_rejection (next_bag h stream c)
+    ∷ [])
+
+-- A version of a second input may be read: there is one exactly if there is a second input, it is not before the one that was
+-- read last, and the input has it.
+abbrev pub may_read_second : List Entry → Option ℕ → Option ℕ → Option ℕ → Bool
+may_read_second h None None None = true
+may_read_second h (Some s) (Some old) (Some new) = nat_le old new && nat_le new (latest h s)
+may_read_second h s old new = false
+
+-- A distillate may read these versions of the inputs, if the last one read the old ones.
+abbrev pub may_read : List Entry → Spec → Reads → Reads → Bool
+may_read h spec old new =
+    nat_le old.first new.first && (nat_le new.first (latest h spec.first) && may_read_second h spec.second old.second new.second)
+
+-- The stream is an output of this spec, and its next distillate may read these versions.
+abbrev pub takes_reads : List Entry → ℕ → Option Spec → Reads → Bool
+takes_reads h stream None new = false
+takes_reads h stream (Some spec) new = may_read h spec (reads h stream spec (latest h stream)) new
+
+-- The reason why a distillate of these ranges and points may not follow, whatever the stream holds.
+abbrev pub distillate_change_rejection : Change → Option Rejection
+distillate_change_rejection c = first_some (
+    option_map (λ p. OutOfDomain p.time) (first_out_of_domain c.added)
+    ∷ when (nat_lt (2 ^ 34) (length c.cut)) (TooMany (length c.cut))
+    ∷ [])
+
+-- The reason why a distillate commit of this stream, with these reads, may not follow h, whatever the kernel is. A legal history
+-- gives but one for the distillate of the definition: `VersionLimit`.
+abbrev pub distillate_rejection : List Entry → ℕ → Change → Reads → Option Rejection
+distillate_rejection h stream c new = first_some (
+    when (nat_le (length (ids h)) stream) NoStream
+    ∷ when (not (takes_reads h stream (spec_of h stream) new)) NotWritable
+    ∷ distillate_change_rejection c
     ∷ when (nat_le MAX_VERSIONS (latest h stream)) VersionLimit
     ∷ points_rejection (next_bag h stream c)
     ∷ [])
@@ -68,8 +130,33 @@ commit_rejection h stream c = first_some (
 -- The reason why an entry may not follow h, if there is one.
 abbrev pub rejection : List Entry → Entry → Option Rejection
 rejection h (Create id) = create_rejection h id
+rejection h (Define id spec) = define_rejection h id spec
 rejection h (Commit stream cut added) = commit_rejection h stream (record { cut = cut; added = added })
+rejection h (Distillate stream cut added new) = distillate_rejection h stream (record { cut = cut; added = added }) new
+
+-- The commit is the distillate that brings the output from the versions read last to these.
+pub record IsDistillate (h : List Entry) (stream : ℕ) (c : Change) (new : Reads) : Type 0 where
+  pub spec : Spec
+  pub output : spec_of h stream ≡ Some spec
+  pub change : c ≡ distillate spec (inputs_at h spec (reads h stream spec (latest h stream))) (inputs_at h spec new)
+
+-- An entry is what it must be beside what its rejection tests: the cut and the points of a distillate are the definition's.
+abbrev pub IsComputed : List Entry → Entry → Type 0
+IsComputed h (Create id) = Unit {0}
+IsComputed h (Define id spec) = Unit {0}
+IsComputed h (Commit stream cut added) = Unit {0}
+IsComputed h (Distillate stream cut added new) = IsDistillate h stream (record { cut = cut; added = added }) new
+
+-- The entry is allowed after h.
+pub record Allowed (h : List Entry) (e : Entry) : Type 0 where
+  pub accepted : rejection h e ≡ None
+  pub computed : IsComputed h e
 
 -- Each entry is allowed after those before it.
 abbrev pub Legal : List Entry → Type 0
-Legal h = (n : ℕ) (e : Entry) → slice_get h n ≡ Some e → rejection (take n h) e ≡ None
+Legal h = (n : ℕ) (e : Entry) → slice_get h n ≡ Some e → Allowed (take n h) e
+
+-- Each entry is accepted after those before it: the history is legal, except that its distillates may have other cuts and points
+-- than the definition gives. An opening tests this much; to test the rest would cost as much as all distilling.
+abbrev pub Follows : List Entry → Type 0
+Follows h = (n : ℕ) (e : Entry) → slice_get h n ≡ Some e → rejection (take n h) e ≡ None

@@ -1,3 +1,6 @@
+-- what a distiller computes
+pub mod Kernel
+pub mod Distil
 -- what a version holds
 pub mod History
 -- which entries are allowed

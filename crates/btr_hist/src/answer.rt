@@ -1,5 +1,6 @@
 ghost use Rattle.std.specs.Prelude.{◌≡◌, List};
 
+use crate::kernel::Reads;
 use btr_base::{Agg, Cell, Point, Ranges};
 use std::marker::Model;
 
@@ -80,6 +81,9 @@ pub struct StreamRow {
 
     /// The latest version: the number of its commits.
     pub latest: u64,
+
+    /// Whether it is an output, which is computed from other streams.
+    pub output: bool,
 }
 
 /// The streams of an answer, as a list.
@@ -125,8 +129,13 @@ pub enum Rows {
     /// Changed ranges in order.
     Ranges(Ranges),
 
-    /// The aggregate of all points.
-    Info { agg: Agg },
+    /// Whether the stream is an output, the aggregate of all points, and the versions of the inputs that the version was
+    /// computed from. A plain stream, and version 0, have none.
+    Info {
+        output: bool,
+        agg: Agg,
+        reads: Option<Reads>,
+    },
 
     /// Streams in order of creation.
     Streams(StreamList),

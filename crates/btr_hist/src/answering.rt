@@ -5,7 +5,7 @@ ghost use Rattle.btr_base.specs.Nearest.{nearest};
 ghost use Rattle.btr_hist.specs.declared.query.Query.TheVariants.{Points as AskPoints, Nearest as AskNearest, Aligned as AskAligned};
 ghost use Rattle.btr_hist.specs.declared.query.Query.TheVariants.{Windows as AskWindows, Changes as AskChanges, Info as AskInfo};
 ghost use Rattle.btr_hist.specs.declared.query.Query.TheVariants.{Streams as AskStreams};
-ghost use Rattle.btr_hist.specs.History.{ids};
+ghost use Rattle.btr_hist.specs.History.{ids, is_output};
 ghost use Rattle.btr_hist.specs.Answer.{answer, version_of, is_range, is_power, is_width, rows_from, list_of};
 ghost use Rattle.btr_hist.specs.Asked.{IsAsked};
 
@@ -13,8 +13,8 @@ use crate::answer::{Answer, CellList, PointList, Refusal, Rows, StreamList, Stre
 use crate::cells::{aligned_cells, whole_cells};
 use crate::changed::changed_ranges;
 use crate::entry::Entry;
-use crate::history::{latest_of, points_of_version, stream_count};
 use crate::query::{At, Query};
+use crate::walks::{latest_of, points_of_version, read_by, spec_of, stream_count};
 use btr_base::{Agg, END, FIRST, MAX_EXPONENT, MAX_WIDTH, Point, Toward, parted, points_between};
 use std::alloc::{AllocError, Global};
 
@@ -217,10 +217,13 @@ fn info_answer(alloc: Global, entries: &[Entry], stream: u32, at: At) -> Result<
         Err(refusal) => return Ok(Answer::Refused(refusal)),
     };
     let bag = points_of_version(alloc, entries, stream, version)?;
-    let agg = Agg::of_points(points_between(bag.as_slice(), FIRST, END));
     Ok(Answer::Found {
         version,
-        rows: Rows::Info { agg },
+        rows: Rows::Info {
+            output: is_output(entries, stream as usize),
+            agg: Agg::of_points(points_between(bag.as_slice(), FIRST, END)),
+            reads: read_by(entries, stream, version),
+        },
     })
 }
 
@@ -235,22 +238,30 @@ fn streams_answer(alloc: Global, entries: &[Entry]) -> Result<Answer, AllocError
     })
 }
 
-/// All streams, each with its latest version. An `Err` means out of memory.
+/// All streams, each with its latest version and its kind. An `Err` means out of memory.
 fn stream_rows(alloc: Global, entries: &[Entry]) -> Result<Vec<StreamRow>, AllocError>
     ensures { IfOk result (λ v. v.items ≡ rows_from entries.now 0 (ids entries.now)) }
 {
     let mut rows = Vec::new(alloc);
     let mut number = 0;
     for entry in entries {
-        if let Entry::Create { id } = entry {
+        if let Some(id) = entry.new_id() {
             rows.push(StreamRow {
-                id: *id,
+                id,
                 latest: latest_of(entries, number) as u64,
+                output: is_output(entries, number),
             })?;
             number += 1;
         }
     }
     Ok(rows)
+}
+
+/// Whether the stream is an output.
+fn is_output(entries: &[Entry], stream: usize) -> bool
+    ensures { result ≡ is_output entries.now stream }
+{
+    spec_of(entries, stream).is_some()
 }
 
 /// The point of a list in order that is nearest to a time, in nanoseconds.

@@ -1,6 +1,7 @@
 //! The laws of all histories. Each is a function with an empty body, and its contract is the law.
 
-ghost use Rattle.btr_hist.specs.Laws.{OldVersionsStay, HoldsWhatWasPutIn, PrefixesAreLegal, PointsLieInTheDomain, MachineStaysLegal};
+ghost use Rattle.btr_hist.specs.Laws.{OldVersionsStay, HoldsWhatWasPutIn, KernelsAreLocal, DistillatesAreRight};
+ghost use Rattle.btr_hist.specs.Laws.{LegalIsRight, DistillatesAreAllowed, PrefixesAreLegal, PointsLieInTheDomain, MachineStaysLegal};
 
 /// The answer to a question about versions that exist, given by their numbers, never changes, whatever is committed later.
 pub fn old_versions_stay()
@@ -10,6 +11,29 @@ pub fn old_versions_stay()
 /// A version holds exactly what was added and not cut since, and equal points each count.
 pub fn versions_hold_what_was_put_in()
     ensures { HoldsWhatWasPutIn }
+{}
+
+/// The value of an output at a time depends on nothing but the points of its inputs in the window that its lead gives.
+pub fn kernels_are_local()
+    ensures { KernelsAreLocal }
+{}
+
+/// The distillate brings the points of an output from those of the old inputs to those of the new ones, whatever changed in
+/// them. The inputs are bags of the domain, and slots are at most `2^62` ns wide.
+pub fn distillates_are_right()
+    ensures { DistillatesAreRight }
+{}
+
+/// Every legal history is right: each version of each output is its kernel over all time, at the versions of its inputs that it
+/// has read.
+pub fn legal_histories_are_right()
+    ensures { LegalIsRight }
+{}
+
+/// The distillate of the definition, with reads that may follow, is allowed after a legal history, unless its stream has as many
+/// versions as a stream can have.
+pub fn distillates_are_allowed()
+    ensures { DistillatesAreAllowed }
 {}
 
 /// A prefix of a legal history is legal.
@@ -22,7 +46,7 @@ pub fn points_lie_in_the_domain()
     ensures { PointsLieInTheDomain }
 {}
 
-/// The history is legal, whatever users do and in whatever order.
+/// The history is legal, whatever users commit, plan and land, and in whatever order.
 pub fn the_machine_stays_legal()
     ensures { MachineStaysLegal }
 {}

@@ -10,6 +10,7 @@
 // which entries are allowed
 mod crowded;
 mod entry;
+mod kernel;
 mod rejection;
 // what is asked and answered
 mod answer;
@@ -20,16 +21,23 @@ mod cells;
 mod changed;
 mod history;
 mod laws;
+mod rejecting;
+mod walks;
 
 pub use answer::{Answer, CellList, PointList, Refusal, Rows, StreamList, StreamRow};
 pub use crowded::first_crowded;
 pub use entry::Entry;
-pub use history::{History, change_rejection, points_rejection};
+pub use history::History;
+pub use kernel::{Kernel, Reads, Spec};
 pub use laws::{
+    distillates_are_allowed, distillates_are_right, kernels_are_local, legal_histories_are_right,
     old_versions_stay, points_lie_in_the_domain, prefixes_are_legal, the_machine_stays_legal,
     versions_hold_what_was_put_in,
 };
 pub use query::{At, Query, StreamQuery};
+pub use rejecting::{
+    MAX_DISTILLATE_RANGES, change_rejection, distillate_change_rejection, points_rejection,
+};
 pub use rejection::Rejection;
 
 #[cfg(test)]

@@ -59,7 +59,7 @@ pub enum Query {
         p: u8,
     },
 
-    /// The aggregate of all points of a version.
+    /// The kind of the stream, the aggregate of all points of a version, and what an output's version was computed from.
     Info {
         stream: u32,
         at: At,

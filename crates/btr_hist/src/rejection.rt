@@ -1,11 +1,15 @@
 /// The reason why an entry may not follow a history. If there are several, the first in this order.
 #[derive(Clone, Copy, Debug, PartialEq, Eq)]
 pub enum Rejection {
-    /// The number is not that of a stream.
+    /// The number of the stream, or of an input, is not that of a stream.
     NoStream,
 
     /// A stream with this id exists.
     StreamExists,
+
+    /// The stream does not take the entry: a user's commit on an output, or a distillate on a plain stream or with reads that
+    /// may not follow.
+    NotWritable,
 
     /// An added point lies outside the domain: the least such time, in nanoseconds.
     OutOfDomain { time: i64 },
@@ -21,6 +25,9 @@ pub enum Rejection {
 
     /// The stream has as many versions as a stream can have.
     VersionLimit,
+
+    /// The spec of an output has the wrong number of inputs for its kernel, or its divisor, lead or grain is out of range.
+    BadSpec,
 
     /// A bottom span would hold too many points: the start of the first such span, in nanoseconds.
     Crowded { start: i64 },

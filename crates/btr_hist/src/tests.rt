@@ -1,6 +1,7 @@
-//! Worked examples of the model, and rejections: each cause, each boundary, and two causes at once. The limits of versions and
-//! of points of a version are too great to be reached here.
+//! Worked examples of the model, and rejections: each cause, each boundary, and two causes at once. The limits of versions, of
+//! points of a version and of ranges of a distillate are too great to be reached here.
 
+mod distillers;
 mod questions;
 
 use crate::answer::{Answer, PointList, Refusal, Rows};
@@ -8,6 +9,7 @@ use crate::crowded::first_crowded;
 use crate::entry::Entry;
 use crate::history::History;
 use crate::laws::{
+    distillates_are_allowed, distillates_are_right, kernels_are_local, legal_histories_are_right,
     old_versions_stay, points_lie_in_the_domain, prefixes_are_legal, the_machine_stays_legal,
     versions_hold_what_was_put_in,
 };
@@ -404,6 +406,10 @@ fn the_other_calls_answer(rt: HostRuntime) -> Result<(), Fail> {
     assert_eq!(rt; list.into_points().len(), 254);
     old_versions_stay();
     versions_hold_what_was_put_in();
+    kernels_are_local();
+    distillates_are_right();
+    legal_histories_are_right();
+    distillates_are_allowed();
     prefixes_are_legal();
     points_lie_in_the_domain();
     the_machine_stays_legal();

@@ -4,6 +4,7 @@ use super::{bag, cut};
 use crate::answer::{Answer, CellList, Rows, StreamList, StreamRow};
 use crate::entry::Entry;
 use crate::history::History;
+use crate::kernel::Reads;
 use crate::query::{At, Query, StreamQuery};
 use btr_base::{Agg, END, FIRST, Ranges, Toward};
 use std::alloc::Global;
@@ -41,8 +42,9 @@ fn check(rt: &(impl Abort + AllocGlobal), cases: &[(Query, &str)]) -> Result<(),
     Ok(())
 }
 
-/// The version, and then each row: a point as `time:value`, a window as `start:(count sum least greatest)`.
-fn shown(alloc: Global, answer: &Answer) -> Result<String, Fail> {
+/// The version, and then each row: a point as `time:value`, a window as `start:(count sum least greatest)`, a stream as
+/// `id:latest`; of an output the word `output`, and the versions that it has read.
+pub(super) fn shown(alloc: Global, answer: &Answer) -> Result<String, Fail> {
     match answer {
         Answer::Found { version, rows } => rows_shown(alloc, *version, rows),
         Answer::Refused(refusal) => Ok(format!(in alloc; "{refusal:?}")?),
@@ -59,7 +61,10 @@ fn rows_shown(alloc: Global, version: u64, rows: &Rows) -> Result<String, Fail> 
         }
         Rows::Cells(cells) => push_cells(alloc, &mut text, cells)?,
         Rows::Ranges(ranges) => push_ranges(alloc, &mut text, ranges)?,
-        Rows::Info { agg } => text.push_str(agg_shown(alloc, agg)?.as_str())?,
+        Rows::Info { output, agg, reads } => {
+            push_output(alloc, &mut text, *output, reads)?;
+            text.push_str(agg_shown(alloc, agg)?.as_str())?;
+        }
         Rows::Streams(streams) => push_streams(alloc, &mut text, streams)?,
     }
     Ok(text)
@@ -83,6 +88,25 @@ fn push_ranges(alloc: Global, text: &mut String, ranges: &Ranges) -> Result<(), 
 fn push_streams(alloc: Global, text: &mut String, streams: &StreamList) -> Result<(), Fail> {
     for row in streams.as_slice() {
         text.push_str(format!(in alloc; " {}:{}", row.id, row.latest)?.as_str())?;
+        push_output(alloc, text, row.output, &None)?;
+    }
+    Ok(())
+}
+
+fn push_output(
+    alloc: Global,
+    text: &mut String,
+    output: bool,
+    reads: &Option<Reads>,
+) -> Result<(), Fail> {
+    if output {
+        text.push_str(" output")?;
+    }
+    if let Some(reads) = reads {
+        text.push_str(format!(in alloc; " of {}", reads.first)?.as_str())?;
+        if let Some(second) = reads.second {
+            text.push_str(format!(in alloc; " and {second}")?.as_str())?;
+        }
     }
     Ok(())
 }
@@ -230,12 +254,13 @@ fn a_version_as_a_whole_and_all_streams(rt: HostRuntime) -> Result<(), Fail> {
 #[test]
 fn the_lists_of_an_answer(rt: HostRuntime) -> Result<(), Fail> {
     let alloc = rt.alloc();
-    let rows = Vec::from_slice(alloc, &[StreamRow { id: 7, latest: 9 }])?;
-    let streams = StreamList::from_rows(rows);
-    assert_eq!(rt;
-        streams.as_slice(),
-        [StreamRow { id: 7, latest: 9 }].as_slice()
-    );
+    let row = StreamRow {
+        id: 7,
+        latest: 9,
+        output: true,
+    };
+    let streams = StreamList::from_rows(Vec::from_slice(alloc, &[row])?);
+    assert_eq!(rt; streams.as_slice(), [row].as_slice());
     let cells = CellList::from_cells(Vec::new(alloc));
     assert_eq!(rt; cells.as_slice().len(), 0);
     let empty = History::empty(alloc);

@@ -6,7 +6,7 @@ use mir.Val.{SFits}
 use Rattle.btr_base.specs.declared.point.Point.{Point}
 use Rattle.btr_hist.specs.Legal.{first_out_of_domain}
 use Rattle.btr_hist.proofs.Steps.{out_of_domain-first, out_of_domain-rest}
-use Rattle.btr_hist.proofs.history.time_out_of_domain.Goals as goal
+use Rattle.btr_hist.proofs.rejecting.time_out_of_domain.Goals as goal
 
 pub returns-then-not-is_in_domain : goal.returns-then-not-is_in_domain
 returns-then-not-is_in_domain c =

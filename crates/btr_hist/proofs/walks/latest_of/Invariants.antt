@@ -1,6 +1,6 @@
 use Rattle.std.proofs.Common.{◌≡◌, ◌+◌, ◌≤◌, drop}
 use Rattle.btr_hist.specs.History.{latest}
-use Rattle.btr_hist.proofs.history.latest_of.Given as goal
+use Rattle.btr_hist.proofs.walks.latest_of.Given as goal
 
 abbrev pub invariant-loop-entry : goal.invariant-loop-entry
 invariant-loop-entry l = record {

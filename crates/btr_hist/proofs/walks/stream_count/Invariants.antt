@@ -1,6 +1,6 @@
 use Rattle.std.proofs.Common.{◌≡◌, ◌+◌, ◌≤◌, drop, length}
 use Rattle.btr_hist.specs.History.{ids}
-use Rattle.btr_hist.proofs.history.stream_count.Given as goal
+use Rattle.btr_hist.proofs.walks.stream_count.Given as goal
 
 abbrev pub invariant-loop-entry : goal.invariant-loop-entry
 invariant-loop-entry l = record {

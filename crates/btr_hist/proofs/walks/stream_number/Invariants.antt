@@ -2,7 +2,7 @@ use Rattle.std.proofs.Common.{◌≡◌, ◌≤◌, drop}
 use Rattle.std.specs.Prelude.{nat_eq}
 use Rattle.std.specs.List.{position_from}
 use Rattle.btr_hist.specs.History.{ids, stream_of}
-use Rattle.btr_hist.proofs.history.stream_number.Given as goal
+use Rattle.btr_hist.proofs.walks.stream_number.Given as goal
 
 abbrev pub invariant-loop-entry : goal.invariant-loop-entry
 invariant-loop-entry l = record {

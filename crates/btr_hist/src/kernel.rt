@@ -1,0 +1,100 @@
+//! Distillers: streams that are computed from other streams, in the manner of DISTIL (SmartGridComm 2015).
+ghost use Rattle.std.specs.Prelude.{◌≡◌};
+ghost use Rattle.btr_hist.specs.Kernel.{is_good, has_second};
+
+/// What a distiller computes at an anchor, which is a time t at which its first input has a point. It looks at the points of its
+/// inputs in the window from t - lead to t, both included. x is the greatest value of the first input at t. All is exact; a
+/// result that is no i64 gives no point. Floors round toward minus infinity.
+#[derive(Clone, Copy, Debug, PartialEq, Eq)]
+pub enum Kernel {
+    /// `floor((a * x + b) / d)`, with d at least 1.
+    Affine { a: i64, b: i64, d: i64 },
+
+    /// The sum of the first input's window.
+    Sum,
+
+    /// The mean of the first input's window: `floor(sum / count)`.
+    Mean,
+
+    /// The least value of the first input's window.
+    Least,
+
+    /// The greatest value of the first input's window.
+    Greatest,
+
+    /// The number of points of the first input's window.
+    Count,
+
+    /// x minus the greatest value at the last time before t in the window, if there is one.
+    Delta,
+
+    /// x minus the greatest value of the second input at t, if there is one.
+    Minus,
+
+    /// The difference of `Minus`, of two angles in thousandths of a degree: r becomes `((r + 180000) mod 360000) - 180000`.
+    Angle,
+
+    /// x minus the greatest value at the last time of the second input's window, if it has a point.
+    Hold,
+}
+
+impl Kernel {
+    /// Whether the kernel has a second input.
+    pub fn has_second(&self) -> bool
+        ensures { result ≡ has_second self.now }
+    {
+        match self {
+            Kernel::Minus | Kernel::Angle | Kernel::Hold => true,
+            Kernel::Affine { .. }
+            | Kernel::Sum
+            | Kernel::Mean
+            | Kernel::Least
+            | Kernel::Greatest
+            | Kernel::Count
+            | Kernel::Delta => false,
+        }
+    }
+}
+
+/// What defines an output: a kernel, and the streams that it reads.
+#[derive(Clone, Copy, Debug, PartialEq, Eq)]
+pub struct Spec {
+    pub kernel: Kernel,
+
+    /// How far the kernel looks back, in nanoseconds: 0 to 2^60.
+    pub lead: u64,
+
+    /// Changes of the inputs are looked for in aligned slots of `2^grain` ns: 0 to 62.
+    pub grain: u8,
+
+    /// The number of the first input's stream.
+    pub first: u32,
+
+    /// The number of the second input's stream, if the kernel has a second input. It may be that of the first.
+    pub second: Option<u32>,
+}
+
+impl Spec {
+    /// Whether the spec has as many inputs as its kernel, a divisor of at least 1, a lead of at most 2^60 and a grain of at most
+    /// 62. It says nothing of whether the inputs exist.
+    pub fn is_good(&self) -> bool
+        ensures { result ≡ is_good self.now }
+    {
+        let divides = match self.kernel {
+            Kernel::Affine { d, .. } => d >= 1,
+            _ => true,
+        };
+        let fits = self.kernel.has_second() == self.second.is_some();
+        fits && divides && self.lead <= 1_152_921_504_606_846_976 && self.grain <= 62
+    }
+}
+
+/// The versions of its inputs that a version of an output was computed from.
+#[derive(Clone, Copy, Debug, PartialEq, Eq)]
+pub struct Reads {
+    /// The version of the first input.
+    pub first: u64,
+
+    /// The version of the second input, if there is one.
+    pub second: Option<u64>,
+}
