@@ -1,4 +1,6 @@
 pub mod NumberLemmas
 pub mod ItemLemmas
 pub mod FrameLemmas
+pub mod ChangeLemmas
+pub mod SpecLemmas
 pub mod SpellingLemmas

@@ -1,17 +1,22 @@
 -- Lemmas on the spellings of entries: their parts, their length, and that an entry has one spelling.
-use Rattle.std.proofs.Common.{◌≡◌, ℕ, ◌+◌, ◌*◌, ◌<◌, ◌≤◌, ◌^◌, List, [], ◌∷◌, ◌++◌, length, refl, sym, ap, ◌∙◌, arith, append_assoc, length-append}
-use Rattle.std.specs.List.{flat_map}
+use Rattle.std.proofs.Common.{◌≡◌, ℕ, ◌+◌, ◌*◌, ◌<◌, ◌^◌, List, [], ◌∷◌, ◌++◌, length, refl, sym, ap, ◌∙◌, arith, append_assoc, length-append}
 use Rattle.std.specs.Int.{w32, w64, w128}
 use Rattle.std.proofs.lemmas.List.{append-nil}
+use Rattle.btr_base.specs.declared.limits.TheConstants.{MAX_COMMIT_POINTS, MAX_COMMIT_RANGES, MAX_POINTS}
 use Rattle.btr_base.specs.declared.point.Point.{Point}
-use Rattle.btr_base.specs.Range.{RangeValue, IsCut, IsRange}
+use Rattle.btr_base.specs.Range.{RangeValue}
 use Rattle.btr_hist.specs.declared.entry.Entry.{Entry}
-use Rattle.btr_hist.specs.declared.entry.Entry.TheVariants.{Create, Commit}
-use Rattle.btr_entry.specs.Grammar.{number, range, point, listed, spelling, IsCommit, IsSpelled, IsEntry}
-use Rattle.btr_entry.specs.Fields.{IsItems, IsFrame, PointFits, IsAdded}
-use Rattle.btr_entry.proofs.NumberLemmas.{number_once, wide32, wide128}
-use Rattle.btr_entry.proofs.FrameLemmas.{frame_once}
-use Rattle.btr_entry.proofs.ItemLemmas.{length-items, length-listed, length-range, length-point, items_once, range_item, point_item, each_room}
+use Rattle.btr_hist.specs.declared.entry.Entry.TheVariants.{Create, Commit, Define, Distillate}
+use Rattle.btr_hist.specs.declared.kernel.Spec.{Spec}
+use Rattle.btr_hist.specs.declared.kernel.Reads.{Reads}
+use Rattle.btr_entry.specs.Grammar.{number, range, point, listed, spec_bytes, reads_bytes, spelling}
+use Rattle.btr_entry.specs.Grammar.{IsCommit, IsOutput, AreVersions, IsDistilled, IsSpelled, IsEntry}
+use Rattle.btr_entry.specs.Fields.{IsAdded, IsChange}
+use Rattle.btr_entry.proofs.NumberLemmas.{number_once, wide32, wide64, wide128}
+use Rattle.btr_entry.proofs.FrameLemmas.{heads, tails}
+use Rattle.btr_entry.proofs.ItemLemmas.{length-listed, length-range, length-point}
+use Rattle.btr_entry.proofs.ChangeLemmas.{length-change, change_once}
+use Rattle.btr_entry.proofs.SpecLemmas.{length-kernel, length-numbers, length-spec, spec_once, reads_once}
 
 -- ---- the length of a spelling
 
@@ -22,31 +27,71 @@ pub length-commit : (stream : ℕ) (cut : List RangeValue) (added : List Point) 
 length-commit stream cut added =
     omega (arith, length-append (number w32 stream ++ listed range cut) (listed point added), length-append (number w32 stream) (listed range cut), wide32.len stream, length-listed range cut length-range, length-listed point added length-point)
 
--- The spelling of an entry is shorter than 2^32 bytes.
-pub length-spelling : (e : Entry) → IsSpelled e → length (spelling e) < 2 ^ 32
+pub length-define : (id : ℕ) (s : Spec) → 17 + length (spec_bytes s) ≡ length (spelling (Define id s))
+length-define id s = omega (arith, length-append (number w128 id) (spec_bytes s), wide128.len id)
+
+pub length-distillate : (stream : ℕ) (cut : List RangeValue) (added : List Point) (r : Reads) → 21 + length (reads_bytes r) + 16 * (length cut + length added) ≡ length (spelling (Distillate stream cut added r))
+length-distillate stream cut added r =
+    omega (arith, length-append (number w32 stream) (reads_bytes r ++ (listed range cut ++ listed point added)), length-append (reads_bytes r) (listed range cut ++ listed point added), wide32.len stream, length-change cut added)
+
+-- The spelling of an entry is shorter than 2^39 bytes.
+pub length-spelling : (e : Entry) → IsSpelled e → length (spelling e) < 2 ^ 39
 length-spelling (Create id) is = omega (arith, length-create id)
 length-spelling (Commit stream cut added) is =
     omega (arith, is.bounded.few_ranges, is.bounded.few_points, length-commit stream cut added)
+length-spelling (Define id s) is =
+    omega (arith, length-define id s, length-spec s, length-kernel s.kernel, length-numbers w32 (2 ^ 32) wide32 s.first s.second)
+length-spelling (Distillate stream cut added r) is =
+    omega (arith, is.bounded.few_ranges, is.bounded.few_points, length-distillate stream cut added r, length-numbers w64 (2 ^ 64) wide64 r.first r.second)
 
--- ---- from an entry to the parts of its bytes
+-- ---- the first byte
 
-counted_from_listed : {X : Type 0} (item : X → List ℕ) (xs : List X) (rest bytes : List ℕ) → ((x : X) → length (item x) ≡ 16) → length xs ≤ 65536 → bytes ≡ listed item xs ++ rest → IsItems bytes (flat_map item xs) rest
-counted_from_listed item xs rest bytes len few is = record {
-  count = length xs;
-  bounded = few;
-  long = length-items item len xs;
-  parts = is ∙ append_assoc (number w64 (length xs)) (flat_map item xs) rest;
-}
+-- The first byte of an entry's spelling.
+abbrev pub first_byte : Entry → ℕ
+first_byte (Create id) = 1
+first_byte (Commit stream cut added) = 2
+first_byte (Define id s) = 3
+first_byte (Distillate stream cut added r) = 4
 
-pub frame_from_commit : (stream : ℕ) (cut : List RangeValue) (added : List Point) (bytes : List ℕ) → IsCommit stream cut added → bytes ≡ number w32 stream ++ listed range cut ++ listed point added → IsFrame bytes stream (flat_map range cut) (flat_map point added)
-frame_from_commit stream cut added bytes h is = record {
-  after_stream = listed range cut ++ listed point added;
-  after_ranges = listed point added;
-  stream_fits = h.stream_fits;
-  first = is ∙ append_assoc (number w32 stream) (listed range cut) (listed point added);
-  ranges_are = counted_from_listed range cut (listed point added) (listed range cut ++ listed point added) length-range h.bounded.few_ranges refl;
-  points_are = counted_from_listed point added [] (listed point added) length-point h.bounded.few_points (sym (append-nil (listed point added)));
-  some = omega (arith, h.bounded.some, length-items range length-range cut, length-items point length-point added);
+pub first_is : (n : ℕ) (bytes : List ℕ) (e : Entry) → n ∷ bytes ≡ spelling e → n ≡ first_byte e
+first_is n bytes (Create id) same = heads n 1 bytes (number w128 id) same
+first_is n bytes (Commit stream cut added) same = heads n 2 bytes (number w32 stream ++ listed range cut ++ listed point added) same
+first_is n bytes (Define id s) same = heads n 3 bytes (number w128 id ++ spec_bytes s) same
+first_is n bytes (Distillate stream cut added r) same =
+    heads n 4 bytes (number w32 stream ++ (reads_bytes r ++ (listed range cut ++ listed point added))) same
+
+first_same : (e f : Entry) → spelling e ≡ spelling f → first_byte e ≡ first_byte f
+first_same (Create id) f same = first_is 1 (number w128 id) f same
+first_same (Commit stream cut added) f same = first_is 2 (number w32 stream ++ listed range cut ++ listed point added) f same
+first_same (Define id s) f same = first_is 3 (number w128 id ++ spec_bytes s) f same
+first_same (Distillate stream cut added r) f same =
+    first_is 4 (number w32 stream ++ (reads_bytes r ++ (listed range cut ++ listed point added))) f same
+
+-- ---- creates
+
+pub id_from_entry : (bytes : List ℕ) (e : Entry) → IsEntry (1 ∷ bytes) e → (id : ℕ) × (id < 2 ^ 128) × (bytes ≡ number w128 id)
+id_from_entry bytes (Create id) h = (id, h.is_spelled, tails 1 1 bytes (number w128 id) h.bytes_are)
+id_from_entry bytes e h = absurd (omega (arith, first_is 1 bytes e h.bytes_are))
+
+-- After the id that was read nothing follows.
+pub after_id : (bytes : List ℕ) (e : Entry) → IsEntry (1 ∷ bytes) e → (n : ℕ) (rest : List ℕ) → n < 2 ^ 128 → bytes ≡ number w128 n ++ rest → rest ≡ []
+after_id bytes e h n rest fits is =
+    let id = id_from_entry bytes e h in
+    (number_once w128 (2 ^ 128) wide128 n id.0 rest [] fits id.1 (sym is ∙ id.2 ∙ sym (append-nil (number w128 id.0)))).1
+
+-- ---- commits
+
+pub added_from_commit : (stream : ℕ) (cut : List RangeValue) (added : List Point) → IsCommit stream cut added → IsAdded added
+added_from_commit stream cut added h = record { in_order = h.in_order; in_domain = h.bounded.in_domain; values_fit = h.values_fit }
+
+-- What a commit removes and adds, from the bytes after its stream.
+pub change_from_commit : (stream : ℕ) (cut : List RangeValue) (added : List Point) (rest : List ℕ) → IsCommit stream cut added → rest ≡ listed range cut ++ listed point added → IsChange MAX_COMMIT_RANGES MAX_COMMIT_POINTS rest cut added
+change_from_commit stream cut added rest h is = record {
+  is_cut = h.is_cut;
+  is_added = added_from_commit stream cut added h;
+  few_ranges = h.bounded.few_ranges;
+  few_points = h.bounded.few_points;
+  bytes_are = is;
 }
 
 -- The commit that bytes after the first byte 2 spell.
@@ -55,65 +100,89 @@ pub record CommitOf (bytes : List ℕ) : Type 0 where
   pub cut : List RangeValue
   pub added : List Point
   pub is_commit : IsCommit stream cut added
-  pub frame : IsFrame bytes stream (flat_map range cut) (flat_map point added)
-
-heads : (a b : ℕ) (x y : List ℕ) → a ∷ x ≡ b ∷ y → a ≡ b
-heads a b x y same = cc
-
-tails : (a b : ℕ) (x y : List ℕ) → a ∷ x ≡ b ∷ y → x ≡ y
-tails a b x y same = cc
+  pub parts : bytes ≡ number w32 stream ++ (listed range cut ++ listed point added)
 
 pub commit_from_entry : (bytes : List ℕ) (e : Entry) → IsEntry (2 ∷ bytes) e → CommitOf bytes
-commit_from_entry bytes (Create id) h = absurd (omega (arith, heads 2 1 bytes (number w128 id) h.bytes_are))
 commit_from_entry bytes (Commit stream cut added) h = record {
   stream = stream;
   cut = cut;
   added = added;
   is_commit = h.is_spelled;
-  frame = frame_from_commit stream cut added bytes h.is_spelled (tails 2 2 bytes (number w32 stream ++ listed range cut ++ listed point added) h.bytes_are);
+  parts = tails 2 2 bytes (number w32 stream ++ listed range cut ++ listed point added) h.bytes_are ∙ append_assoc (number w32 stream) (listed range cut) (listed point added);
+}
+commit_from_entry bytes e h = absurd (omega (arith, first_is 2 bytes e h.bytes_are))
+
+-- The stream that was read is that of the commit, and after it follow the ranges and the points.
+pub after_commit_stream : (bytes : List ℕ) (h : CommitOf bytes) (n : ℕ) (rest : List ℕ) → n < 2 ^ 32 → bytes ≡ number w32 n ++ rest → IsChange MAX_COMMIT_RANGES MAX_COMMIT_POINTS rest h.cut h.added
+after_commit_stream bytes h n rest fits is =
+    let once = number_once w32 (2 ^ 32) wide32 n h.stream rest (listed range h.cut ++ listed point h.added) fits h.is_commit.stream_fits (sym is ∙ h.parts) in
+    change_from_commit h.stream h.cut h.added rest h.is_commit once.1
+
+-- ---- definitions of outputs
+
+-- The output that bytes after the first byte 3 define.
+pub record OutputOf (bytes : List ℕ) : Type 0 where
+  pub id : ℕ
+  pub spec : Spec
+  pub is_output : IsOutput id spec
+  pub parts : bytes ≡ number w128 id ++ spec_bytes spec
+
+pub output_from_entry : (bytes : List ℕ) (e : Entry) → IsEntry (3 ∷ bytes) e → OutputOf bytes
+output_from_entry bytes (Define id s) h = record {
+  id = id;
+  spec = s;
+  is_output = h.is_spelled;
+  parts = tails 3 3 bytes (number w128 id ++ spec_bytes s) h.bytes_are;
+}
+output_from_entry bytes e h = absurd (omega (arith, first_is 3 bytes e h.bytes_are))
+
+-- After the id that was read follows the spec of the output.
+pub after_output_id : (bytes : List ℕ) (h : OutputOf bytes) (n : ℕ) (rest : List ℕ) → n < 2 ^ 128 → bytes ≡ number w128 n ++ rest → rest ≡ spec_bytes h.spec
+after_output_id bytes h n rest fits is =
+    (number_once w128 (2 ^ 128) wide128 n h.id rest (spec_bytes h.spec) fits h.is_output.id_fits (sym is ∙ h.parts)).1
+
+-- ---- distillates
+
+-- What a distillate removes and adds, from the bytes after its reads.
+pub change_from_distillate : (stream : ℕ) (cut : List RangeValue) (added : List Point) (r : Reads) (rest : List ℕ) → IsDistilled stream cut added r → rest ≡ listed range cut ++ listed point added → IsChange (2 ^ 34) MAX_POINTS rest cut added
+change_from_distillate stream cut added r rest h is = record {
+  is_cut = h.is_cut;
+  is_added = record { in_order = h.in_order; in_domain = h.bounded.in_domain; values_fit = h.values_fit };
+  few_ranges = h.bounded.few_ranges;
+  few_points = h.bounded.few_points;
+  bytes_are = is;
 }
 
-pub added_from_commit : (stream : ℕ) (cut : List RangeValue) (added : List Point) → IsCommit stream cut added → IsAdded added
-added_from_commit stream cut added h = record { in_order = h.in_order; in_domain = h.bounded.in_domain; values_fit = h.values_fit }
+-- The distillate that bytes after the first byte 4 spell.
+pub record DistillateOf (bytes : List ℕ) : Type 0 where
+  pub stream : ℕ
+  pub cut : List RangeValue
+  pub added : List Point
+  pub reads : Reads
+  pub is_distilled : IsDistilled stream cut added reads
+  pub parts : bytes ≡ number w32 stream ++ (reads_bytes reads ++ (listed range cut ++ listed point added))
 
--- ---- from the parts to an entry
+pub distillate_from_entry : (bytes : List ℕ) (e : Entry) → IsEntry (4 ∷ bytes) e → DistillateOf bytes
+distillate_from_entry bytes (Distillate stream cut added r) h = record {
+  stream = stream;
+  cut = cut;
+  added = added;
+  reads = r;
+  is_distilled = h.is_spelled;
+  parts = tails 4 4 bytes (number w32 stream ++ (reads_bytes r ++ (listed range cut ++ listed point added))) h.bytes_are;
+}
+distillate_from_entry bytes e h = absurd (omega (arith, first_is 4 bytes e h.bytes_are))
 
-listed_from_counted : {X : Type 0} (item : X → List ℕ) (xs : List X) (bytes items rest : List ℕ) → ((x : X) → length (item x) ≡ 16) → flat_map item xs ≡ items → IsItems bytes items rest → (length xs ≤ 65536) × (bytes ≡ listed item xs ++ rest)
-listed_from_counted item xs bytes items rest len is h =
-    let long = ap (length {A = ℕ}) is in
-    let count : h.count ≡ length xs = omega (arith, h.long, long, length-items item len xs) in
-    (omega (arith, h.bounded, count), h.parts ∙ ap (λ (n : ℕ). number w64 n ++ (items ++ rest)) count ∙ ap (λ (l : List ℕ). number w64 (length xs) ++ (l ++ rest)) (sym is) ∙ sym (append_assoc (number w64 (length xs)) (flat_map item xs) rest))
+-- After the stream that was read follow the reads of the distillate.
+pub after_stream : (bytes : List ℕ) (h : DistillateOf bytes) (n : ℕ) (rest : List ℕ) → n < 2 ^ 32 → bytes ≡ number w32 n ++ rest → rest ≡ reads_bytes h.reads ++ (listed range h.cut ++ listed point h.added)
+after_stream bytes h n rest fits is =
+    (number_once w32 (2 ^ 32) wide32 n h.stream rest (reads_bytes h.reads ++ (listed range h.cut ++ listed point h.added)) fits h.is_distilled.stream_fits (sym is ∙ h.parts)).1
 
-pub entry_from_frame : (bytes : List ℕ) (stream : ℕ) (ranges points : List ℕ) (cut : List RangeValue) (added : List Point) → IsFrame bytes stream ranges points → IsCut cut → flat_map range cut ≡ ranges → IsAdded added → flat_map point added ≡ points → IsEntry (2 ∷ bytes) (Commit stream cut added)
-entry_from_frame bytes stream ranges points cut added frame is_cut cut_is is_added added_is =
-    let first = listed_from_counted range cut frame.after_stream ranges frame.after_ranges length-range cut_is frame.ranges_are in
-    let second = listed_from_counted point added frame.after_ranges points [] length-point added_is frame.points_are in
-    let after : frame.after_ranges ≡ listed point added = second.1 ∙ append-nil (listed point added) in
-    let range_bytes = ap (length {A = ℕ}) cut_is in
-    let point_bytes = ap (length {A = ℕ}) added_is in
-    let whole : bytes ≡ number w32 stream ++ listed range cut ++ listed point added =
-    frame.first ∙ ap (λ (l : List ℕ). number w32 stream ++ l) (first.1 ∙ ap (λ (l : List ℕ). listed range cut ++ l) after) ∙ sym (append_assoc (number w32 stream) (listed range cut) (listed point added)) in
-    record {
-      is_spelled = record {
-        stream_fits = frame.stream_fits;
-        is_cut = is_cut;
-        in_order = is_added.in_order;
-        values_fit = is_added.values_fit;
-        bounded = record {
-          some = omega (arith, frame.some, range_bytes, point_bytes, length-items range length-range cut, length-items point length-point added);
-          few_ranges = first.0;
-          few_points = second.0;
-          in_domain = is_added.in_domain;
-        };
-      };
-      bytes_are = ap (λ (l : List ℕ). 2 ∷ l) whole;
-    }
-
--- ---- creates
-
-pub id_from_entry : (bytes : List ℕ) (e : Entry) → IsEntry (1 ∷ bytes) e → (id : ℕ) × (bytes ≡ number w128 id)
-id_from_entry bytes (Create id) h = (id, tails 1 1 bytes (number w128 id) h.bytes_are)
-id_from_entry bytes (Commit stream cut added) h = absurd (omega (arith, heads 1 2 bytes (number w32 stream ++ listed range cut ++ listed point added) h.bytes_are))
+-- After the reads that were read follow the ranges and the points.
+pub after_reads : (bytes : List ℕ) (h : DistillateOf bytes) (n : ℕ) (rest : List ℕ) (r : Reads) (after : List ℕ) → n < 2 ^ 32 → bytes ≡ number w32 n ++ rest → AreVersions r → rest ≡ reads_bytes r ++ after → IsChange (2 ^ 34) MAX_POINTS after h.cut h.added
+after_reads bytes h n rest r after fits is versions reads_are =
+    let once = reads_once r h.reads after (listed range h.cut ++ listed point h.added) versions h.is_distilled.bounded.versions (sym reads_are ∙ after_stream bytes h n rest fits is) in
+    change_from_distillate h.stream h.cut h.added h.reads after h.is_distilled once.1
 
 -- ---- one spelling
 
@@ -123,17 +192,31 @@ same_id a b a_fits b_fits same =
 
 same_commit : (s t : ℕ) (cut other : List RangeValue) (a b : List Point) → IsCommit s cut a → IsCommit t other b → number w32 s ++ listed range cut ++ listed point a ≡ number w32 t ++ listed range other ++ listed point b → (s ≡ t) × (cut ≡ other) × (a ≡ b)
 same_commit s t cut other a b h k same =
-    let bytes = number w32 t ++ listed range other ++ listed point b in
-    let frames = frame_once bytes s t (flat_map range cut) (flat_map range other) (flat_map point a) (flat_map point b) (frame_from_commit s cut a bytes h (sym same)) (frame_from_commit t other b bytes k refl) in
-    (frames.0, items_once range IsRange range_item cut other h.is_cut.each k.is_cut.each frames.1, items_once point PointFits point_item a b (each_room a h.bounded.in_domain h.values_fit) (each_room b k.bounded.in_domain k.values_fit) frames.2)
+    let one = number_once w32 (2 ^ 32) wide32 s t (listed range cut ++ listed point a) (listed range other ++ listed point b) h.stream_fits k.stream_fits (sym (append_assoc (number w32 s) (listed range cut) (listed point a)) ∙ same ∙ append_assoc (number w32 t) (listed range other) (listed point b)) in
+    let changes = change_once MAX_COMMIT_RANGES MAX_COMMIT_POINTS (omega arith) (omega arith) (listed range cut ++ listed point a) cut other a b (change_from_commit s cut a (listed range cut ++ listed point a) h refl) (change_from_commit t other b (listed range cut ++ listed point a) k one.1) in
+    (one.0, changes.0, changes.1)
+
+same_output : (a b : ℕ) (s t : Spec) → IsOutput a s → IsOutput b t → number w128 a ++ spec_bytes s ≡ number w128 b ++ spec_bytes t → (a ≡ b) × (s ≡ t)
+same_output a b s t h k same =
+    let one = number_once w128 (2 ^ 128) wide128 a b (spec_bytes s) (spec_bytes t) h.id_fits k.id_fits same in
+    (one.0, spec_once s t h.is_spec k.is_spec one.1)
+
+same_distillate : (s t : ℕ) (cut other : List RangeValue) (a b : List Point) (r q : Reads) → IsDistilled s cut a r → IsDistilled t other b q → number w32 s ++ (reads_bytes r ++ (listed range cut ++ listed point a)) ≡ number w32 t ++ (reads_bytes q ++ (listed range other ++ listed point b)) → (s ≡ t) × (cut ≡ other) × (a ≡ b) × (r ≡ q)
+same_distillate s t cut other a b r q h k same =
+    let one = number_once w32 (2 ^ 32) wide32 s t (reads_bytes r ++ (listed range cut ++ listed point a)) (reads_bytes q ++ (listed range other ++ listed point b)) h.stream_fits k.stream_fits same in
+    let two = reads_once r q (listed range cut ++ listed point a) (listed range other ++ listed point b) h.bounded.versions k.bounded.versions one.1 in
+    let changes = change_once (2 ^ 34) MAX_POINTS (omega arith) (omega arith) (listed range cut ++ listed point a) cut other a b (change_from_distillate s cut a r (listed range cut ++ listed point a) h refl) (change_from_distillate t other b q (listed range cut ++ listed point a) k two.1) in
+    (one.0, changes.0, changes.1, two.0)
 
 pub same_entry : (e f : Entry) → IsSpelled e → IsSpelled f → spelling e ≡ spelling f → e ≡ f
 same_entry (Create a) (Create b) h k same = ap Create (same_id a b h k (tails 1 1 (number w128 a) (number w128 b) same))
-same_entry (Create a) (Commit t other b) h k same = absurd (omega (arith, heads 1 2 (number w128 a) (number w32 t ++ listed range other ++ listed point b) same))
-same_entry (Commit s cut a) (Create b) h k same = absurd (omega (arith, heads 2 1 (number w32 s ++ listed range cut ++ listed point a) (number w128 b) same))
 same_entry (Commit s cut a) (Commit t other b) h k same =
     let parts = same_commit s t cut other a b h k (tails 2 2 (number w32 s ++ listed range cut ++ listed point a) (number w32 t ++ listed range other ++ listed point b) same) in
-    let stream = parts.0 in
-    let ranges = parts.1 in
-    let points = parts.2 in
-    cc
+    λ i. Commit (parts.0 i) (parts.1 i) (parts.2 i)
+same_entry (Define a s) (Define b t) h k same =
+    let parts = same_output a b s t h k (tails 3 3 (number w128 a ++ spec_bytes s) (number w128 b ++ spec_bytes t) same) in
+    λ i. Define (parts.0 i) (parts.1 i)
+same_entry (Distillate s cut a r) (Distillate t other b q) h k same =
+    let parts = same_distillate s t cut other a b r q h k (tails 4 4 (number w32 s ++ (reads_bytes r ++ (listed range cut ++ listed point a))) (number w32 t ++ (reads_bytes q ++ (listed range other ++ listed point b))) same) in
+    λ i. Distillate (parts.0 i) (parts.1 i) (parts.2 i) (parts.3 i)
+same_entry e f h k same = absurd (omega (arith, first_same e f same))

@@ -1,13 +1,17 @@
-ghost use Rattle.std.specs.Prelude.{◌≡◌, ℕ, ◌*◌, List, ◌++◌, ◌∷◌, length, IfOk, IfSome, IfNone};
-ghost use Rattle.btr_base.specs.Range.{RangeValue};
+ghost use Rattle.std.specs.Prelude.{◌∷◌, IfOk, IfSome, IfNone};
 ghost use Rattle.btr_hist.specs.declared.entry.Entry.{Entry as EntrySpec};
-ghost use Rattle.btr_entry.specs.Grammar.{IsCommit, IsEntry};
-ghost use Rattle.btr_entry.specs.Fields.{IsItems, IsFrame};
+ghost use Rattle.btr_entry.specs.Grammar.{IsEntry};
 
-use crate::fields::{read_u32, read_u128, split_items};
-use crate::lists::{read_bag, read_ranges};
+use crate::fields::{read_id, read_u32};
+use crate::lists::read_change;
+use crate::reads_bytes::read_reads;
+use crate::spec_bytes::read_spec;
+use btr_base::{MAX_COMMIT_POINTS, MAX_COMMIT_RANGES, MAX_POINTS};
 use btr_hist::Entry;
 use std::alloc::{AllocError, Global};
+
+/// The greatest number of ranges that one distillate empties: `2^34`.
+const MAX_DISTILLATE_RANGES: u64 = 17179869184;
 
 /// Decodes all of the bytes into the entry that they spell. Returns `None` if they spell none. An `Err` means out of
 /// memory.
@@ -23,6 +27,8 @@ pub fn decode(alloc: Global, bytes: &[u8]) -> Result<Option<Entry>, AllocError>
     match bytes {
         [1, rest @ ..] => Ok(read_create(rest)),
         [2, rest @ ..] => read_commit(alloc, rest),
+        [3, rest @ ..] => Ok(read_define(rest)),
+        [4, rest @ ..] => read_distillate(alloc, rest),
         _ => Ok(None),
     }
 }
@@ -32,7 +38,10 @@ fn read_create(bytes: &[u8]) -> Option<Entry>
     ensures found { IfSome result (λ e. IsEntry (1 ∷ bytes.now) e) }
     ensures none { IfNone result ((e : EntrySpec) → IsEntry (1 ∷ bytes.now) e → ⊥) }
 {
-    let id = read_u128(bytes)?;
+    let (id, rest) = read_id(bytes)?;
+    if !rest.is_empty() {
+        return None;
+    }
     Some(Entry::Create { id })
 }
 
@@ -41,31 +50,52 @@ fn read_commit(alloc: Global, bytes: &[u8]) -> Result<Option<Entry>, AllocError>
     ensures found { IfOk result (λ o. IfSome o (λ e. IsEntry (2 ∷ bytes.now) e)) }
     ensures none { IfOk result (λ o. IfNone o ((e : EntrySpec) → IsEntry (2 ∷ bytes.now) e → ⊥)) }
 {
-    let Some((stream, ranges, points)) = split_frame(bytes) else {
+    let Some((stream, rest)) = read_u32(bytes) else {
         return Ok(None);
     };
-    let Some(cut) = read_ranges(alloc, ranges)? else {
+    let change = read_change(
+        alloc,
+        rest,
+        MAX_COMMIT_RANGES as u64,
+        MAX_COMMIT_POINTS as u64,
+    )?;
+    let Some((cut, added)) = change else {
         return Ok(None);
     };
-    let Some(added) = read_bag(alloc, points)? else {
+    if cut.as_slice().is_empty() && added.as_slice().is_empty() {
         return Ok(None);
-    };
+    }
     Ok(Some(Entry::Commit { stream, cut, added }))
 }
 
-/// Splits the rest of a commit into the stream, the bytes of the ranges and the bytes of the points.
-fn split_frame(bytes: &[u8]) -> Option<(u32, &[u8], &[u8])>
-    ensures found { IfSome result (λ x. IsFrame bytes.now x.0 x.1.now x.2.now) }
-    ensures none { IfNone result ((stream : ℕ) (ranges points : List ℕ) → IsFrame bytes.now stream ranges points → ⊥) }
+/// Reads the rest of the definition of an output, after the first byte 3.
+fn read_define(bytes: &[u8]) -> Option<Entry>
+    ensures found { IfSome result (λ e. IsEntry (3 ∷ bytes.now) e) }
+    ensures none { IfNone result ((e : EntrySpec) → IsEntry (3 ∷ bytes.now) e → ⊥) }
 {
-    let (stream, rest) = read_u32(bytes)?;
-    let (ranges, rest) = split_items(rest)?;
-    let (points, rest) = split_items(rest)?;
-    if !rest.is_empty() {
-        return None;
-    }
-    if ranges.is_empty() && points.is_empty() {
-        return None;
-    }
-    Some((stream, ranges, points))
+    let (id, rest) = read_id(bytes)?;
+    let spec = read_spec(rest)?;
+    Some(Entry::Define { id, spec })
+}
+
+/// Reads the rest of a distillate, after the first byte 4.
+fn read_distillate(alloc: Global, bytes: &[u8]) -> Result<Option<Entry>, AllocError>
+    ensures found { IfOk result (λ o. IfSome o (λ e. IsEntry (4 ∷ bytes.now) e)) }
+    ensures none { IfOk result (λ o. IfNone o ((e : EntrySpec) → IsEntry (4 ∷ bytes.now) e → ⊥)) }
+{
+    let Some((stream, rest)) = read_u32(bytes) else {
+        return Ok(None);
+    };
+    let Some((reads, rest)) = read_reads(rest) else {
+        return Ok(None);
+    };
+    let Some((cut, added)) = read_change(alloc, rest, MAX_DISTILLATE_RANGES, MAX_POINTS)? else {
+        return Ok(None);
+    };
+    Ok(Some(Entry::Distillate {
+        stream,
+        cut,
+        added,
+        reads,
+    }))
 }

@@ -1,11 +1,16 @@
-ghost use Rattle.std.specs.Prelude.{◌≡◌, ◌++◌, ◌∷◌, ℕ, ◌+◌, ◌*◌, length, List, IfOk, OnOk};
+ghost use Rattle.std.specs.Prelude.{◌≡◌, ◌++◌, ◌∷◌, ℕ, ◌+◌, ◌*◌, length, List, IfOk, OnOk, IsTrue};
 ghost use Rattle.std.specs.Int.{w32, w64, w128};
 ghost use Rattle.std.specs.List.{flat_map};
-ghost use Rattle.btr_entry.specs.Grammar.{number, signed, range, point, listed, spelling};
-ghost use Rattle.btr_entry.specs.Grammar.{IsBounded, IsWithinBounds, IsCommit, IsSpelled, IsEntry, ValuesFit};
+ghost use Rattle.btr_hist.specs.Kernel.{is_good};
+ghost use Rattle.btr_entry.specs.Grammar.{number, range, point, listed, spec_bytes, reads_bytes, spelling};
+ghost use Rattle.btr_entry.specs.Grammar.{IsBounded, IsBoundedDistillate, IsWithinBounds};
+ghost use Rattle.btr_entry.specs.Grammar.{IsCommit, IsOutput, IsDistilled, IsSpelled, IsEntry, ValuesFit};
 
+use crate::fields::{put_byte, put_id, put_signed, put_u32, put_u64};
+use crate::reads_bytes::{put_reads, reads_length};
+use crate::spec_bytes::{put_spec, spec_length};
 use btr_base::{Bag, Point, Range, Ranges};
-use btr_hist::Entry;
+use btr_hist::{Entry, Reads, Spec};
 use std::alloc::{AllocError, Global};
 
 /// Encodes an entry as its one spelling, in a vector of exactly that capacity. It takes time linear in the spelling. An
@@ -31,6 +36,17 @@ pub fn spelling_length(entry: &Entry) -> u64
             let points = added.as_slice().len();
             21 + 16 * (ranges as u64 + points as u64)
         }
+        Entry::Define { spec, .. } => 17 + spec_length(spec),
+        Entry::Distillate {
+            cut,
+            added,
+            reads,
+            ..
+        } => {
+            let ranges = cut.as_slice().len();
+            let points = added.as_slice().len();
+            21 + reads_length(reads) + 16 * (ranges as u64 + points as u64)
+        }
     }
 }
 
@@ -43,6 +59,13 @@ fn put_entry(out: &mut Vec<u8>, entry: &Entry) -> Result<(), AllocError>
     match entry {
         Entry::Create { id } => put_create(out, *id),
         Entry::Commit { stream, cut, added } => put_commit(out, *stream, cut, added),
+        Entry::Define { id, spec } => put_define(out, *id, spec),
+        Entry::Distillate {
+            stream,
+            cut,
+            added,
+            reads,
+        } => put_distillate(out, *stream, cut, added, reads),
     }
 }
 
@@ -50,7 +73,7 @@ fn put_entry(out: &mut Vec<u8>, entry: &Entry) -> Result<(), AllocError>
 fn put_create(out: &mut Vec<u8>, id: u128) -> Result<(), AllocError>
     ensures { OnOk result (out.new.items ≡ out.old.items ++ 1 ∷ number w128 id) }
 {
-    out.push(1)?;
+    put_byte(out, 1)?;
     put_id(out, id)
 }
 
@@ -61,18 +84,49 @@ fn put_commit(out: &mut Vec<u8>, stream: u32, cut: &Ranges, added: &Bag) -> Resu
         ≡ out.old.items ++ 2 ∷ (number w32 stream ++ listed range cut.now ++ listed point added.now)) }
     ensures spelled { OnOk result (IsCommit stream cut.now added.now) }
 {
-    out.push(2)?;
-    put_stream(out, stream)?;
+    put_byte(out, 2)?;
+    put_u32(out, stream)?;
     put_ranges(out, cut.as_slice())?;
     put_points(out, added.as_slice())?;
     Ok(())
+}
+
+/// Appends the spelling of the definition of an output.
+fn put_define(out: &mut Vec<u8>, id: u128, spec: &Spec) -> Result<(), AllocError>
+    requires { IsTrue (is_good spec.now) }
+    ensures bytes { OnOk result (out.new.items ≡ out.old.items ++ 3 ∷ (number w128 id ++ spec_bytes spec.now)) }
+    ensures spelled { OnOk result (IsOutput id spec.now) }
+{
+    put_byte(out, 3)?;
+    put_id(out, id)?;
+    put_spec(out, spec)
+}
+
+/// Appends the spelling of a distillate.
+fn put_distillate(
+    out: &mut Vec<u8>,
+    stream: u32,
+    cut: &Ranges,
+    added: &Bag,
+    reads: &Reads,
+) -> Result<(), AllocError>
+    requires { IsBoundedDistillate cut.now added.now reads.now }
+    ensures bytes { OnOk result (out.new.items
+        ≡ out.old.items ++ 4 ∷ (number w32 stream ++ (reads_bytes reads.now ++ (listed range cut.now ++ listed point added.now)))) }
+    ensures spelled { OnOk result (IsDistilled stream cut.now added.now reads.now) }
+{
+    put_byte(out, 4)?;
+    put_u32(out, stream)?;
+    put_reads(out, reads)?;
+    put_ranges(out, cut.as_slice())?;
+    put_points(out, added.as_slice())
 }
 
 /// Appends the number of ranges and each range.
 fn put_ranges(out: &mut Vec<u8>, ranges: &[Range]) -> Result<(), AllocError>
     ensures { OnOk result (out.new.items ≡ out.old.items ++ listed range ranges.now) }
 {
-    put_count(out, ranges.len())?;
+    put_u64(out, ranges.len() as u64)?;
     for range in ranges {
         put_signed(out, range.from)?;
         put_signed(out, range.to)?;
@@ -85,42 +139,10 @@ fn put_points(out: &mut Vec<u8>, points: &[Point]) -> Result<(), AllocError>
     ensures bytes { OnOk result (out.new.items ≡ out.old.items ++ listed point points.now) }
     ensures values { OnOk result (ValuesFit points.now) }
 {
-    put_count(out, points.len())?;
+    put_u64(out, points.len() as u64)?;
     for point in points {
         put_signed(out, point.time)?;
         put_signed(out, point.value)?;
     }
     Ok(())
-}
-
-/// Appends an id in sixteen bytes.
-#[tactic(auto, unfolding(crate::specs::Grammar::number))]
-fn put_id(out: &mut Vec<u8>, id: u128) -> Result<(), AllocError>
-    ensures { OnOk result (out.new.items ≡ out.old.items ++ number w128 id) }
-{
-    out.extend_from_slice(&id.to_be_bytes())
-}
-
-/// Appends the number of a stream in four bytes.
-#[tactic(auto, unfolding(crate::specs::Grammar::number))]
-fn put_stream(out: &mut Vec<u8>, stream: u32) -> Result<(), AllocError>
-    ensures { OnOk result (out.new.items ≡ out.old.items ++ number w32 stream) }
-{
-    out.extend_from_slice(&stream.to_be_bytes())
-}
-
-/// Appends a count in eight bytes.
-#[tactic(auto, unfolding(crate::specs::Grammar::number))]
-fn put_count(out: &mut Vec<u8>, count: usize) -> Result<(), AllocError>
-    ensures { OnOk result (out.new.items ≡ out.old.items ++ number w64 count) }
-{
-    out.extend_from_slice(&(count as u64).to_be_bytes())
-}
-
-/// Appends a signed number in eight bytes.
-#[tactic(auto, unfolding(crate::specs::Grammar::number, crate::specs::Grammar::signed))]
-fn put_signed(out: &mut Vec<u8>, z: i64) -> Result<(), AllocError>
-    ensures { OnOk result (out.new.items ≡ out.old.items ++ signed z) }
-{
-    out.extend_from_slice(&z.to_be_bytes())
 }

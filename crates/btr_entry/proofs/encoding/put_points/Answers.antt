@@ -20,6 +20,6 @@ loop-point-preserved c =
     let first : c.put_signed.new.out.items ≡ c.loop-point.out.items ++ signed p.time = c.in_ok-put_signed.ensures ∙ ap (λ (z : ℤ). c.loop-point.out.items ++ signed z) (to_z-of_z w64 p.time t_fits) in
     let second : c.put_signed-in-loop-point.new.out.items ≡ c.put_signed.new.out.items ++ signed p.value = c.in_ok-put_signed-2.ensures ∙ ap (λ (z : ℤ). c.put_signed.new.out.items ++ signed z) (to_z-of_z w64 p.value v_fits) in
     record {
-      bytes = Taken-wrote point c.put_count.new.out.items c.loop-point.out.items c.put_signed.new.out.items c.put_signed-in-loop-point.new.out.items (signed p.time) (signed p.value) ps i p more refl c.loop-point.invariant.bytes first second;
+      bytes = Taken-wrote point c.put_u64.new.out.items c.loop-point.out.items c.put_signed.new.out.items c.put_signed-in-loop-point.new.out.items (signed p.time) (signed p.value) ps i p more refl c.loop-point.invariant.bytes first second;
       values = subst ValuesFit (sym more) (each-append (λ q. FitsSigned w64 q.value) (take i ps) (p ∷ []) c.loop-point.invariant.values (v_fits, tt));
     }

@@ -18,4 +18,4 @@ loop-range-preserved c =
     let to_is = to_z-of_z w64 inside.to (to_fits inside c.range.invariant) ∙ ap (λ (s : RangeValue). s.to) here in
     let first : c.put_signed.new.out.items ≡ c.loop-range.out.items ++ signed r.from = c.in_ok-put_signed.ensures ∙ ap (λ (z : ℤ). c.loop-range.out.items ++ signed z) from_is in
     let second : c.put_signed-in-loop-range.new.out.items ≡ c.put_signed.new.out.items ++ signed r.to = c.in_ok-put_signed-2.ensures ∙ ap (λ (z : ℤ). c.put_signed.new.out.items ++ signed z) to_is in
-    Taken-wrote range c.put_count.new.out.items c.loop-range.out.items c.put_signed.new.out.items c.put_signed-in-loop-range.new.out.items (signed r.from) (signed r.to) rs i r more refl c.loop-range.invariant first second
+    Taken-wrote range c.put_u64.new.out.items c.loop-range.out.items c.put_signed.new.out.items c.put_signed-in-loop-range.new.out.items (signed r.from) (signed r.to) rs i r more refl c.loop-range.invariant first second

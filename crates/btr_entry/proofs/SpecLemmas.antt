@@ -1,0 +1,257 @@
+-- Lemmas on the bytes of specs and reads: their length, and that the bytes determine the value.
+use Rattle.std.proofs.Common.{◌≡◌, ◌⊎◌, ℕ, ◌+◌, ◌*◌, ◌<◌, ◌≤◌, ◌^◌, ◌&&◌, ℤ, List, [], ◌∷◌, ◌++◌, length, get_or, Option, Some, None, lit≤, inl, inr, refl, sym, ap, ◌∙◌, subst, arith, length-append, append_assoc, if◌then◌else◌, not}
+use Rattle.std.specs.Prelude.{IfSome, nat_le, is_some}
+use Rattle.std.specs.Int.{Width, w32, w64, byte_len}
+use Rattle.std.proofs.lemmas.List.{append-nil}
+use Rattle.std.proofs.lemmas.Bool.{and_parts}
+use Rattle.std.proofs.lemmas.Bool.Decides.{nat_tests}
+use Rattle.btr_base.specs.declared.limits.TheConstants.{MAX_VERSIONS}
+use Rattle.btr_hist.specs.declared.kernel.Kernel.{Kernel}
+use Rattle.btr_hist.specs.declared.kernel.Kernel.TheVariants.{Affine, Sum, Mean, Least, Greatest, Count, Delta, Minus, Angle, Hold}
+use Rattle.btr_hist.specs.declared.kernel.Spec.{Spec}
+use Rattle.btr_hist.specs.declared.kernel.Reads.{Reads}
+use Rattle.btr_hist.specs.Kernel.{has_second, divides_well}
+use Rattle.btr_entry.specs.Grammar.{number, signed, kernel_bytes, one_or_two, spec_bytes, reads_bytes, KernelFits, IsSpec, AreVersions}
+use Rattle.btr_entry.proofs.NumberLemmas.{IsWide, number_once, wide32, wide64, signed_once, length-signed}
+use Rattle.btr_entry.proofs.FrameLemmas.{heads, tails}
+
+-- ---- kernels
+
+-- The kernel with a number, if the number is not that of `Affine`.
+abbrev plain : ℕ → Kernel
+plain n = get_or (Sum ∷ Sum ∷ Sum ∷ Mean ∷ Least ∷ Greatest ∷ Count ∷ Delta ∷ Minus ∷ Angle ∷ Hold ∷ []) n Sum
+
+-- The kernel is `Affine` with these numbers.
+record IsAffine (k : Kernel) : Type 0 where
+  a : ℤ
+  b : ℤ
+  d : ℤ
+  is : k ≡ Affine a b d
+
+-- The kernel is another: its bytes are its number.
+record IsPlain (k : Kernel) : Type 0 where
+  code : ℕ
+  least : 2 ≤ code
+  greatest : code ≤ 10
+  bytes : kernel_bytes k ≡ code ∷ []
+  is : plain code ≡ k
+
+kind : (k : Kernel) → IsAffine k ⊎ IsPlain k
+kind (Affine a b d) = inl (record { a = a; b = b; d = d; is = refl })
+kind Sum = inr (record { code = 2; least = lit≤ tt; greatest = lit≤ tt; bytes = refl; is = refl })
+kind Mean = inr (record { code = 3; least = lit≤ tt; greatest = lit≤ tt; bytes = refl; is = refl })
+kind Least = inr (record { code = 4; least = lit≤ tt; greatest = lit≤ tt; bytes = refl; is = refl })
+kind Greatest = inr (record { code = 5; least = lit≤ tt; greatest = lit≤ tt; bytes = refl; is = refl })
+kind Count = inr (record { code = 6; least = lit≤ tt; greatest = lit≤ tt; bytes = refl; is = refl })
+kind Delta = inr (record { code = 7; least = lit≤ tt; greatest = lit≤ tt; bytes = refl; is = refl })
+kind Minus = inr (record { code = 8; least = lit≤ tt; greatest = lit≤ tt; bytes = refl; is = refl })
+kind Angle = inr (record { code = 9; least = lit≤ tt; greatest = lit≤ tt; bytes = refl; is = refl })
+kind Hold = inr (record { code = 10; least = lit≤ tt; greatest = lit≤ tt; bytes = refl; is = refl })
+
+-- The bytes of `Affine`, with more bytes after them.
+affine_bytes : (k : Kernel) (h : IsAffine k) (x : List ℕ) → kernel_bytes k ++ x ≡ 1 ∷ (signed h.a ++ (signed h.b ++ (signed h.d ++ x)))
+affine_bytes k h x =
+    ap (λ (l : Kernel). kernel_bytes l ++ x) h.is ∙ ap (λ (l : List ℕ). 1 ∷ l) (append_assoc (signed h.a) (signed h.b ++ signed h.d) x ∙ ap (λ (l : List ℕ). signed h.a ++ l) (append_assoc (signed h.b) (signed h.d) x))
+
+-- The bytes of another kernel, with more bytes after them.
+plain_bytes : (k : Kernel) (h : IsPlain k) (x : List ℕ) → kernel_bytes k ++ x ≡ h.code ∷ x
+plain_bytes k h x = ap (λ (l : List ℕ). l ++ x) h.bytes
+
+affine_once : (k l : Kernel) (x y : List ℕ) (h : IsAffine k) (j : IsAffine l) → KernelFits k → KernelFits l → kernel_bytes k ++ x ≡ kernel_bytes l ++ y → (k ≡ l) × (x ≡ y)
+affine_once k l x y h j k_fits l_fits same =
+    let f = subst KernelFits h.is k_fits in
+    let g = subst KernelFits j.is l_fits in
+    let after = tails 1 1 (signed h.a ++ (signed h.b ++ (signed h.d ++ x))) (signed j.a ++ (signed j.b ++ (signed j.d ++ y))) (sym (affine_bytes k h x) ∙ same ∙ affine_bytes l j y) in
+    let one = signed_once h.a j.a (signed h.b ++ (signed h.d ++ x)) (signed j.b ++ (signed j.d ++ y)) f.0 g.0 after in
+    let two = signed_once h.b j.b (signed h.d ++ x) (signed j.d ++ y) f.1 g.1 one.1 in
+    let three = signed_once h.d j.d x y f.2 g.2 two.1 in
+    (h.is ∙ (λ i. Affine (one.0 i) (two.0 i) (three.0 i)) ∙ sym j.is, three.1)
+
+plain_once : (k l : Kernel) (x y : List ℕ) (h : IsPlain k) (j : IsPlain l) → kernel_bytes k ++ x ≡ kernel_bytes l ++ y → (k ≡ l) × (x ≡ y)
+plain_once k l x y h j same =
+    let both = sym (plain_bytes k h x) ∙ same ∙ plain_bytes l j y in
+    (sym h.is ∙ ap plain (heads h.code j.code x y both) ∙ j.is, tails h.code j.code x y both)
+
+-- `Affine` and another kernel have other bytes.
+apart : (k l : Kernel) (x y : List ℕ) (h : IsAffine k) (j : IsPlain l) → kernel_bytes k ++ x ≡ kernel_bytes l ++ y → ⊥
+apart k l x y h j same =
+    omega (arith, j.least, heads 1 j.code (signed h.a ++ (signed h.b ++ (signed h.d ++ x))) y (sym (affine_bytes k h x) ∙ same ∙ plain_bytes l j y))
+
+-- The bytes determine the kernel.
+pub kernel_once : (k l : Kernel) (x y : List ℕ) → KernelFits k → KernelFits l → kernel_bytes k ++ x ≡ kernel_bytes l ++ y → (k ≡ l) × (x ≡ y)
+kernel_once k l x y k_fits l_fits same =
+    elim (kind k) [
+      | inl h ↦ elim (kind l) [
+        | inl j ↦ affine_once k l x y h j k_fits l_fits same
+        | inr j ↦ absurd (apart k l x y h j same)
+      ]
+      | inr h ↦ elim (kind l) [
+        | inl j ↦ absurd (apart l k y x j h (sym same))
+        | inr j ↦ plain_once k l x y h j same
+      ]
+    ]
+
+-- Bytes that begin with another number than 1 to 10 are no kernel's.
+pub no_kernel : (n : ℕ) (after : List ℕ) → (n ≡ 0) ⊎ (11 ≤ n) → (k : Kernel) (rest : List ℕ) → n ∷ after ≡ kernel_bytes k ++ rest → ⊥
+no_kernel n after other k rest same =
+    elim (kind k) [
+      | inl h ↦ omega (arith, other, heads n 1 after (signed h.a ++ (signed h.b ++ (signed h.d ++ rest))) (same ∙ affine_bytes k h rest))
+      | inr h ↦ omega (arith, other, h.least, h.greatest, heads n h.code after rest (same ∙ plain_bytes k h rest))
+    ]
+
+-- The number 1 and fewer bytes than three numbers take are no kernel's.
+pub short_affine : (after : List ℕ) → length after < 24 → (k : Kernel) (rest : List ℕ) → 1 ∷ after ≡ kernel_bytes k ++ rest → ⊥
+short_affine after short k rest same =
+    elim (kind k) [
+      | inl h ↦
+          let long = ap (length {A = ℕ}) (tails 1 1 after (signed h.a ++ (signed h.b ++ (signed h.d ++ rest))) (same ∙ affine_bytes k h rest)) in
+          omega (arith, short, long, length-append (signed h.a) (signed h.b ++ (signed h.d ++ rest)), length-append (signed h.b) (signed h.d ++ rest), length-append (signed h.d) rest, length-signed h.a, length-signed h.b, length-signed h.d)
+      | inr h ↦ omega (arith, h.least, heads 1 h.code after rest (same ∙ plain_bytes k h rest))
+    ]
+
+pub length-affine : (a b d : ℤ) → length (kernel_bytes (Affine a b d)) ≡ 25
+length-affine a b d =
+    omega (arith, length-append (signed a) (signed b ++ signed d), length-append (signed b) (signed d), length-signed a, length-signed b, length-signed d)
+
+pub length-kernel : (k : Kernel) → length (kernel_bytes k) ≤ 25
+length-kernel k =
+    elim (kind k) [
+      | inl h ↦ omega (arith, ap (λ (l : Kernel). length (kernel_bytes l)) h.is, length-affine h.a h.b h.d)
+      | inr h ↦ omega (arith, ap (length {A = ℕ}) h.bytes)
+    ]
+
+-- ---- one number or two
+
+pub length-one : (w : Width) (limit : ℕ) → IsWide w limit → (a : ℕ) → length (one_or_two w a None) ≡ 1 + byte_len w
+length-one w limit wide a = omega (arith, wide.len a)
+
+pub length-two : (w : Width) (limit : ℕ) → IsWide w limit → (a b : ℕ) → length (one_or_two w a (Some b)) ≡ 1 + 2 * byte_len w
+length-two w limit wide a b = omega (arith, wide.len a, wide.len b, length-append (number w a) (number w b))
+
+-- The bytes determine the numbers.
+pub numbers_once : (w : Width) (limit : ℕ) → IsWide w limit → (a c : ℕ) (b d : Option ℕ) (x y : List ℕ) → a < limit → c < limit → IfSome b (λ n. n < limit) → IfSome d (λ n. n < limit) → one_or_two w a b ++ x ≡ one_or_two w c d ++ y → (a ≡ c) × (b ≡ d) × (x ≡ y)
+numbers_once w limit wide a c None None x y a_fits c_fits b_fits d_fits same =
+    let one = number_once w limit wide a c x y a_fits c_fits (tails 1 1 (number w a ++ x) (number w c ++ y) same) in
+    (one.0, refl, one.1)
+numbers_once w limit wide a c None (Some d) x y a_fits c_fits b_fits d_fits same =
+    absurd (omega (arith, heads 1 2 (number w a ++ x) ((number w c ++ number w d) ++ y) same))
+numbers_once w limit wide a c (Some b) None x y a_fits c_fits b_fits d_fits same =
+    absurd (omega (arith, heads 2 1 ((number w a ++ number w b) ++ x) (number w c ++ y) same))
+numbers_once w limit wide a c (Some b) (Some d) x y a_fits c_fits b_fits d_fits same =
+    let after = tails 2 2 ((number w a ++ number w b) ++ x) ((number w c ++ number w d) ++ y) same in
+    let one = number_once w limit wide a c (number w b ++ x) (number w d ++ y) a_fits c_fits (sym (append_assoc (number w a) (number w b) x) ∙ after ∙ append_assoc (number w c) (number w d) y) in
+    let two = number_once w limit wide b d x y b_fits d_fits one.1 in
+    (one.0, ap Some two.0, two.1)
+
+pub length-numbers : (w : Width) (limit : ℕ) → IsWide w limit → (a : ℕ) (o : Option ℕ) → length (one_or_two w a o) ≤ 1 + 2 * byte_len w
+length-numbers w limit wide a None = omega (arith, length-one w limit wide a)
+length-numbers w limit wide a (Some b) = omega (arith, length-two w limit wide a b)
+
+-- How many numbers there are.
+abbrev pub count_of : Option ℕ → ℕ
+count_of None = 1
+count_of (Some b) = 2
+
+-- The bytes of the second number, if there is one.
+abbrev pub second_of : Width → Option ℕ → List ℕ
+second_of w None = []
+second_of w (Some b) = number w b
+
+numbers_parts : (w : Width) (a : ℕ) (b : Option ℕ) (rest : List ℕ) → one_or_two w a b ++ rest ≡ count_of b ∷ (number w a ++ (second_of w b ++ rest))
+numbers_parts w a None rest = refl
+numbers_parts w a (Some b) rest = ap (λ (l : List ℕ). 2 ∷ l) (append_assoc (number w a) (number w b) rest)
+
+-- The first byte is the count, and the first number follows.
+pub after_count : (w : Width) (a : ℕ) (b : Option ℕ) (rest : List ℕ) (count : ℕ) (after : List ℕ) → count ∷ after ≡ one_or_two w a b ++ rest → (count ≡ count_of b) × (after ≡ number w a ++ (second_of w b ++ rest))
+after_count w a b rest count after same =
+    let both = same ∙ numbers_parts w a b rest in
+    (heads count (count_of b) after (number w a ++ (second_of w b ++ rest)) both, tails count (count_of b) after (number w a ++ (second_of w b ++ rest)) both)
+
+-- Fewer bytes than the first number takes are not those of one number or two.
+pub short_first : (w : Width) (limit : ℕ) → IsWide w limit → (bytes : List ℕ) (count : ℕ) (after : List ℕ) → bytes ≡ count ∷ after → length after < byte_len w → (a : ℕ) (b : Option ℕ) (rest : List ℕ) → bytes ≡ one_or_two w a b ++ rest → ⊥
+short_first w limit wide bytes count after is short a b rest same =
+    let parts = after_count w a b rest count after (sym is ∙ same) in
+    omega (arith, short, ap (length {A = ℕ}) parts.1, length-append (number w a) (second_of w b ++ rest), wide.len a)
+
+length-second : (w : Width) (limit : ℕ) → IsWide w limit → (b : Option ℕ) → 2 ≡ count_of b → length (second_of w b) ≡ byte_len w
+length-second w limit wide None two = absurd (omega arith)
+length-second w limit wide (Some b) two = wide.len b
+
+-- Fewer bytes after the first number than the second takes are not those of two numbers.
+pub short_second : (w : Width) (limit : ℕ) → IsWide w limit → (bytes : List ℕ) (count : ℕ) (after : List ℕ) (n : ℕ) (last : List ℕ) → bytes ≡ count ∷ after → count ≡ 2 → after ≡ number w n ++ last → length last < byte_len w → (a : ℕ) (b : Option ℕ) (rest : List ℕ) → bytes ≡ one_or_two w a b ++ rest → ⊥
+short_second w limit wide bytes count after n last is two first short a b rest same =
+    let parts = after_count w a b rest count after (sym is ∙ same) in
+    omega (arith, short, ap (length {A = ℕ}) first, ap (length {A = ℕ}) parts.1, length-append (number w n) last, length-append (number w a) (second_of w b ++ rest), length-append (second_of w b) rest, wide.len n, wide.len a, length-second w limit wide b (sym two ∙ parts.0))
+
+-- Bytes that begin with another number than 1 and 2 are not those of one number or two.
+pub no_count : (w : Width) (bytes : List ℕ) (count : ℕ) (after : List ℕ) → bytes ≡ count ∷ after → (count ≡ 0) ⊎ (3 ≤ count) → (a : ℕ) (b : Option ℕ) (rest : List ℕ) → bytes ≡ one_or_two w a b ++ rest → ⊥
+no_count w bytes count after is other a None rest same = omega (arith, other, (after_count w a None rest count after (sym is ∙ same)).0)
+no_count w bytes count after is other a (Some b) rest same = omega (arith, other, (after_count w a (Some b) rest count after (sym is ∙ same)).0)
+
+-- ---- specs
+
+pub length-spec : (s : Spec) → length (kernel_bytes s.kernel) + 9 + length (one_or_two w32 s.first s.second) ≡ length (spec_bytes s)
+length-spec s =
+    omega (arith, length-append (kernel_bytes s.kernel) (number w64 s.lead ++ (s.grain ∷ one_or_two w32 s.first s.second)), length-append (number w64 s.lead) (s.grain ∷ one_or_two w32 s.first s.second), wide64.len s.lead)
+
+-- The numbers of a good spec fit in their bytes.
+pub good_lead : (s : Spec) → IsSpec s → s.lead < 2 ^ 64
+good_lead s h =
+    let parts = and_parts (if has_second s.kernel then is_some s.second else not (is_some s.second)) (divides_well s.kernel && (nat_le s.lead (2 ^ 60) && nat_le s.grain 62)) h.good in
+    let last = and_parts (divides_well s.kernel) (nat_le s.lead (2 ^ 60) && nat_le s.grain 62) parts.1 in
+    let lead = (and_parts (nat_le s.lead (2 ^ 60)) (nat_le s.grain 62) last.1).0 in
+    grind (arith, nat_tests)
+
+-- After the kernel, the lead, the grain and the inputs of a spec.
+abbrev pub after_lead : Spec → List ℕ
+after_lead s = s.grain ∷ one_or_two w32 s.first s.second
+
+abbrev pub after_kernel : Spec → List ℕ
+after_kernel s = number w64 s.lead ++ after_lead s
+
+-- A spec that was read from the bytes of a good spec is that spec, and nothing follows.
+pub spec_read : (bytes r0 r1 r2 r3 : List ℕ) (made s : Spec) → KernelFits made.kernel → made.lead < 2 ^ 64 → made.first < 2 ^ 32 → IfSome made.second (λ n. n < 2 ^ 32) → bytes ≡ kernel_bytes made.kernel ++ r0 → r0 ≡ number w64 made.lead ++ r1 → r1 ≡ made.grain ∷ r2 → r2 ≡ one_or_two w32 made.first made.second ++ r3 → IsSpec s → bytes ≡ spec_bytes s → (made ≡ s) × (r3 ≡ [])
+spec_read bytes r0 r1 r2 r3 made s kernel_fits lead_fits first_fits second_fits kernel_is lead_is grain_is inputs_are h same =
+    let kernels = kernel_once made.kernel s.kernel r0 (after_kernel s) kernel_fits h.kernel_fits (sym kernel_is ∙ same) in
+    let leads = number_once w64 (2 ^ 64) wide64 made.lead s.lead r1 (after_lead s) lead_fits (good_lead s h) (sym lead_is ∙ kernels.1) in
+    let grains = heads made.grain s.grain r2 (one_or_two w32 s.first s.second) (sym grain_is ∙ leads.1) in
+    let inputs = tails made.grain s.grain r2 (one_or_two w32 s.first s.second) (sym grain_is ∙ leads.1) in
+    let numbers = numbers_once w32 (2 ^ 32) wide32 made.first s.first made.second s.second r3 [] first_fits h.first_fits second_fits h.second_fits (sym inputs_are ∙ inputs ∙ sym (append-nil (one_or_two w32 s.first s.second))) in
+    (λ i. record { kernel = kernels.0 i; lead = leads.0 i; grain = grains i; first = numbers.0 i; second = numbers.1 i }, numbers.2)
+
+-- After the kernel that was read follow the lead and the rest of the spec.
+pub kernel_read : (bytes rest : List ℕ) (k : Kernel) (s : Spec) → KernelFits k → bytes ≡ kernel_bytes k ++ rest → IsSpec s → bytes ≡ spec_bytes s → rest ≡ after_kernel s
+kernel_read bytes rest k s fits is h same = (kernel_once k s.kernel rest (after_kernel s) fits h.kernel_fits (sym is ∙ same)).1
+
+-- After the lead that was read follow the grain and the inputs.
+pub lead_read : (rest after : List ℕ) (n : ℕ) (s : Spec) → n < 2 ^ 64 → rest ≡ number w64 n ++ after → IsSpec s → rest ≡ after_kernel s → after ≡ after_lead s
+lead_read rest after n s fits is h same =
+    (number_once w64 (2 ^ 64) wide64 n s.lead after (after_lead s) fits (good_lead s h) (sym is ∙ same)).1
+
+-- The bytes determine the spec.
+pub spec_once : (s t : Spec) → IsSpec s → IsSpec t → spec_bytes s ≡ spec_bytes t → s ≡ t
+spec_once s t h j same =
+    (spec_read (spec_bytes s) (after_kernel s) (after_lead s) (one_or_two w32 s.first s.second) [] s t h.kernel_fits (good_lead s h) h.first_fits h.second_fits refl refl refl (sym (append-nil (one_or_two w32 s.first s.second))) j same).0
+
+-- ---- reads
+
+version_fits : (o : Option ℕ) → IfSome o (λ n. n ≤ MAX_VERSIONS) → IfSome o (λ n. n < 2 ^ 64)
+version_fits None h = tt
+version_fits (Some n) h = omega arith
+
+-- The bytes determine the reads.
+pub reads_once : (r s : Reads) (x y : List ℕ) → AreVersions r → AreVersions s → reads_bytes r ++ x ≡ reads_bytes s ++ y → (r ≡ s) × (x ≡ y)
+reads_once r s x y h j same =
+    let numbers = numbers_once w64 (2 ^ 64) wide64 r.first s.first r.second s.second x y (omega (arith, h.first)) (omega (arith, j.first)) (version_fits r.second h.second) (version_fits s.second j.second) same in
+    (λ i. record { first = numbers.0 i; second = numbers.1 i }, numbers.2)
+
+-- After the first version that was read follows the second, if there is one.
+pub second_read : (bytes : List ℕ) (count : ℕ) (after : List ℕ) (n : ℕ) (last : List ℕ) → bytes ≡ count ∷ after → n ≤ MAX_VERSIONS → after ≡ number w64 n ++ last → (r : Reads) (rest : List ℕ) → AreVersions r → bytes ≡ reads_bytes r ++ rest → last ≡ second_of w64 r.second ++ rest
+second_read bytes count after n last is fits first r rest h same =
+    let parts = after_count w64 r.first r.second rest count after (sym is ∙ same) in
+    (number_once w64 (2 ^ 64) wide64 n r.first last (second_of w64 r.second ++ rest) (omega arith) (omega (arith, h.first)) (sym first ∙ parts.1)).1
+
+-- If no version follows, the bytes are not those of two versions.
+pub no_second : (o : Option ℕ) (last rest : List ℕ) → 2 ≡ count_of o → IfSome o (λ n. n ≤ MAX_VERSIONS) → last ≡ second_of w64 o ++ rest → ((n : ℕ) (rest : List ℕ) → n ≤ MAX_VERSIONS → last ≡ number w64 n ++ rest → ⊥) → ⊥
+no_second None last rest two fits is none = absurd (omega arith)
+no_second (Some b) last rest two fits is none = none b rest fits is
