@@ -1,0 +1,42 @@
+//! All points of an output in some ranges of time.
+ghost use Rattle.std.specs.Prelude.{◌≡◌, ◌↔◌, true, IfOk, IsSome};
+ghost use Rattle.std.specs.List.{filter};
+ghost use Rattle.std.specs.Option.{option_map, is_some};
+ghost use Rattle.btr_base.specs.Range.{covered};
+ghost use Rattle.btr_hist.specs.Kernel.{is_good};
+ghost use Rattle.btr_hist.specs.Distil.{kernel_points};
+ghost use Rattle.btr_kernel.specs.Sources.{AtEachInputs};
+
+use crate::anchors::anchors_in;
+use crate::gather::{gather, gather_second, with_past};
+use crate::sweep::swept;
+use btr_base::{Point, Ranges};
+use btr_hist::Spec;
+use btr_tree::Tree;
+use std::alloc::{AllocError, Global};
+
+/// Returns the points of an output whose times ranges cover, from the trees of its inputs: at each distinct time of the first
+/// input the value, if there is one.
+///
+/// It reads from the trees the points of the ranges, each begun as much earlier as the kernel looks back, and no others. Then it
+/// goes over them once. The cost is that of reading, and time linear in the points read, whatever the lead. An `Err` means out of
+/// memory. This is the step of DISTIL (SmartGridComm 2015) that computes a distiller's output from the changed input.
+pub fn run_over(
+    alloc: Global,
+    spec: &Spec,
+    first: &Tree,
+    second: Option<&Tree>,
+    ranges: &Ranges,
+) -> Result<Vec<Point>, AllocError>
+    requires good { is_good spec.now ≡ true }
+    requires second { is_some spec.now.second ≡ is_some second }
+    ensures { IfOk result (λ v. AtEachInputs first.now (option_map (λ t. t.now) second.entry) (λ i.
+        v.items ≡ filter (λ p. covered ranges.now p.time) (kernel_points spec.now i))) }
+{
+    let past = with_past(alloc, ranges, spec.lead)?;
+    let points = gather(alloc, first, &past)?;
+    let others = gather_second(alloc, second, &past)?;
+    let times = anchors_in(alloc, &points, ranges)?;
+    let made = swept(alloc, spec, &times, &points, &others)?;
+    Ok(made)
+}
