@@ -1,0 +1,45 @@
+-- Lemmas on the inputs that a plan sees.
+use Rattle.std.specs.Prelude.{◌≡◌, ℕ, List, Option, Some, None}
+use Rattle.std.specs.List.{filter}
+use Rattle.std.proofs.Common.{sym, subst}
+use Rattle.btr_base.specs.declared.point.Point.{Point}
+use Rattle.btr_base.specs.Range.{RangeValue, covered}
+use Rattle.btr_base.specs.Bag.{IsInOrder, sort}
+use Rattle.btr_tree.specs.History.{Past, bag}
+use Rattle.btr_tree.specs.Root.{TreeValue}
+use Rattle.btr_tree.proofs.VersionLemmas.{bag-in_order}
+use Rattle.btr_hist.specs.Distil.{Inputs, kernel_points}
+use Rattle.btr_kernel.specs.Sources.{IsSecond, second_points, AtEachInputs}
+use Rattle.btr_distil.specs.Sight.{SightValue, IsInput, IsSecondInput, IsSightOf}
+use Rattle.btr_distil.proofs.PlanLemmas.{added-is}
+
+-- The points of an input are in order.
+pub input-in_order : (version : ℕ) (old new : TreeValue) (before after : List Point) → IsInput version old new before after → IsInOrder after
+input-in_order version old new before after h = subst IsInOrder (sym h.is) (bag-in_order h.past)
+
+-- A second input has a past with these points, if there is a second input.
+record HasPast (new : Option TreeValue) (after : List Point) : Type 0 where
+  past : Option Past
+  tree : IsSecond past new
+  is : after ≡ second_points past
+
+second-past : (version : Option ℕ) (old new : Option TreeValue) (before after : List Point) → IsSecondInput version old new before after → HasPast new after
+second-past None None None before after h = record { past = None; tree = tt; is = h.1 }
+second-past None None (Some n) before after h = absurd h
+second-past None (Some o) new before after h = absurd h
+second-past (Some v) None new before after h = absurd h
+second-past (Some v) (Some o) None before after h = absurd h
+second-past (Some v) (Some o) (Some n) before after h = record { past = Some h.past; tree = h.newer; is = h.is }
+
+-- What holds at the points of all pasts with the new trees holds at the new inputs.
+pub at-new_inputs : (P : Inputs → Type 0) (s : SightValue) (old new : Inputs) → IsSightOf s old new → AtEachInputs s.new_first s.new_second P → P new
+at-new_inputs P s old new h each =
+    let first = h.first in
+    let second = second-past s.old_reads.second s.old_second s.new_second old.second new.second h.second in
+    let same : record { first = bag first.past; second = second_points second.past } ≡ new = λ i. record { first = sym first.is i; second = sym second.is i } in
+    subst P same (each first.past second.past first.newer second.tree)
+
+-- The points over the new trees, sorted, are those of the output over the new inputs.
+pub computed-is : (s : SightValue) (cut : List RangeValue) (points : List Point) (old new : Inputs) → IsSightOf s old new → AtEachInputs s.new_first s.new_second (λ i. points ≡ filter (λ p. covered cut p.time) (kernel_points s.spec i)) → sort points ≡ filter (λ p. covered cut p.time) (kernel_points s.spec new)
+computed-is s cut points old new h each =
+    added-is s.spec new cut points (input-in_order s.old_reads.first s.old_first s.new_first old.first new.first h.first) (at-new_inputs (λ i. points ≡ filter (λ p. covered cut p.time) (kernel_points s.spec i)) s old new h each)

@@ -1,0 +1,4 @@
+-- what a plan is made from
+pub mod Sight
+-- what it is
+pub mod Plan

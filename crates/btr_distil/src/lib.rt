@@ -1,0 +1,21 @@
+//! The plan of a distillate commit: what brings a computed stream up to date after its inputs have changed, in the manner of
+//! DISTIL (Andersen et al., SmartGridComm 2015).
+//!
+//! [`plan`] compares the versions of the inputs that the output has read with those that it is to read (BTrDB's ComputeDiff),
+//! lengthens each changed range by how far the kernel looks back, and computes the output anew there and nowhere else. The rule
+//! is this store's own; that it gives the kernel over all time is proved in btr_hist.
+#![tactic(auto)]
+
+// what a plan is made from, and what it is
+mod commit;
+mod sight;
+// how it is made
+mod changed;
+mod planning;
+
+pub use commit::Plan;
+pub use planning::plan;
+pub use sight::Sight;
+
+#[cfg(test)]
+mod tests;
