@@ -1,27 +1,26 @@
 -- The next board is that of the history with an entry more, and stays well formed.
-use Rattle.std.specs.Prelude.{◌≡◌, ℕ, ◌+◌, ◌<◌, ◌≤◌, List, [], ◌∷◌, ◌++◌, length, take, slice_get, slice_set, slice_index_or, Option, Some, None, IfSome}
+use Rattle.std.specs.Prelude.{◌≡◌, ℕ, ◌+◌, ◌-◌, ◌<◌, ◌≤◌, List, [], ◌∷◌, ◌++◌, length, take, slice_get, slice_set, slice_index_or, Option, Some, None, IfSome, is_some}
 use Rattle.std.specs.Option.{option_map}
-use Rattle.std.proofs.Common.{sym, ap, ◌∙◌, arith, subst, inl, inr, length-append}
-use Rattle.std.proofs.lemmas.List.{take-append-le, take_all, get_or_append_left, get_or-set_same, get_or-set_other, length-set, length-map, map-append, ext_get_or}
+use Rattle.std.proofs.Common.{zero, suc, refl, sym, ap, ◌∙◌, arith, subst, inl, inr, length-append}
+use Rattle.std.proofs.lemmas.List.{append-nil, take-append-le, take_all, get_or_append_left, get_or_push, get_or-set_same, get_or-set_other, length-set, length-map, map-append, ext_get_or}
 use Rattle.std.proofs.lemmas.Option.{slice_get_within, slice_get-get_or, slice_get-map, get_or_from_slice_get}
 use Rattle.std.proofs.lemmas.Bool.{cases_lt, cases_eq}
 use Rattle.std.proofs.Math.Seq.{get_or-append_seam, map-set_same}
-use Rattle.btr_base.specs.declared.point.Point.{Point}
-use Rattle.btr_base.specs.Range.{RangeValue}
 use Rattle.btr_base.specs.Commit.{Change}
 use Rattle.btr_base.specs.declared.limits.TheConstants.{MAX_STREAMS, MAX_VERSIONS}
 use Rattle.btr_board.specs.Put.{put_at}
-use Rattle.btr_base.proofs.ListLemmas.{get-append, get_last}
+use Rattle.btr_base.proofs.ListLemmas.{each-append, get-append, get_last}
 use Rattle.btr_tree.specs.History.{nothing, ◌▷◌}
 use Rattle.btr_tree.specs.Root.{TreeValue, IsTree}
 use Rattle.btr_hist.specs.declared.entry.Entry.{Entry}
-use Rattle.btr_hist.specs.declared.entry.Entry.TheVariants.{Create, Commit}
-use Rattle.btr_hist.specs.History.{ids, commits, latest}
-use Rattle.btr_hist.specs.Legal.{rejection, commit_rejection}
-use Rattle.btr_hist.proofs.HistoryLemmas.{ids-append, legal-push}
-use Rattle.btr_engine.specs.Board.{Versions, Kept, with_commits, commits_to, HasTrees, IsBoardOf, IsWellFormed, place_of, ids_of}
-use Rattle.btr_engine.specs.Stage.{IsNext, change_of}
-use Rattle.btr_engine.proofs.BoardStreams.{place-low, places-push, ids-create, ids-commit, commits-create, commits-other, commits-same, known, unknown}
+use Rattle.btr_hist.specs.declared.kernel.Spec.{Spec}
+use Rattle.btr_hist.specs.declared.kernel.Reads.{Reads}
+use Rattle.btr_hist.specs.History.{ids, kinds, spec_of, commits, latest, recorded}
+use Rattle.btr_hist.specs.Legal.{rejection}
+use Rattle.btr_hist.proofs.HistoryLemmas.{length-kinds, length-recorded, follows-push, unknown}
+use Rattle.btr_engine.specs.Board.{Versions, Kept, HasPast, with_commits, commits_to, HasTrees, reads_count, read_at, HasReads, IsStreamOf, IsBoardOf, IsGrown, IsWellFormed, place_of, ids_of}
+use Rattle.btr_engine.specs.Stage.{MakesStream, MakesVersion, IsNext, with_version}
+use Rattle.btr_engine.proofs.BoardStreams.{place-low, places-push, ids-more, kinds-more, commits-still, recorded-still, ids-still, kinds-still, commits-more, recorded-more, commits-other, recorded-other, unknown-recorded, read-none}
 use Rattle.btr_engine.proofs.BoardTrees.{made_by, with_commits-push}
 
 -- ---- the trees of a stream
@@ -66,88 +65,172 @@ module _ (g h : List Entry) (s : ℕ) where
           ];
         }
 
+-- ---- what the versions of a stream have read
+
+-- One record more that nothing was read changes no answer.
+nothing_more : (rs : List (Option Reads)) (n : ℕ) → slice_index_or (rs ++ None ∷ []) n None ≡ slice_index_or rs n None
+nothing_more [] zero = refl
+nothing_more [] (suc n) = refl
+nothing_more (r ∷ rs) zero = refl
+nothing_more (r ∷ rs) (suc n) = nothing_more rs n
+
+-- One read more at the end of both lists.
+one_more : (rs : List (Option Reads)) (xs : List Reads) (x : Reads) → length rs ≡ length xs → ((n : ℕ) → slice_index_or rs n None ≡ slice_get xs n) → (n : ℕ) → slice_index_or (rs ++ Some x ∷ []) n None ≡ slice_get (xs ++ x ∷ []) n
+one_more [] [] x long same zero = refl
+one_more [] [] x long same (suc n) = refl
+one_more [] (y ∷ ys) x long same n = absurd (omega arith)
+one_more (r ∷ rs) [] x long same n = absurd (omega arith)
+one_more (r ∷ rs) (y ∷ ys) x long same zero = same 0
+one_more (r ∷ rs) (y ∷ ys) x long same (suc n) =
+    let shorter : length rs ≡ length ys = omega arith in
+    one_more rs ys x shorter (λ m. same (suc m)) n
+
+-- The same with version 0 before both, which has read nothing.
+one_version_more : (rs : List (Option Reads)) (xs : List Reads) (x : Reads) → length rs ≡ length xs → ((version : ℕ) → slice_index_or (None ∷ rs) version None ≡ read_at xs version) → (version : ℕ) → slice_index_or (None ∷ (rs ++ Some x ∷ [])) version None ≡ read_at (xs ++ x ∷ []) version
+one_version_more rs xs x _ same zero = refl
+one_version_more rs xs x long same (suc n) = one_more rs xs x long (λ m. same (suc m)) n
+
+-- Of no reads each version has read none.
+read_at-none : (version : ℕ) → read_at [] version ≡ None
+read_at-none zero = refl
+read_at-none (suc n) = refl
+
+module _ (g h : List Entry) (s : ℕ) where
+  reads-same : (v : Versions) → recorded g s ≡ recorded h s → HasReads h s v → HasReads g s v
+  reads-same v same has = record {
+    counted = has.counted;
+    each = λ version. ap (λ (l : List (Option Reads)). slice_index_or (None ∷ l) version None) same ∙ has.each version;
+  }
+
+  -- A version more of a plain stream, or of an output.
+  reads-push : (v : Versions) (t : TreeValue) (spec : Option Spec) (read : Option Reads) → v.spec ≡ spec → is_some read ≡ is_some spec → HasTrees h s v.trees → HasReads h s v → recorded g s ≡ recorded h s ++ read ∷ [] → HasReads g s (with_version v t read)
+  reads-push v t None None plain kind trees has more =
+      let nothing_new : v.reads ++ [] ≡ v.reads = append-nil v.reads in
+      let count : (n : ℕ) → reads_count v.spec n ≡ 0 = λ n. ap (λ o. reads_count o n) plain in
+      record {
+        counted = ap (length {A = Reads}) nothing_new ∙ has.counted ∙ count (length v.trees) ∙ sym (count (length (v.trees ++ t ∷ [])));
+        each = λ version.
+            ap (λ (l : List (Option Reads)). slice_index_or (None ∷ l) version None) more
+            ∙ nothing_more (None ∷ recorded h s) version
+            ∙ has.each version
+            ∙ ap (λ l. read_at l version) (sym nothing_new);
+      }
+  reads-push v t (Some spec) (Some r) output kind trees has more =
+      let count : (n : ℕ) → reads_count v.spec n ≡ n - 1 = λ n. ap (λ o. reads_count o n) output in
+      let long : length (recorded h s) ≡ length v.reads = omega (arith, length-recorded h s, has.counted, count (length v.trees), trees.counted) in
+      record {
+        counted = omega (arith, has.counted, count (length v.trees), count (length (v.trees ++ t ∷ [])), trees.counted, length-append v.trees (t ∷ []), length-append v.reads (r ∷ []));
+        each = λ version.
+            ap (λ (l : List (Option Reads)). slice_index_or (None ∷ l) version None) more
+            ∙ one_version_more (recorded h s) v.reads r long has.each version;
+      }
+  reads-push v t None (Some r) plain kind trees has more = absurd (cc)
+  reads-push v t (Some spec) None output kind trees has more = absurd (cc)
+
 -- ---- the next board
 
-module _ (h : List Entry) (b : Kept) (was : IsBoardOf h b) where
+-- A stream of which an entry says nothing stays as it is.
+stream-still : (g h : List Entry) (s : ℕ) (v : Versions) → slice_get (ids g) s ≡ slice_get (ids h) s → spec_of g s ≡ spec_of h s → commits g s ≡ commits h s → recorded g s ≡ recorded h s → IsStreamOf h s v → IsStreamOf g s v
+stream-still g h s v same_id same_kind same_commits same_records is = record {
+  named = same_id ∙ is.named;
+  defined = same_kind ∙ is.defined;
+  kept = trees-same g h s v.trees same_commits is.kept;
+  read = reads-same g h s v same_records is.read;
+}
+
+-- A new stream has version 0 alone.
+stream-new : (g : List Entry) (s id : ℕ) (spec : Option Spec) (t : TreeValue) → slice_get (ids g) s ≡ Some id → spec_of g s ≡ spec → latest g s ≡ 0 → recorded g s ≡ [] → IsTree nothing t → IsStreamOf g s (record { id = id; spec = spec; trees = t ∷ []; reads = [] })
+stream-new g s id spec t named defined none unread empty = record {
+  named = named;
+  defined = defined;
+  kept = record {
+    counted = sym (ap (λ n. n + 1) none);
+    each = λ v u le.
+        let zero_only : v ≡ 0 = omega arith in
+        subst (λ n. IsTree (commits_to g s n) (slice_index_or (t ∷ []) n u)) (sym zero_only) empty;
+  };
+  read = record {
+    counted = elim spec as (λ (o : Option Spec). 0 ≡ reads_count o 1) [ None ↦ refl | Some x ↦ refl ];
+    each = λ version. read-none (recorded g s) unread version ∙ sym (read_at-none version);
+  };
+}
+
+module _ (h : List Entry) (b : Kept) (was : IsBoardOf h b) (e : Entry) (allowed : rejection h e ≡ None) where
   -- The board with a new stream at version 0.
-  pub push-create : (id : ℕ) (t : TreeValue) (streams : List Versions) (entries : ℕ) → rejection h (Create id) ≡ None → IsTree nothing t → streams ≡ b.streams ++ record { id = id; trees = t ∷ [] } ∷ [] → entries ≡ b.entries + 1 → IsBoardOf (h ++ Create id ∷ []) (record { streams = streams; entries = entries })
-  push-create id t streams entries allowed empty more one =
-      let k = h ++ Create id ∷ [] in
-      let first : Versions = record { id = id; trees = t ∷ [] } in
-      let size = ids-create h id in
+  pub push-stream : (id : ℕ) (spec : Option Spec) (t : TreeValue) (streams : List Versions) (entries : ℕ) → MakesStream e id spec → IsTree nothing t → streams ≡ b.streams ++ record { id = id; spec = spec; trees = t ∷ []; reads = [] } ∷ [] → entries ≡ b.entries + 1 → IsBoardOf (h ++ e ∷ []) (record { streams = streams; entries = entries })
+  push-stream id spec t streams entries makes empty more one =
+      let g = h ++ e ∷ [] in
+      let first : Versions = record { id = id; spec = spec; trees = t ∷ []; reads = [] } in
+      let ids_are = ids-more h e id spec makes in
+      let kinds_are = kinds-more h e id spec makes in
+      let size : length (ids g) ≡ length (ids h) + 1 = ap (length {A = ℕ}) ids_are ∙ length-append (ids h) (id ∷ []) in
       let counted : length streams ≡ length b.streams + 1 = ap (length {A = Versions}) more ∙ length-append b.streams (first ∷ []) in
       let old : (s : ℕ) (d : Versions) → s < length b.streams → slice_index_or streams s d ≡ slice_index_or b.streams s d =
       λ s d low. ap (λ l. slice_index_or l s d) more ∙ get_or_append_left b.streams (first ∷ []) d s low in
       let new : (s : ℕ) (d : Versions) → s ≡ length b.streams → slice_index_or streams s d ≡ first =
-      λ s d place. ap (λ l. slice_index_or l s d) more ∙ ap (λ i. slice_index_or (b.streams ++ first ∷ []) i d) place ∙ get_or-append_seam b.streams first [] d in
+      λ s d place. ap (λ l. slice_index_or l s d) more ∙ get_or_push b.streams first d s (sym place) in
       record {
         counted = omega (arith, counted, size, was.counted);
-        named = λ s d low. elim (cases_lt s (length b.streams)) [
+        each = λ s d low. elim (cases_lt s (length b.streams)) [
           | inl before ↦
-              ap (λ l. slice_get l s) (ids-append h (Create id ∷ [])) ∙ get-append (ids h) (id ∷ []) s _ (was.named s d (omega (arith, was.counted))) ∙ ap (λ (x : Versions). Some x.id) (sym (old s d before))
+              let is = was.each s d (omega (arith, was.counted)) in
+              let named : slice_get (ids g) s ≡ slice_get (ids h) s = ap (λ l. slice_get l s) ids_are ∙ get-append (ids h) (id ∷ []) s _ is.named ∙ sym is.named in
+              let defined : spec_of g s ≡ spec_of h s = ap (λ l. slice_index_or l s None) kinds_are ∙ get_or_append_left (kinds h) (spec ∷ []) None s (omega (arith, was.counted, length-kinds h)) in
+              subst (IsStreamOf g s) (sym (old s d before)) (stream-still g h s _ named defined (commits-still h e id spec makes s) (recorded-still h e id spec makes s) is)
           | inr end ↦
               let place : s ≡ length b.streams = omega (arith, was.counted, size) in
-              ap (λ l. slice_get l s) (ids-append h (Create id ∷ [])) ∙ ap (slice_get (ids h ++ id ∷ [])) (place ∙ was.counted) ∙ get_last (ids h) id ∙ ap (λ (x : Versions). Some x.id) (sym (new s d place))
+              let past : length (ids h) ≤ s = omega (arith, was.counted) in
+              let named : slice_get (ids g) s ≡ Some id = ap (λ l. slice_get l s) ids_are ∙ ap (slice_get (ids h ++ id ∷ [])) (place ∙ was.counted) ∙ get_last (ids h) id in
+              let defined : spec_of g s ≡ spec = ap (λ l. slice_index_or l s None) kinds_are ∙ get_or_push (kinds h) spec None s (omega (arith, place, was.counted, length-kinds h)) in
+              let none : latest g s ≡ 0 = ap (length {A = Change}) (commits-still h e id spec makes s) ∙ unknown h s was.follows past in
+              let unread = recorded-still h e id spec makes s ∙ unknown-recorded h s was.follows past in
+              subst (IsStreamOf g s) (sym (new s d place)) (stream-new g s id spec t named defined none unread empty)
         ];
-        kept = λ s d low. elim (cases_lt s (length b.streams)) [
-          | inl before ↦
-              subst (λ (x : Versions). HasTrees k s x.trees) (sym (old s d before)) (trees-same k h s _ (commits-create h id s) (was.kept s d (omega (arith, was.counted))))
-          | inr end ↦
-              let place : s ≡ length b.streams = omega (arith, was.counted, size) in
-              let none : latest h s ≡ 0 = unknown h s was.follows (omega (arith, was.counted)) in
-              let now_none : latest k s ≡ 0 = ap (length {A = Change}) (commits-create h id s) ∙ none in
-              let has : HasTrees k s (t ∷ []) = record {
-                counted = sym (ap (λ n. n + 1) now_none);
-                each = λ v u le.
-                    let zero_only : v ≡ 0 = omega arith in
-                    subst (λ n. IsTree (commits_to k s n) (slice_index_or (t ∷ []) n u)) (sym zero_only) empty;
-              } in
-              subst (λ (x : Versions). HasTrees k s x.trees) (sym (new s d place)) has
-        ];
-        entries = one ∙ ap (λ (n : ℕ). n + 1) was.entries ∙ sym (length-append h (Create id ∷ []));
-        follows = legal-push h (Create id) was.follows allowed;
+        entries = one ∙ ap (λ (n : ℕ). n + 1) was.entries ∙ sym (length-append h (e ∷ []));
+        follows = follows-push h e was.follows allowed;
       }
 
-  -- The board with one tree more for one stream.
-  pub push-commit : (s : ℕ) (cut : List RangeValue) (added : List Point) (kept : Versions) (t : TreeValue) (streams : List Versions) (entries : ℕ) → commit_rejection h s (change_of cut added) ≡ None → IsNext h s (change_of cut added) t → slice_get b.streams s ≡ Some kept → streams ≡ slice_set b.streams s (record { id = kept.id; trees = kept.trees ++ t ∷ [] }) → entries ≡ b.entries + 1 → IsBoardOf (h ++ Commit s cut added ∷ []) (record { streams = streams; entries = entries })
-  push-commit s cut added kept t streams entries allowed next at set one =
-      let c = change_of cut added in
-      let k = h ++ Commit s cut added ∷ [] in
-      let grown : Versions = record { id = kept.id; trees = kept.trees ++ t ∷ [] } in
-      let same = ap (length {A = ℕ}) (ids-commit h s cut added) in
-      let there : s < length (ids h) = known h s c allowed in
+  -- The board with one version more of one stream.
+  pub push-version : (s : ℕ) (c : Change) (read : Option Reads) (kept : Versions) (t : TreeValue) (streams : List Versions) (entries : ℕ) → MakesVersion e s c read → is_some read ≡ is_some kept.spec → IsNext h s c t → slice_get b.streams s ≡ Some kept → streams ≡ slice_set b.streams s (with_version kept t read) → entries ≡ b.entries + 1 → IsBoardOf (h ++ e ∷ []) (record { streams = streams; entries = entries })
+  push-version s c read kept t streams entries makes kind next at set one =
+      let g = h ++ e ∷ [] in
+      let grown : Versions = with_version kept t read in
+      let ids_are = ids-still h e s c read makes in
+      let kinds_are = kinds-still h e s c read makes in
+      let same = ap (length {A = ℕ}) ids_are in
+      let there : s < length (ids h) = omega (arith, slice_get_within b.streams s kept at, was.counted) in
       let size : length streams ≡ length b.streams = ap (length {A = Versions}) set ∙ length-set b.streams s grown in
-      let read : (d : Versions) → slice_index_or b.streams s d ≡ kept = λ d. get_or_from_slice_get b.streams s kept d at in
+      let was_kept : IsStreamOf h s kept = subst (IsStreamOf h s) (get_or_from_slice_get b.streams s kept kept at) (was.each s kept there) in
       let here : (d : Versions) → slice_index_or streams s d ≡ grown =
       λ d. ap (λ l. slice_index_or l s d) set ∙ get_or-set_same b.streams s grown d (omega (arith, was.counted)) in
       let others : (i : ℕ) (d : Versions) → (i ≡ s → ⊥) → slice_index_or streams i d ≡ slice_index_or b.streams i d =
       λ i d other. ap (λ l. slice_index_or l i d) set ∙ get_or-set_other b.streams s i grown d other in
+      let named : (i : ℕ) → slice_get (ids g) i ≡ slice_get (ids h) i = λ i. ap (λ l. slice_get l i) ids_are in
+      let defined : (i : ℕ) → spec_of g i ≡ spec_of h i = λ i. ap (λ l. slice_index_or l i None) kinds_are in
+      let is_grown : IsStreamOf g s grown = record {
+        named = named s ∙ was_kept.named;
+        defined = defined s ∙ was_kept.defined;
+        kept = trees-push g h s c (commits-more h e s c read makes) kept.trees t next was_kept.kept;
+        read = reads-push g h s kept t kept.spec read refl kind was_kept.kept was_kept.read (recorded-more h e s c read makes);
+      } in
       record {
         counted = size ∙ was.counted ∙ sym same;
-        named = λ i d low.
-            let old_name : slice_get (ids k) i ≡ Some (slice_index_or b.streams i d).id = ap (λ l. slice_get l i) (ids-commit h s cut added) ∙ was.named i d (omega (arith, same)) in
-            elim (cases_eq i s) [
-              | inl is ↦
-                  old_name ∙ ap (λ n. Some (slice_index_or b.streams n d).id) is ∙ ap (λ (x : Versions). Some x.id) (read d) ∙ ap (λ (x : Versions). Some x.id) (sym (here d)) ∙ ap (λ n. Some (slice_index_or streams n d).id) (sym is)
-              | inr other ↦ old_name ∙ ap (λ (x : Versions). Some x.id) (sym (others i d other))
-            ];
-        kept = λ i d low. elim (cases_eq i s) [
+        each = λ i d low. elim (cases_eq i s) [
           | inl is ↦
-              let had : HasTrees h s kept.trees = subst (λ (x : Versions). HasTrees h s x.trees) (read d) (was.kept s d there) in
-              let has : HasTrees k s grown.trees = trees-push k h s c (commits-same h s cut added) kept.trees t next had in
-              subst (λ (n : ℕ). HasTrees k n (slice_index_or streams n d).trees) (sym is) (subst (λ (x : Versions). HasTrees k s x.trees) (sym (here d)) has)
+              subst (λ (n : ℕ). IsStreamOf g n (slice_index_or streams n d)) (sym is) (subst (IsStreamOf g s) (sym (here d)) is_grown)
           | inr other ↦
-              subst (λ (x : Versions). HasTrees k i x.trees) (sym (others i d other)) (trees-same k h i _ (commits-other h s cut added i (λ e. other (sym e))) (was.kept i d (omega (arith, same))))
+              let otherwise : s ≡ i → ⊥ = λ e. other (sym e) in
+              subst (IsStreamOf g i) (sym (others i d other)) (stream-still g h i _ (named i) (defined i) (commits-other h e s c read makes i otherwise) (recorded-other h e s c read makes i otherwise) (was.each i d (omega (arith, same))))
         ];
-        entries = one ∙ ap (λ (n : ℕ). n + 1) was.entries ∙ sym (length-append h (Commit s cut added ∷ []));
-        follows = legal-push h (Commit s cut added) was.follows allowed;
+        entries = one ∙ ap (λ (n : ℕ). n + 1) was.entries ∙ sym (length-append h (e ∷ []));
+        follows = follows-push h e was.follows allowed;
       }
 
--- The stream at a place is one of the history, and has its trees.
-pub kept-trees : (h : List Entry) (b : Kept) (s : ℕ) (kept : Versions) → IsBoardOf h b → slice_get b.streams s ≡ Some kept → (s < length (ids h)) × HasTrees h s kept.trees
-kept-trees h b s kept of at =
+-- The stream at a place is one of the history, and is kept as the history has it.
+pub kept-stream : (h : List Entry) (b : Kept) (s : ℕ) (kept : Versions) → IsBoardOf h b → slice_get b.streams s ≡ Some kept → (s < length (ids h)) × IsStreamOf h s kept
+kept-stream h b s kept of at =
     let there : s < length (ids h) = omega (arith, slice_get_within b.streams s kept at, of.counted) in
-    (there, subst (λ (x : Versions). HasTrees h s x.trees) (get_or_from_slice_get b.streams s kept kept at) (of.kept s kept there))
+    (there, subst (IsStreamOf h s) (get_or_from_slice_get b.streams s kept kept at) (of.each s kept there))
 
 -- ---- the index of a board
 
@@ -155,13 +238,13 @@ kept-trees h b s kept of at =
 pub ids-are : (h : List Entry) (b : Kept) → IsBoardOf h b → ids_of b.streams ≡ ids h
 ids-are h b of =
     let name : Versions → ℕ = λ s. s.id in
-    let d : Versions = record { id = 0; trees = [] } in
+    let d : Versions = record { id = 0; spec = None; trees = []; reads = [] } in
     let size : length (ids_of b.streams) ≡ length b.streams = length-map b.streams name in
     ext_get_or 0 (ids_of b.streams) (ids h) (size ∙ of.counted) (λ i low.
     let kept = slice_index_or b.streams i d in
     let at : slice_get b.streams i ≡ Some kept = slice_get-get_or b.streams i d (omega (arith, low, size)) in
     get_or_from_slice_get (ids_of b.streams) i kept.id 0 (slice_get-map name b.streams i ∙ ap (option_map name) at)
-    ∙ sym (get_or_from_slice_get (ids h) i kept.id 0 (of.named i d (omega (arith, low, size, of.counted)))))
+    ∙ sym (get_or_from_slice_get (ids h) i kept.id 0 (of.each i d (omega (arith, low, size, of.counted))).named))
 
 -- The place of an id is that of a stream.
 pub place-below : (streams : List Versions) (id : ℕ) (o : Option ℕ) → o ≡ place_of (ids_of streams) id → IfSome o (λ number. number < length streams)
@@ -171,34 +254,36 @@ place-below streams id (Some n) is =
 
 module _ (streams : List Versions) (number : ℕ → Option ℕ) (was : IsWellFormed streams number) where
   -- A board stays well formed with a new stream at version 0.
-  pub formed-create : (id : ℕ) (t : TreeValue) (next : ℕ → Option ℕ) (last : ℕ) (after : List Versions) → length streams < MAX_STREAMS → place_of (ids_of streams) id ≡ None → after ≡ streams ++ record { id = id; trees = t ∷ [] } ∷ [] → last ≡ length streams → ((q : ℕ) → next q ≡ put_at id last number q) → IsWellFormed after next
-  formed-create id t next last after room fresh more is put =
+  pub formed-stream : (id : ℕ) (spec : Option Spec) (t : TreeValue) (next : ℕ → Option ℕ) (last : ℕ) (after : List Versions) → IsTree nothing t → length streams < MAX_STREAMS → place_of (ids_of streams) id ≡ None → after ≡ streams ++ record { id = id; spec = spec; trees = t ∷ []; reads = [] } ∷ [] → last ≡ length streams → ((q : ℕ) → next q ≡ put_at id last number q) → IsWellFormed after next
+  formed-stream id spec t next last after empty room fresh more is put =
       let name : Versions → ℕ = λ s. s.id in
-      let first : Versions = record { id = id; trees = t ∷ [] } in
+      let first : Versions = record { id = id; spec = spec; trees = t ∷ []; reads = [] } in
       let size : length after ≡ length streams + 1 = ap (length {A = Versions}) more ∙ length-append streams (first ∷ []) in
       let old : (s : ℕ) (d : Versions) → s < length streams → slice_index_or after s d ≡ slice_index_or streams s d =
       λ s d low. ap (λ l. slice_index_or l s d) more ∙ get_or_append_left streams (first ∷ []) d s low in
       let new : (s : ℕ) (d : Versions) → s ≡ length streams → slice_index_or after s d ≡ first =
-      λ s d place. ap (λ l. slice_index_or l s d) more ∙ ap (λ i. slice_index_or (streams ++ first ∷ []) i d) place ∙ get_or-append_seam streams first [] d in
+      λ s d place. ap (λ l. slice_index_or l s d) more ∙ get_or_push streams first d s (sym place) in
       let named : ids_of after ≡ ids_of streams ++ id ∷ [] = ap ids_of more ∙ map-append name streams (first ∷ []) in
       record {
         few = omega (arith, size, room);
-        some = λ s d low. elim (cases_lt s (length streams)) [
-          | inl before ↦ subst (λ (x : Versions). 1 ≤ length x.trees) (sym (old s d before)) (was.some s d before)
-          | inr end ↦ subst (λ (x : Versions). 1 ≤ length x.trees) (sym (new s d (omega (arith, size)))) (omega arith)
-        ];
-        limited = λ s d low. elim (cases_lt s (length streams)) [
-          | inl before ↦ subst (λ (x : Versions). length x.trees ≤ MAX_VERSIONS + 1) (sym (old s d before)) (was.limited s d before)
-          | inr end ↦ subst (λ (x : Versions). length x.trees ≤ MAX_VERSIONS + 1) (sym (new s d (omega (arith, size)))) (omega arith)
+        each = λ s d low. elim (cases_lt s (length streams)) [
+          | inl before ↦ subst IsGrown (sym (old s d before)) (was.each s d before)
+          | inr end ↦
+              subst IsGrown (sym (new s d (omega (arith, size)))) (record { some = omega arith; limited = omega arith; pasts = ((nothing, empty), tt) })
         ];
         numbered = λ q. places-push (ids_of streams) id number next last (is ∙ sym (length-map streams name)) fresh was.numbered put q ∙ ap (λ l. place_of l q) (sym named);
       }
 
-  -- A board stays well formed with one tree more for one stream.
-  pub formed-commit : (s : ℕ) (kept : Versions) (t : TreeValue) (next : ℕ → Option ℕ) (after : List Versions) → slice_get streams s ≡ Some kept → length kept.trees ≤ MAX_VERSIONS → after ≡ slice_set streams s (record { id = kept.id; trees = kept.trees ++ t ∷ [] }) → ((q : ℕ) → next q ≡ number q) → IsWellFormed after next
-  formed-commit s kept t next after at room set same =
+  -- Each stream has a tree, and not too many, and each tree is that of some past.
+  pub stream-grown : (s : ℕ) (kept : Versions) → slice_get streams s ≡ Some kept → IsGrown kept
+  stream-grown s kept at =
+      subst IsGrown (get_or_from_slice_get streams s kept kept at) (was.each s kept (slice_get_within streams s kept at))
+
+  -- A board stays well formed with one version more of one stream.
+  pub formed-version : (s : ℕ) (kept : Versions) (t : TreeValue) (read : Option Reads) (next : ℕ → Option ℕ) (after : List Versions) → slice_get streams s ≡ Some kept → length kept.trees ≤ MAX_VERSIONS → HasPast t → after ≡ slice_set streams s (with_version kept t read) → ((q : ℕ) → next q ≡ number q) → IsWellFormed after next
+  formed-version s kept t read next after at room past set same =
       let name : Versions → ℕ = λ x. x.id in
-      let grown : Versions = record { id = kept.id; trees = kept.trees ++ t ∷ [] } in
+      let grown : Versions = with_version kept t read in
       let there : s < length streams = slice_get_within streams s kept at in
       let size : length after ≡ length streams = ap (length {A = Versions}) set ∙ length-set streams s grown in
       let long : length grown.trees ≡ length kept.trees + 1 = length-append kept.trees (t ∷ []) in
@@ -208,22 +293,17 @@ module _ (streams : List Versions) (number : ℕ → Option ℕ) (was : IsWellFo
       λ i d other. ap (λ l. slice_index_or l i d) set ∙ get_or-set_other streams s i grown d other in
       let named : ids_of after ≡ ids_of streams =
       ap ids_of set ∙ map-set_same name streams s grown kept (ap name (sym (get_or_from_slice_get streams s kept kept at))) in
+      let was_grown : IsGrown kept = stream-grown s kept at in
+      let is_grown : IsGrown grown = record {
+        some = omega (arith, long);
+        limited = omega (arith, long, room);
+        pasts = each-append HasPast kept.trees (t ∷ []) was_grown.pasts (past, tt);
+      } in
       record {
         few = omega (arith, size, was.few);
-        some = λ i d low. elim (cases_eq i s) [
-          | inl is ↦ subst (λ (x : Versions). 1 ≤ length x.trees) (sym (here i d is)) (omega (arith, long))
-          | inr other ↦ subst (λ (x : Versions). 1 ≤ length x.trees) (sym (others i d other)) (was.some i d (omega (arith, size)))
-        ];
-        limited = λ i d low. elim (cases_eq i s) [
-          | inl is ↦ subst (λ (x : Versions). length x.trees ≤ MAX_VERSIONS + 1) (sym (here i d is)) (omega (arith, long, room))
-          | inr other ↦ subst (λ (x : Versions). length x.trees ≤ MAX_VERSIONS + 1) (sym (others i d other)) (was.limited i d (omega (arith, size)))
+        each = λ i d low. elim (cases_eq i s) [
+          | inl is ↦ subst IsGrown (sym (here i d is)) is_grown
+          | inr other ↦ subst IsGrown (sym (others i d other)) (was.each i d (omega (arith, size)))
         ];
         numbered = λ q. same q ∙ was.numbered q ∙ ap (λ l. place_of l q) (sym named);
       }
-
-  -- Each stream has a tree, and not too many.
-  pub tree-count : (s : ℕ) (kept : Versions) → slice_get streams s ≡ Some kept → (1 ≤ length kept.trees) × (length kept.trees ≤ MAX_VERSIONS + 1)
-  tree-count s kept at =
-      let there : s < length streams = slice_get_within streams s kept at in
-      let read : slice_index_or streams s kept ≡ kept = get_or_from_slice_get streams s kept kept at in
-      (subst (λ (x : Versions). 1 ≤ length x.trees) read (was.some s kept there), subst (λ (x : Versions). length x.trees ≤ MAX_VERSIONS + 1) read (was.limited s kept there))

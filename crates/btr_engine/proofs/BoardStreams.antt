@@ -1,23 +1,25 @@
--- The streams of a history with one entry more: their ids, their numbers and their commits.
-use Rattle.std.specs.Prelude.{◌≡◌, ℕ, ◌+◌, ◌<◌, ◌≤◌, Bool, true, false, cond, ◌==◌, ◌||◌, nat_eq, nat_le, List, [], ◌∷◌, ◌++◌, length, take, slice_get, Option, Some, None, is_some}
-use Rattle.std.specs.List.{list_any, position_from}
-use Rattle.std.proofs.Common.{suc, refl, sym, ap, ◌∙◌, arith, inl, inr, subst, append_assoc}
-use Rattle.std.proofs.lemmas.List.{append-nil, length-append}
+-- The streams of a history with one entry more: their ids, their numbers, their kinds, their commits and what they have read.
+use Rattle.std.specs.Prelude.{◌≡◌, ℕ, ◌+◌, ◌<◌, ◌≤◌, Bool, true, false, cond, ◌==◌, ◌||◌, nat_eq, nat_le, List, [], ◌∷◌, ◌++◌, length, slice_index_or, Option, Some, None, is_some}
+use Rattle.std.specs.List.{list_any, position_from, filter_map, cons_option}
+use Rattle.std.proofs.Common.{zero, suc, refl, sym, ap, ◌∙◌, arith, inl, inr}
+use Rattle.std.proofs.lemmas.List.{append-nil, get_or_past}
+use Rattle.std.proofs.lemmas.List.Elements.{filter_map-append}
 use Rattle.std.proofs.lemmas.Bool.{cases_eq, eq-eqb, ne_eqb}
-use Rattle.std.proofs.lemmas.Bool.Decides.{nat_tests}
 use Rattle.btr_base.specs.declared.point.Point.{Point}
 use Rattle.btr_base.specs.Range.{RangeValue}
-use Rattle.btr_base.specs.declared.limits.TheConstants.{MAX_STREAMS, MAX_VERSIONS}
+use Rattle.btr_base.specs.declared.limits.TheConstants.{MAX_STREAMS}
 use Rattle.btr_base.specs.Commit.{Change}
 use Rattle.btr_board.specs.Put.{put_at}
 use Rattle.btr_hist.specs.declared.entry.Entry.{Entry}
-use Rattle.btr_hist.specs.declared.entry.Entry.TheVariants.{Create, Commit}
-use Rattle.btr_hist.specs.declared.rejection.Rejection.TheVariants.{NoStream, VersionLimit, StreamExists, StreamLimit}
-use Rattle.btr_hist.specs.History.{ids, commits, latest}
-use Rattle.btr_hist.specs.Legal.{first_some, when, rejection, create_rejection, change_rejection, commit_rejection, points_rejection, next_bag}
-use Rattle.btr_hist.proofs.HistoryLemmas.{commits-append, ids-append}
-use Rattle.btr_hist.proofs.RejectionLemmas.{first_none, when_none}
-use Rattle.btr_engine.specs.Board.{Follows, place_of}
+use Rattle.btr_hist.specs.declared.entry.Entry.TheVariants.{Create, Commit, Define, Distillate}
+use Rattle.btr_hist.specs.declared.kernel.Spec.{Spec}
+use Rattle.btr_hist.specs.declared.kernel.Reads.{Reads}
+use Rattle.btr_hist.specs.declared.rejection.Rejection.TheVariants.{StreamExists, StreamLimit}
+use Rattle.btr_hist.specs.History.{new_id, new_kind, change_of, read_of, ids, kinds, spec_of, commits, recorded, read_by}
+use Rattle.btr_hist.specs.Legal.{first_some, when, create_rejection, Follows}
+use Rattle.btr_hist.proofs.HistoryLemmas.{length-kinds, length-recorded, unknown}
+use Rattle.btr_engine.specs.Board.{place_of}
+use Rattle.btr_engine.specs.Stage.{MakesStream, MakesVersion, change}
 
 -- ---- the position of a number in a list
 
@@ -54,13 +56,76 @@ position-any test i (x ∷ xs) =
       | false ↦ position-any test (i + 1) xs
     ]
 
--- ---- the ids of a history
+-- ---- a history with one entry more
 
-pub ids-create : (h : List Entry) (id : ℕ) → length (ids (h ++ Create id ∷ [])) ≡ length (ids h) + 1
-ids-create h id = grind (arith, ids-append h (Create id ∷ []), length-append)
+-- What is read off the entries, if there is something to be read off the last.
+pushed-some : {X : Type 0} (f : Entry → Option X) (h : List Entry) (e : Entry) (x : X) → f e ≡ Some x → filter_map f (h ++ e ∷ []) ≡ filter_map f h ++ x ∷ []
+pushed-some {X} f h e x is =
+    filter_map-append f h (e ∷ []) ∙ ap (λ (o : Option X). filter_map f h ++ cons_option o []) is
 
-pub ids-commit : (h : List Entry) (s : ℕ) (cut : List RangeValue) (added : List Point) → ids (h ++ Commit s cut added ∷ []) ≡ ids h
-ids-commit h s cut added = ids-append h (Commit s cut added ∷ []) ∙ append-nil (ids h)
+pushed-none : {X : Type 0} (f : Entry → Option X) (h : List Entry) (e : Entry) → f e ≡ None → filter_map f (h ++ e ∷ []) ≡ filter_map f h
+pushed-none {X} f h e is =
+    filter_map-append f h (e ∷ []) ∙ ap (λ (o : Option X). filter_map f h ++ cons_option o []) is ∙ append-nil (filter_map f h)
+
+module _ (h : List Entry) (e : Entry) (id : ℕ) (spec : Option Spec) (makes : MakesStream e id spec) where
+  pub ids-more : ids (h ++ e ∷ []) ≡ ids h ++ id ∷ []
+  ids-more = pushed-some new_id h e id makes.named
+
+  pub kinds-more : kinds (h ++ e ∷ []) ≡ kinds h ++ spec ∷ []
+  kinds-more = pushed-some new_kind h e spec makes.kind
+
+  pub commits-still : (s : ℕ) → commits (h ++ e ∷ []) s ≡ commits h s
+  commits-still s = pushed-none (change_of s) h e (makes.no_change s)
+
+  pub recorded-still : (s : ℕ) → recorded (h ++ e ∷ []) s ≡ recorded h s
+  recorded-still s = pushed-none (read_of s) h e (makes.no_read s)
+
+module _ (h : List Entry) (e : Entry) (s : ℕ) (c : Change) (read : Option Reads) (makes : MakesVersion e s c read) where
+  pub ids-still : ids (h ++ e ∷ []) ≡ ids h
+  ids-still = pushed-none new_id h e makes.no_id
+
+  pub kinds-still : kinds (h ++ e ∷ []) ≡ kinds h
+  kinds-still = pushed-none new_kind h e makes.no_kind
+
+  pub commits-more : commits (h ++ e ∷ []) s ≡ commits h s ++ c ∷ []
+  commits-more = pushed-some (change_of s) h e c makes.changes
+
+  pub recorded-more : recorded (h ++ e ∷ []) s ≡ recorded h s ++ read ∷ []
+  recorded-more = pushed-some (read_of s) h e read makes.reads
+
+  pub commits-other : (stream : ℕ) → (s ≡ stream → ⊥) → commits (h ++ e ∷ []) stream ≡ commits h stream
+  commits-other stream other = pushed-none (change_of stream) h e (makes.no_other_change stream other)
+
+  pub recorded-other : (stream : ℕ) → (s ≡ stream → ⊥) → recorded (h ++ e ∷ []) stream ≡ recorded h stream
+  recorded-other stream other = pushed-none (read_of stream) h e (makes.no_other_read stream other)
+
+-- ---- what each entry makes
+
+pub create-makes : (id : ℕ) → MakesStream (Create id) id None
+create-makes id = record { named = refl; kind = refl; no_change = λ stream. refl; no_read = λ stream. refl }
+
+pub define-makes : (id : ℕ) (spec : Spec) → MakesStream (Define id spec) id (Some spec)
+define-makes id spec = record { named = refl; kind = refl; no_change = λ stream. refl; no_read = λ stream. refl }
+
+pub commit-makes : (s : ℕ) (cut : List RangeValue) (added : List Point) → MakesVersion (Commit s cut added) s (change cut added) None
+commit-makes s cut added = record {
+  no_id = refl;
+  no_kind = refl;
+  changes = ap (λ t. cond t (Some (change cut added)) None) (eq-eqb s s refl);
+  reads = ap {A = Bool} {B = Option (Option Reads)} (λ t. cond t (Some None) None) (eq-eqb s s refl);
+  no_other_change = λ other ne. ap (λ t. cond t (Some (change cut added)) None) (ne_eqb s other ne);
+  no_other_read = λ other ne. ap {A = Bool} {B = Option (Option Reads)} (λ t. cond t (Some None) None) (ne_eqb s other ne);
+}
+
+pub distillate-makes : (s : ℕ) (cut : List RangeValue) (added : List Point) (r : Reads) → MakesVersion (Distillate s cut added r) s (change cut added) (Some r)
+distillate-makes s cut added r = record {
+  no_id = refl;
+  no_kind = refl;
+  changes = ap (λ t. cond t (Some (change cut added)) None) (eq-eqb s s refl);
+  reads = ap (λ t. cond t (Some (Some r)) None) (eq-eqb s s refl);
+  no_other_change = λ other ne. ap (λ t. cond t (Some (change cut added)) None) (ne_eqb s other ne);
+  no_other_read = λ other ne. ap (λ t. cond t (Some (Some r)) None) (ne_eqb s other ne);
+}
 
 -- ---- the places of ids
 
@@ -109,43 +174,22 @@ pub creation_is : (h : List Entry) (id : ℕ) (has full : Bool) → list_any (na
 creation_is h id has full any limit =
     sym (ap (λ t. first_some (when t StreamExists ∷ when (nat_le MAX_STREAMS (length (ids h))) StreamLimit ∷ [])) any ∙ ap (λ t. first_some (when has StreamExists ∷ when t StreamLimit ∷ [])) limit)
 
--- ---- the commits of a stream
+-- ---- streams that the history does not have
 
-pub commits-create : (h : List Entry) (id stream : ℕ) → commits (h ++ Create id ∷ []) stream ≡ commits h stream
-commits-create h id stream = commits-append h (Create id ∷ []) stream ∙ append-nil (commits h stream)
+none-in : {X : Type 0} (xs : List X) → length xs ≡ 0 → xs ≡ []
+none-in [] none = refl
+none-in (x ∷ xs) none = absurd (omega arith)
 
-module _ (h : List Entry) (s : ℕ) (cut : List RangeValue) (added : List Point) where
-  pub commits-other : (stream : ℕ) → (s ≡ stream → ⊥) → commits (h ++ Commit s cut added ∷ []) stream ≡ commits h stream
-  commits-other stream other =
-      commits-append h (Commit s cut added ∷ []) stream ∙ ap (λ t. commits h stream ++ cond t (record { cut = cut; added = added } ∷ []) []) (ne_eqb s stream other) ∙ append-nil (commits h stream)
+pub unknown-recorded : (h : List Entry) (s : ℕ) → Follows h → length (ids h) ≤ s → recorded h s ≡ []
+unknown-recorded h s follows past = none-in (recorded h s) (length-recorded h s ∙ unknown h s follows past)
 
-  pub commits-same : commits (h ++ Commit s cut added ∷ []) s ≡ commits h s ++ record { cut = cut; added = added } ∷ []
-  commits-same =
-      commits-append h (Commit s cut added ∷ []) s ∙ ap (λ t. commits h s ++ cond t (record { cut = cut; added = added } ∷ []) []) (eq-eqb s s refl)
+-- Without records of what was read each version has read none.
+pub read-none : (rs : List (Option Reads)) → rs ≡ [] → (version : ℕ) → slice_index_or (None ∷ rs) version None ≡ None
+read-none rs none zero = refl
+read-none rs none (suc n) = ap (λ (l : List (Option Reads)). slice_index_or l n None) none
 
--- A commit that may follow is of a stream that the history has.
-pub known : (h : List Entry) (s : ℕ) (c : Change) → commit_rejection h s c ≡ None → s < length (ids h)
-known h s c allowed =
-    let test : nat_le (length (ids h)) s ≡ false = when_none (nat_le (length (ids h)) s) NoStream (first_none (when (nat_le (length (ids h)) s) NoStream) (change_rejection c ∷ when (nat_le MAX_VERSIONS (latest h s)) VersionLimit ∷ points_rejection (next_bag h s c) ∷ []) allowed) in
-    grind (arith, nat_tests)
+pub unknown-read : (h : List Entry) (s version : ℕ) → Follows h → length (ids h) ≤ s → read_by h s version ≡ None
+unknown-read h s version follows past = read-none (recorded h s) (unknown-recorded h s follows past) version
 
--- Entries that are allowed one after the other have no commit of a stream that they do not create.
-none_of : (before rest : List Entry) (s : ℕ) → ((n : ℕ) (e : Entry) → slice_get rest n ≡ Some e → rejection (before ++ take n rest) e ≡ None) → length (ids (before ++ rest)) ≤ s → commits rest s ≡ []
-none_of before [] s legal low = refl
-none_of before (Create id ∷ rest) s legal low =
-    none_of (before ++ Create id ∷ []) rest s
-    (λ n e at. subst (λ l. rejection l e ≡ None) (sym (append_assoc before (Create id ∷ []) (take n rest))) (legal (suc n) e at))
-    (subst (λ l. length (ids l) ≤ s) (sym (append_assoc before (Create id ∷ []) rest)) low)
-none_of before (Commit u cut added ∷ rest) s legal low =
-    let c : Change = record { cut = cut; added = added } in
-    let here : commit_rejection before u c ≡ None = subst (λ l. rejection l (Commit u cut added) ≡ None) (append-nil before) (legal 0 (Commit u cut added) refl) in
-    let few : length (ids before) ≤ length (ids (before ++ Commit u cut added ∷ rest)) = omega (arith, ap (length {A = ℕ}) (ids-append before (Commit u cut added ∷ rest)), length-append (ids before) (ids (Commit u cut added ∷ rest))) in
-    let low_one = known before u c here in
-    let more = none_of (before ++ Commit u cut added ∷ []) rest s
-    (λ n e at. subst (λ l. rejection l e ≡ None) (sym (append_assoc before (Commit u cut added ∷ []) (take n rest))) (legal (suc n) e at))
-    (subst (λ l. length (ids l) ≤ s) (sym (append_assoc before (Commit u cut added ∷ []) rest)) low) in
-    ap (λ t. cond t (c ∷ commits rest s) (commits rest s)) (ne_eqb u s (λ e. omega arith)) ∙ more
-
--- A stream that the history does not have has no version but 0.
-pub unknown : (h : List Entry) (s : ℕ) → Follows h → length (ids h) ≤ s → latest h s ≡ 0
-unknown h s follows low = ap (length {A = Change}) (none_of [] h s follows low)
+pub unknown-spec : (h : List Entry) (s : ℕ) → length (ids h) ≤ s → spec_of h s ≡ None
+unknown-spec h s past = get_or_past (kinds h) s None (omega (arith, length-kinds h))

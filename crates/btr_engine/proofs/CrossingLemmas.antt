@@ -9,6 +9,8 @@ use Rattle.btr_disk.specs.declared.disk.Disk.{Ghosts}
 use Rattle.btr_tree.specs.contracts.tree.Tree as tree
 use Rattle.btr_board.specs.contracts.trail.Trail as trail
 use Rattle.btr_board.specs.contracts.index.Index as index
+use Rattle.btr_hist.specs.contracts.kernel.Reads as reads
+use Rattle.btr_hist.specs.contracts.kernel.Spec as spec
 use Rattle.btr_engine.specs.contracts.board.Stream as stream
 use Rattle.btr_engine.specs.contracts.board.Board as board
 use Rattle.btr_engine.specs.contracts.snapshot.Snapshot as snapshot
@@ -29,11 +31,23 @@ trail_sync T s y = search (sendable, crosses, trail_nodes.both_send-TrailNode, t
 index_send : IsSend index.the_row
 index_send = search (sendable, crosses, index_nodes.both_send-IndexNode, index_nodes.both_sync-IndexNode) depth 20
 
+reads_send : IsSend reads.the_row
+reads_send = search (sendable, crosses) depth 20
+
+reads_sync : IsSync reads.the_row
+reads_sync = search (sendable, crosses) depth 20
+
+spec_send : IsSend spec.the_row
+spec_send = search (sendable, crosses) depth 20
+
+spec_sync : IsSync spec.the_row
+spec_sync = search (sendable, crosses) depth 20
+
 stream_send : IsSend stream.the_row
-stream_send = search (sendable, trail_send, tree_send, tree_sync) depth 20
+stream_send = search (sendable, trail_send, tree_send, tree_sync, spec_send, reads_send, reads_sync) depth 20
 
 stream_sync : IsSync stream.the_row
-stream_sync = search (sendable, trail_sync, tree_send, tree_sync) depth 20
+stream_sync = search (sendable, trail_sync, tree_send, tree_sync, spec_sync, reads_send, reads_sync) depth 20
 
 board_send : IsSend board.the_row
 board_send = search (sendable, trail_send, stream_send, stream_sync, index_send) depth 20

@@ -14,7 +14,7 @@ use Rattle.btr_super.proofs.SuperLemmas.{length-super_bytes}
 use Rattle.btr_super.specs.Choose.{HasSuper, IsChosen}
 use Rattle.btr_hist.specs.declared.entry.Entry.{Entry}
 use Rattle.btr_hist.specs.Legal.{rejection}
-use Rattle.btr_hist.proofs.HistoryLemmas.{legal-push}
+use Rattle.btr_hist.proofs.HistoryLemmas.{follows-push}
 use Rattle.btr_entry.specs.Grammar.{IsSpelled}
 use Rattle.btr_engine.specs.Body.{body_of, need_of, bodies}
 use Rattle.btr_engine.proofs.BodyLemmas.{bodies-push, need-body_of}
@@ -78,7 +78,7 @@ module _ (size : ℕ) (old : Image) (blocks tail : ℕ) (h : List Entry) (at : H
         extents = subst (Extents new first_gate (bodies h)) same log.1;
         closed = subst (IsClosed new) same log.2;
         inside = at.inside;
-        legal = at.legal;
+        follows = at.follows;
       }
 
   -- An image with the same bytes holds the same history.
@@ -101,7 +101,7 @@ module _ (size : ℕ) (old : Image) (blocks tail : ℕ) (h : List Entry) (at : H
           extents = subst (λ list. Extents new first_gate list (tail + need_of e)) (sym (bodies-push h e)) (subst (Extents new first_gate (bodies h ++ body ∷ [])) end log.1);
           closed = subst (IsClosed new) end log.2;
           inside = fits;
-          legal = legal-push h e at.legal allowed;
+          follows = follows-push h e at.follows allowed;
         }
 
     -- An image at a moment of an append holds one of the two.

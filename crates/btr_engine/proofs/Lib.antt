@@ -7,10 +7,11 @@ mod HoldsLemmas
 mod Stepping
 mod Appending
 mod Durable
-mod BoardTrees
+pub mod BoardTrees
 mod BoardStreams
 mod Crowded
 mod BoardCommits
 mod BoardNext
+mod BoardReads
 mod Questions
 pub mod CrossingLemmas

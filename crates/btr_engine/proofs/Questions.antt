@@ -1,5 +1,5 @@
 -- The answer to a question: by the version that is asked, by whether the question is good, and by the tree of the version.
-use Rattle.std.specs.Prelude.{◌≡◌, ℕ, ◌+◌, ◌-◌, ◌^◌, ◌<◌, ◌≤◌, ℤ, nat_le, nat_lt, Bool, true, false, List, [], ◌∷◌, ◌++◌, length, take, cond, slice_get, slice_index_or, Some}
+use Rattle.std.specs.Prelude.{◌≡◌, ℕ, ◌+◌, ◌-◌, ◌^◌, ◌<◌, ◌≤◌, ℤ, nat_le, nat_lt, Bool, true, false, List, [], ◌∷◌, ◌++◌, length, take, cond, slice_get, Option, Some, is_some}
 use Rattle.std.proofs.Common.{zero, suc, refl, sym, ap, ◌∙◌, arith, subst}
 use Rattle.std.proofs.lemmas.Int.{ints}
 use Rattle.std.proofs.lemmas.List.{take_more}
@@ -18,11 +18,13 @@ use Rattle.btr_hist.specs.declared.answer.Answer.TheVariants.{Found, Refused}
 use Rattle.btr_hist.specs.declared.answer.Refusal.TheVariants.{NoStream, NoVersion, BadRange}
 use Rattle.btr_hist.specs.declared.answer.Rows.{Rows}
 use Rattle.btr_hist.specs.declared.answer.StreamRow.{StreamRow}
-use Rattle.btr_hist.specs.History.{ids, latest, bag}
+use Rattle.btr_hist.specs.declared.kernel.Spec.{Spec}
+use Rattle.btr_hist.specs.History.{ids, is_output, latest, bag}
 use Rattle.btr_hist.specs.Answer.{answer_at, is_range, is_power, is_width, rows_from}
 use Rattle.btr_engine.specs.Board.{Versions, Kept, commits_to, IsBoardOf}
 use Rattle.btr_engine.specs.Answering.{IsVersion, IsAskedRange}
 use Rattle.btr_engine.proofs.BoardTrees.{bag-commits_to}
+use Rattle.btr_engine.proofs.BoardNext.{kept-stream}
 
 -- ---- a version that a stream has
 
@@ -96,15 +98,15 @@ length-rows h n [] = refl
 length-rows h n (id ∷ l) = ap (λ (k : ℕ). suc k) (length-rows h (n + 1) l)
 
 -- The row at an index.
-pub row-at : (h : List Entry) (n i id : ℕ) (l : List ℕ) → slice_get l i ≡ Some id → slice_get (rows_from h n l) i ≡ Some (record { id = id; latest = latest h (n + i) })
+pub row-at : (h : List Entry) (n i id : ℕ) (l : List ℕ) → slice_get l i ≡ Some id → slice_get (rows_from h n l) i ≡ Some (record { id = id; latest = latest h (n + i); output = is_output h (n + i) })
 row-at h n i id [] at = absurd (cc)
 row-at h n zero id (x ∷ l) at =
     let same : x ≡ id = cc in
     let place : n ≡ n + 0 = omega arith in
-    ap (λ (y : ℕ). Some (record { id = y; latest = latest h n })) same ∙ ap (λ (k : ℕ). Some (record { id = id; latest = latest h k })) place
+    ap (λ (y : ℕ). Some (record { id = y; latest = latest h n; output = is_output h n })) same ∙ ap (λ (k : ℕ). Some (record { id = id; latest = latest h k; output = is_output h k })) place
 row-at h n (suc i) id (x ∷ l) at =
     let place : (n + 1) + i ≡ n + suc i = omega arith in
-    row-at h (n + 1) i id l at ∙ ap (λ k. Some (record { id = id; latest = latest h k })) place
+    row-at h (n + 1) i id l at ∙ ap (λ k. Some (record { id = id; latest = latest h k; output = is_output h k })) place
 
 -- The rows up to an index, and one more.
 pub rows-next : (rows : List StreamRow) (i : ℕ) (r : StreamRow) → slice_get rows i ≡ Some r → take (i + 1) rows ≡ take i rows ++ r ∷ []
@@ -112,12 +114,12 @@ rows-next rows i r at =
     take_more rows i r (slice_get_within rows i r at) ∙ ap (λ x. take i rows ++ x ∷ []) (get_or_from_slice_get rows i r r at)
 
 -- The row of a stream of the board.
-pub row-kept : (h : List Entry) (b : Kept) (i : ℕ) (kept : Versions) → IsBoardOf h b → slice_get b.streams i ≡ Some kept → slice_get (rows_from h 0 (ids h)) i ≡ Some (record { id = kept.id; latest = length kept.trees - 1 })
+pub row-kept : (h : List Entry) (b : Kept) (i : ℕ) (kept : Versions) → IsBoardOf h b → slice_get b.streams i ≡ Some kept → slice_get (rows_from h 0 (ids h)) i ≡ Some (record { id = kept.id; latest = length kept.trees - 1; output = is_some kept.spec })
 row-kept h b i kept of at =
-    let low : i < length (ids h) = omega (arith, slice_get_within b.streams i kept at, of.counted) in
-    let read : slice_index_or b.streams i kept ≡ kept = get_or_from_slice_get b.streams i kept kept at in
-    let counted : length kept.trees ≡ latest h i + 1 = subst (λ (x : Versions). length x.trees ≡ latest h i + 1) read (of.kept i kept low).counted in
+    let is = (kept-stream h b i kept of at).1 in
     let here : 0 + i ≡ i = omega arith in
-    let last : latest h i ≡ length kept.trees - 1 = omega arith in
-    row-at h 0 i kept.id (ids h) (of.named i kept low ∙ ap (λ (x : Versions). Some x.id) read)
-    ∙ ap (λ n. Some (record { id = kept.id; latest = n })) (ap (latest h) here ∙ last)
+    let last : latest h i ≡ length kept.trees - 1 = let counted = is.kept.counted in omega arith in
+    row-at h 0 i kept.id (ids h) is.named
+    ∙ ap (λ (n : ℕ). Some (record { id = kept.id; latest = latest h n; output = is_output h n })) here
+    ∙ ap (λ (n : ℕ). Some (record { id = kept.id; latest = n; output = is_output h i })) last
+    ∙ ap (λ (o : Option Spec). Some (record { id = kept.id; latest = length kept.trees - 1; output = is_some o })) is.defined

@@ -1,15 +1,16 @@
--- A change that may be committed keeps the bounds of entries with a spelling.
-use Rattle.std.specs.Prelude.{◌≡◌, ℕ, ◌+◌, ◌<◌, ◌≤◌, ◌&&◌, ◌||◌, nat_lt, ◌==◌, max, false, [], ◌∷◌, length, None}
+-- A change that may be committed, by a user or as a distillate, keeps the bounds of entries with a spelling.
+use Rattle.std.specs.Prelude.{◌≡◌, ℕ, ◌+◌, ◌<◌, ◌≤◌, ◌^◌, ◌&&◌, ◌||◌, nat_lt, ◌==◌, max, false, [], ◌∷◌, length, None}
 use Rattle.std.specs.Option.{option_map}
 use Rattle.std.proofs.Common.{arith}
 use Rattle.std.proofs.lemmas.Bool.Decides.{nat_tests}
 use Rattle.btr_base.specs.declared.point.Point.{Point}
 use Rattle.btr_hist.specs.declared.rejection.Rejection.TheVariants.{OutOfDomain, Empty, TooMany}
-use Rattle.btr_base.specs.declared.limits.TheConstants.{MAX_COMMIT_POINTS, MAX_COMMIT_RANGES}
+use Rattle.btr_base.specs.declared.limits.TheConstants.{MAX_COMMIT_POINTS, MAX_COMMIT_RANGES, MAX_POINTS}
 use Rattle.btr_base.specs.Commit.{Change}
-use Rattle.btr_hist.specs.Legal.{when, first_out_of_domain, change_rejection}
+use Rattle.btr_hist.specs.declared.kernel.Reads.{Reads}
+use Rattle.btr_hist.specs.Legal.{when, first_out_of_domain, change_rejection, distillate_change_rejection}
 use Rattle.btr_hist.proofs.RejectionLemmas.{first_none, rest_none, map_none, when_none, none_out_of_domain}
-use Rattle.btr_entry.specs.Grammar.{IsBounded}
+use Rattle.btr_entry.specs.Grammar.{IsBounded, AreVersions, IsBoundedDistillate}
 
 some_of_them : (a b : ℕ) → (a == 0 && b == 0) ≡ false → 0 < a + b
 some_of_them a b h = grind (arith, nat_tests)
@@ -32,4 +33,19 @@ change_bounded c h =
       few_ranges = few.0;
       few_points = few.1;
       in_domain = none_out_of_domain c.added (map_none (λ (p : Point). OutOfDomain p.time) (first_out_of_domain c.added) (first_none outside (empty ∷ many ∷ []) h));
+    }
+
+few_of : (a : ℕ) → nat_lt (2 ^ 34) a ≡ false → a ≤ 2 ^ 34
+few_of a h = grind (arith, nat_tests)
+
+-- A distillate whose change is not rejected is within bounds, if a version can have its points and streams can have its reads.
+pub distillate_bounded : (c : Change) (r : Reads) → distillate_change_rejection c ≡ None → length c.added ≤ MAX_POINTS → AreVersions r → IsBoundedDistillate c.cut c.added r
+distillate_bounded c r h few versions =
+    let many = when (nat_lt (2 ^ 34) (length c.cut)) (TooMany (length c.cut)) in
+    let outside = option_map (λ (p : Point). OutOfDomain p.time) (first_out_of_domain c.added) in
+    record {
+      few_ranges = few_of (length c.cut) (when_none (nat_lt (2 ^ 34) (length c.cut)) (TooMany (length c.cut)) (first_none many [] (rest_none outside (many ∷ []) h)));
+      few_points = few;
+      in_domain = none_out_of_domain c.added (map_none (λ (p : Point). OutOfDomain p.time) (first_out_of_domain c.added) (first_none outside (many ∷ []) h));
+      versions = versions;
     }

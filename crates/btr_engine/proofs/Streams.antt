@@ -1,22 +1,19 @@
 -- Bounds on the versions of a stream, and on a position that is found.
-use Rattle.std.specs.Prelude.{◌≡◌, ℕ, ◌+◌, ◌<◌, ◌≤◌, ◌==◌, Bool, true, false, List, [], ◌∷◌, length, cond, Some}
-use Rattle.std.specs.List.{position_from}
+use Rattle.std.specs.Prelude.{◌≡◌, ℕ, ◌+◌, ◌<◌, ◌≤◌, Bool, true, false, List, [], ◌∷◌, length, cond, Option, Some, None}
+use Rattle.std.specs.List.{position_from, cons_option}
 use Rattle.std.proofs.Common.{arith}
 use Rattle.btr_hist.specs.declared.entry.Entry.{Entry}
-use Rattle.btr_hist.specs.declared.entry.Entry.TheVariants.{Create, Commit}
 use Rattle.btr_base.specs.Commit.{Change}
-use Rattle.btr_hist.specs.History.{commits, latest}
+use Rattle.btr_hist.specs.History.{change_of, commits, latest}
 
 -- A stream has no more versions than the history has entries.
 pub few_versions : (h : List Entry) (stream : ℕ) → latest h stream ≤ length h
 few_versions [] stream = omega arith
-few_versions (Create id ∷ h) stream = omega (arith, few_versions h stream)
-few_versions (Commit s cut added ∷ h) stream =
-    let c : Change = record { cut = cut; added = added } in
+few_versions (e ∷ h) stream =
     let rest = few_versions h stream in
-    elim (s == stream) as (λ t. length (cond t (c ∷ commits h stream) (commits h stream)) ≤ length (Commit s cut added ∷ h)) [
-      | true ↦ omega arith
-      | false ↦ omega arith
+    elim (change_of stream e) as (λ (o : Option Change). length (cons_option o (commits h stream)) ≤ length (e ∷ h)) [
+      | None ↦ omega arith
+      | Some c ↦ omega arith
     ]
 
 -- A position that is found lies inside the list.

@@ -1,20 +1,26 @@
--- What a board keeps of a history: the id of each stream, the trees of its versions, and the number of entries.
-use Rattle.std.specs.Prelude.{◌≡◌, ℕ, ◌+◌, ◌<◌, ◌≤◌, nat_eq, nat_le, List, []}
+-- What a board keeps of a history: of each stream the id, the spec, the trees of its versions and what they have read; and the
+-- number of entries.
+use Rattle.std.specs.Prelude.{◌≡◌, ℕ, zero, suc, ◌+◌, ◌-◌, ◌<◌, ◌≤◌, nat_eq, nat_le, List, []}
 use Rattle.std.specs.Prelude.{◌∷◌, length, map, take, slice_get, slice_index_or, Option, Some, None}
 use Rattle.std.specs.Prelude.{if◌then◌else◌}
-use Rattle.std.specs.List.{position_from}
+use Rattle.std.specs.List.{position_from, AllByRecursion}
 use Rattle.btr_base.specs.declared.limits.TheConstants.{MAX_STREAMS, MAX_VERSIONS}
 use Rattle.btr_tree.specs.History.{Past, nothing, ◌▷◌}
 use Rattle.btr_tree.specs.Root.{TreeValue, IsTree}
 use Rattle.btr_hist.specs.declared.entry.Entry.{Entry}
+use Rattle.btr_hist.specs.declared.kernel.Spec.{Spec}
+use Rattle.btr_hist.specs.declared.kernel.Reads.{Reads}
 use Rattle.btr_base.specs.Commit.{Change}
-use Rattle.btr_hist.specs.History.{ids, commits, latest}
-use Rattle.btr_hist.specs.Legal.{Legal}
+use Rattle.btr_hist.specs.History.{ids, spec_of, commits, latest, read_by}
+use Rattle.btr_hist.specs.Legal.{Follows}
 
--- A stream: its id, and the trees of its versions, from version 0 on.
+-- A stream: its id, the spec of an output, the trees of its versions, from version 0 on, and what the versions of an output have
+-- read, from version 1 on. A plain stream has no spec and no reads.
 pub record Versions : Type 0 where
   pub id : ℕ
+  pub spec : Option Spec
   pub trees : List TreeValue
+  pub reads : List Reads
 
 -- What contracts see of a board: the streams in order of creation, and the number of entries.
 pub record Kept : Type 0 where
@@ -29,19 +35,22 @@ place_of ids id = position_from (nat_eq id) 0 ids
 abbrev pub ids_of : List Versions → List ℕ
 ids_of streams = map (λ s. s.id) streams
 
--- What holds of each board, whatever its trees are: there are not too many streams and versions, each stream has a version, and
--- `number` gives each id the place of the first stream with it.
+-- The tree is that of some past.
+abbrev pub HasPast : TreeValue → Type 0
+HasPast t = (past : Past) × IsTree past t
+
+-- What holds of each stream of each board: it has a version, not too many versions, and each tree is that of some past.
+pub record IsGrown (s : Versions) : Type 0 where
+  pub some : 1 ≤ length s.trees
+  pub limited : length s.trees ≤ MAX_VERSIONS + 1
+  pub pasts : AllByRecursion HasPast s.trees
+
+-- What holds of each board, whatever its history is: there are not too many streams, and `number` gives each id the place of the
+-- first stream with it.
 pub record IsWellFormed (streams : List Versions) (number : ℕ → Option ℕ) : Type 0 where
   pub few : length streams ≤ MAX_STREAMS
-  pub some : (place : ℕ) (d : Versions) → place < length streams → 1 ≤ length (slice_index_or streams place d).trees
-  pub limited : (place : ℕ) (d : Versions) → place < length streams
-      → length (slice_index_or streams place d).trees ≤ MAX_VERSIONS + 1
+  pub each : (place : ℕ) (d : Versions) → place < length streams → IsGrown (slice_index_or streams place d)
   pub numbered : (id : ℕ) → number id ≡ place_of (ids_of streams) id
-
--- Each entry may follow those before it as to streams, versions and numbers of points: that is what the trees of a board need.
--- It has a name of its own because a legal history may meet more conditions, which say nothing of streams, versions and points.
-abbrev pub Follows : List Entry → Type 0
-Follows h = Legal h
 
 -- The past of a tree with these commits after `before`, each with the version that it makes. `made` versions were made before.
 abbrev pub with_commits : ℕ → Past → List Change → Past
@@ -59,13 +68,33 @@ pub record HasTrees (h : List Entry) (stream : ℕ) (trees : List TreeValue) : T
   pub each : (version : ℕ) (d : TreeValue) → version ≤ latest h stream
       → IsTree (commits_to h stream version) (slice_index_or trees version d)
 
--- The board is that of the history: it has the ids and the trees of its streams, and the number of its entries.
+-- How many reads a stream has that has so many trees: an output one for each version but version 0, a plain stream none.
+abbrev pub reads_count : Option Spec → ℕ → ℕ
+reads_count None trees = 0
+reads_count (Some spec) trees = trees - 1
+
+-- What a version has read, if the versions from 1 on have read these. Version 0 has read none.
+abbrev pub read_at : List Reads → ℕ → Option Reads
+read_at reads zero = None
+read_at reads (suc before) = slice_get reads before
+
+-- The reads of a stream's versions. A version that the stream does not have has none.
+pub record HasReads (h : List Entry) (stream : ℕ) (s : Versions) : Type 0 where
+  pub counted : length s.reads ≡ reads_count s.spec (length s.trees)
+  pub each : (version : ℕ) → read_by h stream version ≡ read_at s.reads version
+
+-- The stream of this number is kept as the history has it: its id, its spec, the trees of its versions, and what they have read.
+pub record IsStreamOf (h : List Entry) (stream : ℕ) (s : Versions) : Type 0 where
+  pub named : slice_get (ids h) stream ≡ Some s.id
+  pub defined : spec_of h stream ≡ s.spec
+  pub kept : HasTrees h stream s.trees
+  pub read : HasReads h stream s
+
+-- The board is that of the history: it has its streams, and the number of its entries. Each entry is accepted after those before
+-- it: it may follow them as to streams, versions, reads and numbers of points, which is what the board tests.
 pub record IsBoardOf (h : List Entry) (b : Kept) : Type 0 where
   pub counted : length b.streams ≡ length (ids h)
-  pub named : (stream : ℕ) (d : Versions) → stream < length (ids h)
-      → slice_get (ids h) stream ≡ Some (slice_index_or b.streams stream d).id
-  pub kept : (stream : ℕ) (d : Versions) → stream < length (ids h)
-      → HasTrees h stream (slice_index_or b.streams stream d).trees
+  pub each : (stream : ℕ) (d : Versions) → stream < length (ids h) → IsStreamOf h stream (slice_index_or b.streams stream d)
   pub entries : b.entries ≡ length h
   pub follows : Follows h
 

@@ -7,13 +7,14 @@ use Rattle.btr_log.specs.Extents.{Extents, first_gate}
 use Rattle.btr_super.specs.declared.superblock.Super.{Super}
 use Rattle.btr_super.specs.Choose.{IsChosen}
 use Rattle.btr_hist.specs.declared.entry.Entry.{Entry}
-use Rattle.btr_hist.specs.Legal.{Legal}
+use Rattle.btr_hist.specs.Legal.{Follows}
 use Rattle.btr_entry.specs.Grammar.{IsSpelled}
 use Rattle.btr_engine.specs.Body.{bodies}
 
 -- A device of `size` blocks with these bytes holds a store of `blocks` blocks with this history. A superblock is chosen that
 -- gives this number of blocks. From block 4 on the extents after open gates hold the history's entries, in order, with their
--- numbers from 1 on. The gate after the last extent, at the tail, is closed. Each entry is allowed after those before it.
+-- numbers from 1 on. The gate after the last extent, at the tail, is closed. Each entry is accepted after those before it. Whether
+-- a distillate has the cut and the points that the definition gives is not tested by an opening, and not said here.
 pub record HoldsHistoryTo (size : ℕ) (image : Image) (blocks tail : ℕ) (h : List Entry) : Type 0 where
   pub super : Super
   pub chosen : IsChosen size image super
@@ -22,7 +23,7 @@ pub record HoldsHistoryTo (size : ℕ) (image : Image) (blocks tail : ℕ) (h : 
   pub extents : Extents image first_gate (bodies h) tail
   pub closed : IsClosed image tail
   pub inside : tail < blocks
-  pub legal : Legal h
+  pub follows : Follows h
 
 -- The device holds the history, whatever its blocks and its tail are.
 pub record HoldsHistory (size : ℕ) (image : Image) (h : List Entry) : Type 0 where

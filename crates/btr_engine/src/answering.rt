@@ -190,7 +190,7 @@ impl Board {
         })
     }
 
-    /// Answers with the aggregate of a whole version.
+    /// Answers with the kind of the stream, the aggregate of a whole version, and what the version has read.
     fn info(&self, stream: u32, at: At) -> Answer
         ensures { (h : List EntrySpec) → IsBoardOf h self.now → result ≡ answer h (ask.Info stream at) }
     {
@@ -198,7 +198,9 @@ impl Board {
             Ok((version, tree)) => Answer::Found {
                 version,
                 rows: Rows::Info {
+                    output: self.spec(stream).is_some(),
                     agg: tree.root_agg(),
+                    reads: self.reads(stream, version),
                 },
             },
             Err(refusal) => Answer::Refused(refusal),
@@ -232,6 +234,7 @@ impl Board {
         Some(StreamRow {
             id: kept.id,
             latest: (kept.trees.len() - 1) as u64,
+            output: kept.spec.is_some(),
         })
     }
 

@@ -5,6 +5,7 @@ ghost use Rattle.btr_log.specs.Log.{device as device_of, tail_of, extents_of, fa
 use crate::board::Board;
 use crate::snapshot::Snapshot;
 use btr_disk::Disk;
+use btr_hist::Spec;
 use btr_log::Log;
 use std::alloc::AllocError;
 use std::snapshot::Snapshot as State;
@@ -34,7 +35,7 @@ impl<D: Disk> Engine<D> {
     ghost use Rattle.btr_disk.specs.Causes.{Rose};
     ghost use Rattle.btr_log.specs.Log.{device as device_of, tail_of, extents_of, faults_at};
     ghost use Rattle.btr_hist.specs.declared.entry.Entry.{Entry as EntrySpec};
-    ghost use Rattle.btr_hist.specs.History.{stream_of};
+    ghost use Rattle.btr_hist.specs.History.{stream_of, spec_of};
     ghost use Rattle.btr_engine.specs.Snapshot.{IsSnapshotOf};
     ghost use Rattle.btr_engine.specs.Engine.{device, entries_of, is_stopped, faults_at_open, IsEngineOf, IsMadeOf};
 
@@ -70,6 +71,14 @@ impl<D: Disk> Engine<D> {
         ensures { (h : List EntrySpec) → IsEngineOf h self.now → result ≡ stream_of h id }
     {
         self.board.find(id)
+    }
+
+    /// Returns the spec of an output. A plain stream, and a number that is not that of a stream, have none. It takes logarithmic
+    /// time and no memory.
+    pub fn spec(&self, stream: u32) -> Option<Spec>
+        ensures { (h : List EntrySpec) → IsEngineOf h self.now → result ≡ spec_of h stream }
+    {
+        self.board.spec(stream)
     }
 
     /// Returns the number of entries.

@@ -10,6 +10,7 @@ mod extent;
 mod answering;
 mod board;
 mod snapshot;
+mod staging;
 // the engine
 mod engine;
 mod step;

@@ -1,13 +1,13 @@
 //! The snapshot: a store at one moment, which later entries do not change.
 ghost use Rattle.std.specs.Prelude.{◌≡◌, List, length, IfOk, MatchOption};
 ghost use Rattle.btr_hist.specs.declared.entry.Entry.{Entry as EntrySpec};
-ghost use Rattle.btr_hist.specs.History.{ids, stream_of};
+ghost use Rattle.btr_hist.specs.History.{ids, stream_of, spec_of, read_by};
 ghost use Rattle.btr_hist.specs.Answer.{answer};
 ghost use Rattle.btr_engine.specs.Board.{HasVersion, IsTreeOf, latest_of};
 ghost use Rattle.btr_engine.specs.Snapshot.{IsSnapshotOf};
 
 use crate::board::Board;
-use btr_hist::{Answer, Query};
+use btr_hist::{Answer, Query, Reads, Spec};
 use btr_tree::Tree;
 use std::alloc::{AllocError, Global};
 
@@ -72,6 +72,22 @@ impl Snapshot {
             → MatchOption result (HasVersion h stream version → ⊥) (λ t. IsTreeOf h stream version t.now) }
     {
         self.board.tree(stream, version)
+    }
+
+    /// Returns the spec of an output. A plain stream, and a number that is not that of a stream, have none. It takes logarithmic
+    /// time and no memory.
+    pub fn spec(&self, stream: u32) -> Option<Spec>
+        ensures { (h : List EntrySpec) → IsSnapshotOf h self.now → result ≡ spec_of h stream }
+    {
+        self.board.spec(stream)
+    }
+
+    /// Returns the versions of its inputs that a version of an output was computed from. Version 0, a version of a plain stream,
+    /// and one that the stream does not have, have none. It takes logarithmic time and no memory.
+    pub fn reads(&self, stream: u32, version: u64) -> Option<Reads>
+        ensures { (h : List EntrySpec) → IsSnapshotOf h self.now → result ≡ read_by h stream version }
+    {
+        self.board.reads(stream, version)
     }
 
     /// Answers a question. It costs the nodes of the tree that the question needs, and its rows. The list of all streams costs

@@ -63,7 +63,8 @@ pub(crate) struct Pending {
 }
 
 impl<D: Disk> Engine<D> {
-    /// Adds an entry to the history. After `Ok` the entry is durable: no later crash loses it.
+    /// Adds an entry to the history. After `Ok` the entry is durable: no later crash loses it. Of a distillate the stream, the
+    /// reads and the number of points are tested, not that it is the definition's.
     ///
     /// A crash at any moment of the step leaves the history as before, or with this entry. After an `Err` the engine is as
     /// before, except after a `DeviceFault`, which stops it: from then on it returns `Stopped`.
@@ -125,12 +126,12 @@ fn receipt_of(board: &Board, entry: &Entry) -> Receipt
 {
     let number = board.entries() + 1;
     match entry {
-        Entry::Create { .. } => Receipt {
+        Entry::Create { .. } | Entry::Define { .. } => Receipt {
             number,
             stream: board.streams(),
             version: 0,
         },
-        Entry::Commit { stream, .. } => Receipt {
+        Entry::Commit { stream, .. } | Entry::Distillate { stream, .. } => Receipt {
             number,
             stream: *stream,
             version: board.latest(*stream).unwrap_or(0) + 1,

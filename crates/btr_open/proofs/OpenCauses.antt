@@ -17,7 +17,7 @@ use Rattle.btr_super.specs.declared.choosing.ChooseFault.{ChooseFault}
 use Rattle.btr_super.specs.declared.choosing.ChooseFault.TheVariants as chosen
 use Rattle.btr_hist.specs.declared.entry.Entry.{Entry}
 use Rattle.btr_hist.specs.declared.rejection.Rejection.{Rejection}
-use Rattle.btr_hist.specs.Legal.{rejection, Legal}
+use Rattle.btr_hist.specs.Legal.{rejection, Follows}
 use Rattle.btr_entry.specs.Grammar.{IsSpelled}
 use Rattle.btr_open.specs.declared.opening.OpenCause.{OpenCause}
 use Rattle.btr_open.specs.declared.opening.OpenCause.TheVariants.{NotAStore, Damaged, Fault, Want}
@@ -29,9 +29,9 @@ use Rattle.btr_open.specs.Reading.{IsStoreOf}
 
 module _ (size : ℕ) (image : Image) (blocks gate : ℕ) (h : List Entry) where
   -- The next extent is damaged in this block.
-  pub damaged_next : (block : ℕ) → IsDamagedEntry image blocks gate h block → AllByRecursion IsSpelled h → Legal h → Extents image first_gate (bodies h) gate → IsStoreOf size image blocks → IsDamaged size image block
-  damaged_next block damage spelled legal extents store =
-      let log : IsDamagedLog image blocks block = record { entries = h; gate = gate; spelled = spelled; legal = legal; extents = extents; damage = damage } in
+  pub damaged_next : (block : ℕ) → IsDamagedEntry image blocks gate h block → AllByRecursion IsSpelled h → Follows h → Extents image first_gate (bodies h) gate → IsStoreOf size image blocks → IsDamaged size image block
+  damaged_next block damage spelled follows extents store =
+      let log : IsDamagedLog image blocks block = record { entries = h; gate = gate; spelled = spelled; follows = follows; extents = extents; damage = damage } in
       inr (store.0, store.1, subst (λ b. IsDamagedLog image b block) (sym store.2) log)
 
   module _ (number : ℕ) (at : number ≡ length h + 1) (head : Head) (body : List ℕ) (next : ℕ) (whole : IsWholeExtent blocks gate head body next) (stands : IsOpen image gate × Has image (4096 * (gate + 1)) body) where

@@ -15,8 +15,8 @@ use Rattle.btr_log.proofs.ExtentLemmas.{Extents-push}
 use Rattle.btr_log.specs.Found.{IsWholeExtent}
 use Rattle.btr_log.proofs.FoundLemmas.{next-IsWholeExtent, IsExtent-found}
 use Rattle.btr_hist.specs.declared.entry.Entry.{Entry}
-use Rattle.btr_hist.specs.Legal.{Legal}
-use Rattle.btr_hist.proofs.HistoryLemmas.{legal-none, legal-push}
+use Rattle.btr_hist.specs.Legal.{Follows}
+use Rattle.btr_hist.proofs.HistoryLemmas.{follows-none, follows-push}
 use Rattle.btr_entry.specs.Grammar.{IsSpelled}
 use Rattle.btr_open.specs.declared.opening.OpenCause.{OpenCause}
 use Rattle.btr_engine.specs.Body.{body_of, need_of, bodies}
@@ -77,7 +77,7 @@ module _ {D : Type 0} {disk : Ghosts D} where
     pub ends : 2 * entries + 4 ≤ gate
     pub inside : gate < blocks_of old
     pub spelled : AllByRecursion IsSpelled h
-    pub legal : Legal h
+    pub follows : Follows h
     pub extents : disk.is_observable → Extents (disk.contents (device old)) first_gate (bodies h) gate
 
   -- The entries of some history were read.
@@ -101,7 +101,7 @@ module _ {D : Type 0} {disk : Ghosts D} where
       ends = omega arith;
       inside = least;
       spelled = tt;
-      legal = legal-none;
+      follows = follows-none;
       extents = λ told. refl;
     },
   )
@@ -124,7 +124,7 @@ module _ {D : Type 0} {disk : Ghosts D} where
             ends = omega (arith, found.after, so_far.ends);
             inside = omega (arith, found.inside, so_far.reads.kept.blocks);
             spelled = spelled-push h e so_far.spelled found.spelled;
-            legal = legal-push h e so_far.legal found.allowed;
+            follows = follows-push h e so_far.follows found.allowed;
             extents = λ told.
                 let image = disk.contents (device old) in
                 let stands = found.extent told in
@@ -144,7 +144,7 @@ module _ {D : Type 0} {disk : Ghosts D} where
         ends = so_far.ends;
         inside = so_far.inside;
         spelled = so_far.spelled;
-        legal = so_far.legal;
+        follows = so_far.follows;
         extents = so_far.extents;
         closed = λ told. subst (λ i. IsClosed i gate) (same_so_far told) (closed told);
       }),
@@ -161,7 +161,7 @@ module _ {D : Type 0} {disk : Ghosts D} where
         (λ r. (
           r.0,
           so_far.spelled,
-          so_far.legal,
+          so_far.follows,
           subst (λ i. Extents i first_gate (bodies h) gate) (sym (same_so_far r.0)) (so_far.extents r.0),
           subst (λ n. IsStoreOf n (disk.contents d1) (blocks_of mid)) (sym size)
               (subst (λ i. IsStoreOf (disk.size d0) i (blocks_of mid)) (sym (same_so_far r.0)) (subst (IsStoreOf (disk.size d0) (disk.contents d0)) (sym so_far.reads.kept.blocks) r.1)),

@@ -15,8 +15,8 @@ use Rattle.btr_log.specs.Found.{SpellsAt, IsDamagedExtent}
 use Rattle.btr_super.specs.declared.superblock.Super.{Super}
 use Rattle.btr_super.proofs.ChoiceLemmas.{one_chosen, chosen_not_none, chosen_not_damaged}
 use Rattle.btr_hist.specs.declared.entry.Entry.{Entry}
-use Rattle.btr_hist.specs.Legal.{rejection, Legal}
-use Rattle.btr_hist.proofs.HistoryLemmas.{legal-prefix, legal-last}
+use Rattle.btr_hist.specs.Legal.{rejection, Follows}
+use Rattle.btr_hist.proofs.HistoryLemmas.{follows-prefix, follows-last}
 use Rattle.btr_entry.specs.Grammar.{IsSpelled}
 use Rattle.btr_engine.specs.Body.{body_of, need_of, bodies_from, bodies}
 use Rattle.btr_engine.proofs.BodyLemmas.{need-body_of, body_of-one}
@@ -106,27 +106,27 @@ module _ (image : Image) (blocks gate block : ℕ) (before : List Entry) (e : En
       damage
 
 -- From one gate, after the same entries, no walk leads to a closed gate while another leads to a damaged entry.
-walk_sound : (image : Image) (blocks block gate number : ℕ) (before h k : List Entry) (tail other : ℕ) → number ≡ length before + 1 → number + length h < 2 ^ 64 → AllByRecursion IsSpelled h → AllByRecursion IsSpelled k → Legal (before ++ h) → Extents image gate (bodies_from number h) tail → IsClosed image tail → tail < blocks → Extents image gate (bodies_from number k) other → IsDamagedEntry image blocks other (before ++ k) block → ⊥
-walk_sound image blocks block gate number before [] [] tail other at few all all_too legal x closed inside y damage =
+walk_sound : (image : Image) (blocks block gate number : ℕ) (before h k : List Entry) (tail other : ℕ) → number ≡ length before + 1 → number + length h < 2 ^ 64 → AllByRecursion IsSpelled h → AllByRecursion IsSpelled k → Follows (before ++ h) → Extents image gate (bodies_from number h) tail → IsClosed image tail → tail < blocks → Extents image gate (bodies_from number k) other → IsDamagedEntry image blocks other (before ++ k) block → ⊥
+walk_sound image blocks block gate number before [] [] tail other at few all all_too follows x closed inside y damage =
     closed (subst (IsOpen image) (sym y ∙ x) (damaged_open image blocks other (before ++ []) block damage))
-walk_sound image blocks block gate number before [] (f ∷ k) tail other at few all all_too legal x closed inside y damage =
+walk_sound image blocks block gate number before [] (f ∷ k) tail other at few all all_too follows x closed inside y damage =
     closed (subst (IsOpen image) x y.0.1.is_open)
-walk_sound image blocks block gate number before (e ∷ h) [] tail other at few all all_too legal x closed inside y damage =
+walk_sound image blocks block gate number before (e ∷ h) [] tail other at few all all_too follows x closed inside y damage =
     let le = Extents-le image (gate + need (body_of number e)) (bodies_from (suc number) h) tail x.1 in
     let here = subst (λ g. IsDamagedEntry image blocks g before block) (sym y) (subst (λ l. IsDamagedEntry image blocks other l block) (append-nil before) damage) in
-    let allowed = legal-last before e (legal-prefix (before ++ e ∷ []) h (subst Legal (sym (append_assoc before (e ∷ []) h)) legal)) in
+    let allowed = follows-last before e (follows-prefix (before ++ e ∷ []) h (subst Follows (sym (append_assoc before (e ∷ []) h)) follows)) in
     let extent = subst (λ n. IsExtent image gate (body_of n e) x.0.0) at x.0.1 in
     entry_sound image blocks gate block before e x.0.0 (omega (arith, at, few)) all.0 allowed extent (omega (arith, le, inside, need-body_of number e)) here
-walk_sound image blocks block gate number before (e ∷ h) (f ∷ k) tail other at few all all_too legal x closed inside y damage =
+walk_sound image blocks block gate number before (e ∷ h) (f ∷ k) tail other at few all all_too follows x closed inside y damage =
     let same = IsBody-one image (4096 * (gate + 1)) (body_of number e) (body_of number f) x.0.0 y.0.0 x.0.1.is_body y.0.1.is_body x.0.1.stored y.0.1.stored in
     let entry : e ≡ f = body_of-one number e f (omega (arith, at)) (omega (arith, few)) all.0 all_too.0 same in
     let rest = subst (λ b. Extents image (gate + need b) (bodies_from (suc number) k) other) (sym same) y.1 in
     let behind = subst (λ l. IsDamagedEntry image blocks other l block) (sym (append_assoc before (e ∷ []) k)) (subst (λ g. IsDamagedEntry image blocks other (before ++ g ∷ k) block) (sym entry) damage) in
-    walk_sound image blocks block (gate + need (body_of number e)) (suc number) (before ++ e ∷ []) h k tail other (omega (arith, at, length-append before (e ∷ []))) (omega (arith, few)) all.1 all_too.1 (subst Legal (sym (append_assoc before (e ∷ []) h)) legal) x.1 closed inside rest behind
+    walk_sound image blocks block (gate + need (body_of number e)) (suc number) (before ++ e ∷ []) h k tail other (omega (arith, at, length-append before (e ∷ []))) (omega (arith, few)) all.1 all_too.1 (subst Follows (sym (append_assoc before (e ∷ []) h)) follows) x.1 closed inside rest behind
 
 log_sound : (size block : ℕ) (image : Image) (blocks tail : ℕ) (h : List Entry) → HoldsHistoryTo size image blocks tail h → IsDamagedLog image blocks block → ⊥
 log_sound size block image blocks tail h st log =
-    walk_sound image blocks block first_gate 1 [] h log.entries tail log.gate refl (short size image blocks tail h st) st.spelled log.spelled st.legal st.extents st.closed st.inside log.extents log.damage
+    walk_sound image blocks block first_gate 1 [] h log.entries tail log.gate refl (short size image blocks tail h st) st.spelled log.spelled st.follows st.extents st.closed st.inside log.extents log.damage
 
 damage_none : (size block : ℕ) (image : Image) (h : List Entry) → HoldsHistory size image h → IsDamaged size image block → ⊥
 damage_none size block image h first damaged =

@@ -9,7 +9,7 @@ use Rattle.btr_super.specs.declared.superblock.Super.{Super}
 use Rattle.btr_super.specs.Choose.{IsChosen, IsDamagedSuper}
 use Rattle.btr_hist.specs.declared.entry.Entry.{Entry}
 use Rattle.btr_hist.specs.declared.rejection.Rejection.{Rejection}
-use Rattle.btr_hist.specs.Legal.{rejection, Legal}
+use Rattle.btr_hist.specs.Legal.{rejection, Follows}
 use Rattle.btr_entry.specs.Grammar.{IsSpelled}
 use Rattle.btr_engine.specs.Body.{body_of, need_of, bodies}
 
@@ -45,12 +45,12 @@ IsDamagedEntry image blocks gate entries block =
     ⊎ (IsNoEntryExtent image blocks gate (length entries + 1) block ⊎ IsRefusedExtent image blocks gate entries block)
 
 -- This block is the first one of the log that breaks the format: the entries before it are spelled as they should be, and each
--- is allowed after those before it.
+-- is accepted after those before it.
 pub record IsDamagedLog (image : Image) (blocks block : ℕ) : Type 0 where
   pub entries : List Entry
   pub gate : ℕ
   pub spelled : AllByRecursion IsSpelled entries
-  pub legal : Legal entries
+  pub follows : Follows entries
   pub extents : Extents image first_gate (bodies entries) gate
   pub damage : IsDamagedEntry image blocks gate entries block
 

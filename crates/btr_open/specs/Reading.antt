@@ -14,7 +14,7 @@ use Rattle.btr_log.specs.Log as log
 use Rattle.btr_super.specs.declared.superblock.Super.{Super}
 use Rattle.btr_super.specs.Choose.{IsChosen}
 use Rattle.btr_hist.specs.declared.entry.Entry.{Entry}
-use Rattle.btr_hist.specs.Legal.{rejection, Legal}
+use Rattle.btr_hist.specs.Legal.{rejection, Follows}
 use Rattle.btr_entry.specs.Grammar.{IsSpelled}
 use Rattle.btr_engine.specs.declared.engine.Engine.{Engine}
 use Rattle.btr_open.specs.declared.opening.OpenCause.{OpenCause}
@@ -30,7 +30,7 @@ IsStoreOf size image blocks = (s : Super) × IsChosen size image s × (s.blocks 
 -- What is known of a device while its log is read: it is observable, and from the first gate to this one it has these entries.
 abbrev pub IsReadTo : Type 0 → ℕ → Image → ℕ → ℕ → List Entry → Type 0
 IsReadTo is_observable size image blocks gate h =
-    is_observable × AllByRecursion IsSpelled h × Legal h × Extents image first_gate (bodies h) gate × IsStoreOf size image blocks
+    is_observable × AllByRecursion IsSpelled h × Follows h × Extents image first_gate (bodies h) gate × IsStoreOf size image blocks
 
 module _ {D : Type 0} (disk : Ghosts D) where
   -- Why the calls between two states of a device found no history, if `known` holds of its bytes.
@@ -85,6 +85,6 @@ module _ {D : Type 0} {disk : Ghosts D} where
     pub ends : 2 * entries + 4 ≤ tail
     pub inside : tail < log.blocks_of l
     pub spelled : AllByRecursion IsSpelled history
-    pub legal : Legal history
+    pub follows : Follows history
     pub extents : disk.is_observable → Extents (disk.contents (log.device l)) first_gate (bodies history) tail
     pub closed : disk.is_observable → IsClosed (disk.contents (log.device l)) tail

@@ -51,9 +51,10 @@ pub struct OpenFault<D> {
 /// read returns: all that the engine answers from is durable.
 ///
 /// The opening chooses the superblock and reads the extents from block 4 on, up to the first closed gate. An extent takes one
-/// read if its body is one block, else two. Each entry is tested against those before it. An entry that is not allowed damages
-/// the first block of its body. The time is linear in the log, but for logarithms of the streams, versions and ids. The engine
-/// keeps no entries.
+/// read if its body is one block, else two. Each entry is tested against those before it. An entry that may not follow them
+/// damages the first block of its body. Of a distillate the stream, the reads and the number of points are tested, not that its
+/// cut and its points are those of the definition. The time is linear in the log, but for logarithms of the streams, versions and
+/// ids. The engine keeps no entries.
 pub fn open_store<D: Disk>(alloc: Global, disk: D) -> Result<Engine<D>, OpenFault<D>>
     ensures opened { IfOk result (IsOpened ⟦<D as Disk>⟧ disk) }
     ensures stood { D.is_observable → (h : List EntrySpec) → HoldsHistory (D.size disk) (D.contents disk) h

@@ -1,11 +1,14 @@
 //! Tests of an engine from its opening on, over a device in memory.
-ghost use Rattle.std.specs.Prelude.{◌≡◌, IfOk};
+ghost use Rattle.std.specs.Prelude.{◌≡◌, ◌%◌, IfOk, length};
 
 use super::*;
-use btr_base::{Bag, END, FIRST, Point, Range, Ranges, Toward};
+use btr_base::{Agg, Bag, END, FIRST, Point, Range, Ranges, Toward};
 use btr_disk::{Capacity, Disk, MemDisk};
 use btr_engine::{Engine, Receipt, Snapshot, StepFault};
-use btr_hist::{Answer, At, Entry, History, Query, Rejection, Rows};
+use btr_hist::{
+    Answer, At, Entry, History, Kernel, PointList, Query, Reads, Rejection, Rows, Spec, StreamList,
+    StreamRow,
+};
 use btr_log::Log;
 use btr_super::format;
 use std::alloc::{AllocError, Global};
@@ -33,6 +36,11 @@ fn opened(alloc: Global, disk: MemDisk) -> Result<Engine<MemDisk>, Fail> {
         Ok(engine) => Ok(engine),
         Err(_) => Err("it was not opened".into()),
     }
+}
+
+/// Adds an entry. The helper has no clause, so the proofs of the tests do not go through those of a step.
+fn step(alloc: Global, engine: &mut Engine<MemDisk>, entry: &Entry) -> Result<Receipt, StepFault> {
+    engine.step(alloc, entry)
 }
 
 /// Returns a commit of `count` points to stream 0, one every four nanoseconds.
@@ -81,7 +89,7 @@ fn acknowledged_entries_are_there_after_reopening(rt: HostRuntime) -> Result<(),
     let create = Entry::Create { id: 7 };
     assert_eq!(rt; engine.entries(), 0);
     assert_eq!(rt;
-        engine.step(alloc, &create),
+        step(alloc, &mut engine, &create),
         Ok(Receipt {
             number: 1,
             stream: 0,
@@ -89,7 +97,7 @@ fn acknowledged_entries_are_there_after_reopening(rt: HostRuntime) -> Result<(),
         })
     );
     assert_eq!(rt;
-        engine.step(alloc, &Entry::Create { id: 8 }),
+        step(alloc, &mut engine, &Entry::Create { id: 8 }),
         Ok(Receipt {
             number: 2,
             stream: 1,
@@ -97,7 +105,7 @@ fn acknowledged_entries_are_there_after_reopening(rt: HostRuntime) -> Result<(),
         })
     );
     assert_eq!(rt;
-        engine.step(alloc, &insert(alloc, 3)?),
+        step(alloc, &mut engine, &insert(alloc, 3)?),
         Ok(Receipt {
             number: 3,
             stream: 0,
@@ -105,7 +113,7 @@ fn acknowledged_entries_are_there_after_reopening(rt: HostRuntime) -> Result<(),
         })
     );
     assert_eq!(rt;
-        engine.step(alloc, &create),
+        step(alloc, &mut engine, &create),
         Err(StepFault::Rejected(Rejection::StreamExists))
     );
     assert_eq!(rt; latest(alloc, &engine)?, (1, 3));
@@ -117,7 +125,7 @@ fn acknowledged_entries_are_there_after_reopening(rt: HostRuntime) -> Result<(),
     assert_eq!(rt; latest(alloc, &engine)?, (1, 3));
     // three of the sixteen blocks are left after the fourth entry
     assert_eq!(rt;
-        engine.step(alloc, &insert(alloc, 3)?),
+        step(alloc, &mut engine, &insert(alloc, 3)?),
         Ok(Receipt {
             number: 4,
             stream: 0,
@@ -125,7 +133,7 @@ fn acknowledged_entries_are_there_after_reopening(rt: HostRuntime) -> Result<(),
         })
     );
     assert_eq!(rt;
-        engine.step(alloc, &insert(alloc, 1000)?),
+        step(alloc, &mut engine, &insert(alloc, 1000)?),
         Err(StepFault::DeviceFull { need: 5, left: 3 })
     );
     assert!(rt; !engine.stopped());
@@ -142,11 +150,14 @@ fn a_device_that_fails_stops_the_engine(rt: HostRuntime) -> Result<(), Fail> {
     // after the format three calls open the store, and each entry takes four
     for call in 15..19 {
         let mut engine = opened(alloc, formatted(alloc, &[call])?)?;
-        assert!(rt; engine.step(alloc, &Entry::Create { id: 7 }).is_ok());
+        assert!(rt; step(alloc, &mut engine, &Entry::Create { id: 7 }).is_ok());
         let entry = insert(alloc, 3)?;
-        assert_eq!(rt; engine.step(alloc, &entry), Err(StepFault::DeviceFault));
         assert_eq!(rt;
-            engine.step(alloc, &entry),
+            step(alloc, &mut engine, &entry),
+            Err(StepFault::DeviceFault)
+        );
+        assert_eq!(rt;
+            step(alloc, &mut engine, &entry),
             Err(StepFault::Stopped { entries: 1 })
         );
         assert!(rt; engine.stopped());
@@ -349,7 +360,14 @@ fn are_same_rows(a: &Rows, b: &Rows) -> bool {
         (Rows::Points(a), Rows::Points(b)) => a.as_slice() == b.as_slice(),
         (Rows::Cells(a), Rows::Cells(b)) => a.as_slice() == b.as_slice(),
         (Rows::Ranges(a), Rows::Ranges(b)) => a.as_slice() == b.as_slice(),
-        (Rows::Info { agg: a }, Rows::Info { agg: b }) => a == b,
+        (
+            Rows::Info { output, agg, reads },
+            Rows::Info {
+                output: other,
+                agg: other_agg,
+                reads: other_reads,
+            },
+        ) => output == other && agg == other_agg && reads == other_reads,
         (Rows::Streams(a), Rows::Streams(b)) => a.as_slice() == b.as_slice(),
         _ => false,
     }
@@ -384,7 +402,7 @@ fn the_engine_answers_as_the_history(rt: HostRuntime) -> Result<(), Fail> {
     for index in 0..6 {
         history.push(entry_at(alloc, index)?)?;
         assert!(rt;
-            engine.step(alloc, &entry_at(alloc, index)?).is_ok(),
+            step(alloc, &mut engine, &entry_at(alloc, index)?).is_ok(),
             "entry {index}"
         );
     }
@@ -403,7 +421,7 @@ fn the_engine_answers_as_the_history(rt: HostRuntime) -> Result<(), Fail> {
 /// Adds a stream, and returns the engine.
 fn with_stream(alloc: Global, engine: Engine<MemDisk>, id: u128) -> Option<Engine<MemDisk>> {
     let mut engine = engine;
-    engine.step(alloc, &Entry::Create { id }).ok()?;
+    step(alloc, &mut engine, &Entry::Create { id }).ok()?;
     Some(engine)
 }
 
@@ -464,7 +482,7 @@ fn with_commits(alloc: Global, engine: Engine<MemDisk>, count: u32) -> Option<En
     let mut engine = engine;
     for _ in 0..count {
         let entry = insert(alloc, 3).ok()?;
-        engine.step(alloc, &entry).ok()?;
+        step(alloc, &mut engine, &entry).ok()?;
     }
     Some(engine)
 }
@@ -481,8 +499,8 @@ fn a_snapshot_answers_as_before_in_another_thread_while_commits_go_on(
     let mut disk = MemDisk::new(alloc, 64, capacity, Vec::new(alloc))?;
     assert!(rt; format(&mut disk, 64).is_ok());
     let mut engine = opened(alloc, disk)?;
-    assert!(rt; engine.step(alloc, &Entry::Create { id: 7 }).is_ok());
-    assert!(rt; engine.step(alloc, &insert(alloc, 3)?).is_ok());
+    assert!(rt; step(alloc, &mut engine, &Entry::Create { id: 7 }).is_ok());
+    assert!(rt; step(alloc, &mut engine, &insert(alloc, 3)?).is_ok());
     let snapshot = engine.admit()?;
     let (found, moved) = thread::join(
         &rt,
@@ -492,5 +510,209 @@ fn a_snapshot_answers_as_before_in_another_thread_while_commits_go_on(
     assert_eq!(rt; found, Some((1, 3)));
     let engine = moved.ok_or("a commit was refused")?;
     assert_eq!(rt; latest(alloc, &engine)?, (9, 27));
+    Ok(())
+}
+
+/// The spec of an output: at each time of stream 0 the sum of the values of the last ten nanoseconds.
+const SPEC: Spec = Spec {
+    kernel: Kernel::Sum,
+    lead: 10,
+    grain: 0,
+    first: 0,
+    second: None,
+};
+
+/// Returns a distillate that reads this version of the first input, with one range and these points.
+fn distillate(
+    alloc: Global,
+    stream: u32,
+    read: u64,
+    (from, to): (i64, i64),
+    added: Vec<Point>,
+) -> Result<Entry, Fail> {
+    let mut cut = Ranges::none(alloc);
+    cut.add(Range::new(from, to).ok_or("no range")?)?;
+    Ok(Entry::Distillate {
+        stream,
+        cut,
+        added: Bag::from_points(added),
+        reads: Reads {
+            first: read,
+            second: None,
+        },
+    })
+}
+
+/// Returns the entry at this index of a history with a stream and an output, which is brought up to date twice.
+fn derived_at(alloc: Global, index: u32) -> Result<Entry, Fail> {
+    match index {
+        0 => Ok(Entry::Create { id: 7 }),
+        1 => commit(
+            alloc,
+            0,
+            &[],
+            points(alloc, &[(0, 10), (10, 20), (20, 30)])?,
+        ),
+        2 => Ok(Entry::Define { id: 8, spec: SPEC }),
+        3 => distillate(
+            alloc,
+            1,
+            1,
+            (0, 31),
+            points(alloc, &[(0, 10), (10, 30), (20, 50)])?,
+        ),
+        4 => commit(alloc, 0, &[], points(alloc, &[(5, 1)])?),
+        _ => distillate(alloc, 1, 2, (5, 16), points(alloc, &[(5, 11), (10, 31)])?),
+    }
+}
+
+/// Returns an engine of that history. Its extents have two blocks each, from block 4 on.
+fn with_output(alloc: Global) -> Result<Engine<MemDisk>, Fail> {
+    let mut disk = MemDisk::new(alloc, 64, CAPACITY, Vec::new(alloc))?;
+    if format(&mut disk, 64).is_err() {
+        return Err("no store was made".into());
+    }
+    let mut engine = opened(alloc, disk)?;
+    for index in 0..6 {
+        if step(alloc, &mut engine, &derived_at(alloc, index)?).is_err() {
+            return Err("an entry was refused".into());
+        }
+    }
+    Ok(engine)
+}
+
+/// Returns whether a version of the output has these points, and has read the version of its input with the same number.
+fn is_output_at(
+    alloc: Global,
+    snapshot: &Snapshot,
+    version: u64,
+    want: Vec<Point>,
+) -> Result<bool, AllocError> {
+    let at = At::Number(version);
+    let reads = Some(Reads {
+        first: version,
+        second: None,
+    });
+    let info = Answer::Found {
+        version,
+        rows: Rows::Info {
+            output: true,
+            agg: Agg::of_points(&want),
+            reads,
+        },
+    };
+    let rows = Answer::Found {
+        version,
+        rows: Rows::Points(PointList::from_points(want)),
+    };
+    let found_info = snapshot.answer(alloc, &Query::Info { stream: 1, at })?;
+    let found_rows = snapshot.answer(
+        alloc,
+        &Query::Points {
+            stream: 1,
+            from: -100,
+            to: 100,
+            at,
+        },
+    )?;
+    Ok(
+        are_same(&found_info, &info)
+            && are_same(&found_rows, &rows)
+            && snapshot.reads(1, version) == reads,
+    )
+}
+
+/// Returns whether a snapshot has the stream and the output, with both versions of it.
+fn has_output(alloc: Global, snapshot: &Snapshot) -> Result<bool, AllocError> {
+    let mut rows = Vec::new(alloc);
+    rows.push(StreamRow {
+        id: 7,
+        latest: 2,
+        output: false,
+    })?;
+    rows.push(StreamRow {
+        id: 8,
+        latest: 2,
+        output: true,
+    })?;
+    let streams = Answer::Found {
+        version: 6,
+        rows: Rows::Streams(StreamList::from_rows(rows)),
+    };
+    let first = points(alloc, &[(0, 10), (10, 30), (20, 50)])?;
+    let second = points(alloc, &[(0, 10), (5, 11), (10, 31), (20, 50)])?;
+    Ok(
+        are_same(&snapshot.answer(alloc, &Query::Streams)?, &streams)
+            && is_output_at(alloc, snapshot, 1, first)?
+            && is_output_at(alloc, snapshot, 2, second)?,
+    )
+}
+
+#[test]
+fn an_output_is_the_same_after_reopening(rt: HostRuntime) -> Result<(), Fail> {
+    let alloc = rt.alloc();
+    let mut engine = with_output(alloc)?;
+    // a plain stream, a version that is not there yet, one before the last that was read, and no stream
+    for (stream, read, why) in [
+        (0, 2, Rejection::NotWritable),
+        (1, 3, Rejection::NotWritable),
+        (1, 1, Rejection::NotWritable),
+        (2, 2, Rejection::NoStream),
+    ] {
+        let entry = distillate(alloc, stream, read, (0, 1), Vec::new(alloc))?;
+        assert_eq!(rt;
+            step(alloc, &mut engine, &entry),
+            Err(StepFault::Rejected(why))
+        );
+    }
+    let user = commit(alloc, 1, &[(0, 1)], Vec::new(alloc))?;
+    assert_eq!(rt;
+        step(alloc, &mut engine, &user),
+        Err(StepFault::Rejected(Rejection::NotWritable))
+    );
+    assert!(rt; has_output(alloc, &engine.admit()?)?);
+    let snapshot = opened(alloc, engine.into_disk())?.admit()?;
+    assert!(rt; has_output(alloc, &snapshot)?);
+    assert!(rt; snapshot.spec(0).is_none() && snapshot.spec(2).is_none());
+    assert_eq!(rt; snapshot.spec(1), Some(SPEC));
+    assert_eq!(rt;
+        (
+            snapshot.reads(1, 0),
+            snapshot.reads(1, 3),
+            snapshot.reads(0, 1)
+        ),
+        (None, None, None)
+    );
+    Ok(())
+}
+
+/// Returns a device with these bytes.
+fn device_of(alloc: Global, bytes: Vec<u8>) -> Result<MemDisk, AllocError>
+    requires { length bytes.items % 4096 ≡ 0 }
+{
+    MemDisk::from_bytes(alloc, bytes, CAPACITY, Vec::new(alloc))
+}
+
+#[test]
+fn a_distillate_that_may_not_follow_is_damage(rt: HostRuntime) -> Result<(), Fail> {
+    let alloc = rt.alloc();
+    let whole = with_output(alloc)?.into_disk().into_bytes();
+    // the body of the last entry is block 15: after its head a byte of its kind, four of its stream, one of the number of its
+    // reads, and eight of the read: the version that it had, one that is not there yet, one before the last, and a plain stream
+    for (at, value, want) in [
+        (77, 2, None),
+        (77, 3, Some(OpenCause::Damaged { block: 15 })),
+        (77, 0, Some(OpenCause::Damaged { block: 15 })),
+        (68, 0, Some(OpenCause::Damaged { block: 15 })),
+    ] {
+        let mut bytes = whole.clone()?;
+        if let Some(byte) = bytes.get_mut(15 * 4096 + at) {
+            *byte = value;
+        }
+        let cause = open_store(alloc, device_of(alloc, bytes)?)
+            .err()
+            .map(|fault| fault.cause);
+        assert_eq!(rt; cause, want, "byte {at}");
+    }
     Ok(())
 }

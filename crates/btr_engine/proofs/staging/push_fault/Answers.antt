@@ -5,7 +5,7 @@ use Rattle.btr_base.specs.declared.limits.TheConstants.{FIRST, END}
 use Rattle.btr_hist.specs.declared.rejection.Rejection.TheVariants.{Crowded}
 use Rattle.btr_tree.specs.Root.{IsTreeFault}
 use Rattle.btr_tree.specs.declared.fault.TreeFault.TheVariants as tree
-use Rattle.btr_engine.proofs.board.push_fault.Goals as goal
+use Rattle.btr_engine.proofs.staging.push_fault.Goals as goal
 use Rattle.btr_engine.proofs.Crowded.{crowd-rejected, many-rejected}
 
 pub returns-in-Crowded : goal.returns-in-Crowded

@@ -1,0 +1,55 @@
+use Rattle.std.specs.Prelude.{◌≡◌, ◌<◌, true, List, length, None, IfErr}
+use Rattle.std.proofs.Common.{refl, sym, ◌∙◌, subst}
+use Rattle.std.proofs.lemmas.Result.{on_ok_weaker}
+use Rattle.btr_hist.specs.declared.entry.Entry.{Entry}
+use Rattle.btr_hist.specs.declared.entry.Entry.TheVariants.{Distillate}
+use Rattle.btr_hist.specs.History.{ids, spec_of}
+use Rattle.btr_hist.specs.Legal.{rejection, takes_reads, distillate_change_rejection}
+use Rattle.btr_engine.specs.Board.{Kept, IsBoardOf}
+use Rattle.btr_engine.specs.Stage.{PushCause, change, version_rejection}
+use Rattle.btr_engine.proofs.BoardStreams.{distillate-makes}
+use Rattle.btr_engine.proofs.BoardCommits.{same-change, distillate-times, distillate-tests, if_both}
+use Rattle.btr_engine.proofs.BoardNext.{kept-stream}
+use Rattle.btr_engine.proofs.RejectionBounds.{distillate_bounded}
+use Rattle.btr_engine.proofs.board.Board.stage_distillate.Goals.{In_default-distillate_change_rejection}
+use Rattle.btr_engine.proofs.board.Board.stage_distillate.Goals as goal
+
+-- The change passes the tests that look at it alone.
+passes : (c : In_default-distillate_change_rejection) → distillate_change_rejection (change c.args.cut.now c.args.added.now) ≡ None
+passes c =
+    same-change distillate_change_rejection c.args.cut.now c.as_slice.result.now c.args.added.now c.as_slice-2.result.now c.distillate_change_rejection.result c.as_slice.ensures.ranges c.as_slice-2.ensures.points c.distillate_change_rejection.ensures ∙ c.in_default-distillate_change_rejection.is
+
+-- The stream is one of the history, and takes the reads.
+stream : (c : In_default-distillate_change_rejection) (h : List Entry) → IsBoardOf h c.args.self.now → (c.args.stream < length (ids h)) × (takes_reads h c.args.stream (spec_of h c.args.stream) c.args.reads.now ≡ true)
+stream c h of =
+    let b : Kept = record { streams = c.self.inside.streams; entries = c.self.inside.entries } in
+    let was : IsBoardOf h b = subst (IsBoardOf h) (sym c.self.view_is) of in
+    let is = kept-stream h b c.args.stream c.in-Some.kept.now was c.in-Some.ensures in
+    (is.0, sym (c.takes_reads.ensures.of h c.args.stream of is.1) ∙ c.if-not-takes_reads.false)
+
+-- Only the tests of the next version are left.
+left : (c : In_default-distillate_change_rejection) (h : List Entry) → IsBoardOf h c.args.self.now → rejection h (Distillate c.args.stream c.args.cut.now c.args.added.now c.args.reads.now) ≡ version_rejection h c.args.stream (change c.args.cut.now c.args.added.now)
+left c h of =
+    let is = stream c h of in
+    distillate-tests h c.args.stream (change c.args.cut.now c.args.added.now) c.args.reads.now is.0 true is.1 None (passes c)
+
+pub stage_version-requires-clause-times : goal.stage_version-requires-clause-times
+stage_version-requires-clause-times c = distillate-times (change c.args.cut.now c.args.added.now) (passes (goal.at.stage_version-requires-clause-times c).In_default-distillate_change_rejection)
+
+pub returns-clause-allowed : goal.returns-clause-allowed
+returns-clause-allowed c h of =
+    on_ok_weaker c.stage_version.result (λ none. left (goal.at.returns-clause-allowed c).In_default-distillate_change_rejection h of ∙ none) (c.stage_version.ensures.allowed h of)
+
+pub returns-clause-staged : goal.returns-clause-staged
+returns-clause-staged c h of =
+    let e = Distillate c.args.stream c.args.cut.now c.args.added.now c.args.reads.now in
+    let its_left = left (goal.at.returns-clause-staged c).In_default-distillate_change_rejection h of in
+    if_both _ c.stage_version.result (λ none. its_left ∙ none) (c.stage_version.ensures.allowed h of) (λ allowed. c.stage_version.ensures.staged h e of (distillate-makes c.args.stream c.args.cut.now c.args.added.now c.args.reads.now) allowed)
+
+pub returns-clause-cause : goal.returns-clause-cause
+returns-clause-cause c h of =
+    subst (λ o. IfErr c.stage_version.result (PushCause o)) (sym (left (goal.at.returns-clause-cause c).In_default-distillate_change_rejection h of)) (c.stage_version.ensures.cause h of)
+
+pub returns-clause-bounds : goal.returns-clause-bounds
+returns-clause-bounds c =
+    on_ok_weaker c.stage_version.result (λ few. distillate_bounded (change c.args.cut.now c.args.added.now) c.args.reads.now (passes (goal.at.returns-clause-bounds c).In_default-distillate_change_rejection) few (c.if-not-takes_reads.ensures.few refl)) c.stage_version.ensures.points

@@ -1,0 +1,454 @@
+//! The staging of an entry: its tests, in the order of `rejection`, and the next board.
+ghost use Rattle.std.specs.Prelude.{◌≡◌, ℕ, ◌+◌, ◌-◌, ◌^◌, ◌<◌, ◌≤◌, nat_le, ◌&&◌, true, List, [], ◌∷◌, ◌++◌, length, slice_get, slice_set};
+ghost use Rattle.std.specs.Prelude.{IfOk, IfErr, IfSome, IsNone, IsTrue, OnOk, Some, None};
+ghost use Rattle.std.specs.List.{AllByRecursion};
+ghost use Rattle.std.specs.Option.{is_some, option_to_list};
+ghost use Rattle.btr_base.specs.declared.point.Point.{Point as PointSpec};
+ghost use Rattle.btr_base.specs.declared.limits.TheConstants.{MAX_POINTS};
+ghost use Rattle.btr_base.specs.Bag.{IsInOrder};
+ghost use Rattle.btr_base.specs.Point.{AreInDomain};
+ghost use Rattle.btr_base.specs.Commit.{Change};
+ghost use Rattle.btr_tree.specs.History.{nothing};
+ghost use Rattle.btr_tree.specs.Root.{TreeValue, IsTree, IsTreeFault};
+ghost use Rattle.btr_hist.specs.declared.entry.Entry.{Entry as EntrySpec};
+ghost use Rattle.btr_hist.specs.declared.entry.Entry.TheVariants as entry;
+ghost use Rattle.btr_hist.specs.Kernel.{is_good};
+ghost use Rattle.btr_hist.specs.History.{latest, spec_of, reads, nothing_read};
+ghost use Rattle.btr_hist.specs.Legal.{rejection, points_rejection, has_inputs, is_stream, takes_reads, may_read, may_read_second};
+ghost use Rattle.btr_entry.specs.Grammar.{IsWithinBounds, AreVersions};
+ghost use Rattle.btr_engine.specs.Board.{IsBoardOf, IsStreamOf, IsGrown, HasPast, place_of, ids_of};
+ghost use Rattle.btr_engine.specs.Stage.{PushCause, MakesStream, MakesVersion, IsNext, OfEachStream, change, version_rejection};
+ghost use Rattle.btr_engine.specs.Stage.{with_version};
+
+use crate::board::{Board, PushFault, Staged, Stream, read_at};
+use btr_base::{Bag, MAX_STREAMS, MAX_VERSIONS, Ranges};
+use btr_board::Trail;
+use btr_hist::{Entry, Reads, Rejection, Spec, change_rejection, distillate_change_rejection};
+use btr_tree::{Steps, Tree, TreeFault};
+use std::alloc::{AllocError, Global};
+
+impl Board {
+    /// Makes the next board, with an entry more, if the entry may follow. This board stays as it is.
+    ///
+    /// All tests come before memory is taken, except those of the points that the stream would have. A new stream costs
+    /// logarithmic time. A commit costs logarithmic time, and the nodes of the stream's tree that it touches: all other nodes
+    /// are shared with the versions before.
+    ///
+    /// Of a distillate the stream and the reads are tested, and that its stream may have the points. That its cut and its points
+    /// are those of the definition is not tested here: it follows for those that are planned.
+    pub fn stage(&self, alloc: Global, entry: &Entry) -> Result<Staged, PushFault>
+        requires few { self.now.entries < 2 ^ 64 - 1 }
+        ensures allowed { (h : List EntrySpec) → IsBoardOf h self.now → OnOk result (rejection h entry.now ≡ None) }
+        ensures staged { (h : List EntrySpec) → IsBoardOf h self.now → IfOk result (λ s. IsBoardOf (h ++ entry.now ∷ []) s.next) }
+        ensures cause { (h : List EntrySpec) → IsBoardOf h self.now → IfErr result (PushCause (rejection h entry.now)) }
+        ensures counted { IfOk result (λ s. s.next.entries ≡ self.now.entries + 1) }
+        ensures bounds { OnOk result (IsWithinBounds entry.now) }
+    {
+        match entry {
+            Entry::Create { id } => self.stage_stream(alloc, *id),
+            Entry::Define { id, spec } => self.stage_output(alloc, *id, spec),
+            Entry::Commit { stream, cut, added } => {
+                self.stage_commit(alloc, *stream, cut, added)
+            }
+            Entry::Distillate {
+                stream,
+                cut,
+                added,
+                reads,
+            } => self.stage_distillate(alloc, *stream, cut, added, reads),
+        }
+    }
+
+    /// Makes the next board with a new plain stream, if the stream may follow.
+    fn stage_stream(&self, alloc: Global, id: u128) -> Result<Staged, PushFault>
+        requires few { self.now.entries < 2 ^ 64 - 1 }
+        ensures allowed { (h : List EntrySpec) → IsBoardOf h self.now → OnOk result (rejection h (entry.Create id) ≡ None) }
+        ensures staged { (h : List EntrySpec) → IsBoardOf h self.now → IfOk result (λ s. IsBoardOf (h ++ entry.Create id ∷ []) s.next) }
+        ensures cause { (h : List EntrySpec) → IsBoardOf h self.now → IfErr result (PushCause (rejection h (entry.Create id))) }
+        ensures counted { IfOk result (λ s. s.next.entries ≡ self.now.entries + 1) }
+    {
+        if let Some(why) = self.create_rejection(id) {
+            return Err(PushFault::Rejected(why));
+        }
+        let next = self.with_stream(alloc, id, None)?;
+        Ok(Staged { next })
+    }
+
+    /// Makes the next board with a new output, if the output may follow.
+    fn stage_output(&self, alloc: Global, id: u128, spec: &Spec) -> Result<Staged, PushFault>
+        requires few { self.now.entries < 2 ^ 64 - 1 }
+        ensures allowed { (h : List EntrySpec) → IsBoardOf h self.now → OnOk result (rejection h (entry.Define id spec.now) ≡ None) }
+        ensures staged { (h : List EntrySpec) → IsBoardOf h self.now
+            → IfOk result (λ s. IsBoardOf (h ++ entry.Define id spec.now ∷ []) s.next) }
+        ensures cause { (h : List EntrySpec) → IsBoardOf h self.now → IfErr result (PushCause (rejection h (entry.Define id spec.now))) }
+        ensures counted { IfOk result (λ s. s.next.entries ≡ self.now.entries + 1) }
+        ensures bounds { OnOk result (IsWithinBounds (entry.Define id spec.now)) }
+    {
+        if let Some(why) = self.define_rejection(id, spec) {
+            return Err(PushFault::Rejected(why));
+        }
+        let next = self.with_stream(alloc, id, Some(*spec))?;
+        Ok(Staged { next })
+    }
+
+    /// Makes the next board with a new stream: an output of this spec, or a plain stream.
+    fn with_stream(&self, alloc: Global, id: u128, spec: Option<Spec>) -> Result<Board, AllocError>
+        requires few { self.now.entries < 2 ^ 64 - 1 }
+        requires room { length self.now.streams < MAX_STREAMS }
+        requires fresh { place_of (ids_of self.now.streams) id ≡ None }
+        ensures next { (h : List EntrySpec) (e : EntrySpec) → IsBoardOf h self.now → MakesStream e id spec → rejection h e ≡ None
+            → IfOk result (IsBoardOf (h ++ e ∷ [])) }
+        ensures counted { IfOk result (λ b. b.entries ≡ self.now.entries + 1) }
+    {
+        let number = self.streams.len() as u32;
+        let first = first_version(alloc, id, spec)?;
+        let streams = self.streams.push(alloc, first)?;
+        let numbers = self.numbers.insert(alloc, id, number)?;
+        Ok(Board {
+            streams,
+            numbers,
+            entries: self.entries + 1,
+        })
+    }
+
+    /// Makes the next board with a user's commit, if the commit may follow.
+    fn stage_commit(
+        &self,
+        alloc: Global,
+        stream: u32,
+        cut: &Ranges,
+        added: &Bag,
+    ) -> Result<Staged, PushFault>
+        requires few { self.now.entries < 2 ^ 64 - 1 }
+        ensures allowed { (h : List EntrySpec) → IsBoardOf h self.now
+            → OnOk result (rejection h (entry.Commit stream cut.now added.now) ≡ None) }
+        ensures staged { (h : List EntrySpec) → IsBoardOf h self.now
+            → IfOk result (λ s. IsBoardOf (h ++ entry.Commit stream cut.now added.now ∷ []) s.next) }
+        ensures cause { (h : List EntrySpec) → IsBoardOf h self.now
+            → IfErr result (PushCause (rejection h (entry.Commit stream cut.now added.now))) }
+        ensures counted { IfOk result (λ s. s.next.entries ≡ self.now.entries + 1) }
+        ensures bounds { OnOk result (IsWithinBounds (entry.Commit stream cut.now added.now)) }
+    {
+        let place = stream as usize;
+        let Some(kept) = self.streams.get(place) else {
+            return Err(PushFault::Rejected(Rejection::NoStream));
+        };
+        if kept.spec.is_some() {
+            return Err(PushFault::Rejected(Rejection::NotWritable));
+        }
+        if let Some(why) = change_rejection(cut.as_slice(), added.as_slice()) {
+            return Err(PushFault::Rejected(why));
+        }
+        self.stage_version(alloc, place, kept, cut, added, None)
+    }
+
+    /// Makes the next board with a distillate, if the distillate may follow, whatever the kernel is.
+    fn stage_distillate(
+        &self,
+        alloc: Global,
+        stream: u32,
+        cut: &Ranges,
+        added: &Bag,
+        reads: &Reads,
+    ) -> Result<Staged, PushFault>
+        requires few { self.now.entries < 2 ^ 64 - 1 }
+        ensures allowed { (h : List EntrySpec) → IsBoardOf h self.now
+            → OnOk result (rejection h (entry.Distillate stream cut.now added.now reads.now) ≡ None) }
+        ensures staged { (h : List EntrySpec) → IsBoardOf h self.now
+            → IfOk result (λ s. IsBoardOf (h ++ entry.Distillate stream cut.now added.now reads.now ∷ []) s.next) }
+        ensures cause { (h : List EntrySpec) → IsBoardOf h self.now
+            → IfErr result (PushCause (rejection h (entry.Distillate stream cut.now added.now reads.now))) }
+        ensures counted { IfOk result (λ s. s.next.entries ≡ self.now.entries + 1) }
+        ensures bounds { OnOk result (IsWithinBounds (entry.Distillate stream cut.now added.now reads.now)) }
+    {
+        let place = stream as usize;
+        let Some(kept) = self.streams.get(place) else {
+            return Err(PushFault::Rejected(Rejection::NoStream));
+        };
+        if !self.takes_reads(kept, reads) {
+            return Err(PushFault::Rejected(Rejection::NotWritable));
+        }
+        if let Some(why) = distillate_change_rejection(cut.as_slice(), added.as_slice()) {
+            return Err(PushFault::Rejected(why));
+        }
+        self.stage_version(alloc, place, kept, cut, added, Some(*reads))
+    }
+
+    /// Makes the next board with one version more of the stream at a place, which is `kept`, if the stream may have it: a commit of
+    /// this change, which has read these versions, or none if the stream is plain. All tests that look at no points have passed
+    /// but that of the number of versions.
+    fn stage_version(
+        &self,
+        alloc: Global,
+        place: usize,
+        kept: &Stream,
+        cut: &Ranges,
+        added: &Bag,
+        read: Option<Reads>,
+    ) -> Result<Staged, PushFault>
+        requires few { self.now.entries < 2 ^ 64 - 1 }
+        requires there { slice_get self.now.streams place ≡ Some kept.now }
+        requires grown { IsGrown kept.now }
+        requires of_kind { is_some read ≡ is_some kept.now.spec }
+        requires times { AreInDomain added.now }
+        ensures allowed { (h : List EntrySpec) → IsBoardOf h self.now
+            → OnOk result (version_rejection h place (change cut.now added.now) ≡ None) }
+        ensures staged { (h : List EntrySpec) (e : EntrySpec) → IsBoardOf h self.now
+            → MakesVersion e place (change cut.now added.now) read → rejection h e ≡ None
+            → IfOk result (λ s. IsBoardOf (h ++ e ∷ []) s.next) }
+        ensures cause { (h : List EntrySpec) → IsBoardOf h self.now
+            → IfErr result (PushCause (version_rejection h place (change cut.now added.now))) }
+        ensures counted { IfOk result (λ s. s.next.entries ≡ self.now.entries + 1) }
+        ensures points { OnOk result (length added.now ≤ MAX_POINTS) }
+    {
+        let tree = next_tree(alloc, &kept.trees, cut, added)?;
+        let next = self.with_version(alloc, place, kept, tree, read)?;
+        Ok(Staged { next })
+    }
+
+    /// Makes the next board with one version more of the stream at a place, which is `kept`: it has this tree, and has read these
+    /// versions. A version of a plain stream has read none.
+    fn with_version(
+        &self,
+        alloc: Global,
+        place: usize,
+        kept: &Stream,
+        tree: Tree,
+        read: Option<Reads>,
+    ) -> Result<Board, AllocError>
+        requires few { self.now.entries < 2 ^ 64 - 1 }
+        requires there { slice_get self.now.streams place ≡ Some kept.now }
+        requires room { length kept.now.trees ≤ MAX_VERSIONS }
+        requires grown { HasPast tree }
+        requires of_kind { is_some read ≡ is_some kept.now.spec }
+        ensures next { (h : List EntrySpec) (e : EntrySpec) (c : Change) → IsBoardOf h self.now → MakesVersion e place c read
+            → IsNext h place c tree → rejection h e ≡ None → IfOk result (IsBoardOf (h ++ e ∷ [])) }
+        ensures counted { IfOk result (λ b. b.entries ≡ self.now.entries + 1) }
+    {
+        let next = next_stream(alloc, kept, tree, read)?;
+        let streams = self.streams.set(alloc, place, next)?;
+        let numbers = self.numbers.share()?;
+        Ok(Board {
+            streams,
+            numbers,
+            entries: self.entries + 1,
+        })
+    }
+
+    /// Returns why a stream with this id may not be created, or `None` if it may.
+    fn create_rejection(&self, id: u128) -> Option<Rejection>
+        ensures of { (h : List EntrySpec) → IsBoardOf h self.now → result ≡ rejection h (entry.Create id) }
+        ensures room { IsNone result → length self.now.streams < MAX_STREAMS }
+        ensures fresh { IsNone result → place_of (ids_of self.now.streams) id ≡ None }
+    {
+        if self.numbers.find(id).is_some() {
+            return Some(Rejection::StreamExists);
+        }
+        if self.streams.len() >= MAX_STREAMS {
+            return Some(Rejection::StreamLimit);
+        }
+        None
+    }
+
+    /// Returns why an output with this id and spec may not be created, or `None` if it may.
+    fn define_rejection(&self, id: u128, spec: &Spec) -> Option<Rejection>
+        ensures of { (h : List EntrySpec) → IsBoardOf h self.now → result ≡ rejection h (entry.Define id spec.now) }
+        ensures room { IsNone result → length self.now.streams < MAX_STREAMS }
+        ensures fresh { IsNone result → place_of (ids_of self.now.streams) id ≡ None }
+        ensures good { IsNone result → is_good spec.now ≡ true }
+    {
+        if !self.has_inputs(spec) {
+            return Some(Rejection::NoStream);
+        }
+        if let Some(why) = self.create_rejection(id) {
+            return Some(why);
+        }
+        if !spec.is_good() {
+            return Some(Rejection::BadSpec);
+        }
+        None
+    }
+
+    /// Returns whether the inputs of a spec are streams.
+    fn has_inputs(&self, spec: &Spec) -> bool
+        ensures { (h : List EntrySpec) → IsBoardOf h self.now → result ≡ has_inputs h spec.now }
+    {
+        let has_second = match spec.second {
+            Some(stream) => self.has_stream(stream),
+            None => true,
+        };
+        self.has_stream(spec.first) && has_second
+    }
+
+    /// Returns whether there is a stream of this number.
+    fn has_stream(&self, stream: u32) -> bool
+        ensures { (h : List EntrySpec) → IsBoardOf h self.now → result ≡ is_stream h stream }
+    {
+        (stream as usize) < self.streams.len()
+    }
+
+    /// Returns whether a stream is an output whose next distillate may read these versions.
+    fn takes_reads(&self, kept: &Stream, new: &Reads) -> bool
+        ensures of { (h : List EntrySpec) (stream : ℕ) → IsBoardOf h self.now → IsStreamOf h stream kept.now
+            → result ≡ takes_reads h stream (spec_of h stream) new.now }
+        ensures output { IsTrue result → is_some kept.now.spec ≡ true }
+        ensures few { IsTrue result → AreVersions new.now }
+    {
+        match kept.spec {
+            Some(spec) => self.may_read(&spec, &latest_reads(kept, &spec), new),
+            None => false,
+        }
+    }
+
+    /// Returns whether a distillate may read these versions of its inputs, if the last one read the old ones.
+    fn may_read(&self, spec: &Spec, old: &Reads, new: &Reads) -> bool
+        ensures of { (h : List EntrySpec) → IsBoardOf h self.now → result ≡ may_read h spec.now old.now new.now }
+        ensures few { IsTrue result → AreVersions new.now }
+    {
+        self.may_read_input(spec.first, old.first, new.first)
+            && self.may_read_second(spec.second, old.second, new.second)
+    }
+
+    /// Returns whether a version of a second input may be read, or there is neither.
+    fn may_read_second(&self, stream: Option<u32>, old: Option<u64>, new: Option<u64>) -> bool
+        ensures of { (h : List EntrySpec) → IsBoardOf h self.now → result ≡ may_read_second h stream old new }
+        ensures few { IsTrue result → IfSome new (λ version. version ≤ MAX_VERSIONS) }
+    {
+        match (stream, old, new) {
+            (None, None, None) => true,
+            (Some(stream), Some(old), Some(new)) => self.may_read_input(stream, old, new),
+            _ => false,
+        }
+    }
+
+    /// Returns whether the stream has this version, and it is not before the old one.
+    fn may_read_input(&self, stream: u32, old: u64, new: u64) -> bool
+        ensures of { (h : List EntrySpec) → IsBoardOf h self.now → result ≡ (nat_le old new && nat_le new (latest h stream)) }
+        ensures few { IsTrue result → new ≤ MAX_VERSIONS }
+    {
+        let latest = match self.latest(stream) {
+            Some(latest) => latest,
+            None => 0,
+        };
+        old <= new && new <= latest
+    }
+}
+
+/// Returns a stream at version 0: an output of this spec, or a plain stream.
+fn first_version(alloc: Global, id: u128, spec: Option<Spec>) -> Result<Stream, AllocError>
+    ensures { IfOk result (λ s. (t : TreeValue) × IsTree nothing t
+        × (s ≡ record { id = id; spec = spec; trees = t ∷ []; reads = [] })) }
+{
+    let none = Trail::empty();
+    let trees = none.push(alloc, Tree::empty())?;
+    Ok(Stream {
+        id,
+        spec,
+        trees,
+        reads: Trail::empty(),
+    })
+}
+
+/// Returns a stream with one version more, which has this tree and has read these versions, if any.
+fn next_stream(
+    alloc: Global,
+    kept: &Stream,
+    tree: Tree,
+    read: Option<Reads>,
+) -> Result<Stream, AllocError>
+    ensures { IfOk result (λ s. s ≡ with_version kept.now tree read) }
+{
+    let trees = kept.trees.push(alloc, tree)?;
+    let reads = next_reads(alloc, &kept.reads, read)?;
+    Ok(Stream {
+        id: kept.id,
+        spec: kept.spec,
+        trees,
+        reads,
+    })
+}
+
+/// Returns the reads with one more, if there is one.
+fn next_reads(
+    alloc: Global,
+    reads: &Trail<Reads>,
+    read: Option<Reads>,
+) -> Result<Trail<Reads>, AllocError>
+    ensures { IfOk result (λ t. t ≡ reads.now ++ option_to_list read) }
+{
+    match read {
+        Some(read) => reads.push(alloc, read),
+        None => reads.share(),
+    }
+}
+
+/// Returns the versions of the inputs that the latest version of an output of this spec stands for: what it has read, or version 0
+/// of each.
+fn latest_reads(kept: &Stream, spec: &Spec) -> Reads
+    ensures { (h : List EntrySpec) (stream : ℕ) → IsStreamOf h stream kept.now → kept.now.spec ≡ Some spec.now
+        → result ≡ reads h stream spec.now (latest h stream) }
+{
+    match read_at(&kept.reads, kept.reads.len() as u64) {
+        Some(read) => read,
+        None => nothing_read(spec),
+    }
+}
+
+/// Returns version 0 of each input.
+fn nothing_read(spec: &Spec) -> Reads
+    ensures { result ≡ nothing_read spec.now }
+{
+    Reads {
+        first: 0,
+        second: match spec.second {
+            Some(_) => Some(0),
+            None => None,
+        },
+    }
+}
+
+/// Returns the tree of the next version of a stream with these trees, if the stream may have the version and its points. The
+/// added points lie in the domain.
+fn next_tree(
+    alloc: Global,
+    trees: &Trail<Tree>,
+    cut: &Ranges,
+    added: &Bag,
+) -> Result<Tree, PushFault>
+    requires some { 1 ≤ length trees.now }
+    requires grown { AllByRecursion HasPast trees.now }
+    requires times { AreInDomain added.now }
+    ensures allowed { OnOk result (OfEachStream trees.now (λ h stream. version_rejection h stream (change cut.now added.now) ≡ None)) }
+    ensures tree { IfOk result (λ t. OfEachStream trees.now (λ h stream. IsNext h stream (change cut.now added.now) t)) }
+    ensures cause { IfErr result (λ f. OfEachStream trees.now
+        (λ h stream. PushCause (version_rejection h stream (change cut.now added.now)) f)) }
+    ensures grown { IfOk result HasPast }
+    ensures room { OnOk result (length trees.now ≤ MAX_VERSIONS) }
+    ensures points { OnOk result (length added.now ≤ MAX_POINTS) }
+{
+    let latest = trees.len() - 1;
+    if latest >= MAX_VERSIONS {
+        return Err(PushFault::Rejected(Rejection::VersionLimit));
+    }
+    let Some(last) = trees.get(latest) else {
+        unreachable!()
+    };
+    let mut steps = Steps::new(alloc);
+    match last.apply(alloc, cut, added, latest as u64 + 1, &mut steps) {
+        Ok(applied) => Ok(applied.tree),
+        Err(fault) => Err(push_fault(fault)),
+    }
+}
+
+/// Converts a fault of the tree.
+fn push_fault(fault: TreeFault) -> PushFault
+    ensures { (b : List PointSpec) → IsTreeFault b fault → IsInOrder b → AreInDomain b → PushCause (points_rejection b) result }
+{
+    match fault {
+        TreeFault::Crowded { start } => PushFault::Rejected(Rejection::Crowded { start }),
+        TreeFault::TooManyPoints { count } => PushFault::Rejected(Rejection::TooManyPoints {
+            count,
+        }),
+        TreeFault::Want => PushFault::Want,
+    }
+}
