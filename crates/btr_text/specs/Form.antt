@@ -6,6 +6,7 @@ use Rattle.btr_hist.specs.declared.query.StreamQuery.{StreamQuery}
 use Rattle.btr_hist.specs.declared.query.StreamQuery.TheVariants.{Points, Nearest, Aligned, Windows, Changes, Info}
 use Rattle.btr_text.specs.declared.script.Line.{Line}
 use Rattle.btr_text.specs.declared.script.Line.TheVariants.{Create, Insert, Delete, Feed, Flush, Discard, Ask, Streams}
+use Rattle.btr_text.specs.Distiller.{distiller_form, refresh_form}
 use Rattle.btr_text.specs.Word.{signed_of, unsigned_of, power_of, toward_of, id_of, at_of}
 
 -- ---- commits and feeds
@@ -128,5 +129,7 @@ line_of (name ∷ ws) =
     else if bytes_eq name (codes "feed") then feed_form ws
     else if bytes_eq name (codes "flush") then flush_form ws
     else if bytes_eq name (codes "discard") then discard_form ws
+    else if bytes_eq name (codes "distiller") then distiller_form ws
+    else if bytes_eq name (codes "refresh") then refresh_form ws
     else if bytes_eq name (codes "streams") then streams_form ws
     else ask_form name ws

@@ -10,11 +10,13 @@ use Rattle.btr_text.specs.declared.reply.Reason.TheVariants as reasons
 abbrev pub reason_of_rejection : Rejection → Reason
 reason_of_rejection rejections.NoStream = reasons.Stream
 reason_of_rejection rejections.StreamExists = reasons.Exists
+reason_of_rejection rejections.NotWritable = reasons.Output
 reason_of_rejection (rejections.OutOfDomain time) = reasons.Domain time
 reason_of_rejection rejections.Empty = reasons.Empty
 reason_of_rejection (rejections.TooMany count) = reasons.Many count
 reason_of_rejection rejections.StreamLimit = reasons.Streams
 reason_of_rejection rejections.VersionLimit = reasons.Versions
+reason_of_rejection rejections.BadSpec = reasons.Spec
 reason_of_rejection (rejections.Crowded start) = reasons.Crowded start
 reason_of_rejection (rejections.TooManyPoints count) = reasons.Points count
 

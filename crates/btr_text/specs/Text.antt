@@ -1,5 +1,5 @@
 -- The text of a reply: one line of words and numbers, then one line for each row.
-use Rattle.std.specs.Prelude.{ℕ, ℤ, List, [], ◌∷◌, ◌++◌, length, flat_map, codes, decimal, Option, Some, None}
+use Rattle.std.specs.Prelude.{ℕ, ℤ, Bool, true, false, List, [], ◌∷◌, ◌++◌, length, flat_map, codes, decimal, Option, Some, None}
 use Rattle.std.specs.Int.{to_be_bytes, w128}
 use Rattle.std.specs.Fmt.{signed_decimal}
 use Rattle.std.specs.List.{join_with_byte}
@@ -11,6 +11,7 @@ use Rattle.btr_base.specs.Agg.{AggValue}
 use Rattle.btr_hist.specs.declared.answer.Rows.{Rows}
 use Rattle.btr_hist.specs.declared.answer.Rows.TheVariants as rows
 use Rattle.btr_hist.specs.declared.answer.StreamRow.{StreamRow}
+use Rattle.btr_hist.specs.declared.kernel.Reads.{Reads}
 use Rattle.btr_base.specs.declared.limits.TheConstants.{MAX_STREAMS, MAX_VERSIONS}
 use Rattle.btr_text.specs.declared.word.TheConstants.{SPACE, LINE_FEED}
 use Rattle.btr_text.specs.declared.reply.LineReply.{LineReply}
@@ -29,11 +30,14 @@ reason_words reasons.Stream = codes "stream" ∷ []
 reason_words reasons.Range = codes "range" ∷ []
 reason_words (reasons.Version asked latest) = codes "version" ∷ decimal asked ∷ decimal latest ∷ []
 reason_words reasons.Exists = codes "exists" ∷ []
+reason_words reasons.Output = codes "output" ∷ []
+reason_words reasons.Plain = codes "plain" ∷ []
 reason_words (reasons.Domain time) = codes "domain" ∷ signed_decimal time ∷ []
 reason_words reasons.Empty = codes "empty" ∷ []
 reason_words (reasons.Many count) = codes "many" ∷ decimal count ∷ []
 reason_words reasons.Streams = codes "streams" ∷ decimal MAX_STREAMS ∷ []
 reason_words reasons.Versions = codes "versions" ∷ decimal MAX_VERSIONS ∷ []
+reason_words reasons.Spec = codes "spec" ∷ []
 reason_words (reasons.Crowded start) = codes "crowded" ∷ signed_decimal start ∷ []
 reason_words (reasons.Points count) = codes "points" ∷ decimal count ∷ []
 reason_words reasons.Memory = codes "memory" ∷ []
@@ -70,20 +74,40 @@ cell_row c = line_text (signed_decimal c.start ∷ agg_words c.agg)
 abbrev pub range_row : RangeValue → List ℕ
 range_row r = line_text (signed_decimal r.from ∷ signed_decimal r.to ∷ [])
 
+-- The kind of a stream.
+abbrev pub kind_word : Bool → List ℕ
+kind_word false = codes "plain"
+kind_word true = codes "output"
+
 -- The row of a stream.
 abbrev pub stream_row : StreamRow → List ℕ
-stream_row s = line_text (id_text s.id ∷ decimal s.latest ∷ codes "plain" ∷ [])
+stream_row s = line_text (id_text s.id ∷ decimal s.latest ∷ kind_word s.output ∷ [])
 
--- The one row of `info`: the aggregate of all points of a version.
-abbrev pub info_row : AggValue → List ℕ
-info_row a = line_text (codes "plain" ∷ agg_words a)
+-- The first row of `info`: the kind of the stream, and the aggregate of all points of a version.
+abbrev pub info_row : Bool → AggValue → List ℕ
+info_row output a = line_text (kind_word output ∷ agg_words a)
+
+-- The version of a second input, if there is one.
+abbrev pub second_words : Option ℕ → List (List ℕ)
+second_words None = []
+second_words (Some version) = decimal version ∷ []
+
+-- The second row of `info`, if there is one: the versions of the inputs that the version was computed from.
+abbrev pub reads_text : Option Reads → List ℕ
+reads_text None = []
+reads_text (Some r) = line_text (codes "reads" ∷ decimal r.first ∷ second_words r.second)
+
+-- The number of rows of `info`.
+abbrev pub info_count : Option Reads → ℕ
+info_count None = 1
+info_count (Some r) = 2
 
 -- The number of rows.
 abbrev pub row_count : Rows → ℕ
 row_count (rows.Points ps) = length ps
 row_count (rows.Cells cs) = length cs
 row_count (rows.Ranges rs) = length rs
-row_count (rows.Info a) = 1
+row_count (rows.Info output a r) = info_count r
 row_count (rows.Streams ss) = length ss
 
 -- The rows, one after another.
@@ -91,7 +115,7 @@ abbrev pub rows_text : Rows → List ℕ
 rows_text (rows.Points ps) = flat_map point_row ps
 rows_text (rows.Cells cs) = flat_map cell_row cs
 rows_text (rows.Ranges rs) = flat_map range_row rs
-rows_text (rows.Info a) = info_row a
+rows_text (rows.Info output a r) = info_row output a ++ reads_text r
 rows_text (rows.Streams ss) = flat_map stream_row ss
 
 -- The line of a feed: the number of its points.

@@ -5,6 +5,7 @@ ghost use Rattle.btr_text.specs.Form.{feed_form, flush_form, discard_form};
 ghost use Rattle.btr_text.specs.Form.{range_form, nearest_form, aligned_form, windows_form, changes_form, info_form};
 ghost use Rattle.btr_text.specs.Form.{query_form, ask_form, streams_form, line_of};
 
+use crate::distiller_form::{read_distiller, read_refresh};
 use crate::script::Line;
 use crate::word::{
     next_word, read_at, read_id, read_power, read_signed, read_toward, read_unsigned,
@@ -32,6 +33,10 @@ pub fn read_form(alloc: Global, words: &[u8]) -> Result<Option<Line>, AllocError
         Ok(read_flush(rest))
     } else if name == b"discard".as_slice() {
         Ok(read_discard(rest))
+    } else if name == b"distiller".as_slice() {
+        Ok(read_distiller(rest))
+    } else if name == b"refresh".as_slice() {
+        Ok(read_refresh(rest))
     } else if name == b"streams".as_slice() {
         Ok(read_streams(rest))
     } else {

@@ -14,7 +14,8 @@ use std::alloc::{AllocError, Global};
 /// or more spaces between each two. A line that begins with `#`, or has no word, has no reply. A first word `@0` names
 /// lane 0, which is also the lane of a line without it. The forms are those of [`Line`]. An id is the text of a UUID in
 /// any of its forms (RFC 9562). Times and values are decimal digits within `i64`, with or without a minus in front. A
-/// version is digits within `u64`, or `latest`. A line that fits no form is kept without one, even if it is not UTF-8.
+/// version is digits within `u64`, or `latest`. The lead of an output is digits within `u64`, and its grain is digits, at
+/// most 255. A line that fits no form is kept without one, even if it is not UTF-8.
 ///
 /// [`Line`]: crate::Line
 pub fn read_script(alloc: Global, bytes: &[u8]) -> Result<Script, AllocError>

@@ -22,6 +22,12 @@ pub enum Reason {
     /// A stream with this id exists.
     Exists,
 
+    /// The stream is an output, which takes no commits of users.
+    Output,
+
+    /// The stream is no output, so it cannot be brought up to date.
+    Plain,
+
     /// A point is outside the domain. This is the least such time, in nanoseconds.
     Domain { time: i64 },
 
@@ -36,6 +42,9 @@ pub enum Reason {
 
     /// The stream has as many versions as it may have.
     Versions,
+
+    /// An output cannot have this spec.
+    Spec,
 
     /// A bottom span would hold too many points. This is the start of the first such span, in nanoseconds.
     Crowded { start: i64 },
@@ -64,11 +73,13 @@ impl Reason {
         match rejection {
             Rejection::NoStream => Reason::Stream,
             Rejection::StreamExists => Reason::Exists,
+            Rejection::NotWritable => Reason::Output,
             Rejection::OutOfDomain { time } => Reason::Domain { time },
             Rejection::Empty => Reason::Empty,
             Rejection::TooMany { count } => Reason::Many { count },
             Rejection::StreamLimit => Reason::Streams,
             Rejection::VersionLimit => Reason::Versions,
+            Rejection::BadSpec => Reason::Spec,
             Rejection::Crowded { start } => Reason::Crowded { start },
             Rejection::TooManyPoints { count } => Reason::Points { count },
         }

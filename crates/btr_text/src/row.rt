@@ -1,9 +1,10 @@
 ghost use Rattle.std.specs.Prelude.{◌≡◌, ◌≤◌, ℕ, List, ◌∷◌, ◌++◌, length, take, flat_map, OnOk, OnErr};
-ghost use Rattle.btr_text.specs.Text.{line_text, id_text, agg_words, point_row, cell_row, range_row, stream_row, row_count, rows_text};
+ghost use Rattle.btr_text.specs.Text.{line_text, id_text, agg_words, point_row, cell_row, range_row, stream_row};
+ghost use Rattle.btr_text.specs.Text.{kind_word, info_row, reads_text, info_count, row_count, rows_text};
 
 use crate::text::append_line;
 use btr_base::{Agg, Cell, Point, Range};
-use btr_hist::{Rows, StreamRow};
+use btr_hist::{Reads, Rows, StreamRow};
 use itoa::Buffer;
 use std::alloc::AllocError;
 use uuid::Uuid;
@@ -16,7 +17,7 @@ pub fn row_count(rows: &Rows) -> usize
         Rows::Points(points) => points.as_slice().len(),
         Rows::Cells(cells) => cells.as_slice().len(),
         Rows::Ranges(ranges) => ranges.as_slice().len(),
-        Rows::Info { .. } => 1,
+        Rows::Info { reads, .. } => info_count(*reads),
         Rows::Streams(streams) => streams.as_slice().len(),
     }
 }
@@ -30,7 +31,7 @@ pub fn append_rows(out: &mut Vec<u8>, rows: &Rows) -> Result<(), AllocError>
         Rows::Points(points) => append_each(out, points.as_slice()),
         Rows::Cells(cells) => append_each(out, cells.as_slice()),
         Rows::Ranges(ranges) => append_each(out, ranges.as_slice()),
-        Rows::Info { agg } => append_agg(out, b"plain", agg),
+        Rows::Info { output, agg, reads } => append_info(out, *output, agg, *reads),
         Rows::Streams(streams) => append_each(out, streams.as_slice()),
     }
 }
@@ -102,8 +103,62 @@ impl Row for StreamRow {
         append_line(
             out,
             id_text(self.id, &mut id).as_bytes(),
-            &[latest.format(self.latest).as_bytes(), b"plain"],
+            &[
+                latest.format(self.latest).as_bytes(),
+                kind_word(self.output),
+            ],
         )
+    }
+}
+
+/// Returns the number of rows of a version with these reads.
+fn info_count(reads: Option<Reads>) -> usize
+    ensures { result ≡ info_count reads }
+{
+    match reads {
+        None => 1,
+        Some(_) => 2,
+    }
+}
+
+/// Returns the word of a kind of streams.
+fn kind_word(output: bool) -> &'static [u8]
+    ensures { result.now ≡ kind_word output }
+{
+    if output { b"output" } else { b"plain" }
+}
+
+/// Appends the rows of a version: the kind of the stream and the aggregate, and the reads, if there are any. An `Err` may
+/// leave a part of them.
+fn append_info(
+    out: &mut Vec<u8>,
+    output: bool,
+    agg: &Agg,
+    reads: Option<Reads>,
+) -> Result<(), AllocError>
+    ensures ok { OnOk result (out.new.items ≡ out.old.items ++ (info_row output agg.now ++ reads_text reads)) }
+    ensures err { OnErr result (take (length out.old.items) out.new.items ≡ out.old.items) }
+{
+    append_agg(out, kind_word(output), agg)?;
+    append_reads(out, reads)
+}
+
+/// Appends the row of the versions that a version was computed from, if there are any. An `Err` may leave a part of it.
+fn append_reads(out: &mut Vec<u8>, reads: Option<Reads>) -> Result<(), AllocError>
+    ensures ok { OnOk result (out.new.items ≡ out.old.items ++ reads_text reads) }
+    ensures err { OnErr result (take (length out.old.items) out.new.items ≡ out.old.items) }
+{
+    let Some(reads) = reads else {
+        return Ok(());
+    };
+    let mut first = Buffer::new();
+    let first = first.format(reads.first).as_bytes();
+    match reads.second {
+        None => append_line(out, b"reads", &[first]),
+        Some(version) => {
+            let mut second = Buffer::new();
+            append_line(out, b"reads", &[first, second.format(version).as_bytes()])
+        }
     }
 }
 

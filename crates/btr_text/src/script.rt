@@ -1,33 +1,68 @@
 ghost use Rattle.std.specs.Prelude.{◌≡◌};
 
 use btr_base::Bag;
-use btr_hist::StreamQuery;
+use btr_hist::{Kernel, StreamQuery};
 use std::marker::Model;
 
 /// A line that fits a form, with the values of its words. Times are in nanoseconds.
 #[derive(Debug, Drop)]
 pub enum Line {
     /// `create ID`: a new stream.
-    Create { id: u128 },
+    Create {
+        id: u128,
+    },
 
     /// `insert ID T V [T V ..]`: one commit that adds these points.
-    Insert { id: u128, added: Bag },
+    Insert {
+        id: u128,
+        added: Bag,
+    },
 
     /// `delete ID S E`: one commit that removes the points with `from <= time < to`.
-    Delete { id: u128, from: i64, to: i64 },
+    Delete {
+        id: u128,
+        from: i64,
+        to: i64,
+    },
 
     /// `feed ID T V [T V ..]`: these points wait in the feed of the stream until they are a commit.
-    Feed { id: u128, added: Bag },
+    Feed {
+        id: u128,
+        added: Bag,
+    },
 
     /// `flush ID`: one commit that adds the points of the feed.
-    Flush { id: u128 },
+    Flush {
+        id: u128,
+    },
 
     /// `discard ID`: the points of the feed are dropped.
-    Discard { id: u128 },
+    Discard {
+        id: u128,
+    },
+
+    /// `distiller ID KERNEL LEAD GRAIN ID [ID]`: a new output, the points that the kernel computes from its one or two inputs.
+    /// A kernel is `affine A B D`, `sum`, `mean`, `least`, `greatest`, `count`, `delta`, `minus`, `angle` or `hold`.
+    Distiller {
+        id: u128,
+        kernel: Kernel,
+        lead: u64,
+        grain: u8,
+        first: u128,
+        second: Option<u128>,
+    },
+
+    /// `refresh ID`: one commit that brings an output up to date with its inputs, or nothing if it is.
+    Refresh {
+        id: u128,
+    },
 
     /// `range`, `nearest`, `aligned`, `windows`, `changes` or `info`, then ID and the words of the question: a question
     /// about one stream.
-    Ask { id: u128, query: StreamQuery },
+    Ask {
+        id: u128,
+        query: StreamQuery,
+    },
 
     /// `streams`: all streams.
     Streams,

@@ -13,9 +13,10 @@ use std::alloc::AllocError;
 /// An `Err` means out of memory, and leaves `out` as it was.
 ///
 /// A reply is `ok VERSION ROWS` and its rows, `held COUNT`, or `no WORD` with numbers. A row is `TIME VALUE` for a point, `START COUNT
-/// SUM LEAST GREATEST` for a window, `FROM TO` for a changed range, `plain COUNT SUM [LEAST GREATEST]` for all points of
-/// a version, and `ID LATEST plain` for a stream. Each line ends with a line feed, and one space separates two words.
-/// Numbers are plain decimal. An id is hyphenated and in lower case (RFC 9562).
+/// SUM LEAST GREATEST` for a window, `FROM TO` for a changed range, and `ID LATEST KIND` for a stream. All points of a version
+/// have the row `KIND COUNT SUM [LEAST GREATEST]`, and those of a version that was computed from others a second row
+/// `reads VERSION [VERSION]`, the versions of the inputs. A kind is `plain` or `output`. Each line ends with a line feed, and one
+/// space separates two words. Numbers are plain decimal. An id is hyphenated and in lower case (RFC 9562).
 pub fn write_reply(reply: &LineReply, out: &mut Vec<u8>) -> Result<(), AllocError>
     ensures ok { OnOk result (out.new.items ≡ out.old.items ++ text reply.now) }
     ensures err { OnErr result (out.new.items ≡ out.old.items) }
@@ -81,11 +82,14 @@ fn append_reason(out: &mut Vec<u8>, reason: Reason) -> Result<(), AllocError>
         Reason::Range => append_refusal(out, b"range"),
         Reason::Version { asked, latest } => append_refusal2(out, b"version", asked, latest),
         Reason::Exists => append_refusal(out, b"exists"),
+        Reason::Output => append_refusal(out, b"output"),
+        Reason::Plain => append_refusal(out, b"plain"),
         Reason::Domain { time } => append_refusal1(out, b"domain", time),
         Reason::Empty => append_refusal(out, b"empty"),
         Reason::Many { count } => append_refusal1(out, b"many", count),
         Reason::Streams => append_refusal1(out, b"streams", MAX_STREAMS),
         Reason::Versions => append_refusal1(out, b"versions", MAX_VERSIONS),
+        Reason::Spec => append_refusal(out, b"spec"),
         Reason::Crowded { start } => append_refusal1(out, b"crowded", start),
         Reason::Points { count } => append_refusal1(out, b"points", count),
         Reason::Memory => append_refusal(out, b"memory"),

@@ -1,4 +1,4 @@
-//! Reads a line of a test into its value. In a line of a test, the word `ID` is short for the id 5.
+//! Reads a line of a test into its value. In a line of a test, the word `ID` is short for the id 5, `ONE` for 1 and `TWO` for 2.
 use crate::{Line, read_script};
 use std::alloc::Global;
 use std::process::Abort;
@@ -10,6 +10,8 @@ pub(super) const ID: u128 = 5;
 /// Returns what the one line of this text says: `None` if it fits no form.
 pub(super) fn read_one(rt: &(impl Abort + AllocGlobal), text: &str) -> Result<Option<Line>, Fail> {
     let text = text.replace(rt.alloc(), " ID", " 00000000000000000000000000000005")?;
+    let text = text.replace(rt.alloc(), " ONE", " 00000000000000000000000000000001")?;
+    let text = text.replace(rt.alloc(), " TWO", " 00000000000000000000000000000002")?;
     let lines = read_script(rt.alloc(), text.as_bytes())?.into_lines();
     assert_eq!(rt; lines.len(), 1, "at {text}");
     for said in lines {

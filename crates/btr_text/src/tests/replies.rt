@@ -1,7 +1,7 @@
 //! Replies as users read them.
 use crate::{LineReply, Reason, write_reply};
 use btr_base::{Agg, Cell, Point, Range, Ranges};
-use btr_hist::{CellList, PointList, Refusal, Rejection, Rows, StreamList, StreamRow};
+use btr_hist::{CellList, PointList, Reads, Refusal, Rejection, Rows, StreamList, StreamRow};
 use std::process::Abort;
 use std::test::Fail;
 
@@ -19,6 +19,8 @@ fn each_refusal_has_its_words(rt: HostRuntime) -> Result<(), Fail> {
             "no version 7 3\n",
         ),
         (Reason::Exists, "no exists\n"),
+        (Reason::Output, "no output\n"),
+        (Reason::Plain, "no plain\n"),
         (
             Reason::Domain {
                 time: -1152921504606846977,
@@ -29,6 +31,7 @@ fn each_refusal_has_its_words(rt: HostRuntime) -> Result<(), Fail> {
         (Reason::Many { count: 65537 }, "no many 65537\n"),
         (Reason::Streams, "no streams 65536\n"),
         (Reason::Versions, "no versions 4294967295\n"),
+        (Reason::Spec, "no spec\n"),
         (Reason::Crowded { start: -4 }, "no crowded -4\n"),
         (
             Reason::Points { count: 4294967297 },
@@ -56,6 +59,7 @@ fn each_rejection_and_refusal_has_its_reason(rt: HostRuntime) {
     for (rejection, want) in [
         (Rejection::NoStream, Reason::Stream),
         (Rejection::StreamExists, Reason::Exists),
+        (Rejection::NotWritable, Reason::Output),
         (
             Rejection::OutOfDomain { time: -5 },
             Reason::Domain { time: -5 },
@@ -64,6 +68,7 @@ fn each_rejection_and_refusal_has_its_reason(rt: HostRuntime) {
         (Rejection::TooMany { count: 5 }, Reason::Many { count: 5 }),
         (Rejection::StreamLimit, Reason::Streams),
         (Rejection::VersionLimit, Reason::Versions),
+        (Rejection::BadSpec, Reason::Spec),
         (
             Rejection::Crowded { start: -8 },
             Reason::Crowded { start: -8 },
@@ -173,6 +178,15 @@ fn windows_are_written(rt: HostRuntime) -> Result<(), Fail> {
     )
 }
 
+/// Returns the rows of a version of a plain stream with this aggregate.
+fn plain(agg: Agg) -> Rows {
+    Rows::Info {
+        output: false,
+        agg,
+        reads: None,
+    }
+}
+
 #[test]
 fn aggregates_of_versions_are_written(rt: HostRuntime) -> Result<(), Fail> {
     let agg = Agg {
@@ -180,23 +194,60 @@ fn aggregates_of_versions_are_written(rt: HostRuntime) -> Result<(), Fail> {
         sum: 31626,
         ends: Some((0, 251)),
     };
-    is_written(&rt, Rows::Info { agg }, "ok 1 1\nplain 252 31626 0 251\n")?;
-    is_written(&rt, Rows::Info { agg: Agg::none() }, "ok 1 1\nplain 0 0\n")?;
+    is_written(&rt, plain(agg), "ok 1 1\nplain 252 31626 0 251\n")?;
+    is_written(&rt, plain(Agg::none()), "ok 1 1\nplain 0 0\n")?;
     let greatest = Agg::of(i64::MAX);
     is_written(
         &rt,
-        Rows::Info {
-            agg: greatest.join(&greatest),
-        },
+        plain(greatest.join(&greatest)),
         "ok 1 1\nplain 2 18446744073709551614 9223372036854775807 9223372036854775807\n",
     )?;
     let least = Agg::of(i64::MIN);
     is_written(
         &rt,
-        Rows::Info {
-            agg: least.join(&least),
-        },
+        plain(least.join(&least)),
         "ok 1 1\nplain 2 -18446744073709551616 -9223372036854775808 -9223372036854775808\n",
+    )
+}
+
+#[test]
+fn versions_of_outputs_are_written_with_their_reads(rt: HostRuntime) -> Result<(), Fail> {
+    is_written(
+        &rt,
+        Rows::Info {
+            output: true,
+            agg: Agg {
+                count: 3,
+                sum: 90,
+                ends: Some((10, 50)),
+            },
+            reads: Some(Reads {
+                first: 1,
+                second: None,
+            }),
+        },
+        "ok 1 2\noutput 3 90 10 50\nreads 1\n",
+    )?;
+    is_written(
+        &rt,
+        Rows::Info {
+            output: true,
+            agg: Agg::none(),
+            reads: Some(Reads {
+                first: 4294967295,
+                second: Some(7),
+            }),
+        },
+        "ok 1 2\noutput 0 0\nreads 4294967295 7\n",
+    )?;
+    is_written(
+        &rt,
+        Rows::Info {
+            output: true,
+            agg: Agg::none(),
+            reads: None,
+        },
+        "ok 1 1\noutput 0 0\n",
     )
 }
 
@@ -213,10 +264,12 @@ fn ranges_and_streams_are_written(rt: HostRuntime) -> Result<(), Fail> {
             StreamRow {
                 id: 0x11111111_1111_4111_8111_111111111111,
                 latest: 1,
+                output: false,
             },
             StreamRow {
                 id: 0xABCDEF,
                 latest: 18446744073709551615,
+                output: true,
             },
         ],
     )?;
@@ -224,6 +277,6 @@ fn ranges_and_streams_are_written(rt: HostRuntime) -> Result<(), Fail> {
         &rt,
         Rows::Streams(StreamList::from_rows(rows)),
         "ok 1 2\n11111111-1111-4111-8111-111111111111 1 plain\n\
-         00000000-0000-0000-0000-000000abcdef 18446744073709551615 plain\n",
+         00000000-0000-0000-0000-000000abcdef 18446744073709551615 output\n",
     )
 }
