@@ -1,5 +1,5 @@
 -- If there is room and no device fails, each reply is the model's or says that memory ran out, and so is the status.
-use Rattle.std.specs.Prelude.{◌≡◌, ◌⊎◌, ℕ, ◌+◌, ◌≤◌, nat_lt, Bool, true, false, List, [], ◌∷◌, ◌++◌, cond, ℤ, Option, Some, None}
+use Rattle.std.specs.Prelude.{◌≡◌, ◌⊎◌, ℕ, ◌≤◌, nat_lt, Bool, true, false, List, [], ◌∷◌, ◌++◌, cond, ℤ, Option, Some, None}
 use Rattle.std.proofs.Common.{refl, sym, ◌∙◌, ap, subst, arith, inl, inr, ⊎_elim}
 use Rattle.btr_hist.specs.declared.entry.Entry.{Entry}
 use Rattle.btr_hist.specs.declared.entry.Entry.TheVariants as entries
@@ -9,7 +9,10 @@ use Rattle.btr_hist.specs.declared.answer.Refusal.TheVariants as refusals
 use Rattle.btr_hist.specs.declared.rejection.Rejection.{Rejection}
 use Rattle.btr_hist.specs.declared.query.StreamQuery.{StreamQuery}
 use Rattle.btr_hist.specs.declared.rejection.Rejection.TheVariants as rejections
-use Rattle.btr_hist.specs.History.{stream_of}
+use Rattle.btr_hist.specs.declared.kernel.Kernel.{Kernel}
+use Rattle.btr_hist.specs.declared.kernel.Spec.{Spec}
+use Rattle.btr_hist.specs.History.{stream_of, spec_of, is_output}
+use Rattle.btr_hist.specs.Machine.{Landing, planned, landing}
 use Rattle.btr_hist.specs.Legal.{rejection}
 use Rattle.btr_hist.specs.Query.{of_stream}
 use Rattle.btr_hist.specs.Answer.{is_range, answer}
@@ -29,13 +32,15 @@ use Rattle.btr_feed.specs.declared.feed.Held.TheVariants.{Buffered, Due}
 use Rattle.btr_feed.specs.declared.feed.FeedFault.{FeedFault}
 use Rattle.btr_feed.specs.declared.feed.FeedFault.TheVariants.{OutOfDomain, TooMany, Want}
 use Rattle.btr_top.specs.Feeds.{Waiting, feed_of}
-use Rattle.btr_top.specs.Meaning.{Meaning, Commits, Asks, Holds, Refuses, on_stream, delete, insert, when_due, unless_fault, feed, flush, meaning, question}
-use Rattle.btr_top.specs.Replies.{Store, State, reply_of_answer, reply_of_commit, reply_to, IsNotDone, Replies, RepliesToLine, RunsScript, needs_of}
+use Rattle.btr_top.specs.Meaning.{Meaning, Commits, Asks, Holds, Current, Refuses, on_stream, delete, on_second, define, land, refresh, if_plain}
+use Rattle.btr_top.specs.Meaning.{insert, when_due, unless_fault, feed, flush, meaning, question}
+use Rattle.btr_engine.specs.Body.{need_of}
+use Rattle.btr_top.specs.Replies.{Store, State, reply_of_answer, reply_of_commit, reply_to, IsNotDone, Replies, Means, RepliesToLine, RunsScript}
+use Rattle.btr_top.specs.Replies.{need_of_meaning, after_line, needs_of}
 use Rattle.btr_top.specs.Status.{rank, code_of, greater, greatest, status_of_reply, status_of_replies}
 use Rattle.btr_top.specs.Ask.{IsAnswerOrNoMemory, AnswersEach}
 use Rattle.btr_top.proofs.StoppedStores.{ran_all}
-use Rattle.btr_top.proofs.BlocksNeeded.{need_of_meaning}
-use Rattle.btr_top.proofs.FeedRoom.{HasRoom, room_now, room_after}
+use Rattle.btr_top.proofs.ModelRuns.{left_after, line_is}
 
 -- the statuses that are left
 abbrev pub IsBenign : Status → Type 0
@@ -57,11 +62,13 @@ benign_code s benign =
 benign_rejection : (h : List Entry) (e : Entry) (why : Rejection) → IsBenign (status_of_reply (reply_of_commit h e (Some why)))
 benign_rejection h e rejections.NoStream = inr (inl refl)
 benign_rejection h e rejections.StreamExists = inr (inl refl)
+benign_rejection h e rejections.NotWritable = inr (inl refl)
 benign_rejection h e (rejections.OutOfDomain time) = inr (inl refl)
 benign_rejection h e rejections.Empty = inr (inl refl)
 benign_rejection h e (rejections.TooMany count) = inr (inl refl)
 benign_rejection h e rejections.StreamLimit = inr (inl refl)
 benign_rejection h e rejections.VersionLimit = inr (inl refl)
+benign_rejection h e rejections.BadSpec = inr (inl refl)
 benign_rejection h e (rejections.Crowded start) = inr (inl refl)
 benign_rejection h e (rejections.TooManyPoints count) = inr (inl refl)
 
@@ -86,6 +93,30 @@ benign_delete h stream from to =
       | true ↦ benign_commit h e (rejection h e)
       | false ↦ inr (inl refl)
     ]
+
+benign_on_second : (h : List Entry) (second : Option ℕ) (asked : Option ℕ → Meaning) → ((s : Option ℕ) → IsBenign (status_of_reply (reply_to h (asked s)))) → IsBenign (status_of_reply (reply_to h (on_second h second asked)))
+benign_on_second h None asked each = each None
+benign_on_second h (Some id) asked each =
+    benign_on_stream h (stream_of h id) (λ stream. asked (Some stream)) (λ stream. each (Some stream))
+
+benign_define : (h : List Entry) (id : ℕ) (kernel : Kernel) (lead grain first : ℕ) (second : Option ℕ) → IsBenign (status_of_reply (reply_to h (define h id kernel lead grain first second)))
+benign_define h id kernel lead grain first second =
+    let defined : ℕ → Option ℕ → Entry = λ f s. entries.Define id (record { kernel = kernel; lead = lead; grain = grain; first = f; second = s }) in
+    benign_on_stream h (stream_of h first) (λ f. on_second h second (λ s. Commits (defined f s))) (λ f.
+    benign_on_second h second (λ s. Commits (defined f s)) (λ s.
+    benign_commit h (defined f s) (rejection h (defined f s))))
+
+benign_land : (h : List Entry) (stream : ℕ) (spec : Spec) (plan : Option Landing) → IsBenign (status_of_reply (reply_to h (land h stream spec plan)))
+benign_land h stream spec None = inl refl
+benign_land h stream spec (Some p) = benign_commit h (landing h p spec) (rejection h (landing h p spec))
+
+benign_refresh : (h : List Entry) (stream : ℕ) (spec : Option Spec) → IsBenign (status_of_reply (reply_to h (refresh h stream spec)))
+benign_refresh h stream None = inr (inl refl)
+benign_refresh h stream (Some spec) = benign_land h stream spec (planned h stream spec)
+
+benign_plain : (h : List Entry) (output : Bool) (asked : Meaning) → IsBenign (status_of_reply (reply_to h asked)) → IsBenign (status_of_reply (reply_to h (if_plain output asked)))
+benign_plain h true asked benign = inr (inl refl)
+benign_plain h false asked benign = benign
 
 benign_insert : (h : List Entry) (stream : ℕ) (points : List Point) → IsBenign (status_of_reply (reply_to h (insert stream points)))
 benign_insert h stream points = benign_commit h (entries.Commit stream [] (sort points)) (rejection h (entries.Commit stream [] (sort points)))
@@ -121,10 +152,15 @@ benign_model batch h w (Some (lines.Insert id added)) =
 benign_model batch h w (Some (lines.Delete id from to)) =
     benign_on_stream h (stream_of h id) (λ stream. delete stream from to) (λ stream. benign_delete h stream from to)
 benign_model batch h w (Some (lines.Feed id added)) =
-    benign_on_stream h (stream_of h id) (λ stream. feed batch stream (w stream) added) (λ stream. benign_feed h batch stream (w stream) added)
+    benign_on_stream h (stream_of h id) (λ stream. if_plain (is_output h stream) (feed batch stream (w stream) added)) (λ stream.
+    benign_plain h (is_output h stream) (feed batch stream (w stream) added) (benign_feed h batch stream (w stream) added))
 benign_model batch h w (Some (lines.Flush id)) =
-    benign_on_stream h (stream_of h id) (λ stream. flush stream (w stream)) (λ stream. benign_flush h stream (w stream))
+    benign_on_stream h (stream_of h id) (λ stream. if_plain (is_output h stream) (flush stream (w stream))) (λ stream.
+    benign_plain h (is_output h stream) (flush stream (w stream)) (benign_flush h stream (w stream)))
 benign_model batch h w (Some (lines.Discard id)) = benign_on_stream h (stream_of h id) (λ stream. Holds 0) (λ stream. inl refl)
+benign_model batch h w (Some (lines.Distiller id kernel lead grain first second)) = benign_define h id kernel lead grain first second
+benign_model batch h w (Some (lines.Refresh id)) =
+    benign_on_stream h (stream_of h id) (λ stream. refresh h stream (spec_of h stream)) (λ stream. benign_refresh h stream (spec_of h stream))
 benign_model batch h w (Some (lines.Ask id query)) = benign_ask h id query
 benign_model batch h w (Some lines.Streams) = inl refl
 
@@ -152,6 +188,7 @@ none_not_done s t (Commits e) reply room runs h =
     h
 none_not_done s t (Asks query) reply room runs h = h
 none_not_done s t (Holds count) reply room runs h = h
+none_not_done s t (Current version) reply room runs h = h
 none_not_done s t (Refuses reason) reply room runs h = h
 
 along : (reply other : LineReply) → reply ≡ other → IsBenign (status_of_reply other) → IsBenign (status_of_reply reply)
@@ -176,7 +213,67 @@ one_of_two P false a b p q = p
 benign_greater : (a b : Status) → IsBenign a → IsBenign b → IsBenign (greater a b)
 benign_greater a b first second = one_of_two (λ s. IsBenign s) (nat_lt (rank a) (rank b)) a b first second
 
-benign_from : (batch : ℕ) (status : Status) (s t : State) (lines : List ScriptLine) (replies : List LineReply) → IsBenign status → RunsScript batch s lines replies t → HasRoom s.waiting (needs_of lines) s.store.left → t.store.stopped ≡ false → IsBenign (greatest status replies)
+-- once memory ran out, no later line changes the status
+abbrev Within : Status → Type 0
+Within s = greater OutOfMemory s ≡ OutOfMemory
+
+within_benign : (s : Status) → IsBenign s → Within s
+within_benign s benign =
+    ⊎_elim
+    (λ e. subst Within (sym e) refl)
+    (λ h. ⊎_elim (λ e. subst Within (sym e) refl) (λ e. subst Within (sym e) refl) h)
+    benign
+
+within_reply : (reply other : LineReply) → reply ≡ other → Within (status_of_reply other) → Within (status_of_reply reply)
+within_reply reply other e within = subst (λ r. Within (status_of_reply r)) (sym e) within
+
+within_not_done : (s t : Store) (m : Meaning) (reply : LineReply) → t.stopped ≡ false → IsNotDone s m reply t → Within (status_of_reply reply)
+within_not_done s t (Commits e) reply runs h =
+    ⊎_elim
+    (λ full. within_reply reply (No (reasons.Full (need_of e) s.left)) full.replied refl)
+    (λ h. ⊎_elim
+    (λ fault. absurd (apart t.stopped (ap (λ (x : Store). x.stopped) fault.store) runs))
+    (λ stopped. absurd (apart t.stopped (ap (λ (x : Store). x.stopped) stopped.store ∙ stopped.stopped) runs))
+    h)
+    h
+within_not_done s t (Asks query) reply runs h = absurd h
+within_not_done s t (Holds count) reply runs h = absurd h
+within_not_done s t (Current version) reply runs h = absurd h
+within_not_done s t (Refuses reason) reply runs h = absurd h
+
+within_one : (s t : Store) (m : Meaning) (reply : LineReply) → Replies s m reply t → IsBenign (status_of_reply (reply_to s.history m)) → t.stopped ≡ false → Within (status_of_reply reply)
+within_one s t m reply replied benign runs =
+    ⊎_elim
+    (λ model. within_reply reply (reply_to s.history m) model.replied (within_benign (status_of_reply (reply_to s.history m)) benign))
+    (λ h. ⊎_elim (λ not. within_not_done s t m reply runs not) (λ lacks. within_reply reply (No reasons.Memory) lacks.replied refl) h)
+    replied
+
+ran_out_from : (batch : ℕ) (s t : State) (lines : List ScriptLine) (replies : List LineReply) → RunsScript batch s lines replies t → t.store.stopped ≡ false → greatest OutOfMemory replies ≡ OutOfMemory
+ran_out_from batch s t [] [] script runs = refl
+ran_out_from batch s t [] (reply ∷ replies) script runs = absurd script
+ran_out_from batch s t (line ∷ lines) [] script runs = absurd script
+ran_out_from batch s t (line ∷ lines) (reply ∷ replies) script runs =
+    let u : State = script.0 in
+    let m : Meaning = script.1 in
+    let is : RepliesToLine batch s line.line m reply u = script.2 in
+    let one : Within (status_of_reply reply) = within_one s.store u.store m reply is.replied (benign_means batch s line.line m reply u is) (ran_all batch u t lines replies script.3 runs) in
+    ap (λ x. greatest x replies) one ∙ ran_out_from batch u t lines replies script.3 runs
+
+need_of_done : (batch : ℕ) (s : State) (line : Option Line) (m : Meaning) → Means batch s line m → need_of_meaning m ≤ need_of_meaning (meaning batch s.store.history s.waiting line)
+need_of_done batch s line m means =
+    ⊎_elim
+    (λ e. omega (arith, ap (λ x. need_of_meaning x) e))
+    (λ lacks. omega (arith, ap (λ x. need_of_meaning x) lacks.1))
+    means
+
+memory_next : (status : Status) → IsBenign status → greater status OutOfMemory ≡ OutOfMemory
+memory_next status benign =
+    ⊎_elim
+    (λ e. subst (λ s. greater s OutOfMemory ≡ OutOfMemory) (sym e) refl)
+    (λ h. ⊎_elim (λ e. subst (λ s. greater s OutOfMemory ≡ OutOfMemory) (sym e) refl) (λ e. subst (λ s. greater s OutOfMemory ≡ OutOfMemory) (sym e) refl) h)
+    benign
+
+benign_from : (batch : ℕ) (status : Status) (s t : State) (lines : List ScriptLine) (replies : List LineReply) → IsBenign status → RunsScript batch s lines replies t → needs_of batch s lines ≤ s.store.left → t.store.stopped ≡ false → IsBenign (greatest status replies)
 benign_from batch status s t [] [] benign script room runs = benign
 benign_from batch status s t [] (reply ∷ replies) benign script room runs = absurd script
 benign_from batch status s t (line ∷ lines) [] benign script room runs = absurd script
@@ -184,11 +281,21 @@ benign_from batch status s t (line ∷ lines) (reply ∷ replies) benign script 
     let u : State = script.0 in
     let m : Meaning = script.1 in
     let is : RepliesToLine batch s line.line m reply u = script.2 in
-    let needs : ℕ = needs_of lines in
-    let one = benign_reply s.store u.store m reply is.replied (benign_means batch s line.line m reply u is) (room_now batch s u line.line m reply needs is room) (ran_all batch u t lines replies script.3 runs) in
-    benign_from batch (greater status (status_of_reply reply)) u t lines replies (benign_greater status (status_of_reply reply) benign one) script.3 (room_after batch s u line.line m reply needs is room) runs
+    let asked : Meaning = meaning batch s.store.history s.waiting line.line in
+    let v : State = after_line batch s line.line in
+    let running : u.store.stopped ≡ false = ran_all batch u t lines replies script.3 runs in
+    ⊎_elim
+    (λ same.
+    let left : needs_of batch u lines ≤ u.store.left = subst (λ (x : State). needs_of batch x lines ≤ x.store.left) (sym same) (omega (arith, room, left_after s.store asked)) in
+    let one : IsBenign (status_of_reply reply) = benign_reply s.store u.store m reply is.replied (benign_means batch s line.line m reply u is) (omega (arith, room, need_of_done batch s line.line m is.means)) running in
+    benign_from batch (greater status (status_of_reply reply)) u t lines replies (benign_greater status (status_of_reply reply) benign one) script.3 left runs)
+    (λ h. ⊎_elim
+    (λ memory. inr (inr (ap (λ r. greatest (greater status (status_of_reply r)) replies) memory ∙ ap (λ x. greatest x replies) (memory_next status benign) ∙ ran_out_from batch u t lines replies script.3 runs)))
+    (λ not. absurd (none_not_done s.store u.store m reply (subst (λ (x : Meaning). need_of_meaning x ≤ s.store.left) (sym not.0) (omega (arith, room))) running not.1))
+    h)
+    (line_is batch s u line.line m reply is)
 
-pub benign_script : (batch : ℕ) (s t : State) (lines : List ScriptLine) (replies : List LineReply) → RunsScript batch s lines replies t → HasRoom s.waiting (needs_of lines) s.store.left → t.store.stopped ≡ false → IsBenign (status_of_replies replies)
+pub benign_script : (batch : ℕ) (s t : State) (lines : List ScriptLine) (replies : List LineReply) → RunsScript batch s lines replies t → needs_of batch s lines ≤ s.store.left → t.store.stopped ≡ false → IsBenign (status_of_replies replies)
 benign_script batch s t lines replies script room runs = benign_from batch Done s t lines replies (inl refl) script room runs
 
 -- ---- questions alone
@@ -201,6 +308,8 @@ benign_question h (Some (lines.Delete id from to)) = inr (inl refl)
 benign_question h (Some (lines.Feed id added)) = inr (inl refl)
 benign_question h (Some (lines.Flush id)) = inr (inl refl)
 benign_question h (Some (lines.Discard id)) = inr (inl refl)
+benign_question h (Some (lines.Distiller id kernel lead grain first second)) = inr (inl refl)
+benign_question h (Some (lines.Refresh id)) = inr (inl refl)
 benign_question h (Some (lines.Ask id query)) = benign_ask h id query
 benign_question h (Some lines.Streams) = inl refl
 
@@ -209,6 +318,7 @@ benign_answered h (Commits e) reply benign is = along reply (reply_to h (Commits
 benign_answered h (Asks query) reply benign is =
     ⊎_elim (λ answered. along reply (reply_to h (Asks query)) answered benign) (λ lacks. along reply (No reasons.Memory) lacks (inr (inr refl))) is
 benign_answered h (Holds count) reply benign is = along reply (reply_to h (Holds count)) is benign
+benign_answered h (Current version) reply benign is = along reply (reply_to h (Current version)) is benign
 benign_answered h (Refuses reason) reply benign is = along reply (reply_to h (Refuses reason)) is benign
 
 benign_answers_from : (status : Status) (h : List Entry) (lines : List ScriptLine) (replies : List LineReply) → IsBenign status → AnswersEach h lines replies → IsBenign (greatest status replies)

@@ -1,5 +1,5 @@
 -- What a crash leaves of lines that ran on an engine, from the links that the steps of the engine give.
-use Rattle.std.specs.Prelude.{◌≡◌, ◌⊎◌, ℕ, ◌≤◌, true, List, [], ◌∷◌, ◌++◌, length, Option}
+use Rattle.std.specs.Prelude.{◌≡◌, ◌⊎◌, ℕ, ◌≤◌, true, List, [], ◌∷◌, length, Option}
 use Rattle.std.proofs.Common.{refl, sym, ◌∙◌, ap, subst, inl, inr, ⊎_elim, arith}
 use Rattle.std.proofs.lemmas.List.{append-nil}
 use Rattle.btr_disk.specs.declared.disk.Disk.{Ghosts}
@@ -20,7 +20,7 @@ use Rattle.btr_engine.specs.Step.{IsBeforeOrAfter}
 use Rattle.btr_top.specs.Feeds.{none_waiting}
 use Rattle.btr_top.specs.Meaning.{Meaning, Commits, Refuses, meaning}
 use Rattle.btr_top.specs.Replies.{State, Means, begun}
-use Rattle.btr_top.specs.Crash.{InFlight, IsInFlight, HoldsOneMore, HoldsPrefix, HoldsStoreOrMore, Keeps, CommitCalls, LineMoves, KeepsEachLine, CrashLeavesPrefix}
+use Rattle.btr_top.specs.Crash.{InFlight, IsInFlight, HoldsOneMore, HoldsPrefix, HoldsStoreOrMore, Keeps, LineMoves, KeepsEachLine, CrashLeavesPrefix}
 use Rattle.btr_top.specs.EngineScript.{EngineOf, LaneOf, lane_of, store_of, state_of, CallsDevice, IsCommitted, IsAnsweredNoDevice, Answers, AnswersLine, RunsLines}
 use Rattle.btr_top.proofs.ScriptLemmas.{reply_of_line}
 use Rattle.btr_top.proofs.Prefixes.{Grows, Grows-refl, Grows-trans, longer, holds_whole, in_flight_first, in_flight_later}

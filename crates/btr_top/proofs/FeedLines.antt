@@ -1,5 +1,5 @@
 -- Lines of feeds: what a reply and the points that then wait make of a line.
-use Rattle.std.specs.Prelude.{◌≡◌, ◌⊎◌, ℕ, ◌==◌, true, false, List, [], ◌∷◌, ◌++◌, length, Option, Some, None, option_map, Result, Ok, Err, OnOk, IfErr}
+use Rattle.std.specs.Prelude.{◌≡◌, ◌⊎◌, ℕ, ◌==◌, Bool, true, false, List, [], ◌∷◌, ◌++◌, length, Option, Some, None, option_map, Result, Ok, Err}
 use Rattle.std.proofs.Common.{refl, sym, ◌∙◌, ap, subst, inl, inr, ⊎_elim, arith}
 use Rattle.std.proofs.lemmas.Bool.{eqb-true}
 use Rattle.btr_base.specs.declared.point.Point.{Point}
@@ -10,9 +10,9 @@ use Rattle.btr_feed.specs.Feed.{held, insert_fault, FailsBy}
 use Rattle.btr_feed.specs.declared.feed.Held.{Held}
 use Rattle.btr_feed.specs.declared.feed.Held.TheVariants.{Buffered, Due}
 use Rattle.btr_feed.specs.declared.feed.FeedFault.{FeedFault}
-use Rattle.btr_feed.specs.declared.feed.FeedFault.TheVariants.{OutOfDomain, TooMany, Want}
+use Rattle.btr_feed.specs.declared.feed.FeedFault.TheVariants.{Want}
 use Rattle.btr_hist.specs.declared.entry.Entry.{Entry}
-use Rattle.btr_hist.specs.History.{stream_of}
+use Rattle.btr_hist.specs.History.{stream_of, is_output}
 use Rattle.btr_text.specs.declared.script.Line.{Line}
 use Rattle.btr_text.specs.declared.script.Line.TheVariants as lines
 use Rattle.btr_text.specs.declared.reply.LineReply.{LineReply}
@@ -22,9 +22,9 @@ use Rattle.btr_text.specs.declared.reply.Reason.TheVariants as reasons
 use Rattle.btr_engine.specs.declared.engine.Engine.{Engine}
 use Rattle.btr_engine.specs.Engine.{IsEngineOf}
 use Rattle.btr_top.specs.Feeds.{Waiting, with_points, feed_of, fed}
-use Rattle.btr_top.specs.Meaning.{Meaning, Commits, Asks, Holds, Refuses, on_stream, insert, when_due, reason_of_fault, unless_fault, feed, flush, meaning}
+use Rattle.btr_top.specs.Meaning.{Meaning, Holds, Refuses, on_stream, if_plain, insert, when_due, reason_of_fault, unless_fault, feed, flush, meaning}
 use Rattle.btr_top.specs.Replies.{points_after, left_over, Means, waiting_after}
-use Rattle.btr_top.specs.EngineScript.{lane_of, state_of, AnswersFrom, AnswersFeed, AnswersAdded, AnswersLine, AnswersLineFrom}
+use Rattle.btr_top.specs.EngineScript.{lane_of, state_of, AnswersFrom, AnswersFeed, AnswersAdded, AnswersLineFrom}
 use Rattle.btr_top.proofs.Meanings.{answers_question}
 use Rattle.btr_top.proofs.WaitingLemmas.{at_stream, with_points-own, with_points-twice}
 
@@ -143,25 +143,59 @@ module _ {D : Type 0} {disk : Ghosts D} (batch : ℕ) (h : List Entry) (old : En
       })
       (some_fault (insert_fault (feed_of batch stream (w stream)) added) result fault fails is)
 
-  pub line_added : (id stream : ℕ) (added : List Point) (reply : LineReply) (new : Engine D disk) (after : Waiting) → stream_of h id ≡ Some stream → AnswersAdded batch h old w stream added reply new after → AnswersLineFrom batch h old w (Some (lines.Feed id added)) reply new after
-  line_added id stream added reply new after is answers =
-      let means : meaning batch h w (Some (lines.Feed id added)) ≡ feed batch stream (w stream) added = ap (λ o. on_stream o (λ s. feed batch s (w s) added)) is in
+  -- a line that feeds points to a stream that is there asks for this
+  feed_means : (id stream : ℕ) (added : List Point) (output : Bool) → stream_of h id ≡ Some stream → is_output h stream ≡ output → meaning batch h w (Some (lines.Feed id added)) ≡ if_plain output (feed batch stream (w stream) added)
+  feed_means id stream added output is kind =
+      ap (λ o. on_stream o (λ s. if_plain (is_output h s) (feed batch s (w s) added))) is
+      ∙ ap (λ t. if_plain t (feed batch stream (w stream) added)) kind
+
+  fed_points : (id stream : ℕ) (added : List Point) → stream_of h id ≡ Some stream → fed h w (Some (lines.Feed id added)) ≡ Some (stream, w stream ++ added)
+  fed_points id stream added is = ap (λ o. option_map (λ s. (s, w s ++ added)) o) is
+
+  pub line_added : (id stream : ℕ) (added : List Point) (reply : LineReply) (new : Engine D disk) (after : Waiting) → stream_of h id ≡ Some stream → is_output h stream ≡ false → AnswersAdded batch h old w stream added reply new after → AnswersLineFrom batch h old w (Some (lines.Feed id added)) reply new after
+  line_added id stream added reply new after is plain answers =
+      let means : meaning batch h w (Some (lines.Feed id added)) ≡ feed batch stream (w stream) added = feed_means id stream added false is plain in
       feed_line (Some (lines.Feed id added)) stream (w stream ++ added) answers.asked reply new after
       (⊎_elim
       (λ asked. inl (asked ∙ sym means))
-      (λ lacks. inr ((stream, is, lacks.0), lacks.1))
+      (λ lacks. inr ((stream, is, plain, lacks.0), lacks.1))
       answers.means)
-      (ap (λ o. option_map (λ s. (s, w s ++ added)) o) is)
+      (fed_points id stream added is)
       answers.feed_answers
+
+  -- an output takes no points
+  pub feed_refused : (id stream : ℕ) (added : List Point) (reply : LineReply) → IsEngineOf h old → stream_of h id ≡ Some stream → is_output h stream ≡ true → reply ≡ replies.No reasons.Output → AnswersLineFrom batch h old w (Some (lines.Feed id added)) reply old w
+  feed_refused id stream added reply of is output replied =
+      feed_line (Some (lines.Feed id added)) stream (w stream ++ added) (Refuses reasons.Output) reply old w
+      (inl (sym (feed_means id stream added true is output)))
+      (fed_points id stream added is)
+      (refuses stream (w stream ++ added) reasons.Output reply w of replied (with_points-own stream w))
 
   -- ---- flush and discard
 
-  pub line_flushed : (id stream : ℕ) (reply : LineReply) (new : Engine D disk) (after : Waiting) → stream_of h id ≡ Some stream → AnswersFeed h old w stream (w stream) (flush stream (w stream)) reply new after → AnswersLineFrom batch h old w (Some (lines.Flush id)) reply new after
-  line_flushed id stream reply new after is answers =
+  -- a line that flushes the feed of a stream that is there asks for this
+  flush_means : (id stream : ℕ) (output : Bool) → stream_of h id ≡ Some stream → is_output h stream ≡ output → meaning batch h w (Some (lines.Flush id)) ≡ if_plain output (flush stream (w stream))
+  flush_means id stream output is kind =
+      ap (λ o. on_stream o (λ s. if_plain (is_output h s) (flush s (w s)))) is
+      ∙ ap (λ t. if_plain t (flush stream (w stream))) kind
+
+  flushed_points : (id stream : ℕ) → stream_of h id ≡ Some stream → fed h w (Some (lines.Flush id)) ≡ Some (stream, w stream)
+  flushed_points id stream is = ap (λ o. option_map (λ s. (s, w s)) o) is
+
+  pub line_flushed : (id stream : ℕ) (reply : LineReply) (new : Engine D disk) (after : Waiting) → stream_of h id ≡ Some stream → is_output h stream ≡ false → AnswersFeed h old w stream (w stream) (flush stream (w stream)) reply new after → AnswersLineFrom batch h old w (Some (lines.Flush id)) reply new after
+  line_flushed id stream reply new after is plain answers =
       feed_line (Some (lines.Flush id)) stream (w stream) (flush stream (w stream)) reply new after
-      (inl (ap (λ o. on_stream o (λ s. flush s (w s))) (sym is)))
-      (ap (λ o. option_map (λ s. (s, w s)) o) is)
+      (inl (sym (flush_means id stream false is plain)))
+      (flushed_points id stream is)
       answers
+
+  -- no points wait for an output
+  pub flush_refused : (id stream : ℕ) (reply : LineReply) → IsEngineOf h old → stream_of h id ≡ Some stream → is_output h stream ≡ true → reply ≡ replies.No reasons.Output → AnswersLineFrom batch h old w (Some (lines.Flush id)) reply old w
+  flush_refused id stream reply of is output replied =
+      feed_line (Some (lines.Flush id)) stream (w stream) (Refuses reasons.Output) reply old w
+      (inl (sym (flush_means id stream true is output)))
+      (flushed_points id stream is)
+      (refuses stream (w stream) reasons.Output reply w of replied (with_points-own stream w))
 
   flush_of_none : (stream : ℕ) (points : List Point) → (length points == 0) ≡ true → flush stream points ≡ Refuses reasons.Empty
   flush_of_none stream [] is = refl

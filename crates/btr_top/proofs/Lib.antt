@@ -7,6 +7,7 @@ mod StoppedStores
 mod KeptOpening
 mod ScriptLemmas
 mod Legality
+mod Refreshes
 -- what a crash leaves
 mod Prefixes
 mod Crashes
@@ -14,10 +15,11 @@ mod Crashes
 mod OpenedStore
 mod AskedLines
 -- if nothing fails
-mod BlocksNeeded
-mod FeedRoom
+mod ModelRuns
 mod BenignStatuses
 mod LiveCompletes
 mod AskCompletes
 mod Meanings
 mod FeedLines
+mod OutputLines
+mod SightLemmas

@@ -1,5 +1,5 @@
 -- If the device holds a store with room, and nothing fails, `live` runs the whole script.
-use Rattle.std.specs.Prelude.{◌≡◌, ℕ, Bool, true, false, List}
+use Rattle.std.specs.Prelude.{◌≡◌, ℕ, ◌≤◌, Bool, true, false, List}
 use Rattle.std.proofs.Common.{refl, sym, ◌∙◌, ap, subst, arith, inr, ⊎_elim}
 use Rattle.btr_io.specs.declared.source.Source.{Ghosts as SourceGhosts}
 use Rattle.btr_io.specs.declared.sink.Sink.{Ghosts as SinkGhosts}
@@ -10,12 +10,13 @@ use Rattle.btr_super.specs.declared.superblock.Super.{Super}
 use Rattle.btr_super.proofs.ChoiceLemmas.{one_chosen}
 use Rattle.btr_log.specs.Extents.{left, first_gate}
 use Rattle.btr_log.proofs.ExtentLemmas.{Extents-one}
+use Rattle.btr_hist.specs.declared.entry.Entry.{Entry}
 use Rattle.btr_text.specs.Input.{script_of}
 use Rattle.btr_text.specs.declared.script.ScriptLine.{ScriptLine}
 use Rattle.btr_text.specs.declared.reply.LineReply.{LineReply}
 use Rattle.btr_engine.specs.Body.{bodies}
 use Rattle.btr_engine.specs.Holds.{HoldsHistory}
-use Rattle.btr_open.specs.Laws.{HeldIsSound}
+use Rattle.btr_open.specs.Laws.{HeldIsSound, OneHistoryIsHeld}
 use Rattle.btr_top.specs.declared.ending.Ending.{Ending}
 use Rattle.btr_top.specs.declared.ending.Ending.TheVariants.{Usage, NoSource, TooLong, OutOfMemory, NoDevice, NoStore, Damaged, Occupied, TooSmall, Formatted, Replied}
 use Rattle.btr_top.specs.declared.status.Status.{Status}
@@ -24,7 +25,6 @@ use Rattle.btr_top.specs.Replies.{Store, begun, needs_of}
 use Rattle.btr_top.specs.Status.{code_of, status_of_replies}
 use Rattle.btr_top.specs.Script.{HasRead, InputCause, ExceedsInputLimit}
 use Rattle.btr_top.specs.Live.{HoldsStore, RunsOnDevice, ScriptCause, LiveCause, CanLive}
-use Rattle.btr_top.proofs.FeedRoom.{pending-none}
 use Rattle.btr_top.proofs.BenignStatuses.{IsBenignStatus, benign_code, benign_script}
 
 never : (b : Bool) → (b ≡ true → ⊥) → b ≡ false
@@ -58,7 +58,7 @@ benign_input source given rest works within (TooSmall asked has) why = absurd wh
 benign_input source given rest works within (Formatted blocks) why = absurd why
 benign_input source given rest works within (Replied transcript) why = absurd why
 
-module _ {S D : Type 0} (source : SourceGhosts S) (disk : Ghosts D) (batch : ℕ) (given rest : S) (old new : D) (sound : HeldIsSound) (can : CanLive source disk given old) (source_told : source.is_observable) (told : disk.is_observable) (source_works : StreamRose (source.faults given) (source.faults rest) → ⊥) (device_works : Rose (disk.faults old) (disk.faults new) → ⊥) where
+module _ {S D : Type 0} (source : SourceGhosts S) (disk : Ghosts D) (batch : ℕ) (given rest : S) (old new : D) (sound : HeldIsSound) (one : OneHistoryIsHeld) (can : CanLive source disk batch given old) (source_told : source.is_observable) (told : disk.is_observable) (source_works : StreamRose (source.faults given) (source.faults rest) → ⊥) (device_works : Rose (disk.faults old) (disk.faults new) → ⊥) where
   holds : HoldsHistory (disk.size old) (disk.contents old) can.history
   holds = record { blocks = can.blocks; tail = can.tail; holds = can.holds }
 
@@ -75,12 +75,26 @@ module _ {S D : Type 0} (source : SourceGhosts S) (disk : Ghosts D) (batch : ℕ
       let tails : is.tail ≡ can.tail = (Extents-one image first_gate (bodies first.history) (bodies can.history) is.tail can.tail is.holds.extents is.holds.closed can.holds.extents can.holds.closed).1 in
       is.same_left ∙ ap (λ b. left b is.tail) blocks ∙ ap (λ t. left can.blocks t) tails
 
+  -- the store that the device holds
+  abbrev opened : Store
+  opened = record { history = can.history; left = left can.blocks can.tail; stopped = false }
+
+  same_store : (first : Store) → first.stopped ≡ false → HoldsStore disk old first → first ≡ opened
+  same_store first runs is =
+      let held : HoldsHistory (disk.size old) (disk.contents old) first.history = record { blocks = is.blocks; tail = is.tail; holds = is.holds } in
+      let histories : first.history ≡ can.history = one (disk.size old) (disk.contents old) first.history can.history held holds in
+      ap (λ (h : List Entry). record { history = h; left = first.left; stopped = first.stopped }) histories
+      ∙ ap (λ (n : ℕ). record { history = can.history; left = n; stopped = first.stopped }) (same_room first is)
+      ∙ ap (λ (b : Bool). record { history = can.history; left = left can.blocks can.tail; stopped = b }) runs
+
   benign_replies : (lines : List ScriptLine) (replies : List LineReply) → lines ≡ script_of (source.left given) → RunsOnDevice disk batch lines replies old new → IsBenignStatus (code_of (status_of_replies replies))
   benign_replies lines replies all runs =
       let running : runs.last.store.stopped ≡ false = never runs.last.store.stopped (λ stopped. device_works (runs.failed stopped)) in
-      let needs : needs_of lines ≡ needs_of (script_of (source.left given)) = ap (λ (ls : List ScriptLine). needs_of ls) all in
-      let same : runs.first.left ≡ left can.blocks can.tail = same_room runs.first (runs.before told) in
-      benign_code (status_of_replies replies) (benign_script batch (begun runs.first) runs.last lines replies runs.script (λ k. omega (arith, pending-none k, needs, same, can.room)) running)
+      let same : runs.first ≡ opened = same_store runs.first runs.not_stopped (runs.before told) in
+      let room : needs_of batch (begun runs.first) lines ≤ runs.first.left =
+      subst (λ (s : Store). needs_of batch (begun s) lines ≤ s.left) (sym same)
+      (subst (λ (ls : List ScriptLine). needs_of batch (begun opened) ls ≤ opened.left) (sym all) can.room) in
+      benign_code (status_of_replies replies) (benign_script batch (begun runs.first) runs.last lines replies runs.script room running)
 
   benign_cause : (lines : List ScriptLine) → HasRead source lines given rest → (e : Ending) → ScriptCause disk batch lines old new e → IsBenignStatus (status_of e)
   benign_cause lines read Usage why = absurd why.0

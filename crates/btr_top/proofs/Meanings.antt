@@ -1,7 +1,7 @@
 -- What lines mean: a delete of a stream that is there, and a question, which changes nothing.
 use Rattle.std.specs.Prelude.{◌≡◌, ℕ, ℤ, Bool, true, false, cond, nat_le, nat_lt, length, List, [], ◌∷◌, Option, None, Some}
 use Rattle.std.specs.Option.{option_map}
-use Rattle.std.proofs.Common.{refl, ap, ◌∙◌, subst, arith, inl, inr, ⊎_elim}
+use Rattle.std.proofs.Common.{refl, sym, ap, ◌∙◌, subst, arith, inl, inr, ⊎_elim}
 use Rattle.std.proofs.lemmas.Bool.{lt-leb}
 use Rattle.std.proofs.lemmas.Int.{ints}
 use Rattle.btr_base.specs.declared.point.Point.{Point}
@@ -13,8 +13,9 @@ use Rattle.btr_hist.specs.declared.entry.Entry.{Entry}
 use Rattle.btr_hist.specs.declared.entry.Entry.TheVariants as entries
 use Rattle.btr_hist.specs.declared.query.StreamQuery.{StreamQuery}
 use Rattle.btr_hist.specs.Query.{of_stream}
-use Rattle.btr_hist.specs.declared.rejection.Rejection.TheVariants.{NoStream, VersionLimit, Crowded, TooManyPoints}
-use Rattle.btr_hist.specs.History.{ids, latest, stream_of}
+use Rattle.btr_hist.specs.declared.rejection.Rejection.{Rejection}
+use Rattle.btr_hist.specs.declared.rejection.Rejection.TheVariants.{NoStream, NotWritable, VersionLimit, Crowded, TooManyPoints}
+use Rattle.btr_hist.specs.History.{ids, latest, stream_of, is_output}
 use Rattle.btr_hist.specs.Legal.{first_some, when, next_bag, rejection}
 use Rattle.btr_hist.specs.Answer.{is_range}
 use Rattle.btr_text.specs.declared.script.Line.{Line}
@@ -26,8 +27,9 @@ use Rattle.btr_engine.specs.declared.engine.Engine.{Engine}
 use Rattle.btr_engine.specs.Engine.{is_stopped, IsEngineOf}
 use Rattle.btr_engine.specs.Stage.{MayLackMemory}
 use Rattle.btr_engine.proofs.EngineLemmas.{known_below, few_versions_of}
-use Rattle.btr_top.specs.Meaning.{Meaning, Commits, Asks, Holds, Refuses, on_stream, delete, question}
-use Rattle.btr_top.specs.Replies.{Store, Replies}
+use Rattle.btr_top.specs.Meaning.{Meaning, Commits, Asks, Holds, Current, Refuses, on_stream, delete, question}
+use Rattle.btr_text.specs.Reasons.{reason_of_rejection}
+use Rattle.btr_top.specs.Replies.{Store, reply_of_commit, after_commit, Replies}
 use Rattle.btr_top.specs.Ask.{IsAnswerOrNoMemory}
 use Rattle.btr_top.specs.EngineScript.{engine_of, history_after, store_of, Answers, AnswersFrom}
 use Rattle.btr_top.proofs.KeptOpening.{KeepsOpening-refl}
@@ -46,20 +48,60 @@ delete-there found stream from to is range =
     ap (λ o. on_stream o (λ s. delete s from to)) is
     ∙ ap (λ t. cond t (Commits (entries.Commit stream (record { from = from; to = to } ∷ []) [])) (Refuses reasons.Range)) (range-true from to range)
 
-tested : (t u crowded_too : Bool) (start : Option ℤ) (count : ℕ) → t ≡ false → u ≡ false → MayLackMemory (first_some (when t NoStream ∷ None ∷ when u VersionLimit ∷ first_some (option_map (λ s. Crowded s) start ∷ when crowded_too (TooManyPoints count) ∷ []) ∷ []))
-tested true u many start count e f = absurd (cc)
-tested false true many start count e f = absurd (cc)
-tested false false many (Some s) count e f = tt
-tested false false true None count e f = tt
-tested false false false None count e f = tt
+-- what a commit is tested for that removes ranges and adds no points
+abbrev tests : Bool → Bool → Bool → Bool → Option ℤ → ℕ → Option Rejection
+tests unknown output late many start count =
+    first_some (when unknown NoStream ∷ when output NotWritable ∷ None ∷ when late VersionLimit ∷ first_some (option_map (λ s. Crowded s) start ∷ when many (TooManyPoints count) ∷ []) ∷ [])
 
--- nothing that is tested before memory is taken refuses the removal of a range from a stream that is there
-pub delete-lacks : {D : Type 0} {disk : Ghosts D} (h : List Entry) (e : Engine D disk) (id stream : ℕ) (range : RangeValue) → IsEngineOf h e → stream_of h id ≡ Some stream → MayLackMemory (rejection h (entries.Commit stream (range ∷ []) []))
-delete-lacks h e id stream range of is =
+tested : (unknown output late many : Bool) (start : Option ℤ) (count : ℕ) → unknown ≡ false → output ≡ false → late ≡ false → MayLackMemory (tests unknown output late many start count)
+tested true output late many start count e f g = absurd (cc)
+tested false true late many start count e f g = absurd (cc)
+tested false false true many start count e f g = absurd (cc)
+tested false false false many (Some s) count e f g = tt
+tested false false false true None count e f g = tt
+tested false false false false None count e f g = tt
+
+refused : (unknown output late many : Bool) (start : Option ℤ) (count : ℕ) → unknown ≡ false → output ≡ true → tests unknown output late many start count ≡ Some NotWritable
+refused true output late many start count e f = absurd (cc)
+refused false true late many start count e f = refl
+refused false false late many start count e f = absurd (cc)
+
+-- nothing that is tested before memory is taken refuses the removal of a range from a plain stream that is there
+pub delete-lacks : {D : Type 0} {disk : Ghosts D} (h : List Entry) (e : Engine D disk) (id stream : ℕ) (range : RangeValue) → IsEngineOf h e → stream_of h id ≡ Some stream → is_output h stream ≡ false → MayLackMemory (rejection h (entries.Commit stream (range ∷ []) []))
+delete-lacks h e id stream range of is plain =
     let points : List Point = next_bag h stream (record { cut = range ∷ []; added = [] }) in
-    tested (nat_le (length (ids h)) stream) (nat_le MAX_VERSIONS (latest h stream)) (nat_lt MAX_POINTS (length points)) (crowded points) (length points)
+    tested (nat_le (length (ids h)) stream) (is_output h stream) (nat_le MAX_VERSIONS (latest h stream)) (nat_lt MAX_POINTS (length points)) (crowded points) (length points)
     (lt-leb (length (ids h)) stream (known_below h id stream is))
+    plain
     (lt-leb MAX_VERSIONS (latest h stream) (few_versions_of h e of stream))
+
+-- the removal of a range from an output is refused
+delete-output : (h : List Entry) (id stream : ℕ) (range : RangeValue) → stream_of h id ≡ Some stream → is_output h stream ≡ true → rejection h (entries.Commit stream (range ∷ []) []) ≡ Some NotWritable
+delete-output h id stream range is output =
+    let points : List Point = next_bag h stream (record { cut = range ∷ []; added = [] }) in
+    refused (nat_le (length (ids h)) stream) (is_output h stream) (nat_le MAX_VERSIONS (latest h stream)) (nat_lt MAX_POINTS (length points)) (crowded points) (length points)
+    (lt-leb (length (ids h)) stream (known_below h id stream is)) output
+
+none-some : (r : Rejection) → None ≡ Some r → ⊥
+none-some r is = absurd (cc)
+
+-- an entry that is refused is not committed
+answers_refused : {D : Type 0} {disk : Ghosts D} (h : List Entry) (e : Engine D disk) (entry : Entry) (why : Rejection) → IsEngineOf h e → is_stopped e ≡ false → rejection h entry ≡ Some why → AnswersFrom h e (Commits entry) (No (reason_of_rejection why)) e
+answers_refused h e entry why of runs is = record {
+  of = of;
+  replied = inl (record {
+    allowed = (runs, λ accepted. absurd (none-some why (sym accepted ∙ is)));
+    replied = ap (λ (o : Option Rejection). reply_of_commit h entry o) (sym is);
+    store = ap (λ (o : Option Rejection). after_commit (store_of (engine_of h e)) entry o) (sym is);
+  });
+  kept = KeepsOpening-refl e;
+  idle = λ stopped. refl;
+  leaves = λ told rest. inl refl;
+}
+
+pub answers_output : {D : Type 0} {disk : Ghosts D} (h : List Entry) (e : Engine D disk) (id stream : ℕ) (range : RangeValue) → IsEngineOf h e → is_stopped e ≡ false → stream_of h id ≡ Some stream → is_output h stream ≡ true → AnswersFrom h e (Commits (entries.Commit stream (range ∷ []) [])) (No reasons.Output) e
+answers_output h e id stream range of runs is output =
+    answers_refused h e (entries.Commit stream (range ∷ []) []) NotWritable of runs (delete-output h id stream range is output)
 
 -- a stopped engine commits nothing
 pub answers_stopped : {D : Type 0} {disk : Ghosts D} (h : List Entry) (e : Engine D disk) (entry : Entry) (entries : ℕ) → IsEngineOf h e → is_stopped e ≡ true → entries ≡ length h → AnswersFrom h e (Commits entry) (No (reasons.Stopped entries)) e
@@ -78,6 +120,7 @@ abbrev pub IsQuestion : Meaning → Type 0
 IsQuestion (Commits e) = ⊥
 IsQuestion (Asks query) = Unit {0}
 IsQuestion (Holds count) = Unit {0}
+IsQuestion (Current version) = Unit {0}
 IsQuestion (Refuses reason) = Unit {0}
 
 on_stream-question : (found : Option ℕ) (query : StreamQuery) → IsQuestion (on_stream found (λ s. Asks (of_stream query s)))
@@ -92,6 +135,8 @@ question-is h (Some (lines.Delete id from to)) = tt
 question-is h (Some (lines.Feed id added)) = tt
 question-is h (Some (lines.Flush id)) = tt
 question-is h (Some (lines.Discard id)) = tt
+question-is h (Some (lines.Distiller id kernel lead grain first second)) = tt
+question-is h (Some (lines.Refresh id)) = tt
 question-is h (Some (lines.Ask id query)) = on_stream-question _ query
 question-is h (Some lines.Streams) = tt
 
@@ -103,6 +148,7 @@ replies_question s (Asks query) reply is answered =
     (λ e. inr (inr (record { needs = tt; replied = e; store = refl })))
     answered
 replies_question s (Holds count) reply is answered = inl (record { allowed = tt; replied = answered; store = refl })
+replies_question s (Current version) reply is answered = inl (record { allowed = tt; replied = answered; store = refl })
 replies_question s (Refuses reason) reply is answered = inl (record { allowed = tt; replied = answered; store = refl })
 
 -- a question leaves the history as it is
@@ -110,6 +156,7 @@ history_after-question : (h : List Entry) (m : Meaning) (reply : LineReply) → 
 history_after-question h (Commits e) reply is = absurd is
 history_after-question h (Asks query) reply is = refl
 history_after-question h (Holds count) reply is = refl
+history_after-question h (Current version) reply is = refl
 history_after-question h (Refuses reason) reply is = refl
 
 -- a question leaves the engine as it is

@@ -17,9 +17,10 @@ use Rattle.btr_top.specs.declared.script.Transcript.{Transcript}
 use Rattle.btr_top.specs.declared.ending.Ending.{Ending}
 use Rattle.btr_top.specs.declared.ending.Ending.TheVariants.{OutOfMemory, Replied}
 use Rattle.btr_top.specs.Feeds.{Waiting, none_waiting}
-use Rattle.btr_top.specs.Live.{HoldsStore, HoldsSafely, RunsOnDevice, RunsPrefix, RunsAll, ScriptCause}
-use Rattle.btr_top.specs.EngineScript.{EngineOf, LaneOf, engine_of, lane_of, store_of, state_of, RunsLines, HasRun, HasRunPrefix}
+use Rattle.btr_top.specs.Live.{HoldsSafely, RunsOnDevice, RunsPrefix, RunsAll, ScriptCause}
+use Rattle.btr_top.specs.EngineScript.{LaneOf, lane_of, store_of, state_of, RunsLines, HasRun, HasRunPrefix}
 use Rattle.btr_top.proofs.ScriptLemmas.{script_of_run, opening_of_run, rest_of_run}
+use Rattle.btr_top.proofs.Legality.{lines_right}
 use Rattle.btr_top.proofs.Crashes.{crash_leaves}
 
 -- a count that rose from a later one rose from an earlier one
@@ -79,6 +80,7 @@ module _ {D : Type 0} (disk : Ghosts D) (only_now : disk.is_observable → (d : 
           follows = opened.some.1.follows;
           not_stopped = opened.runs;
           script = script_of_run batch start last lines replies runs;
+          right = lines_right batch (state_of start) (state_of last) lines replies (script_of_run batch start last lines replies runs);
           before = λ told. record {
             blocks = blocks_of first;
             tail = tail_of first;

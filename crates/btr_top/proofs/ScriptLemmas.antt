@@ -1,6 +1,6 @@
 -- Lines that ran on an engine, and one line more; and what their run is, for the store and for the opening.
 use Rattle.std.specs.Prelude.{◌≡◌, ℕ, false, List, [], ◌∷◌, ◌++◌, length, take, Option}
-use Rattle.std.proofs.Common.{refl, sym, ◌∙◌, ap, subst, append_assoc, ⊎_elim, arith}
+use Rattle.std.proofs.Common.{refl, sym, ◌∙◌, ap, subst, append_assoc, ⊎_elim}
 use Rattle.std.proofs.Math.Seq.{take-append_seam}
 use Rattle.std.proofs.lemmas.List.{append-nil}
 use Rattle.std.proofs.lemmas.Grind.{flat_map-append}
@@ -17,7 +17,7 @@ use Rattle.btr_top.specs.declared.status.Status.{Status}
 use Rattle.btr_top.specs.Feeds.{Waiting}
 use Rattle.btr_top.specs.Meaning.{Meaning}
 use Rattle.btr_top.specs.Replies.{RepliesToLine, RunsScript, text_of_replies}
-use Rattle.btr_top.specs.Status.{greater, greatest, status_of_reply, status_of_replies}
+use Rattle.btr_top.specs.Status.{greater, greatest, status_of_reply}
 use Rattle.btr_top.specs.Script.{IsTranscript}
 use Rattle.btr_top.specs.EngineScript.{EngineOf, LaneOf, lane_of, state_of, history_after, CallsDevice, Answers, AnswersLine, AnswersLineFrom, AddsReply, RunsLines, HasRun, HasRunPrefix}
 use Rattle.btr_top.proofs.StoppedStores.{ran_all}

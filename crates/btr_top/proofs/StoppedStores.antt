@@ -6,7 +6,7 @@ use Rattle.btr_hist.specs.declared.rejection.Rejection.{Rejection}
 use Rattle.btr_hist.specs.Legal.{rejection}
 use Rattle.btr_text.specs.declared.script.ScriptLine.{ScriptLine}
 use Rattle.btr_text.specs.declared.reply.LineReply.{LineReply}
-use Rattle.btr_top.specs.Meaning.{Meaning, Commits, Asks, Holds, Refuses}
+use Rattle.btr_top.specs.Meaning.{Meaning, Commits, Asks, Holds, Current, Refuses}
 use Rattle.btr_top.specs.Replies.{Store, State, after, after_commit, IsNotDone, Replies, RunsScript}
 
 same_after_commit : (s : Store) (e : Entry) (why : Option Rejection) → (after_commit s e why).stopped ≡ s.stopped
@@ -17,6 +17,7 @@ same_after : (s : Store) (m : Meaning) → (after s m).stopped ≡ s.stopped
 same_after s (Commits e) = same_after_commit s e (rejection s.history e)
 same_after s (Asks query) = λ i. s.stopped
 same_after s (Holds count) = λ i. s.stopped
+same_after s (Current version) = λ i. s.stopped
 same_after s (Refuses reason) = λ i. s.stopped
 
 along : (s t : Store) → t ≡ s → t.stopped ≡ false → s.stopped ≡ false
@@ -27,6 +28,7 @@ not_done s t (Commits e) reply h runs =
     ⊎_elim (λ full. full.not_stopped) (λ h. ⊎_elim (λ fault. fault.not_stopped) (λ stopped. along s t stopped.store runs) h) h
 not_done s t (Asks query) reply h runs = absurd h
 not_done s t (Holds count) reply h runs = absurd h
+not_done s t (Current version) reply h runs = absurd h
 not_done s t (Refuses reason) reply h runs = absurd h
 
 -- a store that runs after a reply ran before it

@@ -35,7 +35,9 @@ fed h w line = None
 -- The points that an entry adds.
 abbrev pub added_of : Entry → List Point
 added_of (entries.Create id) = []
+added_of (entries.Define id spec) = []
 added_of (entries.Commit stream cut added) = added
+added_of (entries.Distillate stream cut added new) = added
 
 -- ---- feeds in memory
 

@@ -17,3 +17,4 @@ pub mod Run
 pub mod Laws
 -- what the private functions promise
 pub mod EngineScript
+pub mod Refreshing

@@ -9,7 +9,8 @@ use Rattle.btr_hist.specs.declared.entry.Entry.{Entry}
 use Rattle.btr_text.specs.Input.{script_of}
 use Rattle.btr_text.specs.declared.script.ScriptLine.{ScriptLine}
 use Rattle.btr_text.specs.declared.reply.LineReply.{LineReply}
-use Rattle.btr_engine.specs.Board.{Follows}
+use Rattle.btr_hist.specs.Legal.{Legal, Follows}
+use Rattle.btr_hist.specs.Laws.{Right}
 use Rattle.btr_engine.specs.Holds.{HoldsHistory, HoldsHistoryTo}
 use Rattle.btr_top.specs.declared.script.TheConstants.{MAX_INPUT}
 use Rattle.btr_top.specs.declared.script.Transcript.{Transcript}
@@ -33,13 +34,15 @@ module _ {D : Type 0} (disk : Ghosts D) where
     pub only : Only (disk.contents d) (disk.images_now d)
 
   -- These lines ran, with these replies, from the store on the device `old` to that on the device `new`. Each entry of the former
-  -- may follow those before it, also if the device is not observable. If the latter is stopped, a call of the device failed.
+  -- may follow those before it, also if the device is not observable. If the latter is stopped, a call of the device failed. If the
+  -- first history is legal, each version of each output is right at the end.
   pub record RunsOnDevice (batch : ℕ) (lines : List ScriptLine) (replies : List LineReply) (old new : D) : Type 0 where
     pub first : Store
     pub last : State
     pub follows : Follows first.history
     pub not_stopped : first.stopped ≡ false
     pub script : RunsScript batch (begun first) lines replies last
+    pub right : Legal first.history → Right last.store.history
     pub before : disk.is_observable → HoldsStore old first
     pub after : disk.is_observable → last.store.stopped ≡ false → HoldsSafely new last.store
     pub failed : last.store.stopped ≡ true → Rose (disk.faults old) (disk.faults new)
@@ -68,11 +71,12 @@ module _ {S D : Type 0} (source : SourceGhosts S) (disk : Ghosts D) where
   abbrev pub LiveCause : ℕ → S → S → D → D → Ending → Type 0
   LiveCause batch given rest old new e = CommandCause source (ScriptCause disk batch) given rest old new e
 
-  -- The device holds a store with room for what all lines of the input need, and the input is within the limit.
-  pub record CanLive (given : S) (old : D) : Type 0 where
+  -- The device holds a store with room for what the lines of the input need, and the input is within the limit.
+  pub record CanLive (batch : ℕ) (given : S) (old : D) : Type 0 where
     pub history : List Entry
     pub blocks : ℕ
     pub tail : ℕ
     pub holds : HoldsHistoryTo (disk.size old) (disk.contents old) blocks tail history
     pub within : length (source.left given) ≤ MAX_INPUT
-    pub room : needs_of (script_of (source.left given)) ≤ left blocks tail
+    pub room : needs_of batch (begun (record { history = history; left = left blocks tail; stopped = false }))
+        (script_of (source.left given)) ≤ left blocks tail

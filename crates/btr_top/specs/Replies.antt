@@ -2,7 +2,6 @@
 use Rattle.std.specs.Prelude.{◌≡◌, ◌⊎◌, ℕ, ◌+◌, ◌-◌, ◌<◌, ◌≤◌, Bool, true, false}
 use Rattle.std.specs.Prelude.{List, [], ◌∷◌, ◌++◌, length, flat_map, Option, Some, None}
 use Rattle.btr_hist.specs.declared.entry.Entry.{Entry}
-use Rattle.btr_hist.specs.declared.entry.Entry.TheVariants as entries
 use Rattle.btr_hist.specs.declared.answer.Answer.{Answer}
 use Rattle.btr_hist.specs.declared.answer.Answer.TheVariants.{Found, Refused}
 use Rattle.btr_hist.specs.declared.rejection.Rejection.{Rejection}
@@ -23,9 +22,9 @@ use Rattle.btr_engine.specs.Stage.{MayLackMemory}
 use Rattle.btr_base.specs.declared.point.Point.{Point}
 use Rattle.btr_base.specs.Bag.{sort}
 use Rattle.btr_feed.specs.Feed.{insert_fault}
-use Rattle.btr_hist.specs.History.{stream_of}
+use Rattle.btr_hist.specs.History.{stream_of, is_output}
 use Rattle.btr_top.specs.Feeds.{Waiting, none_waiting, with_points, feed_of, fed}
-use Rattle.btr_top.specs.Meaning.{Meaning, Commits, Asks, Holds, Refuses, meaning}
+use Rattle.btr_top.specs.Meaning.{Meaning, Commits, Asks, Holds, Current, Refuses, meaning}
 
 -- ---- what the model replies
 
@@ -42,6 +41,7 @@ abbrev pub reply_to : List Entry → Meaning → LineReply
 reply_to h (Commits e) = reply_of_commit h e (rejection h e)
 reply_to h (Asks query) = reply_of_answer (answer h query)
 reply_to h (Holds count) = replies.Held count
+reply_to h (Current version) = Done version
 reply_to h (Refuses reason) = No reason
 
 -- ---- a store
@@ -69,6 +69,7 @@ abbrev pub after : Store → Meaning → Store
 after s (Commits e) = after_commit s e (rejection s.history e)
 after s (Asks query) = s
 after s (Holds count) = s
+after s (Current version) = s
 after s (Refuses reason) = s
 
 -- ---- the reply to what is asked for
@@ -78,6 +79,7 @@ abbrev pub Allows : Store → Meaning → Type 0
 Allows s (Commits e) = (s.stopped ≡ false) × (rejection s.history e ≡ None → need_of e ≤ s.left)
 Allows s (Asks query) = Unit {0}
 Allows s (Holds count) = Unit {0}
+Allows s (Current version) = Unit {0}
 Allows s (Refuses reason) = Unit {0}
 
 -- The reply is the model's, and so is the store after it.
@@ -113,6 +115,7 @@ abbrev pub NeedsMemory : Store → Meaning → Type 0
 NeedsMemory s (Commits e) = (s.stopped ≡ false) × MayLackMemory (rejection s.history e)
 NeedsMemory s (Asks query) = Unit {0}
 NeedsMemory s (Holds count) = ⊥
+NeedsMemory s (Current version) = ⊥
 NeedsMemory s (Refuses reason) = ⊥
 
 -- Memory ran out.
@@ -126,6 +129,7 @@ abbrev pub IsNotDone : Store → Meaning → LineReply → Store → Type 0
 IsNotDone s (Commits e) reply t = IsFull s e reply t ⊎ IsDeviceFault s e reply t ⊎ IsStopped s reply t
 IsNotDone s (Asks query) reply t = ⊥
 IsNotDone s (Holds count) reply t = ⊥
+IsNotDone s (Current version) reply t = ⊥
 IsNotDone s (Refuses reason) reply t = ⊥
 
 -- The reply to what is asked for, and the store after it: by the model, or with the reason why it was not done.
@@ -153,6 +157,7 @@ abbrev pub points_after : Meaning → LineReply → List Point → List Point �
 points_after (Commits e) reply before all = left_over all reply
 points_after (Asks query) reply before all = before
 points_after (Holds count) reply before all = all
+points_after (Current version) reply before all = before
 points_after (Refuses reason) reply before all = before
 
 -- The points that wait after a reply to a line that changes this feed, if it changes one.
@@ -160,17 +165,18 @@ abbrev pub waiting_after : Waiting → Option (ℕ × List Point) → Meaning �
 waiting_after w None m reply = w
 waiting_after w (Some f) m reply = with_points f.0 (points_after m reply (w f.0) f.1) w
 
--- The line adds points to a feed, which accepts them.
-abbrev pub AddsPoints : ℕ → State → Option Line → Type 0
-AddsPoints batch s (Some (lines.Feed id added)) =
-    (stream : ℕ) × (stream_of s.store.history id ≡ Some stream)
+-- Memory may run out before what the line asks for is begun: it adds points to a feed, which accepts them, or it plans for a stream.
+abbrev pub TakesMemory : ℕ → State → Option Line → Type 0
+TakesMemory batch s (Some (lines.Feed id added)) =
+    (stream : ℕ) × (stream_of s.store.history id ≡ Some stream) × (is_output s.store.history stream ≡ false)
     × (insert_fault (feed_of batch stream (s.waiting stream)) added ≡ None)
-AddsPoints batch s line = ⊥
+TakesMemory batch s (Some (lines.Refresh id)) = (stream : ℕ) × (stream_of s.store.history id ≡ Some stream)
+TakesMemory batch s line = ⊥
 
--- What is done of a line: what it asks for; or nothing, if there is no memory for the points that it adds to a feed.
+-- What is done of a line: what it asks for; or nothing, if there is no memory to begin with it.
 abbrev pub Means : ℕ → State → Option Line → Meaning → Type 0
 Means batch s line m =
-    (m ≡ meaning batch s.store.history s.waiting line) ⊎ (AddsPoints batch s line × (m ≡ Refuses reasons.Memory))
+    (m ≡ meaning batch s.store.history s.waiting line) ⊎ (TakesMemory batch s line × (m ≡ Refuses reasons.Memory))
 
 -- The reply to a line of which this is done, and the state after it.
 pub record RepliesToLine (batch : ℕ) (s : State) (line : Option Line) (m : Meaning) (reply : LineReply) (t : State) : Type 0 where
@@ -188,19 +194,28 @@ RunsScript batch s (line ∷ lines) [] t = ⊥
 RunsScript batch s (line ∷ lines) (reply ∷ replies) t =
     (u : State) × (m : Meaning) × RepliesToLine batch s line.line m reply u × RunsScript batch u lines replies t
 
--- The most blocks that a line may need. Those for the points of a feed count at the line that adds them.
-abbrev pub need_of_line : Option Line → ℕ
-need_of_line None = 0
-need_of_line (Some (lines.Create id)) = need_of (entries.Create id)
-need_of_line (Some (lines.Insert id added)) = need_of (entries.Commit 0 [] added)
-need_of_line (Some (lines.Delete id from to)) = need_of (entries.Commit 0 (record { from = from; to = to } ∷ []) [])
-need_of_line (Some (lines.Feed id added)) = need_of (entries.Commit 0 [] added)
-need_of_line (Some line) = 0
+-- The blocks that what is asked for needs.
+abbrev pub need_of_meaning : Meaning → ℕ
+need_of_meaning (Commits e) = need_of e
+need_of_meaning (Asks query) = 0
+need_of_meaning (Holds count) = 0
+need_of_meaning (Current version) = 0
+need_of_meaning (Refuses reason) = 0
 
--- The most blocks that lines may need.
-abbrev pub needs_of : List ScriptLine → ℕ
-needs_of [] = 0
-needs_of (line ∷ lines) = need_of_line line.line + needs_of lines
+-- The state after what is asked for, by the model, of a line that changes this feed, if it changes one.
+abbrev pub after_model : State → Option (ℕ × List Point) → Meaning → State
+after_model s f m = record { store = after s.store m; waiting = waiting_after s.waiting f m (reply_to s.store.history m) }
+
+-- The state after a line, by the model.
+abbrev pub after_line : ℕ → State → Option Line → State
+after_line batch s line =
+    after_model s (fed s.store.history s.waiting line) (meaning batch s.store.history s.waiting line)
+
+-- The blocks that lines need, one after another, by the model.
+abbrev pub needs_of : ℕ → State → List ScriptLine → ℕ
+needs_of batch s [] = 0
+needs_of batch s (line ∷ lines) =
+    need_of_meaning (meaning batch s.store.history s.waiting line.line) + needs_of batch (after_line batch s line.line) lines
 
 -- The text of replies.
 abbrev pub text_of_replies : List LineReply → List ℕ

@@ -12,7 +12,7 @@ ghost use Rattle.btr_top.specs.Replies.{left_over};
 ghost use Rattle.btr_top.specs.EngineScript.{AnswersAdded, AnswersFrom, AnswersLineFrom};
 
 use crate::feeds::Feeds;
-use crate::line::commit;
+use crate::line::{commit, is_output};
 use btr_base::{Bag, Point, Ranges};
 use btr_disk::Disk;
 use btr_engine::Engine;
@@ -21,7 +21,7 @@ use btr_hist::Entry;
 use btr_text::{LineReply, Reason};
 use std::alloc::Global;
 
-/// `feed ID T V ..`: adds points to the feed of the stream with this id, and commits all if they are then due.
+/// `feed ID T V ..`: adds points to the feed of the stream with this id, and commits all if they are then due. An output takes none.
 pub(crate) fn feed<D: Disk>(
     alloc: Global,
     engine: &mut Engine<D>,
@@ -35,7 +35,13 @@ pub(crate) fn feed<D: Disk>(
 {
     match engine.find(id) {
         None => LineReply::No(Reason::Stream),
-        Some(stream) => feed_stream(alloc, engine, feeds, stream, added.as_slice()),
+        Some(stream) => {
+            if is_output(engine, stream) {
+                LineReply::No(Reason::Output)
+            } else {
+                feed_stream(alloc, engine, feeds, stream, added.as_slice())
+            }
+        }
     }
 }
 
@@ -83,7 +89,9 @@ pub(crate) fn flush<D: Disk>(
     match engine.find(id) {
         None => LineReply::No(Reason::Stream),
         Some(stream) => {
-            if feeds.is_empty(stream) {
+            if is_output(engine, stream) {
+                LineReply::No(Reason::Output)
+            } else if feeds.is_empty(stream) {
                 LineReply::No(Reason::Empty)
             } else {
                 commit_feed(alloc, engine, feeds, stream)
@@ -136,8 +144,9 @@ fn added_of(alloc: Global, entry: Entry) -> Bag
     ensures { result ≡ added_of entry }
 {
     match entry {
-        Entry::Create { .. } => Bag::from_points(Vec::new(alloc)),
+        Entry::Create { .. } | Entry::Define { .. } => Bag::from_points(Vec::new(alloc)),
         Entry::Commit { added, .. } => added,
+        Entry::Distillate { added, .. } => added,
     }
 }
 

@@ -8,7 +8,8 @@
 mod ask;
 mod format_store;
 mod live;
-// the lines of feeds
+// the lines of feeds, and those of outputs
+mod distill_line;
 mod feed_line;
 mod feeds;
 // what `live` and `ask` share
@@ -23,7 +24,7 @@ mod run_command;
 mod laws;
 
 pub use ending::Ending;
-pub use laws::{lines_keep_legal, run_limits_are_these};
+pub use laws::{lines_keep_legal, refreshes_are_current, run_limits_are_these};
 pub use run_command::{Outcome, run};
 pub use script::{MAX_INPUT, Transcript};
 pub use status::Status;

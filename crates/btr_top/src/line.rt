@@ -1,6 +1,6 @@
 //! One line of a script: what it asks for is done, and it has its reply.
 ghost use Rattle.std.specs.Prelude.{◌≡◌, List, [], ◌∷◌, false, true, Some, IfOk};
-ghost use Rattle.btr_hist.specs.History.{stream_of};
+ghost use Rattle.btr_hist.specs.History.{stream_of, is_output};
 ghost use Rattle.btr_hist.specs.Legal.{rejection};
 ghost use Rattle.btr_hist.specs.Query.{of_stream};
 ghost use Rattle.btr_hist.specs.declared.entry.Entry.{Entry as EntrySpec};
@@ -14,6 +14,7 @@ ghost use Rattle.btr_top.specs.Ask.{IsAnswerOrNoMemory};
 ghost use Rattle.btr_top.specs.Feeds.{waiting_of};
 ghost use Rattle.btr_top.specs.EngineScript.{AnswersFrom, AnswersLineFrom, LineLeaves, engine_of, history_after, store_of};
 
+use crate::distill_line::{define, refresh};
 use crate::feed_line::{discard, feed, flush};
 use crate::feeds::Feeds;
 use btr_base::{Bag, Range, Ranges};
@@ -41,6 +42,17 @@ pub(crate) fn answer_line<D: Disk>(
         Some(Line::Feed { id, added }) => feed(alloc, engine, feeds, id, &added),
         Some(Line::Flush { id }) => flush(alloc, engine, feeds, id),
         Some(Line::Discard { id }) => discard(engine, feeds, id),
+        Some(
+            Line::Distiller {
+                id,
+                kernel,
+                lead,
+                grain,
+                first,
+                second,
+            },
+        ) => define(alloc, engine, id, kernel, lead, grain, first, second),
+        Some(Line::Refresh { id }) => refresh(alloc, engine, id),
         Some(Line::Ask { id, query }) => ask_stream_now(alloc, engine, id, query),
         Some(Line::Streams) => ask_now(alloc, engine, &Query::Streams),
         None => LineReply::No(Reason::Line),
@@ -66,8 +78,8 @@ fn insert<D: Disk>(alloc: Global, engine: &mut Engine<D>, id: u128, added: Bag) 
     }
 }
 
-/// Commits the removal of the points of a range from the stream with this id. The bounds, and whether the engine is
-/// stopped, are tested before memory is taken.
+/// Commits the removal of the points of a range from the stream with this id. The bounds, whether the engine is stopped, and whether
+/// the stream is an output are tested before memory is taken.
 fn delete<D: Disk>(alloc: Global, engine: &mut Engine<D>, id: u128, from: i64, to: i64) -> LineReply
     ensures { (h : List EntrySpec) → IsEngineOf h engine.old
         → AnswersFrom h engine.old (on_stream (stream_of h id) (λ stream. delete stream from to)) result engine.new }
@@ -83,7 +95,17 @@ fn delete<D: Disk>(alloc: Global, engine: &mut Engine<D>, id: u128, from: i64, t
             entries: engine.entries(),
         });
     }
+    if is_output(engine, stream) {
+        return LineReply::No(Reason::Output);
+    }
     delete_range(alloc, engine, stream, range)
+}
+
+/// Returns whether a stream is an output. It takes no memory.
+pub(crate) fn is_output<D: Disk>(engine: &Engine<D>, stream: u32) -> bool
+    ensures { (h : List EntrySpec) → IsEngineOf h engine.now → result ≡ is_output h stream }
+{
+    engine.spec(stream).is_some()
 }
 
 /// Commits the removal of the points of a range from a stream.
@@ -183,6 +205,7 @@ pub(crate) fn answer_question(alloc: Global, snapshot: &Snapshot, line: Option<L
         Line::Feed { .. } | Line::Flush { .. } | Line::Discard { .. } => {
             LineReply::No(Reason::Line)
         }
+        Line::Distiller { .. } | Line::Refresh { .. } => LineReply::No(Reason::Line),
     }
 }
 

@@ -17,7 +17,7 @@ use crate::live::run_live;
 use crate::script::CommandResult;
 use btr_disk::Disk;
 use btr_io::{Sink, Source};
-use btr_open::held_is_sound;
+use btr_open::{held_is_sound, one_history_is_held};
 use btr_words::{Command, read_words};
 use std::alloc::Global;
 
@@ -56,7 +56,7 @@ pub fn run<R, S: Source, K: Sink, D: Disk + Send>(
         → (result.status ≡ 0) ⊎ (result.status ≡ 9) }
     // if a store has room and nothing fails, each line is done, or refused as the model refuses it
     ensures lives { S.is_observable → D.is_observable → (batch : ℕ) → command_of (map string_bytes words.now) ≡ Some (Live batch)
-        → CanLive ⟦<S as Source>⟧ ⟦<D as Disk>⟧ source.old disk
+        → CanLive ⟦<S as Source>⟧ ⟦<D as Disk>⟧ batch source.old disk
         → AllWork ⟦<S as Source>⟧ ⟦<K as Sink>⟧ ⟦<D as Disk>⟧ source.old source.new sink.old sink.new disk result.disk
         → (result.status ≡ 0) ⊎ (result.status ≡ 1) ⊎ (result.status ≡ 9) }
     // if there is a store and nothing fails, each question is answered, or refused as the model refuses it
@@ -71,6 +71,8 @@ pub fn run<R, S: Source, K: Sink, D: Disk + Send>(
     let status = show(alloc, sink, &ending);
     // so a device that holds a history is not refused as one without a store, or as a damaged one
     held_is_sound();
+    // and what it holds is one history
+    one_history_is_held();
     Outcome { status, disk }
 }
 

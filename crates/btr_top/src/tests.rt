@@ -2,5 +2,6 @@
 mod crashes;
 mod device;
 mod fixture;
+mod outputs;
 mod streams;
 mod transcripts;

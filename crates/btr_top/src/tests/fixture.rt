@@ -43,7 +43,7 @@ pub(super) fn store_of(rt: &impl AllocGlobal, blocks: &str) -> Result<MemDisk, F
     Ok(ran.disk)
 }
 
-/// Runs these words on a device, with an input in which `U` and `V` are short for two ids.
+/// Runs these words on a device, with an input in which `U`, `V`, `W` and `X` are short for four ids.
 pub(super) fn run_on(
     rt: &impl AllocGlobal,
     words: &str,
@@ -75,13 +75,15 @@ pub(super) fn run_words(
     Ok((status, disk))
 }
 
-/// Returns the text with one id for each `U` and another for each `V`.
+/// Returns the text with an id for each `U`, `V`, `W` and `X`.
 pub(super) fn with_ids(alloc: Global, text: &[u8]) -> Result<Vec<u8>, AllocError> {
     let mut out = Vec::new(alloc);
     for byte in text {
         match *byte {
             b'U' => out.extend_from_slice(b"11111111-1111-4111-8111-111111111111")?,
             b'V' => out.extend_from_slice(b"22222222-2222-4222-8222-222222222222")?,
+            b'W' => out.extend_from_slice(b"33333333-3333-4333-8333-333333333333")?,
+            b'X' => out.extend_from_slice(b"44444444-4444-4444-8444-444444444444")?,
             other => out.push(other)?,
         }
     }
@@ -90,7 +92,7 @@ pub(super) fn with_ids(alloc: Global, text: &[u8]) -> Result<Vec<u8>, AllocError
 
 /// Plays a transcript of runs on one device of 64 blocks. A line `$ WORDS` begins a run, `> LINE` is a line of its
 /// input, `< LINE` a line that it must write, and `= N` the status with which it must end. The calls of the device that
-/// are listed fail. `U` and `V` are short for two ids.
+/// are listed fail. `U`, `V`, `W` and `X` are short for four ids.
 pub(super) fn play(
     rt: &(impl AllocGlobal + Abort),
     failing: &[u64],

@@ -48,6 +48,15 @@ returns-in-Some-Create-clause-line g c = λ h of.
       leaves = λ told rest. c.commit.ensures.leaves told h rest;
     }))
 
+pub returns-in-Some-Refresh-clause-line : goal.returns-in-Some-Refresh-clause-line
+returns-in-Some-Refresh-clause-line g c = λ h of.
+    let e = c.args.engine.now in
+    let w = waiting_of c.args.feeds.now in
+    let batch = c.args.feeds.now.batch in
+    let arm = c.in-Some-Refresh in
+    subst (λ (l : Option Line). AnswersLineFrom batch h e w l c.refresh.result c.refresh.new.engine w)
+    (sym (arm.is ∙ ap (λ (l : Line). Some l) arm.field-0-is)) (c.refresh.ensures h batch w of)
+
 pub returns-in-Some-Delete-clause-line : goal.returns-in-Some-Delete-clause-line
 returns-in-Some-Delete-clause-line g c = λ h of.
     let e = c.args.engine.now in

@@ -1,5 +1,5 @@
 -- A run of `format` reads nothing of the source, and makes a store of the blocks that the words say.
-use Rattle.std.proofs.Common.{◌≡◌, ℕ, sym, ap, subst, ◌∙◌, arith, Option, Some, List, length, drop, ◌-◌}
+use Rattle.std.proofs.Common.{◌≡◌, ℕ, sym, ap, subst, ◌∙◌, arith, Some, List, length, drop, ◌-◌}
 use Rattle.btr_io.specs.Bytes.{Gives}
 use Rattle.btr_words.specs.declared.command.Command.{Command}
 use Rattle.btr_words.specs.declared.command.Command.TheVariants.{Format}

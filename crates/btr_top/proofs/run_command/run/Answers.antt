@@ -1,5 +1,5 @@
 -- If nothing fails: a run of a script on a store with room, and a run of questions.
-use Rattle.std.proofs.Common.{sym, ap, subst, inr, refl, ⊎_elim}
+use Rattle.std.proofs.Common.{sym, subst, inr, refl, ⊎_elim}
 use Rattle.btr_top.specs.Run.{Cause}
 use Rattle.btr_top.specs.Ending.{status_of}
 use Rattle.btr_top.proofs.BenignStatuses.{IsBenignStatus}
@@ -14,7 +14,7 @@ returns-clause-lives g c = λ source_told told batch is_live can works.
     (⊎_elim
     (λ cause.
     let why = subst (λ o. Cause g.S.Source g.D.Disk o c.args.source.now c.dispatch-ending.new.source c.args.disk c.dispatch-ending.result.disk e) is_live cause in
-    benign_live g.S.Source g.D.Disk batch c.args.source.now c.dispatch-ending.new.source c.args.disk c.dispatch-ending.result.disk c.held_is_sound.ensures can source_told told works.source_works works.others.device_works e why)
+    benign_live g.S.Source g.D.Disk batch c.args.source.now c.dispatch-ending.new.source c.args.disk c.dispatch-ending.result.disk c.held_is_sound.ensures c.one_history_is_held.ensures can source_told told works.source_works works.others.device_works e why)
     (λ lacks. subst (λ x. IsBenignStatus (status_of x)) (sym lacks.0) (inr (inr refl)))
     c.dispatch-ending.ensures.cause)
     c.show-status.ensures
