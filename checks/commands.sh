@@ -2,7 +2,7 @@
 # The examples of docs/COMMANDS.md, as they are printed.
 #
 # An example is an indented line `$ btr_run ..`, the lines of its input with `> ` in front, its output, and `= STATUS`.
-# `U` and `V` are short for two ids. All examples run in order in one folder.
+# `U`, `V` and `W` are short for three ids. All examples run in order in one folder.
 # shellcheck source=checks/common.sh
 . "$(dirname "$0")/common.sh"
 
@@ -13,6 +13,7 @@ awk '
         for (i = 1; i <= count; i++) {
             if (words[i] == "U") words[i] = "11111111-1111-4111-8111-111111111111"
             if (words[i] == "V") words[i] = "22222222-2222-4222-8222-222222222222"
+            if (words[i] == "W") words[i] = "33333333-3333-4333-8333-333333333333"
             out = out (i > 1 ? " " : "") words[i]
         }
         return out
