@@ -398,13 +398,11 @@ fn latest_reads(kept: &Stream, spec: &Spec) -> Reads
 fn nothing_read(spec: &Spec) -> Reads
     ensures { result ≡ nothing_read spec.now }
 {
-    Reads {
-        first: 0,
-        second: match spec.second {
-            Some(_) => Some(0),
-            None => None,
-        },
-    }
+    let second = match spec.second {
+        Some(_) => Some(0),
+        None => None,
+    };
+    Reads { first: 0, second }
 }
 
 /// Returns the tree of the next version of a stream with these trees, if the stream may have the version and its points. The

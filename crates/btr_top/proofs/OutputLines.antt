@@ -1,5 +1,6 @@
 -- Lines of outputs: what a line asks for that defines one, and what a line is answered that brings one up to date.
-use Rattle.std.specs.Prelude.{◌≡◌, ℕ, List, Option, Some, None}
+use Rattle.std.specs.Prelude.{◌≡◌, ℕ, true, List, Option, Some, None}
+use Rattle.std.specs.Option.{is_some}
 use Rattle.std.proofs.Common.{refl, sym, ◌∙◌, ap, subst, inl, inr, ⊎_elim}
 use Rattle.btr_disk.specs.declared.disk.Disk.{Ghosts}
 use Rattle.btr_hist.specs.declared.entry.Entry.{Entry}
@@ -7,6 +8,7 @@ use Rattle.btr_hist.specs.declared.entry.Entry.TheVariants as entries
 use Rattle.btr_hist.specs.declared.kernel.Kernel.{Kernel}
 use Rattle.btr_hist.specs.declared.kernel.Spec.{Spec}
 use Rattle.btr_hist.specs.History.{stream_of, spec_of}
+use Rattle.btr_hist.specs.Machine.{Landing, planned}
 use Rattle.btr_text.specs.declared.script.Line.TheVariants as lines
 use Rattle.btr_text.specs.declared.reply.LineReply.{LineReply}
 use Rattle.btr_text.specs.declared.reply.LineReply.TheVariants as replies
@@ -14,7 +16,7 @@ use Rattle.btr_text.specs.declared.reply.Reason.TheVariants as reasons
 use Rattle.btr_engine.specs.declared.engine.Engine.{Engine}
 use Rattle.btr_engine.specs.Engine.{IsEngineOf}
 use Rattle.btr_top.specs.Feeds.{Waiting}
-use Rattle.btr_top.specs.Meaning.{Meaning, Commits, Current, Refuses, on_stream, on_second, define, refresh}
+use Rattle.btr_top.specs.Meaning.{Meaning, Commits, Current, Refuses, on_stream, on_second, define, land, refresh}
 use Rattle.btr_top.specs.EngineScript.{AnswersFrom, AnswersLineFrom, AnswersPlanned}
 use Rattle.btr_top.proofs.Meanings.{answers_question}
 use Rattle.btr_top.proofs.FeedLines.{no_stream}
@@ -50,6 +52,18 @@ module _ (h : List Entry) (id : ℕ) (kernel : Kernel) (lead grain first : ℕ) 
 
 -- ---- to bring an output up to date
 
+land-planned : (h : List Entry) (stream : ℕ) (spec : Spec) (p : Option Landing) → land h stream spec p ≡ Refuses reasons.Plain → ⊥
+land-planned h stream spec None e = absurd (cc)
+land-planned h stream spec (Some p) e = absurd (cc)
+
+-- what is asked of an output is not refused as of a plain stream
+pub refresh-output : (h : List Entry) (stream : ℕ) (spec : Spec) → refresh h stream (Some spec) ≡ Refuses reasons.Plain → ⊥
+refresh-output h stream spec e = land-planned h stream spec (planned h stream spec) e
+
+output_if : (h : List Entry) (stream : ℕ) (spec : Option Spec) → (refresh h stream spec ≡ Refuses reasons.Plain → ⊥) → is_some spec ≡ true
+output_if h stream None asked = absurd (asked refl)
+output_if h stream (Some spec) asked = refl
+
 module _ {D : Type 0} {disk : Ghosts D} (h : List Entry) (old : Engine D disk) (m : Meaning) (reply : LineReply) where
   -- nothing is done, because the output is current
   pub planned_current : (version : ℕ) → IsEngineOf h old → Current version ≡ m → reply ≡ replies.Done version → AnswersPlanned h old m reply old
@@ -64,10 +78,10 @@ module _ {D : Type 0} {disk : Ghosts D} (h : List Entry) (old : Engine D disk) (
   planned_commit new entry means answers = record { asked = Commits entry; means = inl means; answers = answers }
 
   -- there was no memory to plan it
-  pub planned_memory : IsEngineOf h old → reply ≡ replies.No reasons.Memory → AnswersPlanned h old m reply old
-  planned_memory of replied = record {
+  pub planned_memory : IsEngineOf h old → (m ≡ Refuses reasons.Plain → ⊥) → reply ≡ replies.No reasons.Memory → AnswersPlanned h old m reply old
+  planned_memory of output replied = record {
     asked = Refuses reasons.Memory;
-    means = inr refl;
+    means = inr (output, refl);
     answers = answers_question h old (Refuses reasons.Memory) reply of tt replied;
   }
 
@@ -91,7 +105,7 @@ module _ {D : Type 0} {disk : Ghosts D} (batch : ℕ) (h : List Entry) (old : En
     record {
       means = ⊎_elim
           (λ asked. inl (asked ∙ ap (λ o. on_stream o (λ s. refresh h s (spec_of h s))) (sym is)))
-          (λ lacks. inr ((stream, is), lacks))
+          (λ lacks. inr ((stream, is, output_if h stream (spec_of h stream) lacks.0), lacks.1))
           answers.means;
       answers = answers.answers;
       waiting = refl;

@@ -162,7 +162,7 @@ done_so s t stream spec version replied =
     (cases_Bool (same_reads old new))
 
 pub refreshes_current : RefreshesAreCurrent
-refreshes_current batch s t id stream version spec m is follows found output =
+refreshes_current batch s t id stream version spec m is found output =
     let h : List Entry = s.store.history in
     let asked : meaning batch h s.waiting (Some (lines.Refresh id)) ≡ refresh h stream (Some spec) =
     ap (λ o. on_stream o (λ n. refresh h n (spec_of h n))) found ∙ ap (λ o. refresh h stream o) output in

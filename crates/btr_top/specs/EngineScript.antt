@@ -87,10 +87,10 @@ module _ {D : Type 0} {disk : Ghosts D} where
   abbrev pub AnswersFrom : List Entry → Engine D disk → Meaning → LineReply → Engine D disk → Type 0
   AnswersFrom h old m reply new = Answers (engine_of h old) m reply (engine_of (history_after h m reply) new)
 
-  -- What was asked for had this reply; or there was no memory to begin with it.
+  -- What was asked for had this reply; or there was no memory to begin with it, and the stream is an output.
   pub record AnswersPlanned (h : List Entry) (old : Engine D disk) (m : Meaning) (reply : LineReply) (new : Engine D disk) : Type 0 where
     pub asked : Meaning
-    pub means : (asked ≡ m) ⊎ (asked ≡ Refuses reasons.Memory)
+    pub means : (asked ≡ m) ⊎ ((m ≡ Refuses reasons.Plain → ⊥) × (asked ≡ Refuses reasons.Memory))
     pub answers : AnswersFrom h old asked reply new
 
   -- ---- one line

@@ -3,7 +3,7 @@ use Rattle.std.specs.Prelude.{◌≡◌, ℕ, List, Some}
 use Rattle.btr_super.specs.declared.superblock.TheConstants.{MIN_BLOCKS, MAX_BLOCKS}
 use Rattle.btr_hist.specs.declared.kernel.Spec.{Spec}
 use Rattle.btr_hist.specs.History.{stream_of, spec_of, latest, reads, latest_reads}
-use Rattle.btr_hist.specs.Legal.{Legal, Follows}
+use Rattle.btr_hist.specs.Legal.{Legal}
 use Rattle.btr_text.specs.declared.script.Line.TheVariants as lines
 use Rattle.btr_text.specs.declared.script.ScriptLine.{ScriptLine}
 use Rattle.btr_text.specs.declared.reply.LineReply.{LineReply}
@@ -23,7 +23,7 @@ LinesKeepLegal =
 abbrev pub RefreshesAreCurrent : Type 0
 RefreshesAreCurrent =
     (batch : ℕ) (s t : State) (id stream version : ℕ) (spec : Spec) (m : Meaning)
-    → RepliesToLine batch s (Some (lines.Refresh id)) m (Done version) t → Follows s.store.history
+    → RepliesToLine batch s (Some (lines.Refresh id)) m (Done version) t
     → stream_of s.store.history id ≡ Some stream → spec_of s.store.history stream ≡ Some spec
     → (version ≡ latest t.store.history stream)
     × (reads t.store.history stream spec version ≡ latest_reads s.store.history spec)

@@ -165,12 +165,13 @@ abbrev pub waiting_after : Waiting → Option (ℕ × List Point) → Meaning �
 waiting_after w None m reply = w
 waiting_after w (Some f) m reply = with_points f.0 (points_after m reply (w f.0) f.1) w
 
--- Memory may run out before what the line asks for is begun: it adds points to a feed, which accepts them, or it plans for a stream.
+-- Memory may run out before what the line asks for is begun: it adds points to a feed, which accepts them, or it plans for an output.
 abbrev pub TakesMemory : ℕ → State → Option Line → Type 0
 TakesMemory batch s (Some (lines.Feed id added)) =
     (stream : ℕ) × (stream_of s.store.history id ≡ Some stream) × (is_output s.store.history stream ≡ false)
     × (insert_fault (feed_of batch stream (s.waiting stream)) added ≡ None)
-TakesMemory batch s (Some (lines.Refresh id)) = (stream : ℕ) × (stream_of s.store.history id ≡ Some stream)
+TakesMemory batch s (Some (lines.Refresh id)) =
+    (stream : ℕ) × (stream_of s.store.history id ≡ Some stream) × (is_output s.store.history stream ≡ true)
 TakesMemory batch s line = ⊥
 
 -- What is done of a line: what it asks for; or nothing, if there is no memory to begin with it.

@@ -5,7 +5,7 @@ use Rattle.btr_text.specs.declared.reply.Reason.TheVariants as reasons
 use Rattle.btr_top.specs.declared.distill_line.Needed.{Needed}
 use Rattle.btr_top.specs.Meaning.{refresh}
 use Rattle.btr_top.specs.Refreshing.{meaning_of}
-use Rattle.btr_top.proofs.OutputLines.{planned_current, planned_commit, planned_memory}
+use Rattle.btr_top.proofs.OutputLines.{planned_current, planned_commit, planned_memory, refresh-output}
 use Rattle.btr_top.proofs.distill_line.refresh_output.Goals as goal
 
 pub returns-in-Ok-Nothing : goal.returns-in-Ok-Nothing
@@ -29,4 +29,4 @@ returns-in-Ok-Commit g c = λ h of is.
 
 pub returns-in-Err : goal.returns-in-Err
 returns-in-Err g c = λ h of is.
-    planned_memory h c.args.engine.now (refresh h c.args.stream (Some c.args.spec)) (No reasons.Memory) of refl
+    planned_memory h c.args.engine.now (refresh h c.args.stream (Some c.args.spec)) (No reasons.Memory) of (refresh-output h c.args.stream c.args.spec) refl
