@@ -69,5 +69,6 @@ answer h (ask.Windows stream from to width at) =
 answer h (ask.Changes stream old new p) =
     answer_at h stream (max old new) (nat_le old new && is_power p) (λ b. Ranges (changes p (bag h stream old) b))
 answer h (ask.Info stream at) =
-    answer_at h stream (version_of h stream at) true (λ b. Info (is_output h stream) (agg_within FIRST END b) (read_by h stream (version_of h stream at)))
+    answer_at h stream (version_of h stream at) true
+    (λ b. Info (is_output h stream) (agg_within FIRST END b) (read_by h stream (version_of h stream at)))
 answer h ask.Streams = Found (length h) (Streams (rows_from h 0 (ids h)))

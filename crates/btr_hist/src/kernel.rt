@@ -1,6 +1,7 @@
 //! Distillers: streams that are computed from other streams, in the manner of DISTIL (SmartGridComm 2015).
 ghost use Rattle.std.specs.Prelude.{◌≡◌};
 ghost use Rattle.btr_hist.specs.Kernel.{is_good, has_second};
+ghost use Rattle.btr_hist.specs.History.{nothing_read};
 
 /// What a distiller computes at an anchor, which is a time t at which its first input has a point. It looks at the points of its
 /// inputs in the window from t - lead to t, both included. x is the greatest value of the first input at t. All is exact; a
@@ -86,6 +87,17 @@ impl Spec {
         };
         let fits = self.kernel.has_second() == self.second.is_some();
         fits && divides && self.lead <= 1_152_921_504_606_846_976 && self.grain <= 62
+    }
+
+    /// Returns version 0 of each input.
+    pub fn nothing_read(&self) -> Reads
+        ensures { result ≡ nothing_read self.now }
+    {
+        let second = match self.second {
+            Some(_) => Some(0),
+            None => None,
+        };
+        Reads { first: 0, second }
     }
 }
 

@@ -4,7 +4,7 @@ ghost use Rattle.std.specs.Option.{option_map};
 ghost use Rattle.btr_base.specs.Bag.{IsInOrder};
 ghost use Rattle.btr_base.specs.declared.limits.TheConstants.{MAX_VERSIONS as MOST_VERSIONS};
 ghost use Rattle.btr_hist.specs.declared.rejection.Rejection.TheVariants.{VersionLimit};
-ghost use Rattle.btr_hist.specs.History.{spec_of, latest, reads, nothing_read};
+ghost use Rattle.btr_hist.specs.History.{spec_of, latest, reads};
 ghost use Rattle.btr_hist.specs.Legal.{create_rejection, define_rejection, commit_rejection, distillate_rejection};
 ghost use Rattle.btr_hist.specs.Legal.{change_rejection, distillate_change_rejection, points_rejection, first_out_of_domain};
 ghost use Rattle.btr_hist.specs.Legal.{first_some, when, next_bag, has_inputs, takes_reads, may_read, may_read_second};
@@ -150,20 +150,7 @@ fn last_read(entries: &[Entry], stream: u32, spec: &Spec) -> Reads
     let latest = latest_of(entries, stream as usize) as u64;
     match read_by(entries, stream, latest) {
         Some(read) => read,
-        None => nothing_read(spec),
-    }
-}
-
-/// Version 0 of each input.
-fn nothing_read(spec: &Spec) -> Reads
-    ensures { result ≡ nothing_read spec.now }
-{
-    Reads {
-        first: 0,
-        second: match spec.second {
-            Some(_) => Some(0),
-            None => None,
-        },
+        None => spec.nothing_read(),
     }
 }
 
