@@ -18,14 +18,15 @@ use Rattle.btr_hist.specs.declared.entry.Entry.{Entry}
 use Rattle.btr_hist.specs.Legal.{rejection}
 use Rattle.btr_entry.specs.Grammar.{IsSpelled}
 use Rattle.btr_engine.specs.declared.engine.Engine.{Engine}
-use Rattle.btr_engine.specs.declared.step.Receipt.{Receipt}
+use Rattle.btr_engine.specs.declared.board.Receipt.{Receipt}
 use Rattle.btr_engine.specs.declared.step.Pending.{Pending}
 use Rattle.btr_engine.specs.declared.step.StepFault.{StepFault}
 use Rattle.btr_engine.specs.declared.step.StepFault.TheVariants.{DeviceFull, DeviceFault}
 use Rattle.btr_engine.specs.Body.{body_of, need_of, bodies}
 use Rattle.btr_engine.specs.Holds.{HoldsHistoryTo}
 use Rattle.btr_engine.specs.Engine.{device, board_of, blocks_of, tail_of, room_of, is_stopped, IsEngineOf, IsAtRest}
-use Rattle.btr_engine.specs.Step.{IsBeforeOrAfter, IsReceipt, IsStepped, StepCause}
+use Rattle.btr_engine.specs.Stage.{IsReceipt}
+use Rattle.btr_engine.specs.Step.{IsBeforeOrAfter, IsStepped, StepCause}
 use Rattle.btr_engine.specs.Pending.{IsMade, IsPending}
 use Rattle.btr_engine.proofs.HoldsLemmas.{holds_with, before_or_after}
 use Rattle.btr_engine.proofs.Stepping.{same_engine, no_moment, brings, needs}

@@ -11,7 +11,7 @@ use Rattle.btr_engine.specs.declared.step.StepFault.{StepFault}
 use Rattle.btr_engine.specs.declared.step.StepFault.TheVariants as step
 use Rattle.btr_engine.specs.Board.{IsBoardOf}
 use Rattle.btr_engine.specs.Body.{body_of}
-use Rattle.btr_engine.specs.Step.{IsReceipt}
+use Rattle.btr_engine.specs.Stage.{IsReceipt}
 
 -- The extent is the entry's, with this number, and the board has this number of entries.
 pub record IsMade (number : ℕ) (e : Entry) (p : Pending) : Type 0 where
@@ -23,7 +23,7 @@ pub record IsMade (number : ℕ) (e : Entry) (p : Pending) : Type 0 where
 pub record IsPending (h : List Entry) (e : Entry) (p : Pending) : Type 0 where
   pub allowed : rejection h e ≡ None
   pub of : IsBoardOf (h ++ e ∷ []) p.staged.next
-  pub is_receipt : IsReceipt h e p.receipt
+  pub is_receipt : IsReceipt h e p.staged.receipt
 
 -- Why a step refuses an entry that was not staged.
 abbrev pub fault_of_push : PushFault → StepFault

@@ -14,6 +14,8 @@ use Rattle.btr_hist.specs.declared.rejection.Rejection.{Rejection}
 use Rattle.btr_hist.specs.declared.rejection.Rejection.TheVariants.{VersionLimit, Crowded, TooManyPoints}
 use Rattle.btr_hist.specs.History.{latest, new_id, new_kind, change_of, read_of}
 use Rattle.btr_hist.specs.Legal.{first_some, when, points_rejection, next_bag}
+use Rattle.btr_hist.specs.Machine as machine
+use Rattle.btr_engine.specs.declared.board.Receipt.{Receipt}
 use Rattle.btr_engine.specs.declared.board.PushFault.{PushFault}
 use Rattle.btr_engine.specs.declared.board.PushFault.TheVariants.{Rejected, Want}
 use Rattle.btr_engine.specs.Board.{Versions, HasTrees, commits_to}
@@ -30,6 +32,12 @@ MayLackMemory (Some why) = ⊥
 abbrev pub PushCause : Option Rejection → PushFault → Type 0
 PushCause rejection (Rejected why) = rejection ≡ Some why
 PushCause rejection Want = MayLackMemory rejection
+
+-- The receipt is the machine's.
+pub record IsReceipt (h : List Entry) (e : Entry) (receipt : Receipt) : Type 0 where
+  pub number : receipt.number ≡ (machine.receipt h e).number
+  pub stream : receipt.stream ≡ (machine.receipt h e).stream
+  pub version : receipt.version ≡ (machine.receipt h e).version
 
 -- The change of a commit with these ranges and points.
 abbrev pub change : List RangeValue → List Point → Change

@@ -6,21 +6,14 @@ use Rattle.btr_disk.specs.Bytes.{Image}
 use Rattle.btr_disk.specs.Causes.{Rose, CountedTimes}
 use Rattle.btr_hist.specs.declared.entry.Entry.{Entry}
 use Rattle.btr_hist.specs.Legal.{rejection}
-use Rattle.btr_hist.specs.Machine as machine
 use Rattle.btr_engine.specs.declared.engine.Engine.{Engine}
-use Rattle.btr_engine.specs.declared.step.Receipt.{Receipt}
+use Rattle.btr_engine.specs.declared.board.Receipt.{Receipt}
 use Rattle.btr_engine.specs.declared.step.StepFault.{StepFault}
 use Rattle.btr_engine.specs.declared.step.StepFault.TheVariants.{Stopped, Rejected, Want, DeviceFull, DeviceFault}
-use Rattle.btr_engine.specs.Stage.{MayLackMemory}
+use Rattle.btr_engine.specs.Stage.{MayLackMemory, IsReceipt}
 use Rattle.btr_engine.specs.Body.{need_of}
 use Rattle.btr_engine.specs.Holds.{HoldsHistory}
 use Rattle.btr_engine.specs.Engine.{device, board_of, entries_of, tail_of, room_of, is_stopped, IsEngineOf}
-
--- The receipt is the machine's.
-pub record IsReceipt (h : List Entry) (e : Entry) (receipt : Receipt) : Type 0 where
-  pub number : receipt.number ≡ (machine.receipt h e).number
-  pub stream : receipt.stream ≡ (machine.receipt h e).stream
-  pub version : receipt.version ≡ (machine.receipt h e).version
 
 -- An image at a moment of a step holds the history, or the history with this entry.
 abbrev pub IsBeforeOrAfter : ℕ → List Entry → Entry → Image → Type 0

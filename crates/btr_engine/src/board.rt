@@ -3,7 +3,9 @@ ghost use Rattle.std.specs.Prelude.{◌≡◌, ◌^◌, ◌<◌, List, [], lengt
 ghost use Rattle.btr_hist.specs.declared.entry.Entry.{Entry as EntrySpec};
 ghost use Rattle.btr_hist.specs.History.{ids, stream_of, spec_of, read_by};
 ghost use Rattle.btr_engine.specs.Board.{IsBoardOf, HasVersion, IsTreeOf, latest_of, read_at};
+ghost use Rattle.btr_engine.specs.Snapshot.{IsSnapshotOf};
 
+use crate::snapshot::Snapshot;
 use btr_board::{Index, Trail};
 use btr_hist::{Reads, Rejection, Spec};
 use btr_tree::Tree;
@@ -68,10 +70,24 @@ impl Model for Board {
     ghost invariant = { λ b. IsWellFormed b.streams (number_of b.numbers) };
 }
 
-/// An entry that may follow the history of a board, with the next board. All its memory is taken.
+/// The receipt of an entry that was accepted. On a device the entry is durable.
+#[derive(Clone, Copy, Debug, PartialEq, Eq)]
+pub struct Receipt {
+    /// The number of entries, with this one.
+    pub number: u64,
+
+    /// The number of its stream.
+    pub stream: u32,
+
+    /// The version of the stream that the entry made, 0 for a new stream.
+    pub version: u64,
+}
+
+/// An entry that may follow the history of a board: the next board, and the receipt. All its memory is taken.
 #[derive(Drop)]
 pub struct Staged {
     pub(crate) next: Board,
+    pub(crate) receipt: Receipt,
 }
 
 impl Board {
@@ -97,11 +113,22 @@ impl Board {
         })
     }
 
-    /// Replaces this board by a staged one. It takes no memory.
-    pub fn accept(&mut self, staged: Staged)
-        ensures { self.new ≡ staged.next }
+    /// Returns a snapshot of the history, in constant time. It answers questions, also in another thread while the board goes on.
+    /// An `Err` means out of memory.
+    pub fn admit(&self) -> Result<Snapshot, AllocError>
+        ensures { (h : List EntrySpec) → IsBoardOf h self.now → IfOk result (IsSnapshotOf h) }
     {
-        *self = staged.next;
+        Snapshot::of(self)
+    }
+
+    /// Replaces this board by a staged one, and returns the receipt of its entry. It takes no memory.
+    pub fn accept(&mut self, staged: Staged) -> Receipt
+        ensures next { self.new ≡ staged.next }
+        ensures receipt { result ≡ staged.receipt }
+    {
+        let Staged { next, receipt } = staged;
+        *self = next;
+        receipt
     }
 
     /// Returns the number of the stream with this id, if there is one: the first in order of creation. It costs logarithmic

@@ -36,6 +36,7 @@ impl<D: Disk> Engine<D> {
     ghost use Rattle.btr_log.specs.Log.{device as device_of, tail_of, extents_of, faults_at};
     ghost use Rattle.btr_hist.specs.declared.entry.Entry.{Entry as EntrySpec};
     ghost use Rattle.btr_hist.specs.History.{stream_of, spec_of};
+    ghost use Rattle.btr_engine.specs.Board.{latest_of};
     ghost use Rattle.btr_engine.specs.Snapshot.{IsSnapshotOf};
     ghost use Rattle.btr_engine.specs.Engine.{device, entries_of, is_stopped, faults_at_open, IsEngineOf, IsMadeOf};
 
@@ -62,7 +63,7 @@ impl<D: Disk> Engine<D> {
     pub fn admit(&self) -> Result<Snapshot, AllocError>
         ensures { (h : List EntrySpec) → IsEngineOf h self.now → IfOk result (IsSnapshotOf h) }
     {
-        Snapshot::of(&self.board)
+        self.board.admit()
     }
 
     /// Returns the number of the stream with this id, if there is one: the first in order of creation. It takes logarithmic
@@ -79,6 +80,14 @@ impl<D: Disk> Engine<D> {
         ensures { (h : List EntrySpec) → IsEngineOf h self.now → result ≡ spec_of h stream }
     {
         self.board.spec(stream)
+    }
+
+    /// Returns the latest version of a stream, which is the number of its commits, or `None` if there is no such stream. It takes
+    /// logarithmic time and no memory.
+    pub fn latest(&self, stream: u32) -> Option<u64>
+        ensures { (h : List EntrySpec) → IsEngineOf h self.now → result ≡ latest_of h stream }
+    {
+        self.board.latest(stream)
     }
 
     /// Returns the number of entries.

@@ -15,10 +15,10 @@ mod staging;
 mod engine;
 mod step;
 
-pub use board::{Board, PushFault, Staged};
+pub use board::{Board, PushFault, Receipt, Staged};
 pub use engine::Engine;
 pub use snapshot::Snapshot;
-pub use step::{Receipt, StepFault};
+pub use step::StepFault;
 
 #[cfg(test)]
 mod tests;

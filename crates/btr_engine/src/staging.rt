@@ -13,14 +13,14 @@ ghost use Rattle.btr_tree.specs.Root.{TreeValue, IsTree, IsTreeFault};
 ghost use Rattle.btr_hist.specs.declared.entry.Entry.{Entry as EntrySpec};
 ghost use Rattle.btr_hist.specs.declared.entry.Entry.TheVariants as entry;
 ghost use Rattle.btr_hist.specs.Kernel.{is_good};
-ghost use Rattle.btr_hist.specs.History.{latest, spec_of, reads, nothing_read};
+ghost use Rattle.btr_hist.specs.History.{latest, spec_of, reads};
 ghost use Rattle.btr_hist.specs.Legal.{rejection, points_rejection, has_inputs, is_stream, takes_reads, may_read, may_read_second};
 ghost use Rattle.btr_entry.specs.Grammar.{IsWithinBounds, AreVersions};
 ghost use Rattle.btr_engine.specs.Board.{IsBoardOf, IsStreamOf, IsGrown, HasPast, place_of, ids_of};
-ghost use Rattle.btr_engine.specs.Stage.{PushCause, MakesStream, MakesVersion, IsNext, OfEachStream, change, version_rejection};
+ghost use Rattle.btr_engine.specs.Stage.{PushCause, IsReceipt, MakesStream, MakesVersion, IsNext, OfEachStream, change, version_rejection};
 ghost use Rattle.btr_engine.specs.Stage.{with_version};
 
-use crate::board::{Board, PushFault, Staged, Stream, read_at};
+use crate::board::{Board, PushFault, Receipt, Staged, Stream, read_at};
 use btr_base::{Bag, MAX_STREAMS, MAX_VERSIONS, Ranges};
 use btr_board::Trail;
 use btr_hist::{Entry, Reads, Rejection, Spec, change_rejection, distillate_change_rejection};
@@ -40,8 +40,24 @@ impl Board {
         requires few { self.now.entries < 2 ^ 64 - 1 }
         ensures allowed { (h : List EntrySpec) → IsBoardOf h self.now → OnOk result (rejection h entry.now ≡ None) }
         ensures staged { (h : List EntrySpec) → IsBoardOf h self.now → IfOk result (λ s. IsBoardOf (h ++ entry.now ∷ []) s.next) }
+        ensures receipt { (h : List EntrySpec) → IsBoardOf h self.now → IfOk result (λ s. IsReceipt h entry.now s.receipt) }
         ensures cause { (h : List EntrySpec) → IsBoardOf h self.now → IfErr result (PushCause (rejection h entry.now)) }
         ensures counted { IfOk result (λ s. s.next.entries ≡ self.now.entries + 1) }
+        ensures number { IfOk result (λ s. s.receipt.number ≡ self.now.entries + 1) }
+        ensures bounds { OnOk result (IsWithinBounds entry.now) }
+    {
+        let next = self.next_board(alloc, entry)?;
+        let receipt = receipt_of(self, entry);
+        Ok(Staged { next, receipt })
+    }
+
+    /// Makes the next board, with an entry more, if the entry may follow.
+    fn next_board(&self, alloc: Global, entry: &Entry) -> Result<Board, PushFault>
+        requires few { self.now.entries < 2 ^ 64 - 1 }
+        ensures allowed { (h : List EntrySpec) → IsBoardOf h self.now → OnOk result (rejection h entry.now ≡ None) }
+        ensures staged { (h : List EntrySpec) → IsBoardOf h self.now → IfOk result (IsBoardOf (h ++ entry.now ∷ [])) }
+        ensures cause { (h : List EntrySpec) → IsBoardOf h self.now → IfErr result (PushCause (rejection h entry.now)) }
+        ensures counted { IfOk result (λ b. b.entries ≡ self.now.entries + 1) }
         ensures bounds { OnOk result (IsWithinBounds entry.now) }
     {
         match entry {
@@ -60,35 +76,35 @@ impl Board {
     }
 
     /// Makes the next board with a new plain stream, if the stream may follow.
-    fn stage_stream(&self, alloc: Global, id: u128) -> Result<Staged, PushFault>
+    fn stage_stream(&self, alloc: Global, id: u128) -> Result<Board, PushFault>
         requires few { self.now.entries < 2 ^ 64 - 1 }
         ensures allowed { (h : List EntrySpec) → IsBoardOf h self.now → OnOk result (rejection h (entry.Create id) ≡ None) }
-        ensures staged { (h : List EntrySpec) → IsBoardOf h self.now → IfOk result (λ s. IsBoardOf (h ++ entry.Create id ∷ []) s.next) }
+        ensures staged { (h : List EntrySpec) → IsBoardOf h self.now → IfOk result (IsBoardOf (h ++ entry.Create id ∷ [])) }
         ensures cause { (h : List EntrySpec) → IsBoardOf h self.now → IfErr result (PushCause (rejection h (entry.Create id))) }
-        ensures counted { IfOk result (λ s. s.next.entries ≡ self.now.entries + 1) }
+        ensures counted { IfOk result (λ b. b.entries ≡ self.now.entries + 1) }
     {
         if let Some(why) = self.create_rejection(id) {
             return Err(PushFault::Rejected(why));
         }
         let next = self.with_stream(alloc, id, None)?;
-        Ok(Staged { next })
+        Ok(next)
     }
 
     /// Makes the next board with a new output, if the output may follow.
-    fn stage_output(&self, alloc: Global, id: u128, spec: &Spec) -> Result<Staged, PushFault>
+    fn stage_output(&self, alloc: Global, id: u128, spec: &Spec) -> Result<Board, PushFault>
         requires few { self.now.entries < 2 ^ 64 - 1 }
         ensures allowed { (h : List EntrySpec) → IsBoardOf h self.now → OnOk result (rejection h (entry.Define id spec.now) ≡ None) }
         ensures staged { (h : List EntrySpec) → IsBoardOf h self.now
-            → IfOk result (λ s. IsBoardOf (h ++ entry.Define id spec.now ∷ []) s.next) }
+            → IfOk result (IsBoardOf (h ++ entry.Define id spec.now ∷ [])) }
         ensures cause { (h : List EntrySpec) → IsBoardOf h self.now → IfErr result (PushCause (rejection h (entry.Define id spec.now))) }
-        ensures counted { IfOk result (λ s. s.next.entries ≡ self.now.entries + 1) }
+        ensures counted { IfOk result (λ b. b.entries ≡ self.now.entries + 1) }
         ensures bounds { OnOk result (IsWithinBounds (entry.Define id spec.now)) }
     {
         if let Some(why) = self.define_rejection(id, spec) {
             return Err(PushFault::Rejected(why));
         }
         let next = self.with_stream(alloc, id, Some(*spec))?;
-        Ok(Staged { next })
+        Ok(next)
     }
 
     /// Makes the next board with a new stream: an output of this spec, or a plain stream.
@@ -118,15 +134,15 @@ impl Board {
         stream: u32,
         cut: &Ranges,
         added: &Bag,
-    ) -> Result<Staged, PushFault>
+    ) -> Result<Board, PushFault>
         requires few { self.now.entries < 2 ^ 64 - 1 }
         ensures allowed { (h : List EntrySpec) → IsBoardOf h self.now
             → OnOk result (rejection h (entry.Commit stream cut.now added.now) ≡ None) }
         ensures staged { (h : List EntrySpec) → IsBoardOf h self.now
-            → IfOk result (λ s. IsBoardOf (h ++ entry.Commit stream cut.now added.now ∷ []) s.next) }
+            → IfOk result (IsBoardOf (h ++ entry.Commit stream cut.now added.now ∷ [])) }
         ensures cause { (h : List EntrySpec) → IsBoardOf h self.now
             → IfErr result (PushCause (rejection h (entry.Commit stream cut.now added.now))) }
-        ensures counted { IfOk result (λ s. s.next.entries ≡ self.now.entries + 1) }
+        ensures counted { IfOk result (λ b. b.entries ≡ self.now.entries + 1) }
         ensures bounds { OnOk result (IsWithinBounds (entry.Commit stream cut.now added.now)) }
     {
         let place = stream as usize;
@@ -150,15 +166,15 @@ impl Board {
         cut: &Ranges,
         added: &Bag,
         reads: &Reads,
-    ) -> Result<Staged, PushFault>
+    ) -> Result<Board, PushFault>
         requires few { self.now.entries < 2 ^ 64 - 1 }
         ensures allowed { (h : List EntrySpec) → IsBoardOf h self.now
             → OnOk result (rejection h (entry.Distillate stream cut.now added.now reads.now) ≡ None) }
         ensures staged { (h : List EntrySpec) → IsBoardOf h self.now
-            → IfOk result (λ s. IsBoardOf (h ++ entry.Distillate stream cut.now added.now reads.now ∷ []) s.next) }
+            → IfOk result (IsBoardOf (h ++ entry.Distillate stream cut.now added.now reads.now ∷ [])) }
         ensures cause { (h : List EntrySpec) → IsBoardOf h self.now
             → IfErr result (PushCause (rejection h (entry.Distillate stream cut.now added.now reads.now))) }
-        ensures counted { IfOk result (λ s. s.next.entries ≡ self.now.entries + 1) }
+        ensures counted { IfOk result (λ b. b.entries ≡ self.now.entries + 1) }
         ensures bounds { OnOk result (IsWithinBounds (entry.Distillate stream cut.now added.now reads.now)) }
     {
         let place = stream as usize;
@@ -185,7 +201,7 @@ impl Board {
         cut: &Ranges,
         added: &Bag,
         read: Option<Reads>,
-    ) -> Result<Staged, PushFault>
+    ) -> Result<Board, PushFault>
         requires few { self.now.entries < 2 ^ 64 - 1 }
         requires there { slice_get self.now.streams place ≡ Some kept.now }
         requires grown { IsGrown kept.now }
@@ -195,15 +211,15 @@ impl Board {
             → OnOk result (version_rejection h place (change cut.now added.now) ≡ None) }
         ensures staged { (h : List EntrySpec) (e : EntrySpec) → IsBoardOf h self.now
             → MakesVersion e place (change cut.now added.now) read → rejection h e ≡ None
-            → IfOk result (λ s. IsBoardOf (h ++ e ∷ []) s.next) }
+            → IfOk result (IsBoardOf (h ++ e ∷ [])) }
         ensures cause { (h : List EntrySpec) → IsBoardOf h self.now
             → IfErr result (PushCause (version_rejection h place (change cut.now added.now))) }
-        ensures counted { IfOk result (λ s. s.next.entries ≡ self.now.entries + 1) }
+        ensures counted { IfOk result (λ b. b.entries ≡ self.now.entries + 1) }
         ensures points { OnOk result (length added.now ≤ MAX_POINTS) }
     {
         let tree = next_tree(alloc, &kept.trees, cut, added)?;
         let next = self.with_version(alloc, place, kept, tree, read)?;
-        Ok(Staged { next })
+        Ok(next)
     }
 
     /// Makes the next board with one version more of the stream at a place, which is `kept`: it has this tree, and has read these
@@ -334,6 +350,27 @@ impl Board {
     }
 }
 
+/// Returns the receipt of an entry that may follow the history of a board.
+fn receipt_of(board: &Board, entry: &Entry) -> Receipt
+    requires few { board.now.entries < 2 ^ 64 - 1 }
+    ensures number { result.number ≡ board.now.entries + 1 }
+    ensures of { (h : List EntrySpec) → IsBoardOf h board.now → rejection h entry.now ≡ None → IsReceipt h entry.now result }
+{
+    let number = board.entries() + 1;
+    match entry {
+        Entry::Create { .. } | Entry::Define { .. } => Receipt {
+            number,
+            stream: board.streams(),
+            version: 0,
+        },
+        Entry::Commit { stream, .. } | Entry::Distillate { stream, .. } => Receipt {
+            number,
+            stream: *stream,
+            version: board.latest(*stream).unwrap_or(0) + 1,
+        },
+    }
+}
+
 /// Returns a stream at version 0: an output of this spec, or a plain stream.
 fn first_version(alloc: Global, id: u128, spec: Option<Spec>) -> Result<Stream, AllocError>
     ensures { IfOk result (λ s. (t : TreeValue) × IsTree nothing t
@@ -390,19 +427,8 @@ fn latest_reads(kept: &Stream, spec: &Spec) -> Reads
 {
     match read_at(&kept.reads, kept.reads.len() as u64) {
         Some(read) => read,
-        None => nothing_read(spec),
+        None => spec.nothing_read(),
     }
-}
-
-/// Returns version 0 of each input.
-fn nothing_read(spec: &Spec) -> Reads
-    ensures { result ≡ nothing_read spec.now }
-{
-    let second = match spec.second {
-        Some(_) => Some(0),
-        None => None,
-    };
-    Reads { first: 0, second }
 }
 
 /// Returns the tree of the next version of a stream with these trees, if the stream may have the version and its points. The

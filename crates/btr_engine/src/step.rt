@@ -1,34 +1,19 @@
 //! The step: it adds one entry, which is durable before the step returns.
-ghost use Rattle.std.specs.Prelude.{◌≡◌, ℕ, ◌+◌, ◌<◌, ◌^◌, List, [], ◌∷◌, ◌++◌, false, IfErr, IfOk, OnOk, IsTrue, length, None};
+ghost use Rattle.std.specs.Prelude.{◌≡◌, ℕ, ◌+◌, List, [], ◌∷◌, ◌++◌, false, IfErr, IfOk, OnOk, IsTrue, length};
 ghost use Rattle.btr_log.specs.declared.append.AppendFault.TheVariants.{Full, Fault, Stopped as AlreadyStopped};
 ghost use Rattle.btr_hist.specs.declared.entry.Entry.{Entry as EntrySpec};
-ghost use Rattle.btr_hist.specs.Legal.{rejection};
 ghost use Rattle.btr_engine.specs.declared.step.StepFault.TheVariants.{Stopped, DeviceFull, DeviceFault};
-ghost use Rattle.btr_engine.specs.Board.{IsBoardOf};
 ghost use Rattle.btr_engine.specs.Engine.{device, entries_of, is_stopped, IsEngineOf, IsAtRest, IsDurable, EngineLeaves, KeepsOpening};
-ghost use Rattle.btr_engine.specs.Step.{history_after, in_flight_after, IsBeforeOrAfter, IsReceipt, IsStepped, StaysStopped, StepCause};
+ghost use Rattle.btr_engine.specs.Step.{history_after, in_flight_after, IsBeforeOrAfter, IsStepped, StaysStopped, StepCause};
 ghost use Rattle.btr_engine.specs.Pending.{IsMade, IsPending};
 
-use crate::board::{Board, PushFault, Staged};
+use crate::board::{PushFault, Receipt, Staged};
 use crate::engine::Engine;
 use crate::extent::encode_extent;
 use btr_disk::Disk;
 use btr_hist::{Entry, Rejection};
 use btr_log::AppendFault;
 use std::alloc::{AllocError, Global};
-
-/// The receipt of an entry: it is durable.
-#[derive(Clone, Copy, Debug, PartialEq, Eq)]
-pub struct Receipt {
-    /// The number of entries, with this one.
-    pub number: u64,
-
-    /// The number of its stream.
-    pub stream: u32,
-
-    /// The version of the stream that the entry made, 0 for a new stream.
-    pub version: u64,
-}
 
 /// Why an entry was not accepted. If several causes hold, the first in this order is returned. Only the rejections `Crowded` and
 /// `TooManyPoints`, which are found last, may be hidden by `Want`.
@@ -53,13 +38,11 @@ pub enum StepFault {
 /// An entry that may follow the history of an engine, with all that is needed to add it.
 #[derive(Drop)]
 pub(crate) struct Pending {
-    /// The board with the entry.
+    /// The board with the entry, and the receipt.
     pub(crate) staged: Staged,
 
     /// The body of the entry, and one block of zeros.
     pub(crate) extent: Vec<u8>,
-
-    pub(crate) receipt: Receipt,
 }
 
 impl<D: Disk> Engine<D> {
@@ -96,8 +79,7 @@ impl<D: Disk> Engine<D> {
         if let Err(fault) = self.log.append(&pending.extent) {
             return Err(step_fault(fault));
         }
-        self.board.accept(pending.staged);
-        Ok(pending.receipt)
+        Ok(self.board.accept(pending.staged))
     }
 
     /// Tests an entry, and makes all that is needed to add it. It takes all memory of a step, and changes nothing.
@@ -108,34 +90,8 @@ impl<D: Disk> Engine<D> {
         ensures cause { (h : List EntrySpec) → IsEngineOf h self.now → IfErr result (StepCause h self.now self.now entry.now) }
     {
         let staged = self.board.stage(alloc, entry)?;
-        let receipt = receipt_of(&self.board, entry);
-        let extent = encode_extent(alloc, entry, receipt.number)?;
-        Ok(Pending {
-            staged,
-            extent,
-            receipt,
-        })
-    }
-}
-
-/// Returns the receipt of an entry that may follow the history of a board.
-fn receipt_of(board: &Board, entry: &Entry) -> Receipt
-    requires few { board.now.entries < 2 ^ 32 }
-    ensures number { result.number ≡ board.now.entries + 1 }
-    ensures of { (h : List EntrySpec) → IsBoardOf h board.now → rejection h entry.now ≡ None → IsReceipt h entry.now result }
-{
-    let number = board.entries() + 1;
-    match entry {
-        Entry::Create { .. } | Entry::Define { .. } => Receipt {
-            number,
-            stream: board.streams(),
-            version: 0,
-        },
-        Entry::Commit { stream, .. } | Entry::Distillate { stream, .. } => Receipt {
-            number,
-            stream: *stream,
-            version: board.latest(*stream).unwrap_or(0) + 1,
-        },
+        let extent = encode_extent(alloc, entry, staged.receipt.number)?;
+        Ok(Pending { staged, extent })
     }
 }
 

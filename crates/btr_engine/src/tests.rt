@@ -21,14 +21,13 @@ fn commit(alloc: Global, stream: u32, first: i64) -> Result<Entry, AllocError> {
     })
 }
 
-/// Adds an entry to a board.
-fn add(alloc: Global, board: &mut Board, entry: &Entry) -> Result<(), PushFault> {
+/// Adds an entry to a board, and returns the receipt.
+fn add(alloc: Global, board: &mut Board, entry: &Entry) -> Result<Receipt, PushFault> {
     if board.entries() == u64::MAX {
         return Err(PushFault::Want);
     }
     let staged = board.stage(alloc, entry)?;
-    board.accept(staged);
-    Ok(())
+    Ok(board.accept(staged))
 }
 
 /// Returns the board of two streams, of which the second has a commit.
@@ -71,7 +70,7 @@ fn latest_points(
 fn a_snapshot_answers_as_before_after_later_commits(rt: HostRuntime) -> Result<(), Fail> {
     let alloc = rt.alloc();
     let mut board = small(alloc)?;
-    let snapshot = Snapshot::of(&board)?;
+    let snapshot = board.admit()?;
     let shared = snapshot.share()?;
     for index in 0..300u32 {
         let entry = commit(alloc, 1, 10 + i64::from(index))?;
@@ -79,7 +78,7 @@ fn a_snapshot_answers_as_before_after_later_commits(rt: HostRuntime) -> Result<(
         assert_eq!(rt; latest_points(alloc, &shared, 1)?, Some((1, 3)));
     }
     assert_eq!(rt; latest_points(alloc, &snapshot, 1)?, Some((1, 3)));
-    let later = Snapshot::of(&board)?;
+    let later = board.admit()?;
     assert_eq!(rt; latest_points(alloc, &later, 1)?, Some((301, 903)));
     assert_eq!(rt; (snapshot.entries(), later.entries()), (3, 303));
     assert_eq!(rt; (snapshot.latest(1), later.latest(1)), (Some(1), Some(301)));
@@ -89,7 +88,7 @@ fn a_snapshot_answers_as_before_after_later_commits(rt: HostRuntime) -> Result<(
 #[test]
 fn a_snapshot_has_streams_versions_and_trees(rt: HostRuntime) -> Result<(), Fail> {
     let alloc = rt.alloc();
-    let snapshot = Snapshot::of(&small(alloc)?)?;
+    let snapshot = small(alloc)?.admit()?;
     assert_eq!(rt; snapshot.streams(), 2);
     assert_eq!(rt;
         (snapshot.find(7), snapshot.find(8), snapshot.find(9)),
@@ -144,7 +143,14 @@ fn the_limit_of_streams_is_kept(rt: HostRuntime) -> Result<(), Fail> {
         add(alloc, &mut board, &commit(alloc, 65536, 0)?),
         Err(PushFault::Rejected(Rejection::NoStream))
     );
-    assert!(rt; add(alloc, &mut board, &commit(alloc, 65535, 0)?).is_ok());
+    assert_eq!(rt;
+        add(alloc, &mut board, &commit(alloc, 65535, 0)?),
+        Ok(Receipt {
+            number: 65537,
+            stream: 65535,
+            version: 1
+        })
+    );
     assert_eq!(rt;
         (board.latest(65534), board.latest(65535)),
         (Some(0), Some(1))

@@ -56,7 +56,7 @@ returns-in-Ok-stage-clause-next g c =
       e,
       λ h of.
           let same : x.body.items ≡ body_of (length h + 1) e = sym c.deref.ensures.value ∙ found.1 ∙ ap (λ n. body_of n e) (c.requires.number ∙ ap (λ n. n + 1) of.entries) in (
-            subst (IsBoardOf (h ++ e ∷ [])) (sym c.accept.ensures) (c.in-Ok-stage.ensures.staged h of),
+            subst (IsBoardOf (h ++ e ∷ [])) (sym c.accept.ensures.next) (c.in-Ok-stage.ensures.staged h of),
             record {
               spelled = found.0;
               allowed = c.in-Ok-stage.ensures.allowed h of;

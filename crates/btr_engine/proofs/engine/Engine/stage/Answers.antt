@@ -7,7 +7,7 @@ use Rattle.btr_engine.proofs.engine.Engine.stage.Goals as goal
 pub returns-clause-made : goal.returns-clause-made
 returns-clause-made g c = record {
   spelled = c.in_ok-extent.ensures.spelled;
-  bytes = c.in_ok-extent.ensures.bytes ∙ ap (λ n. body_of n c.args.entry.now ++ zeros 4096) c.receipt_of-receipt.ensures.number;
+  bytes = c.in_ok-extent.ensures.bytes ∙ ap (λ n. body_of n c.args.entry.now ++ zeros 4096) c.in_ok-staged.ensures.number;
   counted = c.in_ok-staged.ensures.counted;
 }
 
@@ -15,5 +15,5 @@ pub returns-clause-pending : goal.returns-clause-pending
 returns-clause-pending g c h of = record {
   allowed = c.in_ok-staged.ensures.allowed h of;
   of = c.in_ok-staged.ensures.staged h of;
-  is_receipt = c.receipt_of-receipt.ensures.of h of (c.in_ok-staged.ensures.allowed h of);
+  is_receipt = c.in_ok-staged.ensures.receipt h of;
 }

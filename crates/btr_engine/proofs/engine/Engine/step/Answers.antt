@@ -5,6 +5,7 @@ use Rattle.btr_hist.specs.declared.entry.Entry.{Entry}
 use Rattle.btr_engine.specs.Board.{Kept, IsBoardOf}
 use Rattle.btr_engine.specs.Body.{need_of}
 use Rattle.btr_engine.specs.Engine.{device, entries_of, is_stopped, room_of, IsEngineOf, IsAtRest}
+use Rattle.btr_engine.specs.Stage.{IsReceipt}
 use Rattle.btr_engine.specs.Step.{IsBeforeOrAfter}
 use Rattle.btr_engine.proofs.EngineLemmas.{durable_as}
 use Rattle.btr_engine.proofs.Stepping.{is_append_run, log_at_rest, no_moment}
@@ -47,7 +48,7 @@ left_by_append g c is_observable h rest =
 -- the board is of the history with the entry
 of_next : (g : Over) (c : After-accept g) (h : List Entry) → IsEngineOf h c.args.self.now → IsBoardOf (h ++ c.args.entry.now ∷ []) c.accept.new.self
 of_next g c h of =
-    subst (IsBoardOf (h ++ c.args.entry.now ∷ [])) (sym c.accept.ensures) (c.in_ok-pending.ensures.pending h of).of
+    subst (IsBoardOf (h ++ c.args.entry.now ∷ [])) (sym c.accept.ensures.next) (c.in_ok-pending.ensures.pending h of).of
 
 -- ---- without a call of the device
 
@@ -91,7 +92,7 @@ invariant_of-self-2 g c =
     let old = c.args.self.now in
     let made = c.in_ok-pending.ensures.made in
     let appended = c.in_default.ensures.appended in
-    let entries : entries_of old + 1 ≡ c.accept.new.self.entries = sym made.counted ∙ sym (ap (λ (b : Kept). b.entries) c.accept.ensures) in
+    let entries : entries_of old + 1 ≡ c.accept.new.self.entries = sym made.counted ∙ sym (ap (λ (b : Kept). b.entries) c.accept.ensures.next) in
     record {
       counted = omega (arith, appended.extents, old.counted, entries);
       ends = ends_after old c.args.entry.now c.deref.result.now (entries_of old + 1) (c.deref.ensures.value ∙ made.bytes) c.append.new.self appended;
@@ -103,7 +104,8 @@ invariant_of-self-2 g c =
 pub returns-clause-stepped : goal.returns-clause-stepped
 returns-clause-stepped g c h of =
     stepped h c.args.self.now c.args.entry.now c.deref.result.now (its_extent g (goal.at.returns-clause-stepped g c).After-deref h of) _ (of_next g (goal.at.returns-clause-stepped g c).After-accept h of) c.in_default.ensures.appended
-    c.in_ok-pending.pending.receipt (fits g (goal.at.returns-clause-stepped g c).In_default h of) (c.in_ok-pending.ensures.pending h of).is_receipt
+    c.accept.result (fits g (goal.at.returns-clause-stepped g c).In_default h of)
+    (subst (IsReceipt h c.args.entry.now) (sym c.accept.ensures.receipt) (c.in_ok-pending.ensures.pending h of).is_receipt)
 
 pub returns-clause-at_rest : goal.returns-clause-at_rest
 returns-clause-at_rest g c is_observable h rest =

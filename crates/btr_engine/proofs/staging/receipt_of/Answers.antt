@@ -3,10 +3,10 @@ use Rattle.std.proofs.Common.{refl, sym, ap, ◌∙◌, subst, ⊎_elim}
 use Rattle.std.specs.Option.{unwrap_or}
 use Rattle.btr_hist.specs.declared.entry.Entry.{Entry}
 use Rattle.btr_hist.specs.History.{latest}
-use Rattle.btr_engine.specs.declared.step.Receipt.{Receipt}
-use Rattle.btr_engine.specs.Step.{IsReceipt}
+use Rattle.btr_engine.specs.declared.board.Receipt.{Receipt}
+use Rattle.btr_engine.specs.Stage.{IsReceipt}
 use Rattle.btr_engine.proofs.BoardReads.{latest-or}
-use Rattle.btr_engine.proofs.step.receipt_of.Goals as goal
+use Rattle.btr_engine.proofs.staging.receipt_of.Goals as goal
 
 pub returns-in-Commit-clause-of : goal.returns-in-Commit-clause-of
 returns-in-Commit-clause-of c h of allowed =
