@@ -1,8 +1,10 @@
 -- Plans: the next commits of outputs, before they are in the history.
-use Rattle.std.specs.Prelude.{◌≡◌, ℕ, List}
+use Rattle.std.specs.Prelude.{◌≡◌, ℕ, List, [], None}
 use Rattle.btr_base.specs.declared.point.Point.{Point}
 use Rattle.btr_base.specs.Range.{RangeValue}
 use Rattle.btr_base.specs.Commit.{Change}
+use Rattle.btr_hist.specs.declared.entry.Entry.{Entry}
+use Rattle.btr_hist.specs.declared.entry.Entry.TheVariants.{Create, Commit, Define, Distillate}
 use Rattle.btr_hist.specs.declared.kernel.Reads.{Reads}
 use Rattle.btr_hist.specs.Distil.{Inputs, distillate}
 use Rattle.btr_distil.specs.Sight.{SightValue, IsSightOf}
@@ -14,6 +16,30 @@ pub record PlanValue : Type 0 where
   pub reads : Reads
   pub cut : List RangeValue
   pub added : List Point
+
+-- The commit as an entry of a history.
+abbrev pub entry_of : PlanValue → Entry
+entry_of p = Distillate p.stream p.cut p.added p.reads
+
+-- The entry is a distillate.
+abbrev pub IsDistillateEntry : Entry → Type 0
+IsDistillateEntry (Create id) = ⊥
+IsDistillateEntry (Commit stream cut added) = ⊥
+IsDistillateEntry (Define id spec) = ⊥
+IsDistillateEntry (Distillate stream cut added reads) = Unit {0}
+
+-- A commit of nothing.
+abbrev no_commit : ℕ → PlanValue
+no_commit base =
+    record { stream = 0; base = base; reads = record { first = 0; second = None }; cut = []; added = [] }
+
+-- The plan that follows this version, if the entry is its distillate. No plan has another entry.
+abbrev pub plan_with : ℕ → Entry → PlanValue
+plan_with base (Create id) = no_commit base
+plan_with base (Commit stream cut added) = no_commit base
+plan_with base (Define id spec) = no_commit base
+plan_with base (Distillate stream cut added reads) =
+    record { stream = stream; base = base; reads = reads; cut = cut; added = added }
 
 -- What the commit does to the points of the output.
 abbrev pub change : PlanValue → Change

@@ -1,26 +1,26 @@
 ghost use Rattle.std.specs.Prelude.{◌≡◌};
+ghost use Rattle.btr_distil.specs.Plan.{entry_of};
 
 use btr_base::{Bag, Ranges};
 use btr_hist::{Entry, Reads};
 use std::marker::Model;
 
 /// The next commit of an output, before it is in the history: the times whose points it removes, the points that it then adds, and
-/// the versions of the inputs that it reads.
+/// the versions of the inputs that it reads. It holds them as an entry, which is a distillate.
 #[derive(Debug, Drop)]
 pub struct Plan {
-    pub(crate) stream: u32,
     pub(crate) base: u64,
-    pub(crate) reads: Reads,
-    pub(crate) cut: Ranges,
-    pub(crate) added: Bag,
+    pub(crate) entry: Entry,
 }
 
 impl Model for Plan {
-    ghost use Rattle.btr_distil.specs.Plan.{PlanValue};
+    ghost use Rattle.btr_distil.specs.Plan.{PlanValue, plan_with, IsDistillateEntry};
 
     ghost Value = { PlanValue };
 
-    ghost view = { λ p. record { stream = p.stream; base = p.base; reads = p.reads; cut = p.cut; added = p.added } };
+    ghost view = { λ p. plan_with p.base p.entry };
+
+    ghost invariant = { λ p. IsDistillateEntry p.entry };
 }
 
 impl Plan {
@@ -28,7 +28,10 @@ impl Plan {
     pub fn stream(&self) -> u32
         ensures { result ≡ self.now.stream }
     {
-        self.stream
+        let Entry::Distillate { stream, .. } = &self.entry else {
+            unreachable!()
+        };
+        *stream
     }
 
     /// The version of the output that the commit follows.
@@ -42,39 +45,44 @@ impl Plan {
     pub fn reads(&self) -> Reads
         ensures { result ≡ self.now.reads }
     {
-        self.reads
+        let Entry::Distillate { reads, .. } = &self.entry else {
+            unreachable!()
+        };
+        *reads
     }
 
     /// The times whose points the commit removes.
     pub fn cut(&self) -> &Ranges
         ensures { result.now ≡ self.now.cut }
     {
-        &self.cut
+        let Entry::Distillate { cut, .. } = &self.entry else {
+            unreachable!()
+        };
+        cut
     }
 
     /// The points that the commit then adds.
     pub fn added(&self) -> &Bag
         ensures { result.now ≡ self.now.added }
     {
-        &self.added
+        let Entry::Distillate { added, .. } = &self.entry else {
+            unreachable!()
+        };
+        added
+    }
+
+    /// The commit as an entry of a history, which the plan holds. It takes no memory.
+    pub fn entry(&self) -> &Entry
+        ensures { result.now ≡ entry_of self.now }
+    {
+        &self.entry
     }
 
     /// The commit as an entry of a history. It takes no memory.
     pub fn into_entry(self) -> Entry
-        ensures { result ≡ Entry.Distillate self.stream self.cut self.added self.reads }
+        ensures { result ≡ entry_of self }
     {
-        let Plan {
-            stream,
-            reads,
-            cut,
-            added,
-            ..
-        } = self;
-        Entry::Distillate {
-            stream,
-            cut,
-            added,
-            reads,
-        }
+        let Plan { entry, .. } = self;
+        entry
     }
 }

@@ -9,6 +9,7 @@ use crate::changed::affected;
 use crate::commit::Plan;
 use crate::sight::Sight;
 use btr_base::{Bag, Ranges};
+use btr_hist::Entry;
 use btr_kernel::run_over;
 use std::alloc::{AllocError, Global};
 
@@ -30,11 +31,13 @@ pub fn plan(alloc: Global, sight: &Sight<'_>) -> Result<Option<Plan>, AllocError
     let cut = affected(alloc, sight)?;
     let added = computed(alloc, sight, &cut)?;
     Ok(Some(Plan {
-        stream: sight.stream,
         base: sight.base,
-        reads: sight.new_reads,
-        cut,
-        added,
+        entry: Entry::Distillate {
+            stream: sight.stream,
+            cut,
+            added,
+            reads: sight.new_reads,
+        },
     }))
 }
 

@@ -97,4 +97,11 @@ impl<'a> Sight<'a> {
             new_second,
         }
     }
+
+    /// The latest version of the output.
+    pub fn base(&self) -> u64
+        ensures { result ≡ self.now.base }
+    {
+        self.base
+    }
 }

@@ -119,6 +119,9 @@ fn planned(
     let sight = Sight::new(
         spec, 7, 3, old, new, old_first, new_first, old_second, new_second,
     );
+    if sight.base() != 3 {
+        return Err("the version of the output".into());
+    }
     Ok(plan(alloc, &sight)?)
 }
 
@@ -244,6 +247,11 @@ fn plans_as_entries(rt: HostRuntime) -> Result<(), Fail> {
     let plan = planned(alloc, sum, one(1), one(2), &trees)?.ok_or("a plan")?;
     assert_eq!(rt; plan.stream(), 7);
     assert_eq!(rt; plan.base(), 3);
+    let Entry::Distillate { stream, reads, .. } = plan.entry() else {
+        return Err("a distillate".into());
+    };
+    assert_eq!(rt; *stream, 7);
+    assert_eq!(rt; *reads, one(2));
     let Entry::Distillate {
         stream,
         cut,
