@@ -1,0 +1,18 @@
+//! The next commit of an output, planned from a snapshot of the history, in the manner of DISTIL (Andersen et al., SmartGridComm
+//! 2015).
+//!
+//! [`next_plan`] makes the plan: what brings an output from the versions of its inputs that its latest version has read to their
+//! latest ones. The plan may land later, on a longer history: it says which version of the output it follows, and is still the
+//! distillate of the definition if no other version of the output has followed that one.
+#![tactic(auto)]
+
+// what a plan is made from
+mod sighting;
+// the plan
+mod planning;
+
+pub use planning::{Next, next_plan};
+pub use sighting::sight;
+
+#[cfg(test)]
+mod tests;

@@ -1,0 +1,112 @@
+//! The sight of an output: what its next commit is planned from.
+ghost use Rattle.std.specs.Prelude.{◌≡◌, ◌<◌, ◌≤◌, true, List, length, Some, None, MatchOption};
+ghost use Rattle.btr_hist.specs.declared.entry.Entry.{Entry as EntrySpec};
+ghost use Rattle.btr_hist.specs.History.{ids, spec_of, latest, bag, reads, latest_reads};
+ghost use Rattle.btr_hist.specs.Legal.{has_inputs};
+ghost use Rattle.btr_engine.specs.Snapshot.{IsSnapshotOf};
+ghost use Rattle.btr_distil.specs.Sight.{IsInput};
+ghost use Rattle.btr_plan.specs.Sight.{IsSightAfter};
+
+use btr_distil::Sight;
+use btr_engine::Snapshot;
+use btr_hist::{Reads, Spec};
+use btr_tree::Tree;
+
+/// The trees of an input, at two versions.
+#[derive(Drop)]
+struct InputTrees<'a> {
+    old: &'a Tree,
+    new: &'a Tree,
+}
+
+/// Returns the sight of an output: its latest version, what that has read of its inputs, and what they have now. A stream that is
+/// no output, and a number that is not that of a stream, have none. It borrows the trees of the snapshot. It takes logarithmic time
+/// and no memory.
+pub fn sight(snapshot: &Snapshot, stream: u32) -> Option<Sight<'_>>
+    ensures { (h : List EntrySpec) → IsSnapshotOf h snapshot.now
+        → MatchOption result (spec_of h stream ≡ None) (IsSightAfter h stream) }
+{
+    let spec = snapshot.spec(stream)?;
+    let version = snapshot.latest(stream)?;
+    sight_of(snapshot, stream, version, spec)
+}
+
+/// Returns the sight of an output of this spec from its latest version. A snapshot of a history has one of each output.
+fn sight_of<'a>(snapshot: &'a Snapshot, stream: u32, version: u64, spec: Spec) -> Option<Sight<'a>>
+    ensures { (h : List EntrySpec) → IsSnapshotOf h snapshot.now → spec_of h stream ≡ Some spec → version ≡ latest h stream
+        → MatchOption result ⊥ (IsSightAfter h stream) }
+{
+    if !spec.is_good() {
+        return None;
+    }
+    let old = reads_of(snapshot, stream, version, &spec);
+    let new = latest_reads(snapshot, &spec)?;
+    let first = input_trees(snapshot, spec.first, old.first, new.first)?;
+    match (spec.second, old.second, new.second) {
+        (None, None, None) => Some(Sight::new(
+            spec, stream, version, old, new, first.old, first.new, None, None,
+        )),
+        (Some(input), Some(before), Some(now)) => {
+            let second = input_trees(snapshot, input, before, now)?;
+            Some(Sight::new(
+                spec,
+                stream,
+                version,
+                old,
+                new,
+                first.old,
+                first.new,
+                Some(second.old),
+                Some(second.new),
+            ))
+        }
+        _ => None,
+    }
+}
+
+/// Returns the trees of an input at two of its versions.
+fn input_trees<'a>(
+    snapshot: &'a Snapshot,
+    stream: u32,
+    old: u64,
+    new: u64,
+) -> Option<InputTrees<'a>>
+    ensures { (h : List EntrySpec) → IsSnapshotOf h snapshot.now → stream < length (ids h) → old ≤ new → new ≤ latest h stream
+        → MatchOption result ⊥ (λ t. IsInput old t.old.now t.new.now (bag h stream old) (bag h stream new)) }
+{
+    Some(InputTrees {
+        old: snapshot.tree(stream, old)?,
+        new: snapshot.tree(stream, new)?,
+    })
+}
+
+/// Returns the versions of its inputs that a version of an output stands for.
+fn reads_of(snapshot: &Snapshot, stream: u32, version: u64, spec: &Spec) -> Reads
+    ensures { (h : List EntrySpec) → IsSnapshotOf h snapshot.now → result ≡ reads h stream spec.now version }
+{
+    match snapshot.reads(stream, version) {
+        Some(reads) => reads,
+        None => spec.nothing_read(),
+    }
+}
+
+/// Returns the latest version of each input.
+fn latest_reads(snapshot: &Snapshot, spec: &Spec) -> Option<Reads>
+    ensures { (h : List EntrySpec) → IsSnapshotOf h snapshot.now → has_inputs h spec.now ≡ true
+        → result ≡ Some (latest_reads h spec.now) }
+{
+    let first = snapshot.latest(spec.first)?;
+    match spec.second {
+        None => Some(Reads {
+            first,
+            second: None,
+        }),
+        Some(stream) => {
+            let second = snapshot.latest(stream)?;
+            Some(Reads {
+                first,
+                second: Some(second),
+            })
+        }
+    }
+}
