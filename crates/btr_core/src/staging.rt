@@ -1,0 +1,53 @@
+//! Staging: an entry, or a plan, with the board that it makes.
+ghost use Rattle.std.specs.Prelude.{List, IfOk};
+ghost use Rattle.btr_hist.specs.declared.entry.Entry.{Entry as EntrySpec};
+ghost use Rattle.btr_hist.specs.Legal.{rejection, Legal};
+ghost use Rattle.btr_hist.specs.Machine.{committed, commit_reply};
+ghost use Rattle.btr_engine.specs.Board.{IsBoardOf};
+ghost use Rattle.btr_plan.specs.Plan.{IsPlanOf, reply_to, landed_after};
+ghost use Rattle.btr_core.specs.Staging.{Makes};
+
+use crate::event::Reply;
+use btr_distil::Plan;
+use btr_engine::{Board, PushFault, Staged};
+use btr_hist::Entry;
+use std::alloc::{AllocError, Global};
+
+/// What becomes of an entry that is committed or landed. The board is as it was until the entry is accepted.
+#[derive(Drop)]
+pub(crate) enum Outcome {
+    /// The entry may follow the history.
+    Staged(Staged),
+
+    /// The entry may not follow, or its plan may not land. This is the reply.
+    Refused(Reply),
+}
+
+/// Tests an entry, and makes the board with it. An `Err` means out of memory.
+pub(crate) fn stage(alloc: Global, board: &Board, entry: &Entry) -> Result<Outcome, AllocError>
+    ensures { (h : List EntrySpec) → IsBoardOf h board.now → IfOk result
+        (Makes h (commit_reply h entry.now (rejection h entry.now)) (committed h entry.now (rejection h entry.now))) }
+{
+    if board.entries() == u64::MAX {
+        // no memory holds a board of so many entries
+        return Err(AllocError);
+    }
+    match board.stage(alloc, entry) {
+        Ok(staged) => Ok(Outcome::Staged(staged)),
+        Err(PushFault::Rejected(why)) => Ok(Outcome::Refused(Reply::Rejected(why))),
+        Err(PushFault::Want) => Err(AllocError),
+    }
+}
+
+/// Tests a plan, and makes the board with its entry. The plan has its own reads, and lands only on the version of its output that
+/// it was made for. An `Err` means out of memory.
+pub(crate) fn stage_plan(alloc: Global, board: &Board, plan: &Plan) -> Result<Outcome, AllocError>
+    ensures { (h : List EntrySpec) → IsBoardOf h board.now → Legal h → IsPlanOf h plan.now
+        → IfOk result (Makes h (reply_to h plan.now) (landed_after h plan.now)) }
+{
+    let version = board.latest(plan.stream()).unwrap_or(0);
+    if plan.base() < version {
+        return Ok(Outcome::Refused(Reply::Superseded { version }));
+    }
+    stage(alloc, board, plan.entry())
+}
