@@ -1,0 +1,9 @@
+mod DigitFieldLemmas
+mod DigitLemmas
+mod BuilderLemmas
+mod FieldLemmas
+mod PlainLemmas
+mod RecordLemmas
+mod SampleLemmas
+mod SmallLemmas
+mod StreamLemmas
