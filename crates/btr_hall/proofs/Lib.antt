@@ -1,0 +1,8 @@
+pub mod TraceLemmas
+pub mod CommitLemmas
+pub mod SessionLemmas
+mod TurnLemmas
+mod StoreLemmas
+pub mod LandLemmas
+pub mod CrossingLemmas
+mod TestLemmas

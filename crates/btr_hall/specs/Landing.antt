@@ -1,0 +1,79 @@
+-- What the turn of a plan does: which item it adds to the list, and what its result says of the history.
+use Rattle.std.specs.Prelude.{◌≡◌, ℕ, ◌+◌, ◌<◌, ◌≤◌, true, false, List, [], ◌∷◌, ◌++◌, length, Option, Some, None}
+use Rattle.std.specs.Prelude.{option_to_list, Result, Ok, Err}
+use Rattle.btr_disk.specs.declared.disk.Disk.{Ghosts}
+use Rattle.btr_hist.specs.declared.entry.Entry.{Entry}
+use Rattle.btr_hist.specs.declared.rejection.Rejection.TheVariants as rejections
+use Rattle.btr_hist.specs.History.{latest}
+use Rattle.btr_hist.specs.Legal.{rejection, Legal}
+use Rattle.btr_hist.specs.Machine.Reply.{Accepted, Superseded, Rejected}
+use Rattle.btr_hist.specs.Machine as machine
+use Rattle.btr_distil.specs.Plan.{PlanValue, entry_of}
+use Rattle.btr_plan.specs.Plan.{IsCurrent, reply_to, landed_after}
+use Rattle.btr_engine.specs.declared.engine.Engine.{Engine}
+use Rattle.btr_engine.specs.declared.board.Receipt.{Receipt}
+use Rattle.btr_engine.specs.declared.step.StepFault.{StepFault}
+use Rattle.btr_engine.specs.declared.step.StepFault.TheVariants as steps
+use Rattle.btr_engine.specs.Body.{need_of}
+use Rattle.btr_engine.specs.Engine.{room_of, IsEngineOf}
+use Rattle.btr_engine.specs.Stage.{MayLackMemory, IsReceipt}
+use Rattle.btr_gate.specs.Prefixes.{StartsWith}
+use Rattle.btr_hall.specs.declared.item.Item.{Item}
+use Rattle.btr_hall.specs.declared.land.LandFault.{LandFault}
+use Rattle.btr_hall.specs.declared.land.LandFault.TheVariants as faults
+use Rattle.btr_hall.specs.declared.session.Hall.{Hall}
+use Rattle.btr_hall.specs.declared.session.Session.{Session}
+use Rattle.btr_hall.specs.Trace.{IsTraceOf, engine_after, entries_in, stopped_in, history_of}
+use Rattle.btr_hall.specs.Session.{IsAlone, opening_of, seen_of, mine_of, engine_of}
+use Rattle.btr_hall.specs.Commit.{needs_of, item_by, number_by}
+
+-- The fault of the step of a landing. There was no step if the plan was superseded.
+abbrev pub step_fault : LandFault → StepFault
+step_fault (faults.Stopped entries) = steps.Stopped entries
+step_fault (faults.Superseded version) = steps.Want
+step_fault faults.VersionLimit = steps.Rejected rejections.VersionLimit
+step_fault (faults.Crowded start) = steps.Rejected (rejections.Crowded start)
+step_fault (faults.TooManyPoints count) = steps.Rejected (rejections.TooManyPoints count)
+step_fault faults.Want = steps.Want
+step_fault (faults.DeviceFull need left) = steps.DeviceFull need left
+step_fault faults.DeviceFault = steps.DeviceFault
+
+-- The result of the step of a landing.
+abbrev pub step_result : Result Receipt LandFault → Result Receipt StepFault
+step_result (Ok receipt) = Ok receipt
+step_result (Err fault) = Err (step_fault fault)
+
+module _ {D : Type 0} {disk : Ghosts D} where
+  -- What the result of a landing says of the history h, to which the list `before` leads from the engine `x`: the model's reply,
+  -- or why the device or the memory refused.
+  abbrev pub Replies : Engine D disk → List (Item D disk) → List Entry → PlanValue → Result Receipt LandFault → Type 0
+  Replies x before h p (Ok receipt) =
+      (reply_to h p ≡ Accepted (machine.receipt h (entry_of p))) × (landed_after h p ≡ h ++ entry_of p ∷ [])
+      × IsReceipt h (entry_of p) receipt × (receipt.number ≡ length before + 1)
+  Replies x before h p (Err (faults.Stopped entries)) = (stopped_in x before ≡ true) × (entries ≡ length h)
+  Replies x before h p (Err (faults.Superseded version)) =
+      (reply_to h p ≡ Superseded version) × (p.base < version) × (version ≡ latest h p.stream)
+  Replies x before h p (Err faults.VersionLimit) = IsCurrent h p × (reply_to h p ≡ Rejected rejections.VersionLimit)
+  Replies x before h p (Err (faults.Crowded start)) =
+      IsCurrent h p × (rejection h (entry_of p) ≡ Some (rejections.Crowded start)) × (Legal h → ⊥)
+  Replies x before h p (Err (faults.TooManyPoints count)) =
+      IsCurrent h p × (rejection h (entry_of p) ≡ Some (rejections.TooManyPoints count)) × (Legal h → ⊥)
+  Replies x before h p (Err faults.Want) = IsCurrent h p × MayLackMemory (rejection h (entry_of p))
+  Replies x before h p (Err (faults.DeviceFull need left)) =
+      IsCurrent h p × (rejection h (entry_of p) ≡ None) × (need ≡ need_of (entry_of p))
+      × (left + needs_of (entries_in before) ≡ room_of x) × (left < need)
+  Replies x before h p (Err faults.DeviceFault) = IsCurrent h p × (rejection h (entry_of p) ≡ None)
+
+  -- The turn of a plan. `before` is the list when it began, which begins with all that the session had seen. The session has then
+  -- seen this list, and the item that the turn added, whose number is one of its own. What an engine promises of a step holds of
+  -- this item, since the list is a trace.
+  pub record Lands (hall : Hall D disk) (old new : Session D disk) (p : PlanValue) (result : Result Receipt LandFault) : Type 0 where
+    pub before : List (Item D disk)
+    pub grows : StartsWith before (seen_of old)
+    pub alone : IsAlone old → before ≡ seen_of old
+    pub trace : IsTraceOf (opening_of hall) (seen_of new)
+    pub seen : seen_of new ≡ before ++ option_to_list (item_by (step_result result) (entry_of p) (engine_of hall new))
+    pub mine : mine_of new ≡ mine_of old ++ option_to_list (number_by (step_result result) (length (seen_of new)))
+    pub stopped : stopped_in (opening_of hall) before ≡ true
+        → (h : List Entry) → IsEngineOf h (opening_of hall) → result ≡ Err (faults.Stopped (length (history_of h before)))
+    pub replies : (h : List Entry) → IsEngineOf h (opening_of hall) → Replies (opening_of hall) before (history_of h before) p result

@@ -1,0 +1,12 @@
+-- the list of a hall, and the engine at its end
+pub mod Trace
+pub mod Store
+pub mod StoreLaws
+-- what contracts see of a session, and what its calls do
+pub mod Session
+pub mod Found
+pub mod Commit
+pub mod Landing
+pub mod Sole
+-- what the private functions promise
+pub mod Superseded

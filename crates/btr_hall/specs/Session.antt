@@ -1,0 +1,100 @@
+-- What contracts see of a hall and a session: what the session has seen, which entries are its own, its share, and its engine.
+use Rattle.std.specs.Prelude.{◌≡◌, ℕ, Bool, true, List, [], ◌++◌, length, Option, Some, None, if◌then◌else◌}
+use Rattle.btr_disk.specs.declared.disk.Disk.{Ghosts}
+use Rattle.btr_engine.specs.declared.engine.Engine.{Engine}
+use Rattle.btr_engine.specs.Engine.{entries_of, is_stopped}
+use Rattle.btr_gate.specs.Prefixes.{StartsWith, longer}
+use Rattle.btr_gate.specs.Shares.{covers, kept_half, other_half}
+use Rattle.btr_gate.specs.Numbers.{merged, times, given, Climbs}
+use Rattle.btr_gate.specs.Gates.{IsPassOf, view}
+use Rattle.btr_hall.specs.declared.item.Item.{Item}
+use Rattle.btr_hall.specs.declared.session.Hall.{Hall}
+use Rattle.btr_hall.specs.declared.session.Session.{Session}
+use Rattle.btr_hall.specs.Trace.{engine_after, IsTraceOf}
+
+module _ {D : Type 0} {disk : Ghosts D} where
+  -- The engine with which the hall began.
+  abbrev pub opening_of : Hall D disk → Engine D disk
+  opening_of hall = hall.opening.value
+
+  -- The session is one of this hall.
+  pub record IsSessionOf (hall : Hall D disk) (s : Session D disk) : Type 0 where
+    pub own : IsPassOf hall.gate s.pass
+    pub set : (view s.pass).setting ≡ Some (opening_of hall)
+
+  -- The list as the session has seen it last.
+  abbrev pub seen_of : Session D disk → List (Item D disk)
+  seen_of s = (view s.pass).seen
+
+  -- The numbers of its own items in the list, from 1 on, in rising order.
+  abbrev pub mine_of : Session D disk → List ℕ
+  mine_of s = (view s.pass).mine
+
+  -- Its share. The shares of all sessions of a hall together cover.
+  abbrev pub share_of : Session D disk → List (List Bool)
+  share_of s = (view s.pass).share
+
+  -- The number of entries when the hall began.
+  abbrev pub start_of : Session D disk → ℕ
+  start_of s = (view s.pass).start
+
+  -- The engine at the end of what the session has seen.
+  abbrev pub engine_of : Hall D disk → Session D disk → Engine D disk
+  engine_of hall s = engine_after (opening_of hall) (seen_of s)
+
+  -- The session is the only one of its hall.
+  abbrev pub IsAlone : Session D disk → Type 0
+  IsAlone s = covers (share_of s) ≡ true
+
+  -- The share of a session, and the number of entries when its hall began, are as before.
+  pub record IsSame (old new : Session D disk) : Type 0 where
+    pub share : share_of new ≡ share_of old
+    pub start : start_of new ≡ start_of old
+
+  -- A hall that began with this engine, and its first session: it has seen the entries of the engine, and is alone.
+  pub record Begins (x : Engine D disk) (hall : Hall D disk) (s : Session D disk) : Type 0 where
+    pub session : IsSessionOf hall s
+    pub opening : opening_of hall ≡ x
+    pub engine : engine_of hall s ≡ x
+    pub trace : IsTraceOf x (seen_of s)
+    pub seen : length (seen_of s) ≡ entries_of x
+    pub start : start_of s ≡ entries_of x
+    pub mine : mine_of s ≡ []
+    pub alone : IsAlone s
+
+  -- A turn that adds nothing: the session has seen the list of the turn, which begins with all that it had seen.
+  pub record Looks (hall : Hall D disk) (old new : Session D disk) : Type 0 where
+    pub same : IsSame old new
+    pub mine : mine_of new ≡ mine_of old
+    pub grows : StartsWith (seen_of new) (seen_of old)
+    pub trace : IsTraceOf (opening_of hall) (seen_of new)
+    pub alone : IsAlone old → seen_of new ≡ seen_of old
+
+  -- A session is split: both have seen the same, and each has half of the share. The new one has no items of its own.
+  pub record Splits (old new other : Session D disk) : Type 0 where
+    pub seen : seen_of new ≡ seen_of old
+    pub mine : mine_of new ≡ mine_of old
+    pub share : share_of new ≡ kept_half (share_of old)
+    pub start : start_of new ≡ start_of old
+    pub other_seen : seen_of other ≡ seen_of old
+    pub other_mine : mine_of other ≡ []
+    pub other_share : share_of other ≡ other_half (share_of old)
+    pub other_start : start_of other ≡ start_of old
+
+  -- A session takes in another: it has seen the longer list, with which neither is at odds, and has the items and the shares of both.
+  pub record Meets (old other new : Session D disk) : Type 0 where
+    pub seen : seen_of new ≡ longer (seen_of old) (seen_of other)
+    pub this : StartsWith (seen_of new) (seen_of old)
+    pub that : StartsWith (seen_of new) (seen_of other)
+    pub mine : mine_of new ≡ merged (mine_of old) (mine_of other)
+    pub share : share_of new ≡ share_of old ++ share_of other
+    pub start : start_of new ≡ start_of old
+
+  -- The session has the number of each item that was added since the hall began, once, in rising order.
+  pub record HasEachOnce (s : Session D disk) : Type 0 where
+    pub once : (n : ℕ) → times n (mine_of s) ≡ given (start_of s) (length (seen_of s)) n
+    pub climbs : Climbs (start_of s) (mine_of s) (length (seen_of s))
+
+  -- The number of entries of an engine, if it is stopped.
+  abbrev pub stopped_at : Engine D disk → Option ℕ
+  stopped_at e = if is_stopped e then Some (entries_of e) else None

@@ -1,0 +1,145 @@
+//! The turn of a plan.
+ghost use Rattle.std.specs.Prelude.{◌≡◌, List, false};
+ghost use Rattle.btr_hist.specs.declared.entry.Entry.{Entry as EntrySpec};
+ghost use Rattle.btr_engine.specs.declared.step.StepFault.TheVariants.{Rejected};
+ghost use Rattle.btr_engine.specs.Engine.{IsEngineOf};
+ghost use Rattle.btr_hall.specs.Trace.{history_of};
+ghost use Rattle.btr_hall.specs.Session.{IsSessionOf, IsSame, opening_of, seen_of};
+ghost use Rattle.btr_plan.specs.Plan.{IsPlanOf, MayReject};
+ghost use Rattle.btr_hall.specs.Landing.{Lands, step_fault};
+ghost use Rattle.btr_hall.specs.Superseded.{StoreLands, IsSupersededBy, MayLand, is_superseded};
+
+use crate::item::Item;
+use crate::session::{Hall, Session};
+use crate::store::Store;
+use btr_disk::Disk;
+use btr_distil::Plan;
+use btr_engine::{Receipt, StepFault};
+use btr_hist::Rejection;
+use std::alloc::Global;
+use std::sync::Wait;
+
+/// Why a plan was not landed. If several causes hold, the first in this order is returned. Only `Crowded` and `TooManyPoints`, which
+/// are found last, may be hidden by `Want`.
+#[derive(Clone, Copy, Debug, PartialEq, Eq)]
+pub enum LandFault {
+    /// The engine was stopped, with this number of entries.
+    Stopped { entries: u64 },
+
+    /// The output has another version since the one that the plan follows: its latest version is this one.
+    Superseded { version: u64 },
+
+    /// The output has as many versions as a stream can have.
+    VersionLimit,
+
+    /// A bottom span would hold too many points: the start of the first such span, in nanoseconds. It never comes if the history
+    /// is legal.
+    Crowded { start: i64 },
+
+    /// The version would hold too many points: their number. It never comes if the history is legal.
+    TooManyPoints { count: u64 },
+
+    /// There was not enough memory.
+    Want,
+
+    /// There is less room than the entry needs, both in blocks.
+    DeviceFull { need: u64, left: u64 },
+
+    /// The device failed. The engine is stopped. A crash leaves the history with the entry or without it.
+    DeviceFault,
+}
+
+impl<D: Disk> Session<D> {
+    /// Lands a plan: adds the distillate as it was planned, with the reads of the plan. The plan was made from a history that the
+    /// session has seen.
+    ///
+    /// If the output has another version since the one that the plan follows, the plan is superseded, and nothing is added. What
+    /// was added to the inputs in between does not matter: the plan says which of their versions were read.
+    ///
+    /// It waits for the turn, and then costs what a step costs.
+    pub fn land<R: Wait>(
+        &mut self,
+        rt: &R,
+        alloc: Global,
+        hall: &Hall<D>,
+        plan: &Plan,
+    ) -> Result<Receipt, LandFault>
+        requires session { IsSessionOf hall.now self.old }
+        requires planned { (h : List EntrySpec) → IsEngineOf h (opening_of hall.now) → IsPlanOf (history_of h (seen_of self.old)) plan.now }
+        ensures session { IsSessionOf hall.now self.new }
+        ensures same { IsSame self.old self.new }
+        ensures lands { Lands hall.now self.old self.new plan.now result }
+    {
+        let mut turn = hall.gate.enter(rt, &mut self.pass);
+        let (result, added) = turn.state.land(alloc, plan);
+        turn.added = added;
+        hall.gate.leave(&mut self.pass, turn);
+        result
+    }
+}
+
+impl<D: Disk> Store<D> {
+    /// Does the landing of a plan. Returns the result and the item of the list that it made, if it made one.
+    pub(crate) fn land(
+        &mut self,
+        alloc: Global,
+        plan: &Plan,
+    ) -> (Result<Receipt, LandFault>, Option<Item<D>>)
+        requires planned { (h : List EntrySpec) × IsEngineOf h self.old.engine × IsPlanOf h plan.now }
+        ensures { StoreLands self.old self.new plan.now result.1 result.0 }
+    {
+        if let Some(version) = self.superseded(plan) {
+            return (Err(LandFault::Superseded { version }), None);
+        }
+        let (result, added) = self.add(alloc, plan.entry());
+        match result {
+            Ok(receipt) => (Ok(receipt), added),
+            Err(fault) => (Err(land_fault(fault)), added),
+        }
+    }
+
+    /// Returns the latest version of the output of a plan, if it is above the one that the plan follows and the engine is not
+    /// stopped.
+    fn superseded(&self, plan: &Plan) -> Option<u64>
+        ensures { IsSupersededBy self.now plan.now result }
+    {
+        if self.engine.stopped() {
+            return None;
+        }
+        let version = self.engine.latest(plan.stream()).unwrap_or(0);
+        if version > plan.base() {
+            Some(version)
+        } else {
+            None
+        }
+    }
+}
+
+/// Why a plan that follows the latest version of its output was not landed.
+fn land_fault(fault: StepFault) -> LandFault
+    requires { MayLand fault }
+    ensures fault { step_fault result ≡ fault }
+    ensures current { is_superseded result ≡ false }
+{
+    match fault {
+        StepFault::Stopped { entries } => LandFault::Stopped { entries },
+        StepFault::Rejected(why) => land_rejection(why),
+        StepFault::Want => LandFault::Want,
+        StepFault::DeviceFull { need, left } => LandFault::DeviceFull { need, left },
+        StepFault::DeviceFault => LandFault::DeviceFault,
+    }
+}
+
+/// Why the entry of such a plan may not follow.
+fn land_rejection(why: Rejection) -> LandFault
+    requires { MayReject why }
+    ensures fault { step_fault result ≡ Rejected why }
+    ensures current { is_superseded result ≡ false }
+{
+    match why {
+        Rejection::VersionLimit => LandFault::VersionLimit,
+        Rejection::Crowded { start } => LandFault::Crowded { start },
+        Rejection::TooManyPoints { count } => LandFault::TooManyPoints { count },
+        _ => unreachable!(),
+    }
+}

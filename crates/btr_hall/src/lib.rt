@@ -1,0 +1,30 @@
+//! A hall: many threads use one engine, each by a session of its own.
+//!
+//! The list of a hall has each entry of the history, in order. A session adds an entry in a turn, which no other session shares, and
+//! has then seen the whole list ([`Session::commit`]). A snapshot is taken in a turn and answers after it ([`Session::admit`]). What
+//! an engine promises of a step, also after a crash, holds of each turn, and of the engine that [`Hall::close`] returns.
+//! Nothing is said of how long a call waits, nor in which order sessions get their turns.
+#![tactic(auto)]
+
+// what is in the list, and what the gate carries
+mod item;
+mod store;
+// the hall and its sessions
+mod session;
+// the calls of a session
+mod commit;
+mod land;
+mod look;
+mod share;
+// one session alone
+mod sole;
+
+pub use item::Item;
+pub use land::LandFault;
+pub use look::Found;
+pub use session::{Hall, Session};
+pub use sole::Sole;
+pub use store::Store;
+
+#[cfg(test)]
+mod tests;
