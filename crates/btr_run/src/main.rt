@@ -14,37 +14,47 @@ use std::alloc::{AllocError, Global};
 use std::env;
 use std::io::ErrorKind;
 use std::process::ExitCode;
+use std::sync::Wait;
 
 fn main(rt: HostRuntime) -> ExitCode {
     let status = match words(&rt) {
-        Ok(words) => run_words(&rt, words.as_slice()),
+        Ok(words) => run_words(&rt, &rt, words.as_slice()),
         Err(AllocError) => end_without_memory(&rt),
     };
     ExitCode::from(status)
 }
 
-/// Runs the words of the command line on the device that the second of them names. The first is the program's name.
-fn run_words(rt: &HostRuntime, words: &[String]) -> u8 {
+/// Runs the words of the command line on the device that the second of them names. The first is the program's name. The run waits
+/// by `wait`: that is the runtime too, which only `main` may use so.
+fn run_words<W: Wait>(rt: &HostRuntime, wait: &W, words: &[String]) -> u8 {
     match words {
         [_, path, rest @ ..] => match lock_of(rt.alloc(), rest) {
-            Ok(lock) => run_on(rt, path.as_str(), lock, rest),
+            Ok(lock) => run_on(rt, wait, path.as_str(), lock, rest),
             Err(_) => end_without_memory(rt),
         },
         _ => {
             let mut source = StdSource::new(rt.stdin());
             let mut sink = StdSink::new(rt.stdout());
-            run(rt, rt.alloc(), &[], &mut source, &mut sink, NoDisk::new()).status
+            run(wait, rt.alloc(), &[], &mut source, &mut sink, NoDisk::new()).status
         }
     }
 }
 
-/// Runs words on the device with this path.
-fn run_on(rt: &HostRuntime, path: &str, lock: Lock, words: &[String]) -> u8 {
+/// Runs words on the device with this path, and waits by `wait`.
+fn run_on<W: Wait>(rt: &HostRuntime, wait: &W, path: &str, lock: Lock, words: &[String]) -> u8 {
     let mut source = StdSource::new(rt.stdin());
     let mut sink = StdSink::new(rt.stdout());
     match FileDisk::open(rt, path, lock) {
-        Ok(disk) => run(rt, rt.alloc(), words, &mut source, &mut sink, disk).status,
-        Err(_) => run(rt, rt.alloc(), words, &mut source, &mut sink, NoDisk::new()).status,
+        Ok(disk) => run(wait, rt.alloc(), words, &mut source, &mut sink, disk).status,
+        Err(_) => run(
+            wait,
+            rt.alloc(),
+            words,
+            &mut source,
+            &mut sink,
+            NoDisk::new(),
+        )
+        .status,
     }
 }
 

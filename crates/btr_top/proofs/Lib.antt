@@ -22,4 +22,3 @@ mod AskCompletes
 mod Meanings
 mod FeedLines
 mod OutputLines
-mod SightLemmas

@@ -31,7 +31,7 @@ use Rattle.btr_top.specs.Meaning.{Meaning, Commits, Asks, Holds, Current, Refuse
 use Rattle.btr_text.specs.Reasons.{reason_of_rejection}
 use Rattle.btr_top.specs.Replies.{Store, reply_of_commit, after_commit, Replies}
 use Rattle.btr_top.specs.Ask.{IsAnswerOrNoMemory}
-use Rattle.btr_top.specs.EngineScript.{engine_of, history_after, store_of, Answers, AnswersFrom}
+use Rattle.btr_top.specs.EngineScript.{of_history, history_after, store_of, Answers, AnswersFrom}
 use Rattle.btr_top.proofs.KeptOpening.{KeepsOpening-refl}
 
 -- ---- a delete
@@ -92,7 +92,7 @@ answers_refused h e entry why of runs is = record {
   replied = inl (record {
     allowed = (runs, λ accepted. absurd (none-some why (sym accepted ∙ is)));
     replied = ap (λ (o : Option Rejection). reply_of_commit h entry o) (sym is);
-    store = ap (λ (o : Option Rejection). after_commit (store_of (engine_of h e)) entry o) (sym is);
+    store = ap (λ (o : Option Rejection). after_commit (store_of (of_history h e)) entry o) (sym is);
   });
   kept = KeepsOpening-refl e;
   idle = λ stopped. refl;
@@ -162,9 +162,9 @@ history_after-question h (Refuses reason) reply is = refl
 -- a question leaves the engine as it is
 pub answers_question : {D : Type 0} {disk : Ghosts D} (h : List Entry) (e : Engine D disk) (m : Meaning) (reply : LineReply) → IsEngineOf h e → IsQuestion m → IsAnswerOrNoMemory h m reply → AnswersFrom h e m reply e
 answers_question h e m reply of is answered =
-    subst (λ (k : List Entry). Answers (engine_of h e) m reply (engine_of k e)) (history_after-question h m reply is) (record {
+    subst (λ (k : List Entry). Answers (of_history h e) m reply (of_history k e)) (history_after-question h m reply is) (record {
       of = of;
-      replied = replies_question (store_of (engine_of h e)) m reply is answered;
+      replied = replies_question (store_of (of_history h e)) m reply is answered;
       kept = KeepsOpening-refl e;
       idle = λ stopped. refl;
       leaves = λ told rest. inl refl;

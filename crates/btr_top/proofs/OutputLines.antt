@@ -1,13 +1,13 @@
 -- Lines of outputs: what a line asks for that defines one, and what a line is answered that brings one up to date.
-use Rattle.std.specs.Prelude.{◌≡◌, ℕ, true, List, Option, Some, None}
+use Rattle.std.specs.Prelude.{◌≡◌, ℕ, true, false, List, Option, Some, None}
 use Rattle.std.specs.Option.{is_some}
-use Rattle.std.proofs.Common.{refl, sym, ◌∙◌, ap, subst, inl, inr, ⊎_elim}
+use Rattle.std.proofs.Common.{refl, sym, ◌∙◌, ap, inl, inr, ⊎_elim}
 use Rattle.btr_disk.specs.declared.disk.Disk.{Ghosts}
 use Rattle.btr_hist.specs.declared.entry.Entry.{Entry}
 use Rattle.btr_hist.specs.declared.entry.Entry.TheVariants as entries
 use Rattle.btr_hist.specs.declared.kernel.Kernel.{Kernel}
 use Rattle.btr_hist.specs.declared.kernel.Spec.{Spec}
-use Rattle.btr_hist.specs.History.{stream_of, spec_of}
+use Rattle.btr_hist.specs.History.{stream_of, spec_of, is_output}
 use Rattle.btr_hist.specs.Machine.{Landing, planned}
 use Rattle.btr_text.specs.declared.script.Line.TheVariants as lines
 use Rattle.btr_text.specs.declared.reply.LineReply.{LineReply}
@@ -56,9 +56,24 @@ land-planned : (h : List Entry) (stream : ℕ) (spec : Spec) (p : Option Landing
 land-planned h stream spec None e = absurd (cc)
 land-planned h stream spec (Some p) e = absurd (cc)
 
+planned-if : (h : List Entry) (stream : ℕ) (spec : Option Spec) → is_some spec ≡ true → refresh h stream spec ≡ Refuses reasons.Plain → ⊥
+planned-if h stream None output e = absurd (cc)
+planned-if h stream (Some spec) output e = land-planned h stream spec (planned h stream spec) e
+
 -- what is asked of an output is not refused as of a plain stream
-pub refresh-output : (h : List Entry) (stream : ℕ) (spec : Spec) → refresh h stream (Some spec) ≡ Refuses reasons.Plain → ⊥
-refresh-output h stream spec e = land-planned h stream spec (planned h stream spec) e
+pub refresh-output : (h : List Entry) (stream : ℕ) → is_output h stream ≡ true → refresh h stream (spec_of h stream) ≡ Refuses reasons.Plain → ⊥
+refresh-output h stream output e = planned-if h stream (spec_of h stream) output e
+
+-- what is asked of a plain stream is
+pub refresh-plain : (h : List Entry) (stream : ℕ) → spec_of h stream ≡ None → Refuses reasons.Plain ≡ refresh h stream (spec_of h stream)
+refresh-plain h stream none = sym (ap (λ (o : Option Spec). refresh h stream o) none)
+
+none-if : (spec : Option Spec) → is_some spec ≡ false → spec ≡ None
+none-if None plain = refl
+none-if (Some spec) plain = absurd (cc)
+
+pub plain_refused : (h : List Entry) (stream : ℕ) → is_output h stream ≡ false → Refuses reasons.Plain ≡ refresh h stream (spec_of h stream)
+plain_refused h stream plain = refresh-plain h stream (none-if (spec_of h stream) plain)
 
 output_if : (h : List Entry) (stream : ℕ) (spec : Option Spec) → (refresh h stream spec ≡ Refuses reasons.Plain → ⊥) → is_some spec ≡ true
 output_if h stream None asked = absurd (asked refl)
@@ -111,8 +126,3 @@ module _ {D : Type 0} {disk : Ghosts D} (batch : ℕ) (h : List Entry) (old : En
       waiting = refl;
     },
   )
-
--- what is asked of an output of this spec
-pub with_spec : {D : Type 0} {disk : Ghosts D} (h : List Entry) (old new : Engine D disk) (stream : ℕ) (spec : Option Spec) (reply : LineReply) → spec_of h stream ≡ spec → AnswersPlanned h old (refresh h stream spec) reply new → AnswersPlanned h old (refresh h stream (spec_of h stream)) reply new
-with_spec h old new stream spec reply is answers =
-    subst (λ (o : Option Spec). AnswersPlanned h old (refresh h stream o) reply new) (sym is) answers

@@ -1,8 +1,8 @@
--- Lemmas on refreshes: what one asks for, by the versions that its output has read; and that one that is done leaves it current.
-use Rattle.std.specs.Prelude.{◌≡◌, ℕ, ◌+◌, ◌==◌, Bool, true, cond, List, [], ◌∷◌, ◌++◌, length, Option, Some, None}
+-- Lemmas on refreshes: what one asks for, by what is planned for its output; and that one that is done leaves it up to date.
+use Rattle.std.specs.Prelude.{◌≡◌, ℕ, ◌+◌, ◌==◌, Bool, true, false, cond, List, [], ◌∷◌, ◌++◌, length, Option, Some, None}
 use Rattle.std.specs.Option.{unwrap_or}
 use Rattle.std.proofs.Common.{suc, refl, sym, ◌∙◌, ap, subst, ⊎_elim, arith}
-use Rattle.std.proofs.lemmas.Bool.{eq-eqb, eqb-true, and_parts, and_from, cases_Bool, false_from_ne_true}
+use Rattle.std.proofs.lemmas.Bool.{eq-eqb, eqb-true, and_parts, cases_Bool}
 use Rattle.btr_base.specs.Commit.{Change}
 use Rattle.btr_hist.specs.declared.entry.Entry.{Entry}
 use Rattle.btr_hist.specs.declared.kernel.Spec.{Spec}
@@ -11,7 +11,7 @@ use Rattle.btr_hist.specs.declared.rejection.Rejection.{Rejection}
 use Rattle.btr_hist.specs.Distil.{distillate}
 use Rattle.btr_hist.specs.History.{spec_of, latest, nothing_read, reads, latest_reads, inputs_at}
 use Rattle.btr_hist.specs.Legal.{rejection}
-use Rattle.btr_hist.specs.Machine.{Landing, same_second, same_reads, landing}
+use Rattle.btr_hist.specs.Machine.{Landing, same_second, same_reads, planned, plan_of, landing}
 use Rattle.btr_hist.proofs.VersionLemmas.{latest-push, read_by-push}
 use Rattle.btr_text.specs.declared.script.Line.TheVariants as lines
 use Rattle.btr_text.specs.declared.reply.LineReply.TheVariants.{Done, No}
@@ -19,6 +19,10 @@ use Rattle.btr_text.specs.declared.reply.Reason.{Reason}
 use Rattle.btr_text.specs.declared.reply.Reason.TheVariants as reasons
 use Rattle.btr_text.specs.Reasons.{reason_of_rejection}
 use Rattle.btr_engine.specs.Body.{need_of}
+use Rattle.btr_distil.specs.Plan.{PlanValue, entry_of}
+use Rattle.btr_plan.specs.Plan.{IsCurrent, landing_of}
+use Rattle.btr_plan.specs.Next.{IsUpToDate, IsNextPlan}
+use Rattle.btr_plan.proofs.PlanLemmas.{plan-entry}
 use Rattle.btr_top.specs.Meaning.{Meaning, Commits, Current, Refuses, on_stream, land, refresh, meaning}
 use Rattle.btr_top.specs.Replies.{Store, reply_of_commit, after_commit, IsNotDone, Replies}
 use Rattle.btr_top.specs.Laws.{RefreshesAreCurrent}
@@ -31,19 +35,12 @@ same_second-true None (Some y) e = absurd (cc)
 same_second-true (Some x) None e = absurd (cc)
 same_second-true (Some x) (Some y) e = ap (λ (n : ℕ). Some n) (eqb-true x y e)
 
-same_second-own : (a : Option ℕ) → same_second a a ≡ true
-same_second-own None = refl
-same_second-own (Some x) = eq-eqb x x refl
-
 same_reads-true : (a b : Reads) → same_reads a b ≡ true → a ≡ b
 same_reads-true a b e =
     let both = and_parts (a.first == b.first) (same_second a.second b.second) e in
     let first : a.first ≡ b.first = eqb-true a.first b.first both.0 in
     let second : a.second ≡ b.second = same_second-true a.second b.second both.1 in
     λ i. record { first = first i; second = second i }
-
-same_reads-own : (a : Reads) → same_reads a a ≡ true
-same_reads-own a = and_from (a.first == a.first) (same_second a.second a.second) (eq-eqb a.first a.first refl) (same_second-own a.second)
 
 -- ---- what a refresh asks for
 
@@ -69,16 +66,6 @@ module _ (h : List Entry) (stream : ℕ) (spec : Spec) where
   abbrev asked_if : Bool → Meaning
   asked_if same = land h stream spec (cond same None (Some next))
 
-  -- an output that has read the latest versions of its inputs is current
-  pub is_current : has_read ≡ is_to_read → refresh h stream (Some spec) ≡ Current (latest h stream)
-  is_current same =
-      ap (λ t. asked_if t) (subst (λ (r : Reads). same_reads r is_to_read ≡ true) (sym same) (same_reads-own is_to_read))
-
-  -- an output that has not is to have one version more
-  pub is_behind : (has_read ≡ is_to_read → ⊥) → refresh h stream (Some spec) ≡ Commits next_commit
-  is_behind differs =
-      ap (λ t. asked_if t) (false_from_ne_true (same_reads has_read is_to_read) (λ e. differs (same_reads-true has_read is_to_read e)))
-
   -- ---- after the next version
 
   latest_next : latest (h ++ next_commit ∷ []) stream ≡ suc (latest h stream)
@@ -92,11 +79,36 @@ module _ (h : List Entry) (stream : ℕ) (spec : Spec) where
       (read_by-push h next_commit stream (Some is_to_read)
       (ap (λ (t : Bool). cond {A = Option (Option Reads)} t (Some (Some is_to_read)) None) (eq-eqb stream stream refl)))
 
+-- ---- what is planned
+
+-- for an output that is up to date a refresh asks for nothing
+pub refresh-up_to_date : (h : List Entry) (stream version : ℕ) → IsUpToDate h stream version → Current version ≡ refresh h stream (spec_of h stream)
+refresh-up_to_date h stream version now =
+    ap (λ (n : ℕ). Current n) now.latest
+    ∙ sym (ap (λ (o : Option Landing). land h stream now.spec o) now.nothing)
+    ∙ sym (ap (λ (o : Option Spec). refresh h stream o) now.output)
+
+base-of : (t : Bool) (n p : Landing) → cond {A = Option Landing} t None (Some n) ≡ Some p → p.base ≡ n.base
+base-of true n p is = absurd (cc)
+base-of false n p is = cc
+
+-- for one that has a plan it asks for the commit of the plan
+pub refresh-plan : (h : List Entry) (stream : ℕ) (p : PlanValue) → IsNextPlan h stream p → Commits (entry_of p) ≡ refresh h stream (spec_of h stream)
+refresh-plan h stream p made =
+    let spec : Spec = made.of.spec in
+    let output : spec_of h stream ≡ Some spec = subst (λ (n : ℕ). spec_of h n ≡ Some spec) made.same_stream made.of.output in
+    let is : planned h stream spec ≡ Some (landing_of p) = sym (ap (λ (o : Option Spec). plan_of h stream o) output) ∙ made.planned in
+    let base : p.base ≡ latest h stream = base-of (same_reads (has_read h stream spec) (is_to_read h stream spec)) (next h stream spec) (landing_of p) is in
+    let current : IsCurrent h p = subst (λ (n : ℕ). latest h n ≡ p.base) (sym made.same_stream) (sym base) in
+    ap (λ (e : Entry). Commits e) (plan-entry h p made.of current)
+    ∙ sym (ap (λ (o : Option Landing). land h stream spec o) is)
+    ∙ sym (ap (λ (o : Option Spec). refresh h stream o) output)
+
 -- ---- a refresh that is done
 
 -- the version is that of the output, which stands for the latest versions that its inputs had before
-abbrev IsUpToDate : Store → Store → ℕ → Spec → ℕ → Type 0
-IsUpToDate s t stream spec version =
+abbrev IsRefreshed : Store → Store → ℕ → Spec → ℕ → Type 0
+IsRefreshed s t stream spec version =
     (version ≡ latest t.history stream) × (reads t.history stream spec version ≡ latest_reads s.history spec)
 
 not_refused : (version : ℕ) (r : Reason) → Done version ≡ No r → ⊥
@@ -112,23 +124,23 @@ refused_so s t r version replied =
     (λ h. ⊎_elim (λ not. absurd not) (λ lacks. not_refused version reasons.Memory lacks.replied) h)
     replied
 
-current_so : (s t : Store) (stream : ℕ) (spec : Spec) (version : ℕ) → reads s.history stream spec (latest s.history stream) ≡ latest_reads s.history spec → Replies s (Current (latest s.history stream)) (Done version) t → IsUpToDate s t stream spec version
+current_so : (s t : Store) (stream : ℕ) (spec : Spec) (version : ℕ) → reads s.history stream spec (latest s.history stream) ≡ latest_reads s.history spec → Replies s (Current (latest s.history stream)) (Done version) t → IsRefreshed s t stream spec version
 current_so s t stream spec version same replied =
     ⊎_elim
     (λ model.
     let is : version ≡ latest s.history stream = same_version version (latest s.history stream) model.replied in
-    subst (λ (x : Store). IsUpToDate s x stream spec version) (sym model.store)
+    subst (λ (x : Store). IsRefreshed s x stream spec version) (sym model.store)
     (is, ap (λ (v : ℕ). reads s.history stream spec v) is ∙ same))
     (λ h. ⊎_elim (λ not. absurd not) (λ lacks. absurd (not_refused version reasons.Memory lacks.replied)) h)
     replied
 
-accepted_so : (s t : Store) (stream : ℕ) (spec : Spec) (version : ℕ) (why : Option Rejection) → Done version ≡ reply_of_commit s.history (next_commit s.history stream spec) why → t ≡ after_commit s (next_commit s.history stream spec) why → IsUpToDate s t stream spec version
+accepted_so : (s t : Store) (stream : ℕ) (spec : Spec) (version : ℕ) (why : Option Rejection) → Done version ≡ reply_of_commit s.history (next_commit s.history stream spec) why → t ≡ after_commit s (next_commit s.history stream spec) why → IsRefreshed s t stream spec version
 accepted_so s t stream spec version None replied store =
     let h : List Entry = s.history in
     let e : Entry = next_commit h stream spec in
     let is : version ≡ latest h stream + 1 = same_version version (latest h stream + 1) replied in
     let more : version ≡ suc (latest h stream) = omega (arith, is) in
-    subst (λ (x : Store). IsUpToDate s x stream spec version) (sym store)
+    subst (λ (x : Store). IsRefreshed s x stream spec version) (sym store)
     (more ∙ sym (latest_next h stream spec), ap (λ (v : ℕ). reads (h ++ e ∷ []) stream spec v) more ∙ reads_next h stream spec)
 accepted_so s t stream spec version (Some why) replied store = absurd (not_refused version (reason_of_rejection why) replied)
 
@@ -139,7 +151,7 @@ not_done s t e version h =
     (λ h. ⊎_elim (λ fault. not_refused version reasons.Device fault.replied) (λ stopped. not_refused version (reasons.Stopped (length s.history)) stopped.replied) h)
     h
 
-committed_so : (s t : Store) (stream : ℕ) (spec : Spec) (version : ℕ) → Replies s (Commits (next_commit s.history stream spec)) (Done version) t → IsUpToDate s t stream spec version
+committed_so : (s t : Store) (stream : ℕ) (spec : Spec) (version : ℕ) → Replies s (Commits (next_commit s.history stream spec)) (Done version) t → IsRefreshed s t stream spec version
 committed_so s t stream spec version replied =
     ⊎_elim
     (λ model. accepted_so s t stream spec version (rejection s.history (next_commit s.history stream spec)) model.replied model.store)
@@ -149,7 +161,7 @@ committed_so s t stream spec version replied =
     h)
     replied
 
-done_so : (s t : Store) (stream : ℕ) (spec : Spec) (version : ℕ) → Replies s (refresh s.history stream (Some spec)) (Done version) t → IsUpToDate s t stream spec version
+done_so : (s t : Store) (stream : ℕ) (spec : Spec) (version : ℕ) → Replies s (refresh s.history stream (Some spec)) (Done version) t → IsRefreshed s t stream spec version
 done_so s t stream spec version replied =
     let h : List Entry = s.history in
     let old : Reads = has_read h stream spec in

@@ -36,15 +36,15 @@ pub record LaneOf {D : Type 0} (disk : Ghosts D) : Type 0 where
   pub waiting : Waiting
 
 module _ {D : Type 0} {disk : Ghosts D} where
-  abbrev pub engine_of : List Entry → Engine D disk → EngineOf disk
-  engine_of h e = record { history = h; engine = e }
+  abbrev pub of_history : List Entry → Engine D disk → EngineOf disk
+  of_history h e = record { history = h; engine = e }
 
   -- The entries of an engine, its blocks that are left, and whether it is stopped.
   abbrev pub store_of : EngineOf disk → Store
   store_of x = record { history = x.history; left = room_of x.engine; stopped = is_stopped x.engine }
 
   abbrev pub lane_of : List Entry → Engine D disk → Waiting → LaneOf disk
-  lane_of h e w = record { on = engine_of h e; waiting = w }
+  lane_of h e w = record { on = of_history h e; waiting = w }
 
   abbrev pub state_of : LaneOf disk → State
   state_of x = record { store = store_of x.on; waiting = x.waiting }
@@ -85,7 +85,7 @@ module _ {D : Type 0} {disk : Ghosts D} where
 
   -- What was asked for had this reply, and the engine is of the history after it.
   abbrev pub AnswersFrom : List Entry → Engine D disk → Meaning → LineReply → Engine D disk → Type 0
-  AnswersFrom h old m reply new = Answers (engine_of h old) m reply (engine_of (history_after h m reply) new)
+  AnswersFrom h old m reply new = Answers (of_history h old) m reply (of_history (history_after h m reply) new)
 
   -- What was asked for had this reply; or there was no memory to begin with it, and the stream is an output.
   pub record AnswersPlanned (h : List Entry) (old : Engine D disk) (m : Meaning) (reply : LineReply) (new : Engine D disk) : Type 0 where

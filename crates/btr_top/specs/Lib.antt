@@ -17,4 +17,3 @@ pub mod Run
 pub mod Laws
 -- what the private functions promise
 pub mod EngineScript
-pub mod Refreshing

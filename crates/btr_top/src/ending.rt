@@ -22,8 +22,8 @@ pub enum Ending {
     /// The source gave more than may be read.
     TooLong,
 
-    /// There was no memory: for the words, for the input or its lines, for an opening, for the snapshot of `ask`, or for the text
-    /// of an ending.
+    /// There was no memory: for the words, for the input or its lines, for an opening, for the hall of `live`, for the snapshot of
+    /// `ask`, or for a text.
     OutOfMemory,
 
     /// A call of the device failed.

@@ -12,36 +12,41 @@ ghost use Rattle.btr_top.specs.Meaning.{Asks, Commits, delete, on_stream, questi
 ghost use Rattle.btr_top.specs.Replies.{Replies};
 ghost use Rattle.btr_top.specs.Ask.{IsAnswerOrNoMemory};
 ghost use Rattle.btr_top.specs.Feeds.{waiting_of};
-ghost use Rattle.btr_top.specs.EngineScript.{AnswersFrom, AnswersLineFrom, LineLeaves, engine_of, history_after, store_of};
+ghost use Rattle.btr_hall.specs.Sole.{engine_of, hall_of};
+ghost use Rattle.btr_top.specs.EngineScript.{AnswersFrom, AnswersLineFrom, LineLeaves, history_after, of_history, store_of};
 
 use crate::distill_line::{define, refresh};
 use crate::feed_line::{discard, feed, flush};
 use crate::feeds::Feeds;
 use btr_base::{Bag, Range, Ranges};
 use btr_disk::Disk;
-use btr_engine::{Engine, Snapshot, StepFault};
+use btr_engine::{Snapshot, StepFault};
+use btr_hall::Sole;
 use btr_hist::{Answer, Entry, Query, StreamQuery};
 use btr_text::{Line, LineReply, Reason};
 use std::alloc::{AllocError, Global};
+use std::sync::Wait;
 
 /// Does what a line asks for, and returns the reply.
-pub(crate) fn answer_line<D: Disk>(
+pub(crate) fn answer_line<R: Wait, D: Disk>(
     alloc: Global,
-    engine: &mut Engine<D>,
+    lane: &mut Sole<'_, R, D>,
     feeds: &mut Feeds,
     line: Option<Line>,
 ) -> LineReply
-    ensures line { (h : List EntrySpec) → IsEngineOf h engine.old
-        → AnswersLineFrom feeds.old.batch h engine.old (waiting_of feeds.old) line result engine.new (waiting_of feeds.new) }
+    ensures line { (h : List EntrySpec) → IsEngineOf h (engine_of lane.old)
+        → AnswersLineFrom feeds.old.batch h (engine_of lane.old) (waiting_of feeds.old) line
+        result (engine_of lane.new) (waiting_of feeds.new) }
+    ensures hall { hall_of lane.new ≡ hall_of lane.old }
     ensures batch { feeds.new.batch ≡ feeds.old.batch }
 {
     match line {
-        Some(Line::Create { id }) => commit(alloc, engine, &Entry::Create { id }),
-        Some(Line::Insert { id, added }) => insert(alloc, engine, id, added),
-        Some(Line::Delete { id, from, to }) => delete(alloc, engine, id, from, to),
-        Some(Line::Feed { id, added }) => feed(alloc, engine, feeds, id, &added),
-        Some(Line::Flush { id }) => flush(alloc, engine, feeds, id),
-        Some(Line::Discard { id }) => discard(engine, feeds, id),
+        Some(Line::Create { id }) => commit(alloc, lane, &Entry::Create { id }),
+        Some(Line::Insert { id, added }) => insert(alloc, lane, id, added),
+        Some(Line::Delete { id, from, to }) => delete(alloc, lane, id, from, to),
+        Some(Line::Feed { id, added }) => feed(alloc, lane, feeds, id, &added),
+        Some(Line::Flush { id }) => flush(alloc, lane, feeds, id),
+        Some(Line::Discard { id }) => discard(lane, feeds, id),
         Some(
             Line::Distiller {
                 id,
@@ -51,24 +56,31 @@ pub(crate) fn answer_line<D: Disk>(
                 first,
                 second,
             },
-        ) => define(alloc, engine, id, kernel, lead, grain, first, second),
-        Some(Line::Refresh { id }) => refresh(alloc, engine, id),
-        Some(Line::Ask { id, query }) => ask_stream_now(alloc, engine, id, query),
-        Some(Line::Streams) => ask_now(alloc, engine, &Query::Streams),
+        ) => define(alloc, lane, id, kernel, lead, grain, first, second),
+        Some(Line::Refresh { id }) => refresh(alloc, lane, id),
+        Some(Line::Ask { id, query }) => ask_stream_now(alloc, lane, id, query),
+        Some(Line::Streams) => ask_now(alloc, lane, &Query::Streams),
         None => LineReply::No(Reason::Line),
     }
 }
 
 /// Commits points to the stream with this id.
-fn insert<D: Disk>(alloc: Global, engine: &mut Engine<D>, id: u128, added: Bag) -> LineReply
-    ensures { (h : List EntrySpec) → IsEngineOf h engine.old
-        → AnswersFrom h engine.old (on_stream (stream_of h id) (λ stream. Commits (CommitSpec stream [] added))) result engine.new }
+fn insert<R: Wait, D: Disk>(
+    alloc: Global,
+    lane: &mut Sole<'_, R, D>,
+    id: u128,
+    added: Bag,
+) -> LineReply
+    ensures answers { (h : List EntrySpec) → IsEngineOf h (engine_of lane.old)
+        → AnswersFrom h (engine_of lane.old) (on_stream (stream_of h id) (λ stream. Commits (CommitSpec stream [] added)))
+        result (engine_of lane.new) }
+    ensures hall { hall_of lane.new ≡ hall_of lane.old }
 {
-    match engine.find(id) {
+    match lane.find(id) {
         None => LineReply::No(Reason::Stream),
         Some(stream) => commit(
             alloc,
-            engine,
+            lane,
             &Entry::Commit {
                 stream,
                 cut: Ranges::none(alloc),
@@ -80,51 +92,62 @@ fn insert<D: Disk>(alloc: Global, engine: &mut Engine<D>, id: u128, added: Bag) 
 
 /// Commits the removal of the points of a range from the stream with this id. The bounds, whether the engine is stopped, and whether
 /// the stream is an output are tested before memory is taken.
-fn delete<D: Disk>(alloc: Global, engine: &mut Engine<D>, id: u128, from: i64, to: i64) -> LineReply
-    ensures { (h : List EntrySpec) → IsEngineOf h engine.old
-        → AnswersFrom h engine.old (on_stream (stream_of h id) (λ stream. delete stream from to)) result engine.new }
+fn delete<R: Wait, D: Disk>(
+    alloc: Global,
+    lane: &mut Sole<'_, R, D>,
+    id: u128,
+    from: i64,
+    to: i64,
+) -> LineReply
+    ensures answers { (h : List EntrySpec) → IsEngineOf h (engine_of lane.old)
+        → AnswersFrom h (engine_of lane.old) (on_stream (stream_of h id) (λ stream. delete stream from to)) result (engine_of lane.new) }
+    ensures hall { hall_of lane.new ≡ hall_of lane.old }
 {
-    let Some(stream) = engine.find(id) else {
+    let Some(stream) = lane.find(id) else {
         return LineReply::No(Reason::Stream);
     };
     let Some(range) = Range::new(from, to) else {
         return LineReply::No(Reason::Range);
     };
-    if engine.stopped() {
+    if lane.stopped() {
         return LineReply::No(Reason::Stopped {
-            entries: engine.entries(),
+            entries: lane.entries(),
         });
     }
-    if is_output(engine, stream) {
+    if is_output(lane, stream) {
         return LineReply::No(Reason::Output);
     }
-    delete_range(alloc, engine, stream, range)
+    delete_range(alloc, lane, stream, range)
 }
 
 /// Returns whether a stream is an output. It takes no memory.
-pub(crate) fn is_output<D: Disk>(engine: &Engine<D>, stream: u32) -> bool
-    ensures { (h : List EntrySpec) → IsEngineOf h engine.now → result ≡ is_output h stream }
+pub(crate) fn is_output<R: Wait, D: Disk>(lane: &mut Sole<'_, R, D>, stream: u32) -> bool
+    ensures answer { (h : List EntrySpec) → IsEngineOf h (engine_of lane.old) → result ≡ is_output h stream }
+    ensures same { engine_of lane.new ≡ engine_of lane.old }
+    ensures hall { hall_of lane.new ≡ hall_of lane.old }
 {
-    engine.spec(stream).is_some()
+    lane.spec(stream).is_some()
 }
 
 /// Commits the removal of the points of a range from a stream.
-fn delete_range<D: Disk>(
+fn delete_range<R: Wait, D: Disk>(
     alloc: Global,
-    engine: &mut Engine<D>,
+    lane: &mut Sole<'_, R, D>,
     stream: u32,
     range: Range,
 ) -> LineReply
-    requires not_stopped { is_stopped engine.old ≡ false }
-    requires testable { (h : List EntrySpec) → IsEngineOf h engine.old → MayLackMemory (rejection h (CommitSpec stream (range ∷ []) [])) }
-    ensures { (h : List EntrySpec) → IsEngineOf h engine.old
-        → AnswersFrom h engine.old (Commits (CommitSpec stream (range ∷ []) [])) result engine.new }
+    requires not_stopped { is_stopped (engine_of lane.old) ≡ false }
+    requires testable { (h : List EntrySpec) → IsEngineOf h (engine_of lane.old)
+        → MayLackMemory (rejection h (CommitSpec stream (range ∷ []) [])) }
+    ensures answers { (h : List EntrySpec) → IsEngineOf h (engine_of lane.old)
+        → AnswersFrom h (engine_of lane.old) (Commits (CommitSpec stream (range ∷ []) [])) result (engine_of lane.new) }
+    ensures hall { hall_of lane.new ≡ hall_of lane.old }
 {
     let Ok(cut) = one_range(alloc, range) else {
         return LineReply::No(Reason::Memory);
     };
     let added = Bag::from_points(Vec::new(alloc));
-    commit(alloc, engine, &Entry::Commit { stream, cut, added })
+    commit(alloc, lane, &Entry::Commit { stream, cut, added })
 }
 
 /// Returns the ranges of a commit that removes one range.
@@ -140,18 +163,25 @@ fn one_range(alloc: Global, range: Range) -> Result<Ranges, AllocError>
 }
 
 /// Commits an entry.
-pub(crate) fn commit<D: Disk>(alloc: Global, engine: &mut Engine<D>, entry: &Entry) -> LineReply
-    ensures of { (h : List EntrySpec) → IsEngineOf h engine.old
-        → IsEngineOf (history_after h (Commits entry.now) result) engine.new }
-    ensures replied { (h : List EntrySpec) → IsEngineOf h engine.old → Replies (store_of (engine_of h engine.old)) (Commits entry.now)
-        result (store_of (engine_of (history_after h (Commits entry.now) result) engine.new)) }
-    ensures kept { KeepsOpening engine.old engine.new }
-    ensures idle { (h : List EntrySpec) → IsEngineOf h engine.old → is_stopped engine.old ≡ true
-        → engine_of (history_after h (Commits entry.now) result) engine.new ≡ engine_of h engine.old }
-    ensures leaves { D.is_observable → (h : List EntrySpec) → IsAtRest h engine.old → LineLeaves (engine_of h engine.old)
-        (engine_of (history_after h (Commits entry.now) result) engine.new) (Commits entry.now) result }
+pub(crate) fn commit<R: Wait, D: Disk>(
+    alloc: Global,
+    lane: &mut Sole<'_, R, D>,
+    entry: &Entry,
+) -> LineReply
+    ensures of { (h : List EntrySpec) → IsEngineOf h (engine_of lane.old)
+        → IsEngineOf (history_after h (Commits entry.now) result) (engine_of lane.new) }
+    ensures replied { (h : List EntrySpec) → IsEngineOf h (engine_of lane.old)
+        → Replies (store_of (of_history h (engine_of lane.old))) (Commits entry.now) result
+        (store_of (of_history (history_after h (Commits entry.now) result) (engine_of lane.new))) }
+    ensures kept { KeepsOpening (engine_of lane.old) (engine_of lane.new) }
+    ensures idle { (h : List EntrySpec) → IsEngineOf h (engine_of lane.old) → is_stopped (engine_of lane.old) ≡ true
+        → of_history (history_after h (Commits entry.now) result) (engine_of lane.new) ≡ of_history h (engine_of lane.old) }
+    ensures leaves { D.is_observable → (h : List EntrySpec) → IsAtRest h (engine_of lane.old)
+        → LineLeaves (of_history h (engine_of lane.old))
+        (of_history (history_after h (Commits entry.now) result) (engine_of lane.new)) (Commits entry.now) result }
+    ensures hall { hall_of lane.new ≡ hall_of lane.old }
 {
-    match engine.step(alloc, entry) {
+    match lane.step(alloc, entry) {
         Ok(receipt) => LineReply::Done {
             version: receipt.version,
         },
@@ -164,26 +194,30 @@ pub(crate) fn commit<D: Disk>(alloc: Global, engine: &mut Engine<D>, entry: &Ent
 }
 
 /// Answers a question about the stream with this id from the store as it is now. The id is looked up first, which takes no memory.
-fn ask_stream_now<D: Disk>(
+fn ask_stream_now<R: Wait, D: Disk>(
     alloc: Global,
-    engine: &Engine<D>,
+    lane: &mut Sole<'_, R, D>,
     id: u128,
     query: StreamQuery,
 ) -> LineReply
-    ensures { (h : List EntrySpec) → IsEngineOf h engine.now
+    ensures answer { (h : List EntrySpec) → IsEngineOf h (engine_of lane.old)
         → IsAnswerOrNoMemory h (on_stream (stream_of h id) (λ stream. Asks (of_stream query stream))) result }
+    ensures same { engine_of lane.new ≡ engine_of lane.old }
+    ensures hall { hall_of lane.new ≡ hall_of lane.old }
 {
-    match engine.find(id) {
+    match lane.find(id) {
         None => LineReply::No(Reason::Stream),
-        Some(stream) => ask_now(alloc, engine, &query.of(stream)),
+        Some(stream) => ask_now(alloc, lane, &query.of(stream)),
     }
 }
 
 /// Answers a question from a snapshot of the store as it is now.
-fn ask_now<D: Disk>(alloc: Global, engine: &Engine<D>, query: &Query) -> LineReply
-    ensures { (h : List EntrySpec) → IsEngineOf h engine.now → IsAnswerOrNoMemory h (Asks query.now) result }
+fn ask_now<R: Wait, D: Disk>(alloc: Global, lane: &mut Sole<'_, R, D>, query: &Query) -> LineReply
+    ensures answer { (h : List EntrySpec) → IsEngineOf h (engine_of lane.old) → IsAnswerOrNoMemory h (Asks query.now) result }
+    ensures same { engine_of lane.new ≡ engine_of lane.old }
+    ensures hall { hall_of lane.new ≡ hall_of lane.old }
 {
-    match engine.admit() {
+    match lane.admit() {
         Ok(snapshot) => ask(alloc, &snapshot, query),
         Err(_) => LineReply::No(Reason::Memory),
     }

@@ -20,6 +20,7 @@ use btr_io::{Sink, Source};
 use btr_open::{held_is_sound, one_history_is_held};
 use btr_words::{Command, read_words};
 use std::alloc::Global;
+use std::sync::Wait;
 
 /// What a run gives back.
 #[derive(Debug, Drop)]
@@ -32,9 +33,10 @@ pub struct Outcome<D> {
 }
 
 /// Runs the command that the words say: it works on the device, and writes the text of its ending to the sink. `live`
-/// and `ask` read the source to its end first. `format` reads nothing. `rt` is not used.
-pub fn run<R, S: Source, K: Sink, D: Disk + Send>(
-    _rt: &R,
+/// and `ask` read the source to its end first. `format` reads nothing. In `live` the session of the lines waits by `rt` for its
+/// turns at the store.
+pub fn run<R: Wait, S: Source, K: Sink, D: Disk + Send>(
+    rt: &R,
     alloc: Global,
     words: &[String],
     source: &mut S,
@@ -67,7 +69,7 @@ pub fn run<R, S: Source, K: Sink, D: Disk + Send>(
     // however `ask` ends, nothing is written
     ensures kept { command_of (map string_bytes words.now) ≡ Some Ask → IsKept ⟦<D as Disk>⟧ disk result.disk }
 {
-    let CommandResult { ending, disk } = dispatch(alloc, words, source, disk);
+    let CommandResult { ending, disk } = dispatch(rt, alloc, words, source, disk);
     let status = show(alloc, sink, &ending);
     // so a device that holds a history is not refused as one without a store, or as a damaged one
     held_is_sound();
@@ -77,7 +79,8 @@ pub fn run<R, S: Source, K: Sink, D: Disk + Send>(
 }
 
 /// Does what the words say.
-fn dispatch<S: Source, D: Disk>(
+fn dispatch<R: Wait, S: Source, D: Disk>(
+    rt: &R,
     alloc: Global,
     words: &[String],
     source: &mut S,
@@ -101,7 +104,7 @@ fn dispatch<S: Source, D: Disk>(
             disk,
         },
         Ok(Some(Command::Format { blocks })) => make_store(disk, blocks),
-        Ok(Some(Command::Live { batch })) => run_live(alloc, batch, source, disk),
+        Ok(Some(Command::Live { batch })) => run_live(rt, alloc, batch, source, disk),
         Ok(Some(Command::Ask)) => run_ask(alloc, source, disk),
     }
 }
