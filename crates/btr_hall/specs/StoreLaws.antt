@@ -40,7 +40,8 @@ module _ {D : Type 0} {disk : Ghosts D} where
   ends_stopped x (Halted entry engine ∷ l) stopped trace = absurd (stopped_fails x engine.value entry.value stopped trace.0)
 
   -- Each item is an entry that was added, or the halt.
-  pub trace_length : (h : List Entry) (x : Engine D disk) (l : List (Item D disk)) → IsEngineOf h x → IsTrace x l → entries_of (engine_after x l) + one (has_halt l) ≡ entries_of x + length l
+  pub trace_length : (h : List Entry) (x : Engine D disk) (l : List (Item D disk)) → IsEngineOf h x → IsTrace x l
+      → entries_of (engine_after x l) + one (has_halt l) ≡ entries_of x + length l
   trace_length h x [] of trace = omega arith
   trace_length h x (Earlier ∷ l) of trace = absurd trace
   trace_length h x (Added entry engine ∷ l) of trace =
@@ -53,7 +54,8 @@ module _ {D : Type 0} {disk : Ghosts D} where
       let fault : CanStep h x entry.value × StopsByFault x engine.value = trace.0.cause h of in
       let none = ends_stopped engine.value l fault.1.stopped trace.1 in
       let same : entries_of engine.value ≡ entries_of x = ap (λ b. b.entries) fault.1.board in
-      let after : entries_of (engine_after engine.value l) ≡ entries_of engine.value = ap (λ m. entries_of (engine_after engine.value m)) none in
+      let after : entries_of (engine_after engine.value l) ≡ entries_of engine.value =
+      ap (λ m. entries_of (engine_after engine.value m)) none in
       omega (arith, same, after, ap (length {A = Item D disk}) none)
 
   -- Entries of before the hall began say nothing.
@@ -66,13 +68,16 @@ module _ {D : Type 0} {disk : Ghosts D} where
   halt_earlier (suc n) l = halt_earlier n l
 
   -- The number of entries of the store, and one if it is halted, is the length of its list.
-  pub store_length : (s : Store D disk) (l : List (Item D disk)) (x : Engine D disk) → IsStoreOf s l x → length l ≡ entries_of s.engine + one s.halted
+  pub store_length : (s : Store D disk) (l : List (Item D disk)) (x : Engine D disk) → IsStoreOf s l x
+      → length l ≡ entries_of s.engine + one s.halted
   store_length s l x of =
       let trace = of.trace in
       let n = entries_of x in
       let engine : engine_after x l ≡ engine_after x trace.steps = ap (engine_after x) trace.is ∙ engine_earlier n x trace.steps in
       let halt : has_halt l ≡ has_halt trace.steps = ap (has_halt {disk = disk}) trace.is ∙ halt_earlier n trace.steps in
-      let all : length l ≡ n + length trace.steps = ap (length {A = Item D disk}) trace.is ∙ length-append (replicate n Earlier) trace.steps ∙ ap (λ k. k + length trace.steps) (length-replicate n Earlier) in
+      let all : length l ≡ n + length trace.steps =
+      ap (length {A = Item D disk}) trace.is ∙ length-append (replicate n Earlier) trace.steps
+      ∙ ap (λ k. k + length trace.steps) (length-replicate n Earlier) in
       let same : entries_of s.engine ≡ entries_of (engine_after x trace.steps) = ap (λ e. entries_of e) (of.engine ∙ engine) in
       let halted : one s.halted ≡ one (has_halt trace.steps) = ap one (of.halted ∙ halt) in
       omega (arith, trace_length of.some.0 x trace.steps of.some.1 trace.trace, all, same, halted)

@@ -86,7 +86,8 @@ impl<D: Disk> Session<D> {
         ensures looks { Looks hall.now self.old self.new }
         ensures engine { result ≡ stopped_at (engine_of hall.now self.new) }
         ensures entries { (h : List EntrySpec) → IsEngineOf h (opening_of hall.now)
-            → result ≡ (if stopped_in (opening_of hall.now) (seen_of self.new) then Some (length (history_of h (seen_of self.new))) else None) }
+            → result ≡ (if stopped_in (opening_of hall.now) (seen_of self.new)
+            then Some (length (history_of h (seen_of self.new))) else None) }
     {
         let (stopped, entries) = self.standing(rt, hall);
         stopped.then_some(entries)

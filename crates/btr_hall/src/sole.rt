@@ -27,7 +27,8 @@ impl<'a, R: Wait, D: Disk> Sole<'a, R, D> {
     ghost use Rattle.btr_hist.specs.declared.entry.Entry.{Entry as EntrySpec};
     ghost use Rattle.btr_hist.specs.History.{stream_of, spec_of};
     ghost use Rattle.btr_engine.specs.Snapshot.{IsSnapshotOf};
-    ghost use Rattle.btr_engine.specs.Engine.{device, entries_of, is_stopped, faults_at_open, IsEngineOf, IsAtRest, IsDurable, EngineLeaves, KeepsOpening};
+    ghost use Rattle.btr_engine.specs.Engine.{device, entries_of, is_stopped, faults_at_open};
+    ghost use Rattle.btr_engine.specs.Engine.{IsEngineOf, IsAtRest, IsDurable, EngineLeaves, KeepsOpening};
     ghost use Rattle.btr_engine.specs.Step.{history_after, in_flight_after, IsBeforeOrAfter, IsStepped, StaysStopped, StepCause};
     ghost use Rattle.btr_hall.specs.Session.{IsSessionOf, IsAlone};
     ghost use Rattle.btr_hall.specs.Sole.{engine_of, hall_of, session_of};

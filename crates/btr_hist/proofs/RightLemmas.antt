@@ -57,7 +57,7 @@ inputs-bags h spec r sound = record {
   second_in_domain = second-in_domain h spec.second r.second sound;
 }
 
-inputs-few : (h : List Entry) (spec : Spec) (r : Reads) → IsSound h → HaveFew (inputs_at h spec r)
+pub inputs-few : (h : List Entry) (spec : Spec) (r : Reads) → IsSound h → HaveFew (inputs_at h spec r)
 inputs-few h spec r sound =
     record { first = sound.bounded spec.first r.first; second = second-few h spec.second r.second sound }
 

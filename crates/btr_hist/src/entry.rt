@@ -81,14 +81,8 @@ impl Entry {
                 stream: of,
                 cut,
                 added,
-            } => {
-                if *of == stream {
-                    Some((cut, added))
-                } else {
-                    None
-                }
             }
-            Entry::Distillate {
+            | Entry::Distillate {
                 stream: of,
                 cut,
                 added,

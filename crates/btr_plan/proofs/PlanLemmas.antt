@@ -13,7 +13,7 @@ use Rattle.btr_hist.specs.declared.kernel.Reads.{Reads}
 use Rattle.btr_hist.specs.declared.rejection.Rejection.{Rejection}
 use Rattle.btr_hist.specs.declared.rejection.Rejection.TheVariants.{NoStream, NotWritable, VersionLimit, Crowded, TooManyPoints}
 use Rattle.btr_hist.specs.Distil.{Inputs, distillate}
-use Rattle.btr_hist.specs.History.{ids, spec_of, latest, reads, latest_reads, second_points, inputs_at}
+use Rattle.btr_hist.specs.History.{ids, spec_of, latest, reads, latest_reads, inputs_at}
 use Rattle.btr_hist.specs.Legal.{first_some, when, rejection, takes_reads, may_read, distillate_change_rejection, next_bag, points_rejection, IsDistillate, Allowed, Legal, Follows}
 use Rattle.btr_hist.specs.Machine.{Landing, same_second, same_reads, planned, plan_of, plan_reply, landing, landing_rejection, landing_reply, landed, receipt, commit_reply, committed}
 use Rattle.btr_hist.specs.Machine as machine
@@ -21,8 +21,8 @@ use Rattle.btr_hist.specs.Machine.Reply.{Accepted, Rejected, Planned, NotOutput,
 use Rattle.btr_hist.proofs.VersionLemmas.{spec_of-known, spec_of-stays, latest-more, reads-append}
 use Rattle.btr_hist.proofs.ReadsLemmas.{AreThere, may_read-there, may_read-latest, may_read-more, inputs_at-append}
 use Rattle.btr_hist.proofs.OutputLemmas.{IsSound, follows-sound, follows-output}
-use Rattle.btr_hist.proofs.DistilLemmas.{HaveFew, distillate-change_accepted}
-use Rattle.btr_hist.proofs.RightLemmas.{inputs-bags}
+use Rattle.btr_hist.proofs.DistilLemmas.{distillate-change_accepted}
+use Rattle.btr_hist.proofs.RightLemmas.{inputs-bags, inputs-few}
 use Rattle.btr_hist.proofs.HistoryLemmas.{legal-follows}
 use Rattle.btr_hist.proofs.RejectionLemmas.{first_none}
 use Rattle.btr_hist.proofs.LandingLemmas.{IsFront, StandsFor, landing-allowed}
@@ -210,16 +210,6 @@ pub plan-entry : (h : List Entry) (p : PlanValue) (is : IsPlanOf h p) → IsCurr
 plan-entry h p is current = ap (λ (c : Change). machine.entry_of p.stream c p.reads) (current-change h p is current)
 
 -- ---- why its entry may not follow
-
-second-few : (h : List Entry) (s version : Option ℕ) → IsSound h → length (second_points h s version) ≤ MAX_POINTS
-second-few h None None sound = omega arith
-second-few h None (Some v) sound = omega arith
-second-few h (Some s) None sound = omega arith
-second-few h (Some s) (Some v) sound = sound.bounded s v
-
-inputs-few : (h : List Entry) (spec : Spec) (r : Reads) → IsSound h → HaveFew (inputs_at h spec r)
-inputs-few h spec r sound =
-    record { first = sound.bounded spec.first r.first; second = second-few h spec.second r.second sound }
 
 -- The reason why a version with the points of the plan may not follow, if no other version has followed.
 abbrev pub version_rejection : List Entry → PlanValue → Option Rejection
