@@ -1,0 +1,262 @@
+-- Lemmas on the turns of a session: what the hall's clauses say of the history.
+use Rattle.std.specs.Prelude.{◌≡◌, ℕ, ◌+◌, ◌<◌, Bool, true, false, ◌||◌, List, [], ◌∷◌, ◌++◌, length}
+use Rattle.std.specs.Prelude.{option_to_list, Result, Ok, Err}
+use Rattle.std.specs.Option.{is_some}
+use Rattle.std.proofs.Common.{refl, sym, ap, ◌∙◌, subst, arith, length-append, append_assoc}
+use Rattle.std.proofs.lemmas.List.{append-nil}
+use Rattle.btr_disk.specs.declared.disk.Disk.{Ghosts}
+use Rattle.btr_hist.specs.declared.entry.Entry.{Entry}
+use Rattle.btr_distil.specs.Plan.{PlanValue, entry_of}
+use Rattle.btr_engine.specs.declared.engine.Engine.{Engine}
+use Rattle.btr_engine.specs.declared.board.Receipt.{Receipt}
+use Rattle.btr_engine.specs.declared.step.StepFault.{StepFault}
+use Rattle.btr_engine.specs.declared.step.StepFault.TheVariants as steps
+use Rattle.btr_engine.specs.Body.{need_of}
+use Rattle.btr_engine.specs.Engine.{is_stopped, room_of, IsEngineOf}
+use Rattle.btr_gate.specs.Numbers.{one, times}
+use Rattle.btr_gate.specs.Prefixes.{StartsWith}
+use Rattle.btr_gate.specs.Shares.{on_path}
+use Rattle.btr_gate.proofs.NumberLemmas.{times_append}
+use Rattle.btr_gate.proofs.PrefixLemmas.{starts_refl, starts_trans}
+use Rattle.btr_hall.specs.declared.item.Item.{Item}
+use Rattle.btr_hall.specs.declared.item.Item.TheVariants.{Added, Halted}
+use Rattle.btr_hall.specs.declared.land.LandFault.{LandFault}
+use Rattle.btr_hall.specs.declared.land.LandFault.TheVariants as faults
+use Rattle.btr_hall.specs.declared.session.Hall.{Hall}
+use Rattle.btr_hall.specs.declared.session.Session.{Session}
+use Rattle.btr_hall.specs.Trace.{IsTraceOf, entries_in, has_halt, stopped_in, history_of}
+use Rattle.btr_hall.specs.Session.{IsSessionOf, IsSame, IsAlone, Looks, opening_of, seen_of, mine_of, engine_of}
+use Rattle.btr_hall.specs.Commit.{shown, needs_of, number_by, item_by, Commits}
+use Rattle.btr_hall.specs.Commit as commit
+use Rattle.btr_hall.specs.Landing.{step_result, Lands}
+use Rattle.btr_hall.specs.Landing as landing
+use Rattle.btr_hall.proofs.TraceLemmas.{entries_append, halt_append, engine_of_list, length_of_list, list_push}
+use Rattle.btr_hall.proofs.LandLemmas.{history_starts}
+use Rattle.btr_jobs.specs.Course.{failed_in, start_with, course_of, start_of}
+use Rattle.btr_jobs.specs.Turns.{IsAdded, IsFailed, IsIdle, IsStopped, IsFull, Committed, CommittedAfter, Landed, LandedAfter}
+use Rattle.btr_jobs.specs.Jobs.{IsAt, Goes, Does}
+use Rattle.btr_jobs.proofs.CourseLemmas.{course_at, failed_halt, failed_append, history_goes_on}
+
+runs_before : (a b : Bool) → ((a || b) ≡ true → ⊥) → b ≡ false
+runs_before true true never = absurd (never refl)
+runs_before false true never = absurd (never refl)
+runs_before true false never = refl
+runs_before false false never = refl
+
+-- The blocks that entries need, one list after another.
+needs_append : (h k : List Entry) → needs_of (h ++ k) ≡ needs_of h + needs_of k
+needs_append [] k = omega arith
+needs_append (e ∷ h) k = let rest = needs_append h k in omega (arith, rest)
+
+module _ {D : Type 0} {disk : Ghosts D} where
+  -- ---- the list of a turn: `before` is the list when it began, `after` the list that it left
+
+  module _ (h : List Entry) (x : Engine D disk) (before after : List (Item D disk)) (of : IsEngineOf h x) (trace : IsTraceOf x after) where
+    -- The length of the list.
+    long : length after ≡ length (history_of h after) + one (has_halt after)
+    long =
+        let all = length_of_list h x after of trace in
+        let entries = (engine_of_list h x after of trace).entries in
+        omega (arith, all, entries)
+
+    number : (p : List Entry) (n : ℕ) → length (history_of h after) + one (has_halt after) ≡ length p + 1 → length after ∷ [] ≡ (length p + 1) ∷ []
+    number p n is = ap (λ k. k ∷ []) (long ∙ is)
+
+    -- An entry was added.
+    added_by : (e : Entry) (y : Engine D disk) → after ≡ before ++ Added (shown e) (shown y) ∷ [] → has_halt before ≡ false → IsAdded (course_at h after) (history_of h before) e (length after ∷ []) (history_of h before ++ e ∷ [])
+    added_by e y seen runs =
+        let p = history_of h before in
+        let history : history_of h after ≡ p ++ e ∷ [] =
+        ap (history_of h) seen ∙ ap (λ k. h ++ k) (entries_append before (Added (shown e) (shown y) ∷ [])) ∙ sym (append_assoc h (entries_in before) (e ∷ [])) in
+        let halt : has_halt after ≡ false =
+        ap (has_halt {disk = disk}) seen ∙ halt_append before (Added (shown e) (shown y) ∷ []) ∙ ap (λ b. b || false) runs in
+        let entries : length (history_of h after) ≡ length p + 1 =
+        ap (λ (k : List Entry). length k) history ∙ length-append p (e ∷ []) in
+        let none : one (has_halt after) ≡ 0 = ap one halt in
+        record {
+          follows = ([], history ∙ sym (append-nil (p ++ e ∷ [])));
+          own = number p 0 (omega (arith, entries, none));
+          next = refl;
+        }
+
+    -- The device failed.
+    failed_by : (e : Entry) (y : Engine D disk) → after ≡ before ++ Halted (shown e) (shown y) ∷ [] → has_halt before ≡ false → IsFailed (course_at h after) (history_of h before) e (length after ∷ []) (history_of h before)
+    failed_by e y seen runs =
+        let p = history_of h before in
+        let history : history_of h after ≡ p =
+        ap (history_of h) seen ∙ ap (λ k. h ++ k) (entries_append before (Halted (shown e) (shown y) ∷ []) ∙ append-nil (entries_in before)) in
+        let halt : has_halt after ≡ true =
+        ap (has_halt {disk = disk}) seen ∙ halt_append before (Halted (shown e) (shown y) ∷ []) ∙ ap (λ b. b || true) runs in
+        let entries : length (history_of h after) ≡ length p = ap (λ (k : List Entry). length k) history in
+        let halted : one (has_halt after) ≡ 1 = ap one halt in
+        record {
+          last = history;
+          failed = ap (failed_in {disk = disk}) seen ∙ failed_append before (Halted (shown e) (shown y) ∷ []) runs;
+          own = number p 0 (omega (arith, entries, halted));
+          next = refl;
+        }
+
+    -- Nothing was added.
+    idle_by : IsIdle (history_of h before) [] (history_of h before)
+    idle_by = record { own = refl; next = refl }
+
+    stopped_by : (entries : ℕ) → after ≡ before ++ [] → stopped_in x before ≡ true → entries ≡ length (history_of h before) → IsStopped (start_with h x) (course_at h after) (history_of h before) entries
+    stopped_by entries seen stopped is =
+        let same : after ≡ before = seen ∙ append-nil before in
+        let halt : is_some (failed_in after) ≡ has_halt before = failed_halt after ∙ ap (has_halt {disk = disk}) same in
+        record {
+          stopped = ap (λ b. is_stopped x || b) halt ∙ stopped;
+          last = ap (history_of h) same;
+          entries = is;
+        }
+
+    full_by : (e : Entry) (need left : ℕ) → need ≡ need_of e → left + needs_of (entries_in before) ≡ room_of x → left < need → IsFull (start_with h x) (history_of h before) e need left
+    full_by e need left is room short =
+        let both = needs_append h (entries_in before) in
+        record { need = is; left = omega (arith, both, room); short = short }
+
+    -- ---- what the result says
+
+    -- The numbers of what a step added.
+    abbrev pub numbers : Result Receipt StepFault → List ℕ
+    numbers result = option_to_list (number_by result (length after))
+
+    committed_by : (e : Entry) (y : Engine D disk) (result : Result Receipt StepFault) → after ≡ before ++ option_to_list (item_by result e y) → (stopped_in x before ≡ true → result ≡ Err (steps.Stopped (length (history_of h before)))) → commit.Replies x before (history_of h before) e result → (next : List Entry) × Committed (start_with h x) (course_at h after) (history_of h before) e result (numbers result) next × StartsWith (history_of h after) next
+    committed_by e y (Ok receipt) seen stopped says =
+        let added = added_by e y seen (runs_before (is_stopped x) (has_halt before) (λ is. let not = stopped is in cc)) in
+        (history_of h before ++ e ∷ [], (says.0, says.1, added), added.follows)
+    committed_by e y (Err (steps.Stopped entries)) seen stopped says =
+        (history_of h before, (stopped_by entries seen says.0 says.1, idle_by), history_starts h after before ([], seen))
+    committed_by e y (Err (steps.Rejected why)) seen stopped says =
+        (history_of h before, (says, idle_by), history_starts h after before ([], seen))
+    committed_by e y (Err steps.Want) seen stopped says =
+        (history_of h before, (says, idle_by), history_starts h after before ([], seen))
+    committed_by e y (Err (steps.DeviceFull need left)) seen stopped says =
+        (history_of h before, (says.0, full_by e need left says.1 says.2 says.3, idle_by), history_starts h after before ([], seen))
+    committed_by e y (Err steps.DeviceFault) seen stopped says =
+        let failed = failed_by e y seen (runs_before (is_stopped x) (has_halt before) (λ is. let not = stopped is in cc)) in
+        (history_of h before, (says, failed), history_starts h after before (Halted (shown e) (shown y) ∷ [], seen))
+
+    landed_by : (plan : PlanValue) (y : Engine D disk) (result : Result Receipt LandFault) → after ≡ before ++ option_to_list (item_by (step_result result) (entry_of plan) y) → (stopped_in x before ≡ true → result ≡ Err (faults.Stopped (length (history_of h before)))) → landing.Replies x before (history_of h before) plan result → (next : List Entry) × Landed (start_with h x) (course_at h after) (history_of h before) plan result (numbers (step_result result)) next × StartsWith (history_of h after) next
+    landed_by plan y (Ok receipt) seen stopped says =
+        let added = added_by (entry_of plan) y seen (runs_before (is_stopped x) (has_halt before) (λ is. let not = stopped is in cc)) in
+        (history_of h before ++ entry_of plan ∷ [], (says.0, says.2, added), added.follows)
+    landed_by plan y (Err (faults.Stopped entries)) seen stopped says =
+        (history_of h before, (stopped_by entries seen says.0 says.1, idle_by), history_starts h after before ([], seen))
+    landed_by plan y (Err (faults.Superseded version)) seen stopped says =
+        (history_of h before, (says.0, says.1, says.2, idle_by), history_starts h after before ([], seen))
+    landed_by plan y (Err faults.VersionLimit) seen stopped says =
+        (history_of h before, (says.0, says.1, idle_by), history_starts h after before ([], seen))
+    landed_by plan y (Err (faults.Crowded at)) seen stopped says =
+        (history_of h before, (says.0, says.1, says.2, idle_by), history_starts h after before ([], seen))
+    landed_by plan y (Err (faults.TooManyPoints count)) seen stopped says =
+        (history_of h before, (says.0, says.1, says.2, idle_by), history_starts h after before ([], seen))
+    landed_by plan y (Err faults.Want) seen stopped says =
+        (history_of h before, (says.0, says.1, idle_by), history_starts h after before ([], seen))
+    landed_by plan y (Err (faults.DeviceFull need left)) seen stopped says =
+        (history_of h before, (says.0, says.1, full_by (entry_of plan) need left says.2 says.3 says.4, idle_by), history_starts h after before ([], seen))
+    landed_by plan y (Err faults.DeviceFault) seen stopped says =
+        let failed = failed_by (entry_of plan) y seen (runs_before (is_stopped x) (has_halt before) (λ is. let not = stopped is in cc)) in
+        (history_of h before, (says.0, says.1, failed), history_starts h after before (Halted (shown (entry_of plan)) (shown y) ∷ [], seen))
+
+  -- ---- the session
+
+  -- A turn that adds these numbers.
+  goes_by : (old new : Session D disk) (before : List (Item D disk)) (own : List ℕ) → IsSame old new → StartsWith (seen_of new) before → StartsWith before (seen_of old) → mine_of new ≡ mine_of old ++ own → Goes old new own
+  goes_by old new before own same ends grows mine = record {
+    seen = starts_trans (seen_of new) before (seen_of old) ends grows;
+    mine = λ n. ap (times n) mine ∙ times_append n (mine_of old) own;
+    start = same.start;
+    paths = λ path. ap (on_path path) same.share;
+  }
+
+  -- ---- the turn of an entry
+
+  module _ (hall : Hall D disk) (old new : Session D disk) (e : Entry) (result : Result Receipt StepFault) (same : IsSame old new) (commits : Commits hall old new e result) where
+    trace_after : IsTraceOf (opening_of hall) (seen_of new)
+    trace_after =
+        subst (IsTraceOf (opening_of hall)) (sym commits.seen) (list_push (opening_of hall) (engine_of hall new) commits.before e result commits.trace commits.step)
+
+    ends : StartsWith (seen_of new) commits.before
+    ends = (option_to_list (item_by result e (engine_of hall new)), commits.seen)
+
+    goes : Goes old new (option_to_list (number_by result (length (seen_of new))))
+    goes = goes_by old new commits.before _ same ends commits.grows commits.mine
+
+    says : (h : List Entry) → IsEngineOf h (opening_of hall) → (next : List Entry) × Committed (start_of h hall) (course_of h new) (history_of h commits.before) e result (option_to_list (number_by result (length (seen_of new)))) next × StartsWith (course_of h new).history next
+    says h of =
+        committed_by h (opening_of hall) commits.before (seen_of new) of trace_after e (engine_of hall new) result commits.seen (λ stopped. commits.stopped stopped h of) (commits.replies h of)
+
+    -- After the turn of an entry the session is at its hall.
+    pub commit_at : IsSessionOf hall new → IsAt hall new
+    commit_at is = record { own = is; trace = trace_after }
+
+    -- The turn of an entry, after all that the session had seen.
+    pub commit_turn : Does hall old new (λ start course low own. (next : List Entry) × CommittedAfter start course low e result own next × StartsWith course.history next)
+    commit_turn = (
+      option_to_list (number_by result (length (seen_of new))),
+      goes,
+      λ h of.
+          let said = says h of in
+          (said.0, (history_of h commits.before, history_starts h commits.before (seen_of old) commits.grows, history_starts h (seen_of new) commits.before ends, said.1), said.2),
+    )
+
+    -- The turn of an entry by a session that is alone: its history is what the session had seen.
+    pub commit_turn_alone : IsAlone old → Does hall old new (λ start course low own. (next : List Entry) × Committed start course low e result own next × StartsWith course.history next)
+    commit_turn_alone alone = (
+      option_to_list (number_by result (length (seen_of new))),
+      goes,
+      λ h of.
+          subst (λ l. (next : List Entry) × Committed (start_of h hall) (course_of h new) (history_of h l) e result (option_to_list (number_by result (length (seen_of new)))) next × StartsWith (course_of h new).history next) (commits.alone alone) (says h of),
+    )
+
+  -- ---- the turn of a plan
+
+  module _ (hall : Hall D disk) (old new : Session D disk) (plan : PlanValue) (result : Result Receipt LandFault) (same : IsSame old new) (lands : Lands hall old new plan result) where
+    plan_ends : StartsWith (seen_of new) lands.before
+    plan_ends = (option_to_list (item_by (step_result result) (entry_of plan) (engine_of hall new)), lands.seen)
+
+    plan_goes : Goes old new (option_to_list (number_by (step_result result) (length (seen_of new))))
+    plan_goes = goes_by old new lands.before _ same plan_ends lands.grows lands.mine
+
+    plan_says : (h : List Entry) → IsEngineOf h (opening_of hall) → (next : List Entry) × Landed (start_of h hall) (course_of h new) (history_of h lands.before) plan result (option_to_list (number_by (step_result result) (length (seen_of new)))) next × StartsWith (course_of h new).history next
+    plan_says h of =
+        landed_by h (opening_of hall) lands.before (seen_of new) of lands.trace plan (engine_of hall new) result lands.seen (λ stopped. lands.stopped stopped h of) (lands.replies h of)
+
+    -- After the turn of a plan the session is at its hall.
+    pub land_at : IsSessionOf hall new → IsAt hall new
+    land_at is = record { own = is; trace = lands.trace }
+
+    -- The turn of a plan, after all that the session had seen.
+    pub land_turn : Does hall old new (λ start course low own. (next : List Entry) × LandedAfter start course low plan result own next × StartsWith course.history next)
+    land_turn = (
+      option_to_list (number_by (step_result result) (length (seen_of new))),
+      plan_goes,
+      λ h of.
+          let said = plan_says h of in
+          (said.0, (history_of h lands.before, history_starts h lands.before (seen_of old) lands.grows, history_starts h (seen_of new) lands.before plan_ends, said.1), said.2),
+    )
+
+    -- The turn of a plan by a session that is alone: its history is what the session had seen.
+    pub land_turn_alone : IsAlone old → Does hall old new (λ start course low own. (next : List Entry) × Landed start course low plan result own next × StartsWith course.history next)
+    land_turn_alone alone = (
+      option_to_list (number_by (step_result result) (length (seen_of new))),
+      plan_goes,
+      λ h of.
+          subst (λ l. (next : List Entry) × Landed (start_of h hall) (course_of h new) (history_of h l) plan result (option_to_list (number_by (step_result result) (length (seen_of new)))) next × StartsWith (course_of h new).history next) (lands.alone alone) (plan_says h of),
+    )
+
+  -- ---- a turn that adds nothing
+
+  module _ (hall : Hall D disk) (old new : Session D disk) (looks : Looks hall old new) where
+    -- After a look the session is at its hall.
+    pub look_at : IsSessionOf hall new → IsAt hall new
+    look_at is = record { own = is; trace = looks.trace }
+
+    -- A look adds nothing. What it says of the history that the session has then seen, it says after all that it had seen.
+    pub look_turn : (Fact : List Entry → Type 0) → ((h : List Entry) → IsEngineOf h (opening_of hall) → Fact (history_of h (seen_of new))) → Does hall old new (λ start course low own. (own ≡ []) × StartsWith course.history low × Fact course.history)
+    look_turn Fact fact = (
+      [],
+      goes_by old new (seen_of new) [] looks.same (starts_refl (seen_of new)) looks.grows (looks.mine ∙ sym (append-nil (mine_of old))),
+      λ h of. (refl, history_goes_on h new old looks.grows, fact h of),
+    )

@@ -1,0 +1,47 @@
+-- Jobs: what one does to a session, and what many do that share the shares of one.
+use Rattle.std.specs.Prelude.{◌≡◌, ℕ, ◌+◌, Bool, List, [], ◌∷◌}
+use Rattle.btr_disk.specs.declared.disk.Disk.{Ghosts}
+use Rattle.btr_hist.specs.declared.entry.Entry.{Entry}
+use Rattle.btr_engine.specs.Engine.{IsEngineOf}
+use Rattle.btr_gate.specs.Prefixes.{StartsWith}
+use Rattle.btr_gate.specs.Numbers.{times}
+use Rattle.btr_gate.specs.Shares.{on_path}
+use Rattle.btr_hall.specs.declared.session.Hall.{Hall}
+use Rattle.btr_hall.specs.declared.session.Session.{Session}
+use Rattle.btr_hall.specs.Trace.{IsTraceOf}
+use Rattle.btr_hall.specs.Session as session
+use Rattle.btr_hall.specs.Session.{IsSessionOf, opening_of, seen_of, mine_of, share_of}
+use Rattle.btr_jobs.specs.Course.{Start, Course, course_of, start_of}
+
+-- What a kind of job does: after this course of a hall that began so, a job that had seen this history went from its first state to
+-- its second, and these are the numbers of what it added.
+abbrev pub Doing : Type 0 → Type 1
+Doing J = Start → Course → List Entry → J → J → List ℕ → Type 0
+
+-- Each job did its part, after all of `low` had been seen. `own` are the numbers of what they added, in some order.
+abbrev pub AllDid : {J : Type 0} → Doing J → Start → Course → List Entry → List J → List J → List ℕ → Type 0
+AllDid did start course low [] [] own = (n : ℕ) → times n own ≡ 0
+AllDid did start course low [] (now ∷ after) own = ⊥
+AllDid did start course low (was ∷ before) [] own = ⊥
+AllDid did start course low (was ∷ before) (now ∷ after) own =
+    (first rest : List ℕ) × did start course low was now first × AllDid did start course low before after rest
+    × ((n : ℕ) → times n own ≡ times n first + times n rest)
+
+module _ {D : Type 0} {disk : Ghosts D} where
+  -- The session is one of the hall, and what it has seen is a list of steps from the engine with which the hall began.
+  pub record IsAt (hall : Hall D disk) (s : Session D disk) : Type 0 where
+    pub own : IsSessionOf hall s
+    pub trace : IsTraceOf (opening_of hall) (seen_of s)
+
+  -- A session went on, and these are the numbers of what it added. It meets the paths that it met: if it was the only session of its
+  -- hall, it is so again.
+  pub record Goes (old new : Session D disk) (own : List ℕ) : Type 0 where
+    pub seen : StartsWith (seen_of new) (seen_of old)
+    pub mine : (n : ℕ) → times n (mine_of new) ≡ times n (mine_of old) + times n own
+    pub start : session.start_of new ≡ session.start_of old
+    pub paths : (path : ℕ → Bool) → on_path path (share_of new) ≡ on_path path (share_of old)
+
+  -- A session went on, and with the numbers that it added this is true of each history with which the hall may have begun.
+  abbrev pub Does : Hall D disk → Session D disk → Session D disk → (Start → Course → List Entry → List ℕ → Type 0) → Type 0
+  Does hall old new What = (own : List ℕ) × Goes old new own
+      × ((h : List Entry) → IsEngineOf h (opening_of hall) → What (start_of h hall) (course_of h new) (course_of h old).history own)

@@ -1,0 +1,38 @@
+//! A piece of work in one session.
+ghost use Rattle.std.specs.Prelude.{◌≡◌, ℕ, List};
+ghost use Rattle.btr_hist.specs.declared.entry.Entry.{Entry as EntrySpec};
+ghost use Rattle.btr_gate.specs.Prefixes.{StartsWith};
+ghost use Rattle.btr_jobs.specs.Course.{Start, Course, GoesOn};
+ghost use Rattle.btr_jobs.specs.Jobs.{IsAt, Does};
+
+use btr_disk::Disk;
+use btr_hall::{Hall, Session};
+use std::alloc::Global;
+use std::sync::Wait;
+
+/// A piece of work at a hall, done in one session. Its state says what became of it.
+pub trait Job {
+    // After this course of a hall that began so, a job that had seen this history went from the first state to the second. These are
+    // the numbers of what it added.
+    ghost did: { Start → Course → List EntrySpec → Self → Self → List ℕ → Type 0 };
+
+    /// Does the work, in turns of this session.
+    fn run<R: Wait, D: Disk>(
+        &mut self,
+        rt: &R,
+        alloc: Global,
+        hall: &Hall<D>,
+        session: &mut Session<D>,
+    )
+        requires at { IsAt hall.now session.old }
+        ensures at { IsAt hall.now session.new }
+        ensures does { Does hall.now session.old session.new (λ start course low own. did start course low self.old self.new own) };
+
+    // It is true for ever.
+    ghost lasts: { (start : Start) (late early : Course) (low : List EntrySpec) (was now : Self) (own : List ℕ)
+        → GoesOn start late early → did start early low was now own → did start late low was now own };
+
+    // It is true of a job that had seen less.
+    ghost lowers: { (start : Start) (course : Course) (low less : List EntrySpec) (was now : Self) (own : List ℕ)
+        → StartsWith low less → did start course low was now own → did start course less was now own };
+}
