@@ -1,0 +1,99 @@
+-- Lemmas on one output that is brought up to date in a session: from its turns to what became of it.
+use Rattle.std.specs.Prelude.{◌≡◌, ℕ, List, [], ◌++◌, Result, Ok, Err}
+use Rattle.std.proofs.Common.{refl, sym, subst}
+use Rattle.btr_disk.specs.declared.disk.Disk.{Ghosts}
+use Rattle.btr_hist.specs.declared.entry.Entry.{Entry}
+use Rattle.btr_distil.specs.Plan.{PlanValue}
+use Rattle.btr_plan.specs.Next.{IsUpToDate}
+use Rattle.btr_engine.specs.declared.board.Receipt.{Receipt}
+use Rattle.btr_engine.specs.Engine.{IsEngineOf}
+use Rattle.btr_gate.specs.Prefixes.{StartsWith}
+use Rattle.btr_gate.proofs.PrefixLemmas.{starts_refl}
+use Rattle.btr_hall.specs.declared.land.LandFault.{LandFault}
+use Rattle.btr_hall.specs.declared.land.LandFault.TheVariants as faults
+use Rattle.btr_hall.specs.declared.session.Hall.{Hall}
+use Rattle.btr_hall.specs.declared.session.Session.{Session}
+use Rattle.btr_hall.specs.Trace.{history_of}
+use Rattle.btr_hall.specs.Session.{IsSame, Looks, opening_of, seen_of}
+use Rattle.btr_hall.specs.Landing.{Lands}
+use Rattle.btr_jobs.specs.Course.{Start, Course, course_of, start_of}
+use Rattle.btr_jobs.specs.Jobs.{IsAt, Does}
+use Rattle.btr_jobs.proofs.CourseLemmas.{history_goes_on}
+use Rattle.btr_jobs.proofs.DoesLemmas.{does_then}
+use Rattle.btr_jobs.proofs.TurnLemmas.{land_turn, look_turn}
+use Rattle.btr_work.specs.declared.report.Brought.{Brought}
+use Rattle.btr_work.specs.declared.report.Brought.TheVariants as brought
+use Rattle.btr_work.specs.Report.{IsPlanLanded, IsBrought}
+use Rattle.btr_work.specs.Bringing.{IsPlannedAt}
+use Rattle.btr_work.specs.ReportLaws.{brought_lowers}
+
+-- A refused landing.
+refused-by : (start : Start) (course : Course) (low : List Entry) (output : ℕ) (fault : LandFault) (own : List ℕ) → IsPlanLanded start course low output (Err fault) own → IsBrought start course low output (brought.Refused fault) own
+refused-by start course low output (faults.Stopped entries) own is = is
+refused-by start course low output (faults.Superseded version) own is = is
+refused-by start course low output faults.VersionLimit own is = is
+refused-by start course low output (faults.Crowded at) own is = is
+refused-by start course low output (faults.TooManyPoints count) own is = is
+refused-by start course low output faults.Want own is = is.landed.3.2.own
+refused-by start course low output (faults.DeviceFull need left) own is = is
+refused-by start course low output faults.DeviceFault own is = is
+
+module _ {D : Type 0} {disk : Ghosts D} (hall : Hall D disk) (output : ℕ) where
+  module _ (old new : Session D disk) where
+    landed-turn : (plan : PlanValue) (result : Result Receipt LandFault) → IsSame old new → Lands hall old new plan result → IsPlannedAt hall old output plan → Does hall old new (λ start course low own. IsPlanLanded start course low output result own)
+    landed-turn plan result same lands planned =
+        let turn = land_turn hall old new plan result same lands in (
+          turn.0,
+          turn.1,
+          λ h of. record {
+            at = (course_of h old).history;
+            after = starts_refl (course_of h old).history;
+            seen = history_goes_on h new old turn.1.seen;
+            plan = plan;
+            planned = planned h of;
+            next = (turn.2 h of).0;
+            landed = (turn.2 h of).1;
+          },
+        )
+
+    -- A plan was landed.
+    pub landed-brought : (plan : PlanValue) (receipt : Receipt) → IsSame old new → Lands hall old new plan (Ok receipt) → IsPlannedAt hall old output plan → Does hall old new (λ start course low own. IsBrought start course low output (brought.Landed receipt.version) own)
+    landed-brought plan receipt same lands planned =
+        let turn = landed-turn plan (Ok receipt) same lands planned in
+        (turn.0, turn.1, λ h of. (receipt, refl, turn.2 h of))
+
+    -- A landing was refused.
+    pub refused-brought : (plan : PlanValue) (fault : LandFault) → IsSame old new → Lands hall old new plan (Err fault) → IsPlannedAt hall old output plan → Does hall old new (λ start course low own. IsBrought start course low output (brought.Refused fault) own)
+    refused-brought plan fault same lands planned =
+        let turn = landed-turn plan (Err fault) same lands planned in
+        (turn.0, turn.1, λ h of. refused-by (start_of h hall) (course_of h new) (course_of h old).history output fault turn.0 (turn.2 h of))
+
+    -- There was no memory.
+    pub want-brought : Looks hall old new → Does hall old new (λ start course low own. IsBrought start course low output (brought.Refused faults.Want) own)
+    want-brought looks =
+        let turn = look_turn hall old new looks (λ _. Unit {0}) (λ h of. tt) in
+        (turn.0, turn.1, λ h of. (turn.2 h of).0)
+
+    -- The output was up to date.
+    pub current-brought : (version : ℕ) → Looks hall old new → ((h : List Entry) → IsEngineOf h (opening_of hall) → IsUpToDate (history_of h (seen_of new)) output version) → Does hall old new (λ start course low own. IsBrought start course low output (brought.Current version) own)
+    current-brought version looks current =
+        let turn = look_turn hall old new looks (λ h. IsUpToDate h output version) current in (
+          turn.0,
+          turn.1,
+          λ h of. record {
+            at = (course_of h new).history;
+            after = (turn.2 h of).1;
+            seen = starts_refl (course_of h new).history;
+            current = (turn.2 h of).2;
+            none = (turn.2 h of).0;
+          },
+        )
+
+  -- The output was brought up to date after a look.
+  pub look-brought : (old mid new : Session D disk) (result : Brought) → IsAt hall new → Looks hall old mid → Does hall mid new (λ start course low own. IsBrought start course low output result own) → Does hall old new (λ start course low own. IsBrought start course low output result own)
+  look-brought old mid new result at looks does =
+      let turn = look_turn hall old mid looks (λ _. Unit {0}) (λ h of. tt) in
+      does_then hall old mid new (λ start course low own. (own ≡ []) × StartsWith course.history low × Unit {0}) (λ start course low own. IsBrought start course low output result own) (λ start course low own. IsBrought start course low output result own) at
+      (λ start late early low a b on starts first second.
+      subst (λ own. IsBrought start late low output result (own ++ b)) (sym first.0) (brought_lowers start late early.history low output result b starts second))
+      turn does

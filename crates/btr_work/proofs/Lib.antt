@@ -1,0 +1,9 @@
+pub mod LevelLemmas
+pub mod MemberLemmas
+pub mod QuietLemmas
+pub mod OwnLemmas
+pub mod CurrentLemmas
+pub mod AlikeLemmas
+mod SliceLemmas
+mod BringLemmas
+mod DoneLemmas

@@ -1,0 +1,77 @@
+-- What the report says of outputs that were to be brought up to date, level by level.
+use Rattle.std.specs.Prelude.{◌≡◌, ℕ, ◌+◌, List, [], ◌∷◌, map, Result, Ok, Err}
+use Rattle.btr_hist.specs.declared.entry.Entry.{Entry}
+use Rattle.btr_distil.specs.Plan.{PlanValue}
+use Rattle.btr_plan.specs.Next.{IsUpToDate, IsNextPlan}
+use Rattle.btr_engine.specs.declared.board.Receipt.{Receipt}
+use Rattle.btr_gate.specs.Prefixes.{StartsWith}
+use Rattle.btr_gate.specs.Numbers.{times}
+use Rattle.btr_hall.specs.declared.land.LandFault.{LandFault}
+use Rattle.btr_hall.specs.declared.land.LandFault.TheVariants.{Want}
+use Rattle.btr_jobs.specs.Course.{Start, Course, GoesOn}
+use Rattle.btr_jobs.specs.Turns.{LandedAfter}
+use Rattle.btr_work.specs.declared.report.Brought.{Brought}
+use Rattle.btr_work.specs.declared.report.Brought.TheVariants.{Landed, Current, Refused}
+use Rattle.btr_work.specs.declared.report.ReportLine.{ReportLine}
+use Rattle.btr_work.specs.Levels.{AreLevels, outputs}
+
+-- ---- one output
+
+-- A plan for the output was landed with this result, after all of `low` had been seen. It is what the model plans for it after `at`,
+-- the history that was seen when it was made.
+pub record IsPlanLanded (start : Start) (course : Course) (low : List Entry) (output : ℕ) (result : Result Receipt LandFault) (own : List ℕ)
+    : Type 0 where
+  pub at : List Entry
+  pub after : StartsWith at low
+  pub seen : StartsWith course.history at
+  pub plan : PlanValue
+  pub planned : IsNextPlan at output plan
+  pub next : List Entry
+  pub landed : LandedAfter start course at plan result own next
+
+-- The model plans nothing for the output after `at`, a history that was seen after all of `low`. Its latest version is this one.
+pub record IsCurrentAt (course : Course) (low : List Entry) (output version : ℕ) (own : List ℕ) : Type 0 where
+  pub at : List Entry
+  pub after : StartsWith at low
+  pub seen : StartsWith course.history at
+  pub current : IsUpToDate at output version
+  pub none : own ≡ []
+
+-- What became of an output, after all of `low` had been seen. `own` are the numbers of what was added for it, one at most. If the
+-- memory ran out, nothing was added, and nothing else is said.
+abbrev pub IsBrought : Start → Course → List Entry → ℕ → Brought → List ℕ → Type 0
+IsBrought start course low output (Landed version) own =
+    (receipt : Receipt) × (version ≡ receipt.version) × IsPlanLanded start course low output (Ok receipt) own
+IsBrought start course low output (Current version) own = IsCurrentAt course low output version own
+IsBrought start course low output (Refused Want) own = own ≡ []
+IsBrought start course low output (Refused fault) own = IsPlanLanded start course low output (Err fault) own
+
+-- ---- all outputs
+
+-- The results of these outputs, each after all of `low` had been seen. `own` are the numbers of what was added for them.
+abbrev pub BringsEach : Start → Course → List Entry → (ℕ → Brought) → List ℕ → List ℕ → Type 0
+BringsEach start course low result [] own = (n : ℕ) → times n own ≡ 0
+BringsEach start course low result (output ∷ outputs) own =
+    (first rest : List ℕ) × IsBrought start course low output (result output) first × BringsEach start course low result outputs rest
+    × ((n : ℕ) → times n own ≡ times n first + times n rest)
+
+-- The results of outputs by levels. `middle` is the course at the end of a level. Of it the results of the level are said, and each
+-- output of the next level was planned after all of its history had been seen.
+abbrev pub BringsLevels : Start → List Entry → (ℕ → Brought) → List (List ℕ) → Course → List ℕ → Type 0
+BringsLevels start low result [] late own = StartsWith late.history low × ((n : ℕ) → times n own ≡ 0)
+BringsLevels start low result (level ∷ levels) late own =
+    (middle : Course) × GoesOn start late middle × StartsWith middle.history low × (first rest : List ℕ)
+    × BringsEach start middle low result level first × BringsLevels start middle.history result levels late rest
+    × ((n : ℕ) → times n own ≡ times n first + times n rest)
+
+-- The report of a call, after this course. The session had seen `low` before the call. The outputs and their levels are those of
+-- `seen`, the history that it saw first. `own` are the numbers of what was added.
+pub record Brings (start : Start) (course : Course) (low : List Entry) (report : List ReportLine) (own : List ℕ) : Type 0 where
+  pub seen : List Entry
+  pub after : StartsWith seen low
+  pub before : StartsWith course.history seen
+  pub levels : List (List ℕ)
+  pub are : AreLevels seen levels
+  pub result : ℕ → Brought
+  pub lines : report ≡ map (λ output. record { output = output; result = result output }) (outputs seen)
+  pub brings : BringsLevels start seen result levels course own

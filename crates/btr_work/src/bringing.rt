@@ -1,0 +1,110 @@
+//! One output is brought up to date: it is planned and landed once.
+ghost use Rattle.std.specs.Prelude.{◌≡◌, ℕ, List, IfOk};
+ghost use Rattle.btr_hist.specs.declared.entry.Entry.{Entry as EntrySpec};
+ghost use Rattle.btr_engine.specs.Engine.{IsEngineOf};
+ghost use Rattle.btr_gate.specs.Prefixes.{StartsWith};
+ghost use Rattle.btr_hall.specs.Trace.{history_of};
+ghost use Rattle.btr_hall.specs.Session.{Looks, opening_of, seen_of};
+ghost use Rattle.btr_plan.specs.Next.{IsNext};
+ghost use Rattle.btr_jobs.specs.Course.{Start, Course, GoesOn};
+ghost use Rattle.btr_jobs.specs.Jobs.{IsAt, Does};
+ghost use Rattle.btr_work.specs.Report.{IsBrought};
+ghost use Rattle.btr_work.specs.Bringing.{IsPlannedAt};
+ghost use Rattle.btr_work.specs.Bringing.{IsPlannedAt};
+
+use crate::report::Brought;
+use btr_disk::Disk;
+use btr_distil::Plan;
+use btr_hall::{Hall, LandFault, Session};
+use btr_jobs::Job;
+use btr_plan::{Next, next_plan};
+use std::alloc::{AllocError, Global};
+use std::sync::Wait;
+
+/// The work of bringing an output up to date, and what became of it. Before it is done, that is as if there had been no memory.
+#[derive(Drop)]
+pub(crate) struct OutputJob {
+    pub(crate) output: u32,
+    pub(crate) result: Brought,
+}
+
+impl Job for OutputJob {
+    ghost use Rattle.btr_work.specs.Bringing.{IsDone};
+    ghost use Rattle.btr_work.specs.ReportLaws.{done_lasts, done_lowers};
+
+    ghost did = { IsDone };
+
+    fn run<R: Wait, D: Disk>(
+        &mut self,
+        rt: &R,
+        alloc: Global,
+        hall: &Hall<D>,
+        session: &mut Session<D>,
+    ) {
+        self.result = bring_one(rt, alloc, hall, session, self.output);
+    }
+
+    ghost lasts = { done_lasts };
+
+    ghost lowers = { done_lowers };
+}
+
+/// Plans what the output needs, and lands it if there is a plan.
+fn bring_one<R: Wait, D: Disk>(
+    rt: &R,
+    alloc: Global,
+    hall: &Hall<D>,
+    session: &mut Session<D>,
+    output: u32,
+) -> Brought
+    requires at { IsAt hall.now session.old }
+    ensures at { IsAt hall.now session.new }
+    ensures brought { Does hall.now session.old session.new (λ start course low own. IsBrought start course low output result own) }
+{
+    match plan_output(rt, alloc, hall, session, output) {
+        Ok(Next::UpToDate { version }) => Brought::Current { version },
+        Ok(Next::Plan(plan)) => land(rt, alloc, hall, session, output, &plan),
+        // An output stays one: it has a plan or is up to date, unless there is no memory.
+        Ok(Next::NotOutput) | Err(_) => Brought::Refused(LandFault::Want),
+    }
+}
+
+/// Returns what is planned for an output after the whole history.
+fn plan_output<R: Wait, D: Disk>(
+    rt: &R,
+    alloc: Global,
+    hall: &Hall<D>,
+    session: &mut Session<D>,
+    output: u32,
+) -> Result<Next, AllocError>
+    requires at { IsAt hall.now session.old }
+    ensures at { IsAt hall.now session.new }
+    ensures looks { Looks hall.now session.old session.new }
+    ensures next { (h : List EntrySpec) → IsEngineOf h (opening_of hall.now)
+        → IfOk result (IsNext (history_of h (seen_of session.new)) output) }
+{
+    let snapshot = session.admit(rt, hall)?;
+    next_plan(alloc, &snapshot, output)
+}
+
+/// Lands the plan of an output.
+fn land<R: Wait, D: Disk>(
+    rt: &R,
+    alloc: Global,
+    hall: &Hall<D>,
+    session: &mut Session<D>,
+    output: u32,
+    plan: &Plan,
+) -> Brought
+    requires at { IsAt hall.now session.old }
+    requires planned { IsPlannedAt hall.now session.old output plan.now }
+    ensures at { IsAt hall.now session.new }
+    ensures brought { Does hall.now session.old session.new (λ start course low own. IsBrought start course low output result own) }
+{
+    match session.land(rt, alloc, hall, plan) {
+        Ok(receipt) => Brought::Landed {
+            version: receipt.version,
+        },
+        Err(fault) => Brought::Refused(fault),
+    }
+}

@@ -1,0 +1,145 @@
+//! All outputs are brought up to date, level by level.
+ghost use Rattle.std.specs.Prelude.{◌≡◌, ℕ, List, length, IfOk, OnErr};
+ghost use Rattle.btr_hist.specs.declared.entry.Entry.{Entry as EntrySpec};
+ghost use Rattle.btr_engine.specs.Engine.{IsEngineOf};
+ghost use Rattle.btr_gate.specs.Numbers.{times};
+ghost use Rattle.btr_hall.specs.Trace.{history_of};
+ghost use Rattle.btr_hall.specs.Session.{Looks, opening_of, seen_of};
+ghost use Rattle.btr_jobs.specs.Jobs.{IsAt, Does, AllDid};
+ghost use Rattle.btr_work.specs.Report.{Brings};
+ghost use Rattle.btr_work.specs.Bringing.{IsDone, AreDone, IsPrepared, jobs_in};
+
+use crate::filling::report_of;
+use crate::prepare::{Level, Work, prepare};
+use crate::report::Report;
+use btr_disk::Disk;
+use btr_hall::{Hall, Session};
+use btr_jobs::{Pace, run_jobs};
+use std::alloc::{AllocError, Global};
+use std::marker::{Send, Sync};
+use std::sync::Wait;
+use std::thread::Threads;
+
+/// Brings each output up to date once, with at most so many workers, each in a session of its own. The outputs are those of the
+/// history that the session sees first. A level is done after the one below it, so an output reads what was landed for its inputs.
+/// Each output is planned and landed once: if another user's landing comes between, it is refused as superseded.
+///
+/// The turns of `pace` are the outputs, in order of definition. All memory for the jobs and the report is taken before the first
+/// plan. An `Err` means out of memory then; nothing was planned. If the memory runs out later, the output is refused as `Want`.
+///
+/// Afterwards the session has seen what all workers have seen, and has the numbers of what they added. If it was the only session
+/// of the hall it is so again. It costs what the plans and the landings cost, and looks each stream up in logarithmic time.
+pub fn bring_current<R: Threads + Wait + Sync, D: Disk + Send, P: Pace + Sync>(
+    rt: &R,
+    alloc: Global,
+    hall: &Hall<D>,
+    session: &mut Session<D>,
+    workers: u8,
+    pace: &P,
+) -> Result<Report, AllocError>
+    requires at { IsAt hall.now session.old }
+    ensures at { IsAt hall.now session.new }
+    ensures refused { OnErr result (Does hall.now session.old session.new (λ start course low own. (n : ℕ) → times n own ≡ 0)) }
+    ensures brings { IfOk result (λ report. Does hall.now session.old session.new
+        (λ start course low own. Brings start course low report own)) }
+{
+    let mut work = prepare_seen(rt, alloc, hall, session)?;
+    bring_levels(rt, alloc, hall, session, workers, &mut work.levels, pace);
+    Ok(report_of(work))
+}
+
+/// Makes the work for the outputs of the whole history.
+pub(crate) fn prepare_seen<R: Wait, D: Disk>(
+    rt: &R,
+    alloc: Global,
+    hall: &Hall<D>,
+    session: &mut Session<D>,
+) -> Result<Work, AllocError>
+    requires at { IsAt hall.now session.old }
+    ensures at { IsAt hall.now session.new }
+    ensures looks { Looks hall.now session.old session.new }
+    ensures prepared { (h : List EntrySpec) → IsEngineOf h (opening_of hall.now)
+        → IfOk result (IsPrepared (history_of h (seen_of session.new))) }
+{
+    let snapshot = session.admit(rt, hall)?;
+    prepare(alloc, &snapshot)
+}
+
+/// Does the jobs of all levels, one level after another.
+fn bring_levels<R: Threads + Wait + Sync, D: Disk + Send, P: Pace + Sync>(
+    rt: &R,
+    alloc: Global,
+    hall: &Hall<D>,
+    session: &mut Session<D>,
+    workers: u8,
+    levels: &mut [Level],
+    pace: &P,
+)
+    requires at { IsAt hall.now session.old }
+    ensures at { IsAt hall.now session.new }
+    ensures levels { length levels.new ≡ length levels.old }
+    ensures done { Does hall.now session.old session.new
+        (λ start course low own. AreDone start low (jobs_in levels.old) (jobs_in levels.new) course own) }
+{
+    for level in levels.iter_mut() {
+        bring_level(rt, alloc, hall, session, workers, level, pace);
+    }
+}
+
+/// Does the jobs of a level.
+fn bring_level<R: Threads + Wait + Sync, D: Disk + Send, P: Pace + Sync>(
+    rt: &R,
+    alloc: Global,
+    hall: &Hall<D>,
+    session: &mut Session<D>,
+    workers: u8,
+    level: &mut Level,
+    pace: &P,
+)
+    requires at { IsAt hall.now session.old }
+    ensures at { IsAt hall.now session.new }
+    ensures done { Does hall.now session.old session.new
+        (λ start course low own. AllDid IsDone start course low level.old.jobs.items level.new.jobs.items own) }
+{
+    let turns = LevelTurns {
+        pace,
+        turns: &level.turns,
+    };
+    run_jobs(
+        rt,
+        alloc,
+        hall,
+        session,
+        workers,
+        0,
+        &mut level.jobs,
+        &turns,
+    );
+}
+
+/// A pace for the jobs of a level: each job has a turn of its own.
+#[derive(Drop)]
+struct LevelTurns<'a, P> {
+    pace: &'a P,
+    turns: &'a [u32],
+}
+
+impl<'a, P: Pace> LevelTurns<'a, P> {
+    /// Returns the number of the turn of a job.
+    fn turn_of(&self, job: u32) -> u32 {
+        match self.turns.get(job as usize) {
+            None => job,
+            Some(turn) => *turn,
+        }
+    }
+}
+
+impl<'a, P: Pace> Pace for LevelTurns<'a, P> {
+    fn begun(&self, turn: u32) {
+        self.pace.begun(self.turn_of(turn));
+    }
+
+    fn ended(&self, turn: u32) {
+        self.pace.ended(self.turn_of(turn));
+    }
+}

@@ -1,0 +1,15 @@
+//! The laws of reports. Each is a function with an empty body, and its contract is the law.
+ghost use Rattle.btr_work.specs.Laws.{BroughtIsCurrent};
+ghost use Rattle.btr_work.specs.Alike.{BroughtIsAlike};
+
+/// If nobody else added anything since the call began, each output whose result is not a refusal has read the latest versions of its
+/// inputs in the end, and the version of its result is its latest one.
+pub fn brought_is_current()
+    ensures { BroughtIsCurrent }
+{}
+
+/// If nobody else added anything since the call began, and the memory and the device sufficed, each stream has the commits in the end
+/// that one worker leaves, which lands the outputs one after another, level by level. The report is that of one worker, too.
+pub fn brought_is_alike()
+    ensures { BroughtIsAlike }
+{}

@@ -1,0 +1,133 @@
+//! What is made ready before outputs are brought up to date, so that no memory is taken for it later.
+ghost use Rattle.std.specs.Prelude.{◌≡◌, List, [], ◌∷◌, ◌++◌, length, map, IfOk, OnOk};
+ghost use Rattle.btr_hist.specs.declared.entry.Entry.{Entry as EntrySpec};
+ghost use Rattle.btr_hist.specs.History.{ids};
+ghost use Rattle.btr_engine.specs.Snapshot.{IsSnapshotOf};
+ghost use Rattle.btr_work.specs.Levels.{outputs, outputs_from};
+ghost use Rattle.btr_work.specs.Bringing.{IsPrepared, outputs_in, groups_in, blank};
+
+use crate::bringing::OutputJob;
+use crate::leveling::levels;
+use crate::report::{Brought, ReportLine};
+use btr_engine::Snapshot;
+use btr_hall::LandFault;
+use btr_hist::Spec;
+use std::alloc::{AllocError, Global};
+
+/// The work that is to be done, and the report that is to be filled in.
+#[derive(Drop)]
+pub(crate) struct Work {
+    pub(crate) levels: Vec<Level>,
+
+    /// A line for each output.
+    pub(crate) lines: Vec<ReportLine>,
+
+    /// A result for each stream, also for those that are no outputs.
+    pub(crate) results: Vec<Brought>,
+}
+
+/// The jobs of a level, and the numbers of their turns.
+#[derive(Drop)]
+pub(crate) struct Level {
+    pub(crate) jobs: Vec<OutputJob>,
+    pub(crate) turns: Vec<u32>,
+}
+
+/// The streams of a store: a line for each output, and for each stream a result and the number of outputs before it.
+#[derive(Drop)]
+struct Streams {
+    lines: Vec<ReportLine>,
+    results: Vec<Brought>,
+    turns: Vec<u32>,
+}
+
+/// What became of an output for which nothing was done: as if there had been no memory.
+const NOTHING: Brought = Brought::Refused(LandFault::Want);
+
+/// Makes the work for the outputs of a snapshot. An `Err` means out of memory.
+pub(crate) fn prepare(alloc: Global, snapshot: &Snapshot) -> Result<Work, AllocError>
+    ensures { (h : List EntrySpec) → IsSnapshotOf h snapshot.now → IfOk result (IsPrepared h) }
+{
+    let groups = levels(alloc, snapshot)?;
+    let Streams {
+        lines,
+        results,
+        turns,
+    } = streams_of(alloc, snapshot)?;
+    let levels = levels_of(alloc, &groups, &turns)?;
+    Ok(Work {
+        levels,
+        lines,
+        results,
+    })
+}
+
+/// Makes the lines and results of all streams.
+fn streams_of(alloc: Global, snapshot: &Snapshot) -> Result<Streams, AllocError>
+    ensures lines { (h : List EntrySpec) → IsSnapshotOf h snapshot.now → IfOk result (λ s. s.lines.items ≡ map blank (outputs h)) }
+    ensures results { (h : List EntrySpec) → IsSnapshotOf h snapshot.now → IfOk result (λ s. length s.results.items ≡ length (ids h)) }
+{
+    let mut lines = Vec::new(alloc);
+    let mut results = Vec::new(alloc);
+    let mut turns = Vec::new(alloc);
+    for stream in 0..snapshot.streams() {
+        turns.push(lines.len() as u32)?;
+        results.push(NOTHING)?;
+        push_line(&mut lines, stream, snapshot.spec(stream))?;
+    }
+    Ok(Streams {
+        lines,
+        results,
+        turns,
+    })
+}
+
+/// Adds the line of a stream, if it is an output.
+fn push_line(lines: &mut Vec<ReportLine>, stream: u32, kind: Option<Spec>) -> Result<(), AllocError>
+    ensures { OnOk result (lines.new.items ≡ lines.old.items ++ map blank (outputs_from stream (kind ∷ []))) }
+{
+    if kind.is_some() {
+        lines.push(ReportLine {
+            output: stream,
+            result: NOTHING,
+        })?;
+    }
+    Ok(())
+}
+
+/// Makes the jobs of all levels, if these are their outputs, and these are the numbers of the turns of all streams.
+fn levels_of(alloc: Global, groups: &[Vec<u32>], turns: &[u32]) -> Result<Vec<Level>, AllocError>
+    ensures { IfOk result (λ v. groups_in v.items ≡ map (λ g. g.items) groups.now) }
+{
+    let mut levels = Vec::new(alloc);
+    for group in groups {
+        levels.push(level_of(alloc, group, turns)?)?;
+    }
+    Ok(levels)
+}
+
+/// Makes the jobs of a level.
+fn level_of(alloc: Global, group: &[u32], turns: &[u32]) -> Result<Level, AllocError>
+    ensures { IfOk result (λ l. outputs_in l.jobs.items ≡ group.now) }
+{
+    let mut level = Level {
+        jobs: Vec::new(alloc),
+        turns: Vec::new(alloc),
+    };
+    for output in group {
+        level.jobs.push(OutputJob {
+            output: *output,
+            result: NOTHING,
+        })?;
+        level.turns.push(turn_of(turns, *output))?;
+    }
+    Ok(level)
+}
+
+/// Returns the number of the turn of a stream.
+fn turn_of(turns: &[u32], stream: u32) -> u32 {
+    match turns.get(stream as usize) {
+        None => 0,
+        Some(turn) => *turn,
+    }
+}
