@@ -1,0 +1,11 @@
+pub mod BatchLemmas
+pub mod OpenLemmas
+pub mod CreateLemmas
+pub mod LoadLemmas
+pub mod TotalLemmas
+pub mod SumLemmas
+pub mod ThereLemmas
+pub mod RowLemmas
+pub mod OfferLemmas
+pub mod AlikeLemmas
+pub mod FitLemmas

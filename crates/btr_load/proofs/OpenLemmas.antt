@@ -1,0 +1,51 @@
+-- Lemmas on the streams of a load before any commit, and on their creates.
+use Rattle.std.specs.Prelude.{◌≡◌, ℕ, ◌<◌, Bool, true, false, nat_le, List, [], ◌∷◌, ◌++◌, length, if◌then◌else◌}
+use Rattle.std.specs.Prelude.{Option, Some, None, Result, Ok, Err, IfOk}
+use Rattle.std.specs.Option.{is_some, unwrap_or}
+use Rattle.std.proofs.Common.{refl, ap, ◌∙◌, subst, arith}
+use Rattle.std.proofs.lemmas.Bool.{lt-leb}
+use Rattle.btr_hist.specs.declared.entry.Entry.{Entry}
+use Rattle.btr_hist.specs.declared.kernel.Spec.{Spec}
+use Rattle.btr_hist.specs.History.{ids, stream_of, latest}
+use Rattle.btr_rows.specs.Streams.{StreamValue}
+use Rattle.btr_engine.specs.Board.{latest_of}
+use Rattle.btr_load.specs.declared.fate.Fate.{Fate}
+use Rattle.btr_load.specs.declared.fate.Fate.TheVariants.{Output}
+use Rattle.btr_load.specs.Loads.{IsCommittedTo, IsFound}
+use Rattle.btr_load.specs.declared.stream.LoadedStream.{LoadedStream}
+use Rattle.btr_load.specs.Work.{IsReady}
+use Rattle.btr_load.specs.Plan.{IsPlanned, ArePlanned, AreReady}
+
+-- ---- what is planned
+
+-- What is implied of the value of a result.
+pub if_ok : {T E : Type 0} (r : Result T E) (P Q : T → Type 0) → ((x : T) → P x → Q x) → IfOk r P → IfOk r Q
+if_ok (Ok x) P Q implies is = implies x is
+if_ok (Err e) P Q implies is = is
+
+-- An output is found as one.
+pub output_found : (h : List Entry) (stream : ℕ) (o : Option Spec) → is_some o ≡ true → IsFound h stream o Output
+output_found h stream None is = absurd (cc)
+output_found h stream (Some spec) is = refl
+
+-- A plain stream is found with its latest version.
+pub plain_found : (h : List Entry) (stream version : ℕ) (o : Option Spec) (fate : Fate) → stream < length (ids h) → is_some o ≡ false → version ≡ unwrap_or (latest_of h stream) 0 → IsCommittedTo stream version fate → IsFound h stream o fate
+plain_found h stream version (Some spec) fate known is latest to = absurd (cc)
+plain_found h stream version None fate known is last to =
+    let low : nat_le (length (ids h)) stream ≡ false = lt-leb (length (ids h)) stream known in
+    subst (λ v. IsCommittedTo stream v fate) (last ∙ ap (λ (b : Bool). unwrap_or (if b then None else Some (latest h stream)) 0) low) to
+
+-- One stream more.
+pub planned_push : (h : List Entry) (batch : ℕ) (rows : List StreamValue) (streams : List LoadedStream) (r : StreamValue) (fate : Fate) → IsPlanned h (stream_of h r.id) fate → ArePlanned h batch rows streams → ArePlanned h batch (rows ++ r ∷ []) (streams ++ record { rows = r; batch = batch; fate = fate } ∷ [])
+planned_push h batch [] [] r fate one all = (refl, refl, one, tt)
+planned_push h batch [] (s ∷ streams) r fate one all = absurd all
+planned_push h batch (first ∷ rows) [] r fate one all = absurd all
+planned_push h batch (first ∷ rows) (s ∷ streams) r fate one all = (all.0, all.1, all.2, planned_push h batch rows streams r fate one all.3)
+
+pub ready_push : (streams : List LoadedStream) (s : LoadedStream) → IsReady s → AreReady streams → AreReady (streams ++ s ∷ [])
+ready_push [] s one all = (one, tt)
+ready_push (first ∷ streams) s one all = (all.0, ready_push streams s one all.1)
+
+pub nothing_left : {A : Type 0} (l : List A) → length l ≡ 0 → l ≡ []
+nothing_left [] none = refl
+nothing_left (x ∷ l) none = absurd (omega arith)

@@ -1,0 +1,59 @@
+-- How much room a load needs: what its creates and all its batches need. If there is so much, nothing is refused for want of room.
+use Rattle.std.specs.Prelude.{ℕ, ◌+◌, ◌≤◌, List, [], ◌∷◌, Option, Some, None, Result, Ok, Err}
+use Rattle.std.specs.List.{AllByRecursion}
+use Rattle.btr_hist.specs.declared.entry.Entry.{Entry}
+use Rattle.btr_hist.specs.declared.entry.Entry.TheVariants.{Create}
+use Rattle.btr_hist.specs.History.{stream_of}
+use Rattle.btr_hist.specs.Legal.{Follows}
+use Rattle.btr_rows.specs.declared.row.NumberedPoint.{NumberedPoint}
+use Rattle.btr_rows.specs.Streams.{StreamValue, RowListValue}
+use Rattle.btr_engine.specs.declared.board.Receipt.{Receipt}
+use Rattle.btr_engine.specs.declared.step.StepFault.{StepFault}
+use Rattle.btr_engine.specs.declared.step.StepFault.TheVariants.{Stopped, Rejected, Want, DeviceFull, DeviceFault}
+use Rattle.btr_engine.specs.Body.{need_of}
+use Rattle.btr_jobs.specs.Course.{Start, Course}
+use Rattle.btr_load.specs.declared.fate.Fate.{Fate}
+use Rattle.btr_load.specs.declared.fate.Fate.TheVariants.{Output, NotCreated, Committed}
+use Rattle.btr_load.specs.Batches.{batches_of, batch_entry}
+use Rattle.btr_load.specs.Loads.{LoadedValue, Loads}
+use Rattle.btr_load.specs.There.{OnlyOwn}
+
+-- The blocks that the commits of batches need. It is the same for each stream.
+abbrev pub batches_need : List (List NumberedPoint) → ℕ
+batches_need [] = 0
+batches_need (batch ∷ batches) = need_of (batch_entry 0 batch) + batches_need batches
+
+-- The blocks that the create of a stream needs, if the history `low` has none of this id.
+abbrev pub create_need : ℕ → Option ℕ → ℕ
+create_need id (Some stream) = 0
+create_need id None = need_of (Create id)
+
+-- The blocks that rows need.
+abbrev pub rows_need : List Entry → ℕ → List StreamValue → ℕ
+rows_need low batch [] = 0
+rows_need low batch (r ∷ rows) =
+    create_need r.id (stream_of low r.id) + batches_need (batches_of batch r.points) + rows_need low batch rows
+
+-- There was room for the entry.
+abbrev pub HadRoom : Result Receipt StepFault → Type 0
+HadRoom (Ok receipt) = Unit {0}
+HadRoom (Err (Stopped entries)) = Unit {0}
+HadRoom (Err (Rejected why)) = Unit {0}
+HadRoom (Err Want) = Unit {0}
+HadRoom (Err (DeviceFull need left)) = ⊥
+HadRoom (Err DeviceFault) = Unit {0}
+
+abbrev pub FateHadRoom : Fate → Type 0
+FateHadRoom Output = Unit {0}
+FateHadRoom (NotCreated fault) = HadRoom (Err fault)
+FateHadRoom (Committed stream results latest) = AllByRecursion HadRoom results
+
+-- Nothing is refused for want of room if all blocks that the rows need were left when the hall began, and the load is the first
+-- that is added to it.
+abbrev pub LoadsFit : Type 0
+LoadsFit =
+    (start : Start) (course : Course) (rows : RowListValue) (batch : ℕ) (told : LoadedValue) (numbers : List ℕ)
+    → Follows start.history → OnlyOwn course start.history numbers
+    → Loads start course start.history rows batch told numbers
+    → rows_need start.history batch rows.streams ≤ start.left
+    → AllByRecursion (λ s. FateHadRoom s.fate) told.streams
