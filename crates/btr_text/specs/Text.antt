@@ -44,6 +44,7 @@ reason_words reasons.Memory = codes "memory" ∷ []
 reason_words (reasons.Full need left) = codes "full" ∷ decimal need ∷ decimal left ∷ []
 reason_words reasons.Device = codes "device" ∷ []
 reason_words (reasons.Stopped entries) = codes "stopped" ∷ decimal entries ∷ []
+reason_words (reasons.Superseded version) = codes "superseded" ∷ decimal version ∷ []
 
 -- The first line of a reply that is no refusal: the version and the number of rows.
 abbrev pub ok_text : ℕ → ℕ → List ℕ

@@ -19,8 +19,9 @@ mod text;
 
 pub use input::read_script;
 pub use reply::{LineReply, Reason};
+pub use row::{append_agg, id_text};
 pub use script::{Line, Script, ScriptLine};
-pub use text::{append_line, write_reply};
+pub use text::{append_line, append_reason, write_reply};
 pub use word::read_unsigned;
 
 #[cfg(test)]

@@ -63,6 +63,9 @@ pub enum Reason {
 
     /// The store takes no more commits, since the device failed after this number of entries.
     Stopped { entries: u64 },
+
+    /// The output has been brought up to date by another commit since, and this is its version now.
+    Superseded { version: u64 },
 }
 
 impl Reason {

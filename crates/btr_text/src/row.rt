@@ -162,16 +162,17 @@ fn append_reads(out: &mut Vec<u8>, reads: Option<Reads>) -> Result<(), AllocErro
     }
 }
 
-/// Writes the text of an id into the buffer: hyphenated, in lower case.
-fn id_text(id: u128, buffer: &mut [u8]) -> &str
+/// Writes the text of an id (RFC 9562) into the buffer, hyphenated and in lower case, and returns it: 36 bytes.
+pub fn id_text(id: u128, buffer: &mut [u8]) -> &str
     requires { 36 ≤ length buffer.old }
     ensures { result.now ≡ id_text id }
 {
     Uuid::from_u128(id).hyphenated().encode_lower(buffer)
 }
 
-/// Appends a line of a word and an aggregate. An `Err` may leave a part of it.
-fn append_agg(out: &mut Vec<u8>, first: &[u8], agg: &Agg) -> Result<(), AllocError>
+/// Appends a line of a word and an aggregate: the number of points and their sum, then the least and the greatest value if there is a
+/// point. It takes time linear in the line. An `Err` means out of memory, and may leave a part of the line.
+pub fn append_agg(out: &mut Vec<u8>, first: &[u8], agg: &Agg) -> Result<(), AllocError>
     ensures ok { OnOk result (out.new.items ≡ out.old.items ++ line_text (first.now ∷ agg_words agg.now)) }
     ensures err { OnErr result (take (length out.old.items) out.new.items ≡ out.old.items) }
 {

@@ -71,8 +71,9 @@ fn append_held(out: &mut Vec<u8>, count: u32) -> Result<(), AllocError>
     append_line(out, b"held", &[text.format(count).as_bytes()])
 }
 
-/// Appends the line of a refusal. An `Err` may leave a part of it.
-fn append_reason(out: &mut Vec<u8>, reason: Reason) -> Result<(), AllocError>
+/// Appends the line of a refusal: `no`, a word and numbers. It takes time linear in the line. An `Err` means out of memory, and may
+/// leave a part of the line.
+pub fn append_reason(out: &mut Vec<u8>, reason: Reason) -> Result<(), AllocError>
     ensures ok { OnOk result (out.new.items ≡ out.old.items ++ line_text (codes "no" ∷ reason_words reason)) }
     ensures err { OnErr result (take (length out.old.items) out.new.items ≡ out.old.items) }
 {
@@ -96,6 +97,7 @@ fn append_reason(out: &mut Vec<u8>, reason: Reason) -> Result<(), AllocError>
         Reason::Full { need, left } => append_refusal2(out, b"full", need, left),
         Reason::Device => append_refusal(out, b"device"),
         Reason::Stopped { entries } => append_refusal1(out, b"stopped", entries),
+        Reason::Superseded { version } => append_refusal1(out, b"superseded", version),
     }
 }
 
@@ -134,7 +136,8 @@ fn append_refusal2(out: &mut Vec<u8>, word: &[u8], a: u64, b: u64) -> Result<(),
     )
 }
 
-/// Appends a line: words with one space between each two, then a line feed. An `Err` may leave a part of it.
+/// Appends a line: words with one space between each two, then a line feed. It takes time linear in the line. An `Err` means out of
+/// memory, and may leave a part of the line.
 pub fn append_line(out: &mut Vec<u8>, first: &[u8], rest: &[&[u8]]) -> Result<(), AllocError>
     ensures ok { OnOk result (out.new.items ≡ out.old.items ++ line_text (first.now ∷ map (λ w. w.now) rest.now)) }
     ensures err { OnErr result (take (length out.old.items) out.new.items ≡ out.old.items) }

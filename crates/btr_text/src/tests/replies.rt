@@ -46,6 +46,7 @@ fn each_refusal_has_its_words(rt: HostRuntime) -> Result<(), Fail> {
             },
             "no stopped 18446744073709551615\n",
         ),
+        (Reason::Superseded { version: 3 }, "no superseded 3\n"),
     ] {
         let mut out = Vec::new(rt.alloc());
         write_reply(&LineReply::No(reason), &mut out)?;

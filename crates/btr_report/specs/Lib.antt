@@ -1,0 +1,2 @@
+-- the text of a line
+pub mod Report
