@@ -1,0 +1,11 @@
+-- The loop over the outputs of a report.
+use Rattle.std.proofs.Common.{List, map, take}
+use Rattle.btr_hist.specs.declared.entry.Entry.{Entry}
+use Rattle.btr_engine.specs.Snapshot.{IsSnapshotOf}
+use Rattle.btr_bulk.specs.Transcript.{SaysLines}
+use Rattle.btr_bulk.specs.Distil.{output_line}
+use Rattle.btr_bulk.proofs.distil.output_lines.Given as goal
+
+-- the outputs up to here have their lines
+abbrev pub invariant-loop-line : goal.invariant-loop-line
+invariant-loop-line l = (h : List Entry) → IsSnapshotOf h l.fn.snapshot → SaysLines (map (output_line h) (take l.line-index l.line-items)) l.transcript

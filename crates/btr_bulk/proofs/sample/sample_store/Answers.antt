@@ -1,0 +1,19 @@
+-- The work was done on the device, and what it added is allowed.
+use Rattle.btr_bulk.specs.Sample.{Samples}
+use Rattle.btr_bulk.proofs.WorkLemmas.{does_rightly}
+use Rattle.btr_bulk.proofs.SampleLemmas.{samples_allowed}
+use Rattle.btr_bulk.proofs.sample.sample_store.Goals as goal
+
+pub returns-clause-done : goal.returns-clause-done
+returns-clause-done g c =
+    let number = c.args.number in
+    let streams = c.args.streams in
+    let points = c.args.points in
+    let said = c.sample-said.result in
+    let begun = c.in_ok-hall.ensures.begun in
+    let hall = c.in_ok-hall.hall in
+    let session = c.in_ok-hall.session in
+    does_rightly g.D.Disk (λ start course low own. Samples number streams points start course low said own) c.args.disk c.close_hall-disk.result hall session c.sample-said.new.session
+    (λ start course own is. samples_allowed number streams points start course start.history said own is)
+    begun c.sample-said.ensures.does
+    (λ opened own goes. c.close_hall-disk.ensures.works c.args.disk opened session own begun.begins goes)

@@ -1,0 +1,46 @@
+-- What loading rows into a store does, and what it says of them.
+use Rattle.std.specs.Prelude.{◌≡◌, ℕ, List, [], Option, Some, None, Result, Ok, Err, IfSome}
+use Rattle.std.specs.List.{AllByRecursion}
+use Rattle.std.specs.declared.alloc.AllocError.{AllocError}
+use Rattle.btr_hist.specs.declared.entry.Entry.{Entry}
+use Rattle.btr_rows.specs.Streams.{RowListValue}
+use Rattle.btr_jobs.specs.Course.{Start, Course}
+use Rattle.btr_load.specs.Loads.{LoadedValue, Loads}
+use Rattle.btr_load.specs.There.{AreDistinct, AreThere}
+use Rattle.btr_load.specs.Alike.{IsAlike, IsPlainFate}
+use Rattle.btr_bulk.specs.declared.transcript.Transcript.{Transcript}
+use Rattle.btr_bulk.specs.LoadLines.{SaysLoad}
+
+-- The rows were loaded, and this became of them; or memory ran out before any entry.
+abbrev pub LoadsIf : Start → Course → List Entry → RowListValue → ℕ → Option LoadedValue → List ℕ → Type 0
+LoadsIf start course low rows batch None own = own ≡ []
+LoadsIf start course low rows batch (Some loaded) own = Loads start course low rows batch loaded own
+
+-- The transcript has the lines of what became of the rows. Memory may run out for it.
+abbrev pub SaysLoaded : Option LoadedValue → Result Transcript AllocError → Type 0
+SaysLoaded loaded (Err error) = Unit {0}
+SaysLoaded None (Ok transcript) = ⊥
+SaysLoaded (Some loaded) (Ok transcript) = SaysLoad loaded transcript
+
+-- Rows were loaded, after all of `low` had been seen, and this was said of them. `own` are the numbers of what was added.
+pub record LoadsRows (start : Start) (course : Course) (low : List Entry) (rows : RowListValue) (batch : ℕ)
+    (said : Result Transcript AllocError) (own : List ℕ) : Type 0 where
+  pub loaded : Option LoadedValue
+  pub loads : LoadsIf start course low rows batch loaded own
+  pub says : SaysLoaded loaded said
+
+-- ---- the work on a store that nobody else uses
+
+-- No result came from the memory or from the device.
+abbrev pub ArePlain : LoadedValue → Type 0
+ArePlain loaded = AllByRecursion (λ s. IsPlainFate s.fate) loaded.streams
+
+-- Rows were loaded into a store that nobody else used, and this was said of them. `own` are the numbers of what was added.
+pub record LoadsStore (start : Start) (course : Course) (rows : RowListValue) (batch : ℕ) (said : Result Transcript AllocError)
+    (own : List ℕ) : Type 0 where
+  pub did : LoadsRows start course start.history rows batch said own
+  -- just the creates and the batches that were accepted were added, each batch at the number of its receipt
+  pub there : AreDistinct rows.streams → IfSome did.loaded (AreThere course.history start.history)
+  -- any number of workers leaves each stream as the plain load does, if the memory and the device sufficed
+  pub alike : AreDistinct rows.streams
+      → IfSome did.loaded (λ loaded. ArePlain loaded → IsAlike course.history start.history rows.streams batch loaded.streams)

@@ -1,0 +1,36 @@
+//! The reasons that lines give for entries that were not added.
+ghost use Rattle.std.specs.Prelude.{◌≡◌};
+ghost use Rattle.btr_bulk.specs.Reasons.{reason_of_step, reason_of_landing};
+
+use btr_engine::StepFault;
+use btr_hall::LandFault;
+use btr_text::Reason;
+
+/// Returns the reason of a line whose entry was not added.
+pub(crate) fn reason_of_step(fault: StepFault) -> Reason
+    ensures { result ≡ reason_of_step fault }
+{
+    match fault {
+        StepFault::Stopped { entries } => Reason::Stopped { entries },
+        StepFault::Rejected(why) => Reason::of_rejection(why),
+        StepFault::Want => Reason::Memory,
+        StepFault::DeviceFull { need, left } => Reason::Full { need, left },
+        StepFault::DeviceFault => Reason::Device,
+    }
+}
+
+/// Returns the reason of a line whose plan was not landed.
+pub(crate) fn reason_of_landing(fault: LandFault) -> Reason
+    ensures { result ≡ reason_of_landing fault }
+{
+    match fault {
+        LandFault::Stopped { entries } => Reason::Stopped { entries },
+        LandFault::Superseded { version } => Reason::Superseded { version },
+        LandFault::VersionLimit => Reason::Versions,
+        LandFault::Crowded { start } => Reason::Crowded { start },
+        LandFault::TooManyPoints { count } => Reason::Points { count },
+        LandFault::Want => Reason::Memory,
+        LandFault::DeviceFull { need, left } => Reason::Full { need, left },
+        LandFault::DeviceFault => Reason::Device,
+    }
+}
