@@ -15,6 +15,7 @@ use std::env;
 use std::io::ErrorKind;
 use std::process::ExitCode;
 use std::sync::Wait;
+use std::thread::Threads;
 
 fn main(rt: HostRuntime) -> ExitCode {
     let status = match words(&rt) {
@@ -26,7 +27,7 @@ fn main(rt: HostRuntime) -> ExitCode {
 
 /// Runs the words of the command line on the device that the second of them names. The first is the program's name. The run waits
 /// by `wait`: that is the runtime too, which only `main` may use so.
-fn run_words<W: Wait>(rt: &HostRuntime, wait: &W, words: &[String]) -> u8 {
+fn run_words<W: Threads + Wait + Sync>(rt: &HostRuntime, wait: &W, words: &[String]) -> u8 {
     match words {
         [_, path, rest @ ..] => match lock_of(rt.alloc(), rest) {
             Ok(lock) => run_on(rt, wait, path.as_str(), lock, rest),
@@ -41,7 +42,13 @@ fn run_words<W: Wait>(rt: &HostRuntime, wait: &W, words: &[String]) -> u8 {
 }
 
 /// Runs words on the device with this path, and waits by `wait`.
-fn run_on<W: Wait>(rt: &HostRuntime, wait: &W, path: &str, lock: Lock, words: &[String]) -> u8 {
+fn run_on<W: Threads + Wait + Sync>(
+    rt: &HostRuntime,
+    wait: &W,
+    path: &str,
+    lock: Lock,
+    words: &[String],
+) -> u8 {
     let mut source = StdSource::new(rt.stdin());
     let mut sink = StdSink::new(rt.stdout());
     match FileDisk::open(rt, path, lock) {

@@ -9,9 +9,10 @@ use Rattle.btr_text.specs.declared.script.ScriptLine.{ScriptLine}
 use Rattle.btr_open.specs.Laws.{HeldIsSound}
 use Rattle.btr_top.specs.declared.ending.Ending.{Ending}
 use Rattle.btr_top.specs.declared.ending.Ending.TheVariants.{Usage, NoSource, TooLong, OutOfMemory, NoDevice, NoStore, Damaged, Occupied, TooSmall, Formatted, Replied}
-use Rattle.btr_top.specs.declared.status.Status.{Status}
+use Rattle.btr_bulk.specs.declared.status.Status.{Status}
 use Rattle.btr_top.specs.Ending.{status_of}
-use Rattle.btr_top.specs.Status.{code_of, status_of_replies}
+use Rattle.btr_bulk.specs.Status.{code_of}
+use Rattle.btr_top.specs.Status.{status_of_replies}
 use Rattle.btr_top.specs.Script.{HasRead, ExceedsInputLimit}
 use Rattle.btr_top.specs.Ask.{QuestionsCause, AskCause, CanAsk}
 use Rattle.btr_top.proofs.BenignStatuses.{IsBenignStatus, benign_code, benign_answers}

@@ -8,7 +8,7 @@ use Rattle.btr_text.specs.declared.reply.LineReply.{LineReply}
 use Rattle.btr_engine.specs.declared.engine.Engine.{Engine}
 use Rattle.btr_engine.specs.Engine.{device, blocks_of, tail_of, IsEngineOf, IsAtRest}
 use Rattle.btr_open.specs.Opening.{IsOpened}
-use Rattle.btr_top.specs.declared.script.Transcript.{Transcript}
+use Rattle.btr_bulk.specs.declared.transcript.Transcript.{Transcript}
 use Rattle.btr_top.specs.declared.ending.Ending.{Ending}
 use Rattle.btr_top.specs.declared.ending.Ending.TheVariants.{OutOfMemory, Replied}
 use Rattle.btr_top.specs.Meaning.{question}

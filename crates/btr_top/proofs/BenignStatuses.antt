@@ -22,8 +22,8 @@ use Rattle.btr_text.specs.declared.script.ScriptLine.{ScriptLine}
 use Rattle.btr_text.specs.declared.reply.LineReply.{LineReply}
 use Rattle.btr_text.specs.declared.reply.LineReply.TheVariants.{No}
 use Rattle.btr_text.specs.declared.reply.Reason.TheVariants as reasons
-use Rattle.btr_top.specs.declared.status.Status.{Status}
-use Rattle.btr_top.specs.declared.status.Status.TheVariants.{Done, Refused, OutOfMemory}
+use Rattle.btr_bulk.specs.declared.status.Status.{Status}
+use Rattle.btr_bulk.specs.declared.status.Status.TheVariants.{Done, Refused, OutOfMemory}
 use Rattle.btr_base.specs.declared.point.Point.{Point}
 use Rattle.btr_base.specs.Bag.{sort}
 use Rattle.btr_feed.specs.Feed.{held, insert_fault}
@@ -37,7 +37,8 @@ use Rattle.btr_top.specs.Meaning.{insert, when_due, unless_fault, feed, flush, m
 use Rattle.btr_engine.specs.Body.{need_of}
 use Rattle.btr_top.specs.Replies.{Store, State, reply_of_answer, reply_of_commit, reply_to, IsNotDone, Replies, Means, RepliesToLine, RunsScript}
 use Rattle.btr_top.specs.Replies.{need_of_meaning, after_line, needs_of}
-use Rattle.btr_top.specs.Status.{rank, code_of, greater, greatest, status_of_reply, status_of_replies}
+use Rattle.btr_bulk.specs.Status.{rank, code_of, greater}
+use Rattle.btr_top.specs.Status.{greatest, status_of_reply, status_of_replies}
 use Rattle.btr_top.specs.Ask.{IsAnswerOrNoMemory, AnswersEach}
 use Rattle.btr_top.proofs.StoppedStores.{ran_all}
 use Rattle.btr_top.proofs.ModelRuns.{left_after, line_is}

@@ -14,6 +14,7 @@ mod Crashes
 -- why a command ends so
 mod OpenedStore
 mod AskedLines
+mod BulkCauses
 -- if nothing fails
 mod ModelRuns
 mod BenignStatuses

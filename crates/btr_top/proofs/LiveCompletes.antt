@@ -19,10 +19,11 @@ use Rattle.btr_engine.specs.Holds.{HoldsHistory}
 use Rattle.btr_open.specs.Laws.{HeldIsSound, OneHistoryIsHeld}
 use Rattle.btr_top.specs.declared.ending.Ending.{Ending}
 use Rattle.btr_top.specs.declared.ending.Ending.TheVariants.{Usage, NoSource, TooLong, OutOfMemory, NoDevice, NoStore, Damaged, Occupied, TooSmall, Formatted, Replied}
-use Rattle.btr_top.specs.declared.status.Status.{Status}
+use Rattle.btr_bulk.specs.declared.status.Status.{Status}
 use Rattle.btr_top.specs.Ending.{status_of, text_of, Writes, Shows}
 use Rattle.btr_top.specs.Replies.{Store, begun, needs_of}
-use Rattle.btr_top.specs.Status.{code_of, status_of_replies}
+use Rattle.btr_bulk.specs.Status.{code_of}
+use Rattle.btr_top.specs.Status.{status_of_replies}
 use Rattle.btr_top.specs.Script.{HasRead, InputCause, ExceedsInputLimit}
 use Rattle.btr_top.specs.Live.{HoldsStore, RunsOnDevice, ScriptCause, LiveCause, CanLive}
 use Rattle.btr_top.proofs.BenignStatuses.{IsBenignStatus, benign_code, benign_script}

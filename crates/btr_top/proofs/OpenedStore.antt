@@ -13,7 +13,7 @@ use Rattle.btr_engine.specs.Engine.{device, blocks_of, tail_of, is_stopped, faul
 use Rattle.btr_engine.specs.Holds.{HoldsHistoryTo}
 use Rattle.btr_engine.proofs.EngineLemmas.{stopped_by_fault}
 use Rattle.btr_open.specs.Opening.{IsOpened}
-use Rattle.btr_top.specs.declared.script.Transcript.{Transcript}
+use Rattle.btr_bulk.specs.declared.transcript.Transcript.{Transcript}
 use Rattle.btr_top.specs.declared.ending.Ending.{Ending}
 use Rattle.btr_top.specs.declared.ending.Ending.TheVariants.{OutOfMemory, Replied}
 use Rattle.btr_top.specs.Feeds.{Waiting, none_waiting}

@@ -12,12 +12,13 @@ use Rattle.btr_text.specs.declared.reply.LineReply.{LineReply}
 use Rattle.btr_text.specs.Text.{text}
 use Rattle.btr_engine.specs.declared.engine.Engine.{Engine}
 use Rattle.btr_engine.specs.Engine.{is_stopped, IsEngineOf, IsAtRest, KeepsOpening}
-use Rattle.btr_top.specs.declared.script.Transcript.{Transcript}
-use Rattle.btr_top.specs.declared.status.Status.{Status}
+use Rattle.btr_bulk.specs.declared.transcript.Transcript.{Transcript}
+use Rattle.btr_bulk.specs.declared.status.Status.{Status}
 use Rattle.btr_top.specs.Feeds.{Waiting}
 use Rattle.btr_top.specs.Meaning.{Meaning}
 use Rattle.btr_top.specs.Replies.{RepliesToLine, RunsScript, text_of_replies}
-use Rattle.btr_top.specs.Status.{greater, greatest, status_of_reply}
+use Rattle.btr_bulk.specs.Status.{greater}
+use Rattle.btr_top.specs.Status.{greatest, status_of_reply}
 use Rattle.btr_top.specs.Script.{IsTranscript}
 use Rattle.btr_top.specs.EngineScript.{EngineOf, LaneOf, lane_of, state_of, history_after, CallsDevice, Answers, AnswersLine, AnswersLineFrom, AddsReply, RunsLines, HasRun, HasRunPrefix}
 use Rattle.btr_top.proofs.StoppedStores.{ran_all}

@@ -10,7 +10,7 @@ use Rattle.btr_text.specs.declared.reply.Reason.TheVariants as reasons
 use Rattle.btr_engine.specs.declared.engine.Engine.{Engine}
 use Rattle.btr_engine.specs.Engine.{device, room_of, is_stopped, IsEngineOf, IsAtRest, EngineLeaves, KeepsOpening}
 use Rattle.btr_engine.specs.Step.{IsBeforeOrAfter}
-use Rattle.btr_top.specs.declared.script.Transcript.{Transcript}
+use Rattle.btr_bulk.specs.declared.transcript.Transcript.{Transcript}
 use Rattle.btr_base.specs.declared.point.Point.{Point}
 use Rattle.btr_feed.specs.Feed.{insert_fault}
 use Rattle.btr_top.specs.Feeds.{Waiting, with_points, feed_of, fed}

@@ -10,6 +10,7 @@ pub mod Script
 pub mod Live
 pub mod Ask
 pub mod Format
+pub mod Bulk
 -- the whole run
 pub mod Ending
 pub mod Run

@@ -13,7 +13,7 @@ use Rattle.btr_hist.specs.Legal.{Legal, Follows}
 use Rattle.btr_hist.specs.Laws.{Right}
 use Rattle.btr_engine.specs.Holds.{HoldsHistory, HoldsHistoryTo}
 use Rattle.btr_top.specs.declared.script.TheConstants.{MAX_INPUT}
-use Rattle.btr_top.specs.declared.script.Transcript.{Transcript}
+use Rattle.btr_bulk.specs.declared.transcript.Transcript.{Transcript}
 use Rattle.btr_top.specs.declared.ending.Ending.{Ending}
 use Rattle.btr_top.specs.declared.ending.Ending.TheVariants.{OutOfMemory, Replied}
 use Rattle.btr_top.specs.Replies.{Store, State, begun, RunsScript, needs_of}

@@ -1,17 +1,21 @@
 -- Why a run ends as it does: by its words, its input, its device and its sink; and what is promised if nothing fails.
-use Rattle.std.specs.Prelude.{◌≡◌, ◌⊎◌, ℕ, Option, Some, None}
+use Rattle.std.specs.Prelude.{◌≡◌, ◌⊎◌, ℕ, ◌+◌, Option, Some, None}
 use Rattle.btr_io.specs.declared.source.Source.{Ghosts as SourceGhosts}
 use Rattle.btr_io.specs.declared.sink.Sink.{Ghosts as SinkGhosts}
+use Rattle.btr_io.specs.Bytes.{Gives}
 use Rattle.btr_io.specs.Faults.{Rose as StreamRose}
 use Rattle.btr_disk.specs.declared.disk.Disk.{Ghosts}
 use Rattle.btr_disk.specs.Causes.{Rose}
 use Rattle.btr_words.specs.declared.command.Command.{Command}
-use Rattle.btr_words.specs.declared.command.Command.TheVariants.{Format, Live, Ask}
+use Rattle.btr_words.specs.declared.command.Command.TheVariants.{Format, Load, Ask, Distil, Live, Sample}
 use Rattle.btr_top.specs.declared.ending.Ending.{Ending}
 use Rattle.btr_top.specs.declared.ending.Ending.TheVariants.{Usage, OutOfMemory}
-use Rattle.btr_top.specs.Live.{LiveCause}
-use Rattle.btr_top.specs.Ask.{AskCause}
-use Rattle.btr_top.specs.Format.{FormatCause}
+use Rattle.btr_top.specs.declared.script.TheConstants.{MAX_INPUT}
+use Rattle.btr_top.specs.Script.{IsKept}
+use Rattle.btr_top.specs.Live.{LiveCause, CanLive}
+use Rattle.btr_top.specs.Ask.{AskCause, CanAsk}
+use Rattle.btr_top.specs.Format.{FormatCause, FormatLeaves, CanFormat}
+use Rattle.btr_top.specs.Bulk.{LoadCause, DistilCause, SampleCause}
 use Rattle.btr_top.specs.Ending.{Shows}
 
 -- Why a run with this command ends so. `given` and `rest` are the source before and after it, `old` and `new` the device. What is
@@ -21,6 +25,10 @@ Cause source disk None given rest old new e = (e ≡ Usage) × (rest ≡ given) 
 Cause source disk (Some (Format blocks)) given rest old new e = (rest ≡ given) × FormatCause disk blocks old new e
 Cause source disk (Some (Live batch)) given rest old new e = LiveCause source disk batch given rest old new e
 Cause source disk (Some Ask) given rest old new e = AskCause source disk given rest old new e
+Cause source disk (Some (Load workers batch)) given rest old new e = LoadCause source disk batch given rest old new e
+Cause source disk (Some (Distil workers)) given rest old new e = (rest ≡ given) × DistilCause disk old new e
+Cause source disk (Some (Sample number streams points)) given rest old new e =
+    (rest ≡ given) × SampleCause disk number streams points old new e
 
 -- There was no memory to read the words, and nothing was done.
 abbrev pub WordsLackMemory : {S D : Type 0} → S → S → D → D → Ending → Type 0
@@ -47,3 +55,17 @@ module _ {S K D : Type 0} (source : SourceGhosts S) (sink : SinkGhosts K) (disk 
   pub record AllWork (given rest : S) (before after : K) (old new : D) : Type 0 where
     pub source_works : StreamRose (source.faults given) (source.faults rest) → ⊥
     pub others : DeviceAndSinkWork sink disk before after old new
+
+  -- What is said of a run of this command. See `run_paced`, which says the same clause by clause.
+  pub record Runs (command : Option Command) (given rest : S) (before after : K) (old new : D) (status : ℕ) : Type 0 where
+    pub size : disk.size new ≡ disk.size old
+    pub input : source.is_observable → Gives (MAX_INPUT + 1) (source.left given) (source.left rest)
+    pub ends : Ends command given rest before after old new status
+    pub format_leaves : disk.is_observable → (blocks : ℕ) → command ≡ Some (Format blocks) → FormatLeaves disk blocks old new
+    pub formats : disk.is_observable → (blocks : ℕ) → command ≡ Some (Format blocks) → CanFormat disk blocks old
+        → DeviceAndSinkWork sink disk before after old new → (status ≡ 0) ⊎ (status ≡ 9)
+    pub lives : source.is_observable → disk.is_observable → (batch : ℕ) → command ≡ Some (Live batch) → CanLive source disk batch given old
+        → AllWork given rest before after old new → (status ≡ 0) ⊎ (status ≡ 1) ⊎ (status ≡ 9)
+    pub asks : source.is_observable → disk.is_observable → command ≡ Some Ask → CanAsk source disk given old
+        → AllWork given rest before after old new → (status ≡ 0) ⊎ (status ≡ 1) ⊎ (status ≡ 9)
+    pub kept : command ≡ Some Ask → IsKept disk old new

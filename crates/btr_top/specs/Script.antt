@@ -12,7 +12,7 @@ use Rattle.btr_text.specs.declared.script.ScriptLine.{ScriptLine}
 use Rattle.btr_text.specs.declared.reply.LineReply.{LineReply}
 use Rattle.btr_open.specs.Damage.{IsDamaged}
 use Rattle.btr_top.specs.declared.script.TheConstants.{MAX_INPUT}
-use Rattle.btr_top.specs.declared.script.Transcript.{Transcript}
+use Rattle.btr_bulk.specs.declared.transcript.Transcript.{Transcript}
 use Rattle.btr_top.specs.declared.ending.Ending.{Ending}
 use Rattle.btr_top.specs.declared.ending.Ending.TheVariants.{NoSource, TooLong, OutOfMemory, NoDevice, NoStore, Damaged}
 use Rattle.btr_top.specs.Replies.{text_of_replies}

@@ -14,7 +14,8 @@ ghost use Rattle.btr_top.specs.EngineScript.{AddsReply, HasAnswered};
 
 use crate::ending::Ending;
 use crate::line::answer_question;
-use crate::script::{CommandResult, Transcript, open_refusal, read_lines};
+use crate::script::{CommandResult, add_reply, no_replies, open_refusal, read_lines};
+use btr_bulk::Transcript;
 use btr_disk::Disk;
 use btr_engine::{Engine, Snapshot};
 use btr_io::Source;
@@ -95,7 +96,7 @@ fn answer_questions(
 ) -> Result<Transcript, AllocError>
     ensures { (h : List EntrySpec) → IsSnapshotOf h snapshot.now → IfOk result (HasAnswered h lines.items) }
 {
-    let mut transcript = Transcript::new(alloc);
+    let mut transcript = no_replies(alloc);
     for line in lines {
         ask_line(alloc, snapshot, line.line, &mut transcript)?;
     }
@@ -113,5 +114,5 @@ fn ask_line(
         → OnOk result ((reply : ReplySpec) × IsAnswerOrNoMemory h (question h line) reply × AddsReply reply transcript.old transcript.new) }
 {
     let reply = answer_question(alloc, snapshot, line);
-    transcript.add(&reply)
+    add_reply(transcript, &reply)
 }

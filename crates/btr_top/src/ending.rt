@@ -4,7 +4,8 @@ ghost use Rattle.btr_io.specs.Faults.{Rose};
 ghost use Rattle.btr_text.specs.Text.{line_text};
 ghost use Rattle.btr_top.specs.Ending.{NeedsLine, Shows, WrotePrefix, Writes, status_of, text_of};
 
-use crate::script::{MAX_INPUT, Transcript};
+use crate::script::MAX_INPUT;
+use btr_bulk::Transcript;
 use btr_io::{Failed, Sink, write_all};
 use btr_text::append_line;
 use itoa::Buffer;
@@ -22,8 +23,8 @@ pub enum Ending {
     /// The source gave more than may be read.
     TooLong,
 
-    /// There was no memory: for the words, for the input or its lines, for an opening, for the hall of `live`, for the snapshot of
-    /// `ask`, or for a text.
+    /// There was no memory: for the words, for the input or what it says, for an opening, for a hall, for the snapshot of `ask`, or for
+    /// a text.
     OutOfMemory,
 
     /// A call of the device failed.
@@ -44,7 +45,7 @@ pub enum Ending {
     /// An empty store of this many blocks was made.
     Formatted { blocks: u64 },
 
-    /// Each line of the input had its reply.
+    /// The command did its work, and says this of it: a reply to each line of the input, or lines of its own.
     Replied(Transcript),
 }
 

@@ -6,13 +6,14 @@
 
 // the commands
 mod ask;
+mod bulk;
 mod format_store;
 mod live;
 // the lines of feeds, and those of outputs
 mod distill_line;
 mod feed_line;
 mod feeds;
-// what `live` and `ask` share
+// what the commands share
 mod line;
 mod script;
 mod status;
@@ -25,9 +26,8 @@ mod laws;
 
 pub use ending::Ending;
 pub use laws::{lines_keep_legal, refreshes_are_current, run_limits_are_these};
-pub use run_command::{Outcome, run};
-pub use script::{MAX_INPUT, Transcript};
-pub use status::Status;
+pub use run_command::{Outcome, run, run_paced};
+pub use script::MAX_INPUT;
 
 #[cfg(test)]
 mod tests;

@@ -17,7 +17,8 @@ ghost use Rattle.btr_top.specs.EngineScript.{AddsReply, AnswersLineFrom, lane_of
 use crate::ending::Ending;
 use crate::feeds::Feeds;
 use crate::line::answer_line;
-use crate::script::{CommandResult, Transcript, open_refusal, read_lines};
+use crate::script::{CommandResult, add_reply, no_replies, open_refusal, read_lines};
+use btr_bulk::Transcript;
 use btr_disk::Disk;
 use btr_engine::Engine;
 use btr_hall::{Hall, Session, Sole};
@@ -164,7 +165,7 @@ fn answer_lines<R: Wait, D: Disk>(
     ensures hall { hall_of lane.new ≡ hall_of lane.old }
 {
     let mut feeds = Feeds::new(alloc, batch);
-    let mut transcript = Transcript::new(alloc);
+    let mut transcript = no_replies(alloc);
     for line in lines {
         run_line(alloc, lane, &mut feeds, line.line, &mut transcript)?;
     }
@@ -187,5 +188,5 @@ fn run_line<R: Wait, D: Disk>(
     ensures batch { feeds.new.batch ≡ feeds.old.batch }
 {
     let reply = answer_line(alloc, lane, feeds, line);
-    transcript.add(&reply)
+    add_reply(transcript, &reply)
 }

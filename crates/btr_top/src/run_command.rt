@@ -8,19 +8,22 @@ ghost use Rattle.btr_top.specs.Script.{IsKept};
 ghost use Rattle.btr_top.specs.Live.{CanLive};
 ghost use Rattle.btr_top.specs.Ask.{CanAsk};
 ghost use Rattle.btr_top.specs.Format.{CanFormat, FormatCause, FormatLeaves};
-ghost use Rattle.btr_top.specs.Run.{AllWork, DeviceAndSinkWork, Ends, RunCause};
+ghost use Rattle.btr_top.specs.Run.{AllWork, DeviceAndSinkWork, Ends, RunCause, Runs};
 
 use crate::ask::run_ask;
+use crate::bulk::{run_distil, run_load, run_sample};
 use crate::ending::{Ending, show};
 use crate::format_store::format_store;
 use crate::live::run_live;
 use crate::script::CommandResult;
 use btr_disk::Disk;
 use btr_io::{Sink, Source};
+use btr_jobs::{NoPace, Pace};
 use btr_open::{held_is_sound, one_history_is_held};
 use btr_words::{Command, read_words};
 use std::alloc::Global;
 use std::sync::Wait;
+use std::thread::Threads;
 
 /// What a run gives back.
 #[derive(Debug, Drop)]
@@ -32,16 +35,36 @@ pub struct Outcome<D> {
     pub disk: D,
 }
 
-/// Runs the command that the words say: it works on the device, and writes the text of its ending to the sink. `live`
-/// and `ask` read the source to its end first. `format` reads nothing. In `live` the session of the lines waits by `rt` for its
-/// turns at the store.
-pub fn run<R: Wait, S: Source, K: Sink, D: Disk + Send>(
+/// Runs the command that the words say: it works on the device, and writes the text of its ending to the sink. `load`, `live` and `ask`
+/// read the source to its end first. The others read nothing. `load`, `distil` and `sample` start threads by `rt`, and a session waits by it for
+/// its turns at the store.
+///
+/// It is [`run_paced`] with a pace that does nothing.
+pub fn run<R: Threads + Wait + Sync, S: Source, K: Sink, D: Disk + Send>(
     rt: &R,
     alloc: Global,
     words: &[String],
     source: &mut S,
     sink: &mut K,
     disk: D,
+) -> Outcome<D>
+    // all that is said of `run_paced`
+    ensures { Runs ⟦<S as Source>⟧ ⟦<K as Sink>⟧ ⟦<D as Disk>⟧ (command_of (map string_bytes words.now))
+        source.old source.new sink.old sink.new disk result.disk result.status }
+{
+    run_paced(rt, alloc, words, source, sink, disk, &NoPace)
+}
+
+/// The same, where `pace` learns of the turns of the threads: the streams of a `load`, the outputs of a `distil`, and both of a
+/// `sample`.
+pub fn run_paced<R: Threads + Wait + Sync, S: Source, K: Sink, D: Disk + Send, P: Pace + Sync>(
+    rt: &R,
+    alloc: Global,
+    words: &[String],
+    source: &mut S,
+    sink: &mut K,
+    disk: D,
+    pace: &P,
 ) -> Outcome<D>
     ensures size { D.size result.disk ≡ D.size disk }
     // at most one byte more than the limit is read
@@ -69,7 +92,7 @@ pub fn run<R: Wait, S: Source, K: Sink, D: Disk + Send>(
     // however `ask` ends, nothing is written
     ensures kept { command_of (map string_bytes words.now) ≡ Some Ask → IsKept ⟦<D as Disk>⟧ disk result.disk }
 {
-    let CommandResult { ending, disk } = dispatch(rt, alloc, words, source, disk);
+    let CommandResult { ending, disk } = dispatch(rt, alloc, words, source, disk, pace);
     let status = show(alloc, sink, &ending);
     // so a device that holds a history is not refused as one without a store, or as a damaged one
     held_is_sound();
@@ -79,12 +102,13 @@ pub fn run<R: Wait, S: Source, K: Sink, D: Disk + Send>(
 }
 
 /// Does what the words say.
-fn dispatch<R: Wait, S: Source, D: Disk>(
+fn dispatch<R: Threads + Wait + Sync, S: Source, D: Disk + Send, P: Pace + Sync>(
     rt: &R,
     alloc: Global,
     words: &[String],
     source: &mut S,
     disk: D,
+    pace: &P,
 ) -> CommandResult<D>
     ensures size { D.size result.disk ≡ D.size disk }
     ensures input { S.is_observable → Gives (MAX_INPUT + 1) (S.left source.old) (S.left source.new) }
@@ -106,6 +130,19 @@ fn dispatch<R: Wait, S: Source, D: Disk>(
         Ok(Some(Command::Format { blocks })) => make_store(disk, blocks),
         Ok(Some(Command::Live { batch })) => run_live(rt, alloc, batch, source, disk),
         Ok(Some(Command::Ask)) => run_ask(alloc, source, disk),
+        Ok(Some(Command::Load { workers, batch })) => {
+            run_load(rt, alloc, workers, batch, source, disk, pace)
+        }
+        Ok(Some(Command::Distil { workers })) => run_distil(rt, alloc, workers, disk, pace),
+        Ok(
+            Some(
+                Command::Sample {
+                    number,
+                    streams,
+                    points,
+                },
+            ),
+        ) => run_sample(rt, alloc, number, streams, points, disk, pace),
     }
 }
 

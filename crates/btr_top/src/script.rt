@@ -7,7 +7,8 @@ ghost use Rattle.btr_top.specs.Script.{HasRead, InputCause, IsKept, IsTranscript
 ghost use Rattle.btr_top.specs.EngineScript.{AddsReply};
 
 use crate::ending::Ending;
-use crate::status::Status;
+use crate::status::status_of_reply;
+use btr_bulk::Transcript;
 use btr_disk::Disk;
 use btr_io::{ReadAllFault, Source, read_all};
 use btr_open::{OpenCause, OpenFault};
@@ -73,32 +74,17 @@ pub(crate) fn open_refusal<D: Disk>(fault: OpenFault<D>) -> CommandResult<D>
     }
 }
 
-/// The replies to lines, as they are written at the end of the run.
-#[derive(Debug, Drop)]
-pub struct Transcript {
-    /// The status that the replies ask for.
-    pub status: Status,
-
-    /// The text of the replies.
-    pub text: Vec<u8>,
+/// Makes a transcript of no reply.
+pub(crate) fn no_replies(alloc: Global) -> Transcript
+    ensures { IsTranscript [] result }
+{
+    Transcript::new(alloc)
 }
 
-impl Transcript {
-    /// Makes a transcript of no reply.
-    pub(crate) fn new(alloc: Global) -> Transcript
-        ensures { IsTranscript [] result }
-    {
-        Transcript {
-            status: Status::Done,
-            text: Vec::new(alloc),
-        }
-    }
-
-    /// Adds a reply. An `Err` is that there is no memory for its text.
-    pub(crate) fn add(&mut self, reply: &LineReply) -> Result<(), AllocError>
-        ensures { OnOk result (AddsReply reply.now self.old self.new) }
-    {
-        self.status = self.status.greater(Status::of_reply(reply));
-        write_reply(reply, &mut self.text)
-    }
+/// Adds a reply to a transcript. An `Err` is that there is no memory for its text.
+pub(crate) fn add_reply(transcript: &mut Transcript, reply: &LineReply) -> Result<(), AllocError>
+    ensures { OnOk result (AddsReply reply.now transcript.old transcript.new) }
+{
+    transcript.status = transcript.status.greater(status_of_reply(reply));
+    write_reply(reply, &mut transcript.text)
 }

@@ -1,4 +1,5 @@
 //! Tests of whole runs on devices in memory.
+mod bulk;
 mod crashes;
 mod device;
 mod fixture;

@@ -1,61 +1,181 @@
 -- The numbers of commands lie in their bounds.
-use Rattle.std.proofs.Common.{◌≡◌, ◌≤◌, ◌∷◌, ◌&&◌, ℕ, Bool, true, false, cond, List, [], Option, Some, None, refl, codes, nat_lt, nat_le, ◌^◌, arith}
-use Rattle.std.specs.Prelude.{IfSome}
+use Rattle.std.proofs.Common.{◌≡◌, ◌≤◌, ◌∷◌, ◌&&◌, ◌*◌, ℕ, Bool, true, false, cond, List, [], Option, Some, None, refl, sym, ap, ◌∙◌, subst, codes, nat_lt, nat_le, ◌^◌, arith, unwrap_or}
+use Rattle.std.specs.Prelude.{IfSome, find}
 use Rattle.std.specs.Option.{option_and_then, option_map}
 use Rattle.std.specs.Str.{bytes_eq}
 use Rattle.std.specs.Str.Parse.{digits_value, without_leading_plus}
+use Rattle.std.proofs.lemmas.Slice.Eq.{bytes_eq-Decides}
 use Rattle.std.proofs.lemmas.Bool.{leb-true}
 use Rattle.clap.specs.ValueTests.{is_numeral, is_unsigned_in}
 use Rattle.clap.proofs.WalkLemmas.{both}
 use Rattle.btr_words.specs.declared.command.Command.{Command}
-use Rattle.btr_words.specs.declared.command.Command.TheVariants.{Format, Live, Ask}
-use Rattle.btr_words.specs.Words.{Text, command_of, is_end, number_of, option_number, option_text, IsInBounds}
+use Rattle.btr_words.specs.declared.command.Command.TheVariants.{Format, Load, Ask, Distil, Live, Sample}
+use Rattle.btr_words.specs.Words.{Argument, IsInBounds, Text, argument_named, batch_argument, batch_of, blocks_argument, command_of, format_of, number_for, number_of}
+use Rattle.btr_words.specs.Words.{numbers_in_order, numbers_of, option_numbers, options_after, others, sample_arguments, sample_of, sample_within, without_marker}
+use Rattle.btr_words.specs.Words.{workers_argument, workers_of}
+use Rattle.btr_words.proofs.Found.{named_in_others, some_is}
 
-number_lies : (low high : ℕ) (text : Text) → IfSome (number_of low high text) (λ n. (low ≤ n) × (n ≤ high))
+abbrev Within : ℕ → ℕ → ℕ → Type 0
+Within low high n = (low ≤ n) × (n ≤ high)
+
+number_lies : (low high : ℕ) (text : Text) → IfSome (number_of low high text) (Within low high)
 number_lies low high text = go (is_unsigned_in low high text) refl
   where
-    n : ℕ
-    n = digits_value 10 (without_leading_plus text)
-
-    go : (b : Bool) → is_unsigned_in low high text ≡ b → IfSome (cond b (Some (digits_value 10 (without_leading_plus text))) None) (λ k. (low ≤ k) × (k ≤ high))
+    go : (b : Bool) → is_unsigned_in low high text ≡ b → IfSome (cond b (Some (digits_value 10 (without_leading_plus text))) None) (Within low high)
     go false e = tt
     go true e = lies (digits_value 10 (without_leading_plus text)) e
       where
-        lies : (k : ℕ) → (is_numeral (without_leading_plus text) && (nat_lt k (2 ^ 64) && (nat_le low k && nat_le k high))) ≡ true → (low ≤ k) × (k ≤ high)
+        lies : (k : ℕ) → (is_numeral (without_leading_plus text) && (nat_lt k (2 ^ 64) && (nat_le low k && nat_le k high))) ≡ true → Within low high k
         lies k h =
             let a = both (is_numeral (without_leading_plus text)) (nat_lt k (2 ^ 64) && (nat_le low k && nat_le k high)) h in
             let b = both (nat_lt k (2 ^ 64)) (nat_le low k && nat_le k high) a.1 in
             let c = both (nat_le low k) (nat_le k high) b.1 in
             (leb-true low k c.0, leb-true k high c.1)
 
-option_lies : (command : ℕ → Command) (name : Text) (low high : ℕ) (words : List Text)
-    → ((n : ℕ) → (low ≤ n) × (n ≤ high) → IsInBounds (command n)) → IfSome (option_map command (option_number name low high words)) IsInBounds
-option_lies command name low high words each = text (option_text name words)
+-- Each number that was found for one of the arguments lies in its bounds.
+abbrev Lie : List Argument → List (Text × ℕ) → Type 0
+Lie arguments found = (name : Text) (a : Argument) → argument_named name arguments ≡ Some a → IfSome (number_for name found) (Within a.low a.high)
+
+-- One more number, if its argument is the only one of its name that counts.
+lie_more : (arguments : List Argument) (a : Argument) (name : Text) (n : ℕ) (found : List (Text × ℕ)) → argument_named name arguments ≡ Some a → Within a.low a.high n
+    → ((other : Text) (b : Argument) → bytes_eq name other ≡ false → argument_named other arguments ≡ Some b → IfSome (number_for other found) (Within b.low b.high))
+    → Lie arguments ((name, n) ∷ found)
+lie_more arguments a name n found named lies rest other b named_b = go (bytes_eq name other) refl
   where
-    number : (o : Option ℕ) → IfSome o (λ n. (low ≤ n) × (n ≤ high)) → IfSome (option_map command o) IsInBounds
-    number None h = tt
-    number (Some n) h = each n h
+    go : (c : Bool) → bytes_eq name other ≡ c
+        → IfSome (option_map (λ (p : Text × ℕ). p.1) (cond c (Some (name, n)) (find (λ (p : Text × ℕ). bytes_eq p.0 other) found))) (Within b.low b.high)
+    go true e =
+        let same : name ≡ other = (bytes_eq-Decides name other).0 e in
+        let it : a ≡ b = some_is a b (sym named ∙ ap (λ (t : Text). argument_named t arguments) same ∙ named_b) in
+        subst (λ (y : Argument). Within y.low y.high n) it lies
+    go false e = rest other b e named_b
 
-    text : (t : Option Text) → IfSome (option_map command (option_and_then (number_of low high) t)) IsInBounds
-    text None = tt
-    text (Some t) = number (number_of low high t) (number_lies low high t)
+numbers_lie : (arguments : List Argument) (options : List (Text × Text)) → IfSome (numbers_of arguments options) (Lie arguments)
+numbers_lie arguments [] = λ name a named. tt
+numbers_lie arguments (p ∷ options) = go (numbers_of (others p.0 arguments) options) (numbers_lie (others p.0 arguments) options) (argument_named p.0 arguments) refl
+  where
+    go : (later : Option (List (Text × ℕ))) → IfSome later (Lie (others p.0 arguments)) → (o : Option Argument) → argument_named p.0 arguments ≡ o
+        → IfSome (option_and_then (λ a. option_and_then (λ n. option_map (λ found. (p.0, n) ∷ found) later) (number_of a.low a.high p.1)) o) (Lie arguments)
+    go later h None e = tt
+    go later h (Some a) e = number (number_of a.low a.high p.1) (number_lies a.low a.high p.1)
+      where
+        all : (n : ℕ) → Within a.low a.high n → (l : Option (List (Text × ℕ))) → IfSome l (Lie (others p.0 arguments)) → IfSome (option_map (λ found. (p.0, n) ∷ found) l) (Lie arguments)
+        all n w None i = tt
+        all n w (Some found) i = lie_more arguments a p.0 n found e w
+            (λ other b differ named. i other b (named_in_others p.0 other arguments ∙ ap (λ (c : Bool). cond c None (argument_named other arguments)) differ ∙ named))
 
-pub in_bounds : (words : List Text) → IfSome (command_of words) IsInBounds
+        number : (o : Option ℕ) → IfSome o (Within a.low a.high) → IfSome (option_and_then (λ n. option_map (λ found. (p.0, n) ∷ found) later) o) (Lie arguments)
+        number None w = tt
+        number (Some n) w = all n w later h
+
+options_lie : (arguments : List Argument) (words : List Text) → IfSome (option_numbers arguments words) (Lie arguments)
+options_lie arguments words = go (options_after None words)
+  where
+    go : (o : Option (List (Text × Text))) → IfSome (option_and_then (numbers_of arguments) o) (Lie arguments)
+    go None = tt
+    go (Some options) = numbers_lie arguments options
+
+same_name : (name : Text) → bytes_eq name name ≡ true
+same_name name = (bytes_eq-Decides name name).1 refl
+
+values_lie : (arguments : List Argument) (words : List Text) → IfSome (numbers_in_order arguments words) (Lie arguments)
+values_lie [] [] = λ name a named. tt
+values_lie (a ∷ rest) [] = λ name b named. tt
+values_lie [] (word ∷ words) = tt
+values_lie (a ∷ rest) (word ∷ words) = number (number_of a.low a.high word) (number_lies a.low a.high word) (numbers_in_order rest words) (values_lie rest words)
+  where
+    first : argument_named a.name (a ∷ rest) ≡ Some a
+    first = ap (λ (c : Bool). cond c (Some a) (argument_named a.name rest)) (same_name a.name)
+
+    all : (n : ℕ) → Within a.low a.high n → (l : Option (List (Text × ℕ))) → IfSome l (Lie rest) → IfSome (option_map (λ found. (a.name, n) ∷ found) l) (Lie (a ∷ rest))
+    all n w None i = tt
+    all n w (Some found) i = lie_more (a ∷ rest) a a.name n found first w
+        (λ other b differ named. i other b (sym (ap (λ (c : Bool). cond c (Some a) (argument_named other rest)) differ) ∙ named))
+
+    number : (o : Option ℕ) → IfSome o (Within a.low a.high) → (l : Option (List (Text × ℕ))) → IfSome l (Lie rest)
+        → IfSome (option_and_then (λ n. option_map (λ found. (a.name, n) ∷ found) l) o) (Lie (a ∷ rest))
+    number None w l i = tt
+    number (Some n) w l i = all n w l i
+
+-- ---- commands
+
+abbrev Good : Option Command → Type 0
+Good o = IfSome o IsInBounds
+
+mapped : (arguments : List Argument) (command : List (Text × ℕ) → Command) → ((found : List (Text × ℕ)) → Lie arguments found → IsInBounds (command found))
+    → (words : List Text) → Good (option_map command (option_numbers arguments words))
+mapped arguments command each words = go (option_numbers arguments words) (options_lie arguments words)
+  where
+    go : (o : Option (List (Text × ℕ))) → IfSome o (Lie arguments) → Good (option_map command o)
+    go None h = tt
+    go (Some found) h = each found h
+
+chained : (arguments : List Argument) (command : List (Text × ℕ) → Option Command) → ((found : List (Text × ℕ)) → Lie arguments found → Good (command found))
+    → (o : Option (List (Text × ℕ))) → IfSome o (Lie arguments) → Good (option_and_then command o)
+chained arguments command each None h = tt
+chained arguments command each (Some found) h = each found h
+
+or_default : (low high default : ℕ) (o : Option ℕ) → Within low high default → IfSome o (Within low high) → Within low high (unwrap_or o default)
+or_default low high default None d h = d
+or_default low high default (Some n) d h = h
+
+workers_lie : (arguments : List Argument) → argument_named (codes "workers") arguments ≡ Some workers_argument → (found : List (Text × ℕ)) → Lie arguments found → Within 1 16 (workers_of found)
+workers_lie arguments named found h = or_default 1 16 1 (number_for (codes "workers") found) (omega arith, omega arith) (h (codes "workers") workers_argument named)
+
+batch_lies : (arguments : List Argument) → argument_named (codes "batch") arguments ≡ Some batch_argument → (found : List (Text × ℕ)) → Lie arguments found → Within 1 65536 (batch_of found)
+batch_lies arguments named found h = or_default 1 65536 4096 (number_for (codes "batch") found) (omega arith, omega arith) (h (codes "batch") batch_argument named)
+
+format_good : (words : List Text) → Good (option_and_then format_of (option_numbers (blocks_argument ∷ []) words))
+format_good words = chained (blocks_argument ∷ []) format_of
+    (λ found h. go (number_for (codes "blocks") found) (h (codes "blocks") blocks_argument refl))
+    (option_numbers (blocks_argument ∷ []) words) (options_lie (blocks_argument ∷ []) words)
+  where
+    go : (o : Option ℕ) → IfSome o (Within 8 4294967296) → Good (option_map (λ n. Format n) o)
+    go None h = tt
+    go (Some n) h = h
+
+load_good : (words : List Text) → Good (option_map (λ found. Load (workers_of found) (batch_of found)) (option_numbers (workers_argument ∷ batch_argument ∷ []) words))
+load_good words = mapped (workers_argument ∷ batch_argument ∷ []) (λ found. Load (workers_of found) (batch_of found))
+    (λ found h.
+    let w : Within 1 16 (workers_of found) = workers_lie (workers_argument ∷ batch_argument ∷ []) refl found h in
+    let b : Within 1 65536 (batch_of found) = batch_lies (workers_argument ∷ batch_argument ∷ []) refl found h in
+    (w.0, w.1, b.0, b.1)) words
+
+sample_good : (words : List Text) → Good (option_and_then sample_of (numbers_in_order sample_arguments words))
+sample_good words = chained sample_arguments sample_of
+    (λ found h. go (number_for (codes "number") found) (h (codes "number") (record { name = codes "number"; low = 0; high = 2147483647 }) refl)
+    (number_for (codes "streams") found) (h (codes "streams") (record { name = codes "streams"; low = 1; high = 1000 }) refl)
+    (number_for (codes "points") found) (h (codes "points") (record { name = codes "points"; low = 1; high = 1000000 }) refl))
+    (numbers_in_order sample_arguments words) (values_lie sample_arguments words)
+  where
+    product : (i j k : ℕ) → Within 0 2147483647 i → Within 1 1000 j → Within 1 1000000 k → (b : Bool) → nat_le (j * k) 1000000 ≡ b → Good (cond b (Some (Sample i j k)) None)
+    product i j k x y z true e = (x.1, y.0, y.1, z.0, z.1, leb-true (j * k) 1000000 e)
+    product i j k x y z false e = tt
+
+    go : (x : Option ℕ) → IfSome x (Within 0 2147483647) → (y : Option ℕ) → IfSome y (Within 1 1000) → (z : Option ℕ) → IfSome z (Within 1 1000000)
+        → Good (option_and_then (λ i. option_and_then (λ j. option_and_then (sample_within i j) z) y) x)
+    go None a y b z c = tt
+    go (Some i) a None b z c = tt
+    go (Some i) a (Some j) b None c = tt
+    go (Some i) a (Some j) b (Some k) c = product i j k a b c (nat_le (j * k) 1000000) refl
+
+pub in_bounds : (words : List Text) → Good (command_of words)
 in_bounds [] = tt
-in_bounds (word ∷ words) = go (bytes_eq (codes "format") word) (bytes_eq (codes "live") word) (bytes_eq (codes "ask") word) (is_end words)
+in_bounds (word ∷ words) = go (is (codes "format")) (is (codes "load")) (is (codes "ask")) (is (codes "distil")) (is (codes "live")) (is (codes "sample"))
   where
-    blocks : IfSome (option_map (λ n. Format n) (option_number (codes "blocks") 8 4294967296 words)) IsInBounds
-    blocks = option_lies (λ n. Format n) (codes "blocks") 8 4294967296 words (λ n h. h)
+    is : Text → Bool
+    is name = bytes_eq name word
 
-    batch : IfSome (option_map (λ n. Live n) (option_number (codes "batch") 1 65536 words)) IsInBounds
-    batch = option_lies (λ n. Live n) (codes "batch") 1 65536 words (λ n h. h)
-
-    go : (b1 b2 b3 b4 : Bool) → IfSome (cond b1 (option_map (λ n. Format n) (option_number (codes "blocks") 8 4294967296 words))
-        (cond b2 (cond b4 (Some (Live 4096)) (option_map (λ n. Live n) (option_number (codes "batch") 1 65536 words)))
-        (cond b3 (cond b4 (Some Ask) None) None))) IsInBounds
-    go true b2 b3 b4 = blocks
-    go false true b3 true = (omega arith, omega arith)
-    go false true b3 false = batch
-    go false false true true = tt
-    go false false true false = tt
-    go false false false b4 = tt
+    go : (b1 b2 b3 b4 b5 b6 : Bool) → Good (cond b1 (option_and_then format_of (option_numbers (blocks_argument ∷ []) words))
+        (cond b2 (option_map (λ found. Load (workers_of found) (batch_of found)) (option_numbers (workers_argument ∷ batch_argument ∷ []) words))
+        (cond b3 (option_map (λ found. Ask) (option_numbers [] words))
+        (cond b4 (option_map (λ found. Distil (workers_of found)) (option_numbers (workers_argument ∷ []) words))
+        (cond b5 (option_map (λ found. Live (batch_of found)) (option_numbers (batch_argument ∷ []) words))
+        (cond b6 (option_and_then sample_of (numbers_in_order sample_arguments (without_marker words))) None))))))
+    go true b2 b3 b4 b5 b6 = format_good words
+    go false true b3 b4 b5 b6 = load_good words
+    go false false true b4 b5 b6 = mapped [] (λ found. Ask) (λ found h. tt) words
+    go false false false true b5 b6 = mapped (workers_argument ∷ []) (λ found. Distil (workers_of found)) (workers_lie (workers_argument ∷ []) refl) words
+    go false false false false true b6 = mapped (batch_argument ∷ []) (λ found. Live (batch_of found)) (batch_lies (batch_argument ∷ []) refl) words
+    go false false false false false true = sample_good (without_marker words)
+    go false false false false false false = tt

@@ -1,6 +1,9 @@
 mod WordCases
 mod Turns
+mod Found
 mod Leaf
+mod OptionsLeaf
+mod ValuesLeaf
 mod Meaning
 mod Reading
 mod Bounds

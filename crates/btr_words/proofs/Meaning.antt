@@ -1,12 +1,9 @@
 -- What a parse makes of the words is their meaning.
-use Rattle.std.proofs.Common.{◌≡◌, ◌≤◌, ◌∷◌, ◌++◌, ◌&&◌, ◌||◌, ℕ, Bool, true, false, cond, List, [], Option, Some, None, is_some, refl, sym, ap, ◌∙◌, subst, fold, codes, arith, nat_lt, nat_le, ◌^◌}
+use Rattle.std.proofs.Common.{◌≡◌, ◌∷◌, ◌++◌, ◌||◌, ℕ, Bool, true, false, cond, List, [], Option, Some, None, is_some, refl, sym, ap, ap₂, ◌∙◌, subst, fold, codes, arith, map, unwrap_or}
 use Rattle.std.specs.Prelude.{find}
 use Rattle.std.specs.Option.{option_and_then, option_map, option_map_or}
 use Rattle.std.specs.Str.{bytes_eq}
-use Rattle.std.specs.Str.Parse.{digits_value, without_leading_plus}
 use Rattle.std.proofs.lemmas.List.{append_assoc, append-nil}
-use Rattle.std.proofs.lemmas.Bool.{leb-true, le-leb}
-use Rattle.clap.specs.ValueTests.{is_numeral, is_unsigned_in}
 use Rattle.clap.specs.Walk.{Held, Names, Row, Step, Text, Walk, after_step, answers_to, finished, idle, nothing_held, settled, subcommand_or_other, trailing, walk_from, walked}
 use Rattle.clap.specs.Faults.{check_fault, defaults_fault, entered_fault, fault_of, is_simple_and_free, level_fault, other_fault, settle_fault, step_fault, walk_fault}
 use Rattle.clap.specs.Kinds.{IsAmong, Kinds, or_else}
@@ -14,99 +11,124 @@ use Rattle.clap.specs.Simple.{App, Shape, built, entered, is_simple, label_of, n
 use Rattle.clap.specs.declared.error.kind.ErrorKind.{ErrorKind}
 use Rattle.clap.specs.declared.error.kind.ErrorKind.TheVariants.{InvalidSubcommand, MissingSubcommand, UnknownArgument}
 use Rattle.clap.proofs.FaultLemmas.{stopped_fault}
-use Rattle.clap.proofs.OnLiterals.{clap_on_literals}
-use Rattle.clap.proofs.WalkLemmas.{both}
 use Rattle.btr_words.specs.declared.command.Command.{Command}
-use Rattle.btr_words.specs.declared.command.Command.TheVariants.{Format, Live, Ask}
-use Rattle.btr_words.specs.Words.{command_of, is_end, number_of, option_number, text_of}
-use Rattle.btr_words.specs.Program.{command_of_rows, program_app}
-use Rattle.btr_words.proofs.WordCases.{dashes, held, word_cases}
-use Rattle.btr_words.proofs.Turns.{Gives, IsFault, at, ending, fault_from, is_fault, rows_from, turn_cases}
-use Rattle.btr_words.proofs.Leaf.{dashes_long, leaf, leaf_gives, not_end, option_rule}
-
--- ---- numbers
-
-wider : (low high big : ℕ) (text : Text) → high ≤ big → is_unsigned_in low high text ≡ true → is_unsigned_in 0 big text ≡ true
-wider low high big text le h =
-    let n = digits_value 10 (without_leading_plus text) in
-    let a = both (is_numeral (without_leading_plus text)) (nat_lt n (2 ^ 64) && (nat_le low n && nat_le n high)) h in
-    let b = both (nat_lt n (2 ^ 64)) (nat_le low n && nat_le n high) a.1 in
-    let c = both (nat_le low n) (nat_le n high) b.1 in
-    let most : digits_value 10 (without_leading_plus text) ≤ high = leb-true _ _ c.1 in
-    rw (a.0, b.0, le-leb 0 (digits_value 10 (without_leading_plus text)) (omega arith), le-leb (digits_value 10 (without_leading_plus text)) big (omega arith)) refl
-
-reads_in : (low high big : ℕ) → high ≤ big → (text : Text) → is_unsigned_in low high text ≡ true → number_of 0 big text ≡ number_of low high text
-reads_in low high big le text h =
-    ap (λ (b : Bool). cond b (Some (digits_value 10 (without_leading_plus text))) None) (wider low high big text le h)
-    ∙ sym (ap (λ (b : Bool). cond b (Some (digits_value 10 (without_leading_plus text))) None) h)
+use Rattle.btr_words.specs.declared.command.Command.TheVariants.{Format, Load, Ask, Distil, Live}
+use Rattle.btr_words.specs.Words.{Argument, argument_named, batch_argument, batch_of, blocks_argument, command_of, format_of, number_for, numbers_in_order, option_numbers}
+use Rattle.btr_words.specs.Words.{sample_arguments, sample_of, sample_within, without_marker, workers_argument, workers_of}
+use Rattle.btr_words.specs.Program.{batch_in, command_of_rows, number_in, program_app, workers_in}
+use Rattle.btr_words.proofs.WordCases.{word_cases}
+use Rattle.btr_words.proofs.Turns.{Gives, IsFault, at, fault_from, is_fault, rows_from}
+use Rattle.btr_words.proofs.Found.{Reads, number_is}
+use Rattle.btr_words.proofs.Leaf.{leaf}
+use Rattle.btr_words.proofs.OptionsLeaf.{option_rule, options_give}
+use Rattle.btr_words.proofs.ValuesLeaf.{value_rule, values_give}
 
 -- ---- the subcommands
-
-abbrev format_leaf : Shape
-format_leaf = leaf (codes "format") (option_rule (codes "blocks") 8 4294967296 true [] ∷ [])
-
-abbrev live_leaf : Shape
-live_leaf = leaf (codes "live") (option_rule (codes "batch") 1 65536 false (codes "4096" ∷ []) ∷ [])
-
-abbrev ask_leaf : Shape
-ask_leaf = leaf (codes "ask") []
 
 abbrev of_sub : Text → List Row → Option Command
 of_sub name rows = command_of_rows (Some (name, rows))
 
-abbrev format_meaning : List Text → Option Command
-format_meaning words = option_map (λ n. Format n) (option_number (codes "blocks") 8 4294967296 words)
+abbrev options_leaf : Text → List Argument → Shape
+options_leaf name arguments = leaf name (map option_rule arguments)
 
-abbrev live_meaning : List Text → Option Command
-live_meaning words = cond (is_end words) (Some (Live 4096)) (option_map (λ n. Live n) (option_number (codes "batch") 1 65536 words))
+abbrev number : Argument
+number = record { name = codes "number"; low = 0; high = 2147483647 }
 
-abbrev ask_meaning : List Text → Option Command
-ask_meaning words = cond (is_end words) (Some Ask) None
+abbrev streams : Argument
+streams = record { name = codes "streams"; low = 1; high = 1000 }
 
-no_more : (words : List Text) → cond (is_end words) None (format_meaning words) ≡ format_meaning words
-no_more [] = refl
-no_more (word ∷ []) = go (bytes_eq word dashes) refl
-  where
-    go : (b : Bool) → bytes_eq word dashes ≡ b → cond b None (format_meaning (word ∷ [])) ≡ format_meaning (word ∷ [])
-    go false d = refl
-    go true d = sym (ap (λ (l : Option (Text × Option Text)). option_map (λ n. Format n) (option_and_then (number_of 8 4294967296)
-        (option_and_then (λ (p : Text × Option Text). cond (bytes_eq (codes "blocks") p.0) (text_of p.1 []) None) l))) (dashes_long word d))
-no_more (word ∷ x ∷ words) = refl
+abbrev points : Argument
+points = record { name = codes "points"; low = 1; high = 1000000 }
 
-format_ends : Gives (of_sub (codes "format")) (ending format_leaf (held [] None)) (finished format_leaf.rules (held [] None)) None
-unfolding clap_on_literals
-format_ends = refl
-
-live_ends : Gives (of_sub (codes "live")) (ending live_leaf (held [] None)) (finished live_leaf.rules (held [] None)) (Some (Live 4096))
-unfolding clap_on_literals
-live_ends = refl
+abbrev sample_leaf : Shape
+sample_leaf = leaf (codes "sample") (value_rule 1 number ∷ value_rule 2 streams ∷ value_rule 3 points ∷ [])
 
 abbrev LeafGives : Text → Shape → (List Text → Option Command) → List Text → Type 0
-LeafGives name s meaning words = Gives (of_sub name) (fault_from s (at idle false [] None) words) (rows_from s (at idle false [] None) words) (meaning words)
+LeafGives name s meaning words = Gives (of_sub name) (fault_from s (at 1 idle false [] None) words) (rows_from s (at 1 idle false [] None) words) (meaning words)
 
-format_gives : (words : List Text) → LeafGives (codes "format") format_leaf format_meaning words
-format_gives words = subst (Gives (of_sub (codes "format")) (fault_from format_leaf (at idle false [] None) words) (rows_from format_leaf (at idle false [] None) words)) (no_more words)
-    (leaf_gives (codes "format") (codes "blocks") 8 4294967296 true [] refl 18446744073709551615 (λ n. Format n) (reads_in 8 4294967296 18446744073709551615 (omega arith)) None format_ends words)
+map_is : {X : Type 0} → (f : X → Command) (o : Option X) → option_and_then (λ x. Some (f x)) o ≡ option_map f o
+map_is f None = refl
+map_is f (Some x) = refl
 
-live_gives : (words : List Text) → LeafGives (codes "live") live_leaf live_meaning words
-live_gives words = leaf_gives (codes "live") (codes "batch") 1 65536 false (codes "4096" ∷ []) refl 4294967295 (λ n. Live n) (reads_in 1 65536 4294967295 (omega arith)) (Some (Live 4096)) live_ends words
+-- The words of a subcommand with options, each command of which has all that it needs.
+with_options : (name : Text) (arguments : List Argument) (command : List (Text × ℕ) → Command)
+    → ((rows : List Row) (found : List (Text × ℕ)) → Reads arguments rows found → of_sub name rows ≡ Some (command found)) → (words : List Text)
+    → LeafGives name (options_leaf name arguments) (λ l. option_map command (option_numbers arguments l)) words
+with_options name arguments command same words =
+    subst (Gives (of_sub name) (fault_from (options_leaf name arguments) (at 1 idle false [] None) words) (rows_from (options_leaf name arguments) (at 1 idle false [] None) words))
+    (map_is command (option_numbers arguments words))
+    (options_give name arguments (of_sub name) (λ found. Some (command found)) same words)
 
-ask_gives : (words : List Text) → LeafGives (codes "ask") ask_leaf ask_meaning words
-unfolding walk_fault defaults_fault
-ask_gives [] = refl
-ask_gives (word ∷ rest) = turn_cases (λ ks found. Gives (of_sub (codes "ask")) ks found (ask_meaning (word ∷ rest))) ask_leaf idle word [] None rest (λ x. refl)
-    (on_dashes rest)
-    (λ p e d. no_command d)
-    (λ e d _ _ _ _ _. no_command d)
-    (λ e d. no_command d)
-  where
-    no_command : bytes_eq word dashes ≡ false → ask_meaning (word ∷ rest) ≡ None
-    no_command d = ap (λ (b : Bool). cond b (Some Ask) None) (not_end word rest d)
+abbrev of_workers : List Argument → Type 0
+of_workers arguments = argument_named (codes "workers") arguments ≡ Some workers_argument
 
-    on_dashes : (l : List Text) → bytes_eq word dashes ≡ true
-        → Gives (of_sub (codes "ask")) (fault_from ask_leaf (at idle true [] None) l) (rows_from ask_leaf (at idle true [] None) l) (ask_meaning (word ∷ l))
-    on_dashes [] d = sym (ap (λ (b : Bool). cond b (Some Ask) None) d)
-    on_dashes (x ∷ l) d = refl
+workers_are : (arguments : List Argument) → of_workers arguments → (rows : List Row) (found : List (Text × ℕ)) → Reads arguments rows found → workers_in rows ≡ workers_of found
+workers_are arguments named rows found reads =
+    ap (λ (o : Option ℕ). unwrap_or o 1) (number_is arguments (codes "workers") workers_argument 255 rows found named (omega arith) reads)
+
+batch_is : (arguments : List Argument) → argument_named (codes "batch") arguments ≡ Some batch_argument → (rows : List Row) (found : List (Text × ℕ)) → Reads arguments rows found
+    → batch_in rows ≡ batch_of found
+batch_is arguments named rows found reads =
+    ap (λ (o : Option ℕ). unwrap_or o 4096) (number_is arguments (codes "batch") batch_argument 4294967295 rows found named (omega arith) reads)
+
+abbrev format_meaning : List Text → Option Command
+format_meaning words = option_and_then format_of (option_numbers (blocks_argument ∷ []) words)
+
+format_gives : (words : List Text) → LeafGives (codes "format") (options_leaf (codes "format") (blocks_argument ∷ [])) format_meaning words
+format_gives words = options_give (codes "format") (blocks_argument ∷ []) (of_sub (codes "format")) format_of
+    (λ rows found reads. ap (option_map (λ n. Format n)) (number_is (blocks_argument ∷ []) (codes "blocks") blocks_argument 18446744073709551615 rows found refl (omega arith) reads))
+    words
+
+abbrev load_meaning : List Text → Option Command
+load_meaning words = option_map (λ found. Load (workers_of found) (batch_of found)) (option_numbers (workers_argument ∷ batch_argument ∷ []) words)
+
+load_gives : (words : List Text) → LeafGives (codes "load") (options_leaf (codes "load") (workers_argument ∷ batch_argument ∷ [])) load_meaning words
+load_gives words = with_options (codes "load") (workers_argument ∷ batch_argument ∷ []) (λ found. Load (workers_of found) (batch_of found))
+    (λ rows found reads. ap₂ (λ (w b : ℕ). Some (Load w b)) (workers_are (workers_argument ∷ batch_argument ∷ []) refl rows found reads)
+    (batch_is (workers_argument ∷ batch_argument ∷ []) refl rows found reads)) words
+
+abbrev ask_meaning : List Text → Option Command
+ask_meaning words = option_map (λ found. Ask) (option_numbers [] words)
+
+ask_gives : (words : List Text) → LeafGives (codes "ask") (options_leaf (codes "ask") []) ask_meaning words
+ask_gives words = with_options (codes "ask") [] (λ found. Ask) (λ rows found reads. refl) words
+
+abbrev distil_meaning : List Text → Option Command
+distil_meaning words = option_map (λ found. Distil (workers_of found)) (option_numbers (workers_argument ∷ []) words)
+
+distil_gives : (words : List Text) → LeafGives (codes "distil") (options_leaf (codes "distil") (workers_argument ∷ [])) distil_meaning words
+distil_gives words = with_options (codes "distil") (workers_argument ∷ []) (λ found. Distil (workers_of found))
+    (λ rows found reads. ap (λ (w : ℕ). Some (Distil w)) (workers_are (workers_argument ∷ []) refl rows found reads)) words
+
+abbrev live_meaning : List Text → Option Command
+live_meaning words = option_map (λ found. Live (batch_of found)) (option_numbers (batch_argument ∷ []) words)
+
+live_gives : (words : List Text) → LeafGives (codes "live") (options_leaf (codes "live") (batch_argument ∷ [])) live_meaning words
+live_gives words = with_options (codes "live") (batch_argument ∷ []) (λ found. Live (batch_of found))
+    (λ rows found reads. ap (λ (b : ℕ). Some (Live b)) (batch_is (batch_argument ∷ []) refl rows found reads)) words
+
+abbrev sample_meaning : List Text → Option Command
+sample_meaning words = option_and_then sample_of (numbers_in_order sample_arguments (without_marker words))
+
+abbrev sampled : Option ℕ → Option ℕ → Option ℕ → Option Command
+sampled x y z = option_and_then (λ i. option_and_then (λ j. option_and_then (sample_within i j) z) y) x
+
+sample_same : (rows : List Row) (found : List (Text × ℕ)) → Reads sample_arguments rows found → of_sub (codes "sample") rows ≡ sample_of found
+sample_same rows found reads =
+    let x : number_in (codes "number") rows 4294967295 ≡ number_for (codes "number") found =
+    number_is sample_arguments (codes "number") number 4294967295 rows found refl (omega arith) reads in
+    let y : number_in (codes "streams") rows 4294967295 ≡ number_for (codes "streams") found =
+    number_is sample_arguments (codes "streams") streams 4294967295 rows found refl (omega arith) reads in
+    let z : number_in (codes "points") rows 4294967295 ≡ number_for (codes "points") found =
+    number_is sample_arguments (codes "points") points 4294967295 rows found refl (omega arith) reads in
+    ap (λ (o : Option ℕ). sampled o (number_in (codes "streams") rows 4294967295) (number_in (codes "points") rows 4294967295)) x
+    ∙ ap (λ (o : Option ℕ). sampled (number_for (codes "number") found) o (number_in (codes "points") rows 4294967295)) y
+    ∙ ap (λ (o : Option ℕ). sampled (number_for (codes "number") found) (number_for (codes "streams") found) o) z
+
+sample_gives : (words : List Text) → LeafGives (codes "sample") sample_leaf sample_meaning words
+sample_gives words = values_give (codes "sample") sample_leaf.rules sample_arguments (refl, refl, refl, (refl, refl, refl, (refl, refl, refl, tt)))
+    (λ x. refl) (λ name. refl) (of_sub (codes "sample")) sample_of sample_same
+    (refl, refl, refl, refl, λ v. (refl, refl, refl, refl, λ w. (refl, refl, refl, refl, λ x. refl))) words
 
 -- ---- the whole command line
 
@@ -155,7 +177,7 @@ First word rest command name = GivesAll
 -- The first word is the name of a subcommand.
 named : (name word : Text) (rest : List Text) (s : Shape) (command : Option Command)
     → find (λ x. answers_to name (label_of x)) all.subs ≡ Some s → s.name ≡ name → other_fault all.top (Some name) word nothing_held ≡ []
-    → Gives (of_sub name) (fault_from s (at idle false [] None) rest) (rows_from s (at idle false [] None) rest) command
+    → Gives (of_sub name) (fault_from s (at 1 idle false [] None) rest) (rows_from s (at 1 idle false [] None) rest) command
     → First word rest command (Some name)
 unfolding defaults_fault
 named name word rest s command found same no_help below =
@@ -164,7 +186,7 @@ named name word rest s command found same no_help below =
     (subst at_walk (sym (stopped_fault all.top names (walk_from nothing_held) (name, []) rest))
     (subst at_help (sym no_help)
     (subst at_name (sym same)
-    (from_leaf name (fault_from s (at idle false [] None) rest) (rows_from s (at idle false [] None) rest) command below)))))
+    (from_leaf name (fault_from s (at 1 idle false [] None) rest) (rows_from s (at 1 idle false [] None) rest) command below)))))
   where
     start : Walk
     start = record { held = nothing_held; waiting = idle; position = 1; is_trailing = false; stopped = Some (name, []) }
@@ -187,7 +209,7 @@ named name word rest s command found same no_help below =
     at_help ks = GivesAll (or_else (or_else (or_else ks []) []) (or_else (level_fault s [] nothing_held rest false []) [])) (Some (rows_at s rest)) command
 
     at_name : Text → Type 0
-    at_name n = GivesAll (or_else (level_fault s [] nothing_held rest false []) []) (Some (n, rows_from s (at idle false [] None) rest)) command
+    at_name n = GivesAll (or_else (level_fault s [] nothing_held rest false []) []) (Some (n, rows_from s (at 1 idle false [] None) rest)) command
 
 -- The first word is no subcommand's name.
 trailing_first : (word : Text) (rest : List Text) → IsFault (after_first word rest [] (nothing_held, trailing 1))
@@ -196,7 +218,7 @@ trailing_first word [] = is_fault MissingSubcommand []
 trailing_first word (x ∷ rest) = is_fault UnknownArgument (InvalidSubcommand ∷ [])
 
 unnamed : (word : Text) (rest : List Text) → First word rest None None
-unnamed word rest = refused_all _ _ (word_cases all.top idle word [] None (λ x. refl) (λ ks m. IsFault (after_first word rest ks m))
+unnamed word rest = refused_all _ _ (word_cases all.top idle 1 word [] None (λ x. refl) (λ ks m. IsFault (after_first word rest ks m))
     (λ d. trailing_first word rest)
     (λ p e d. is_fault UnknownArgument [])
     (λ e d flags is m. is_fault UnknownArgument [])
@@ -206,15 +228,26 @@ unnamed word rest = refused_all _ _ (word_cases all.top idle word [] None (λ x.
 pub words_give : (words : List Text) → GivesAll (fault_of program_app words) (subcommand_of program_app words) (command_of words)
 unfolding walked walk_fault defaults_fault
 words_give [] = refl
-words_give (word ∷ rest) = go (bytes_eq (codes "format") word) (bytes_eq (codes "live") word) (bytes_eq (codes "ask") word)
+words_give (word ∷ rest) = go (is (codes "format")) (is (codes "load")) (is (codes "ask")) (is (codes "distil")) (is (codes "live")) (is (codes "sample"))
   where
-    go : (b1 b2 b3 : Bool) → First word rest
-        (cond b1 (format_meaning rest) (cond b2 (live_meaning rest) (cond b3 (ask_meaning rest) None)))
-        (option_map (λ (x : Text × List Text). x.0) (cond (b1 || false) (Some (codes "format", [])) (cond (b2 || false) (Some (codes "live", [])) (cond (b3 || false) (Some (codes "ask", [])) None))))
-    go true b2 b3 = named (codes "format") word rest format_leaf (format_meaning rest) refl refl refl (format_gives rest)
-    go false true b3 = named (codes "live") word rest live_leaf (live_meaning rest) refl refl refl (live_gives rest)
-    go false false true = named (codes "ask") word rest ask_leaf (ask_meaning rest) refl refl refl (ask_gives rest)
-    go false false false = unnamed word rest
+    is : Text → Bool
+    is name = bytes_eq name word
+
+    found : Text → Bool → Option (Text × List Text) → Option (Text × List Text)
+    found name b next = cond (b || false) (Some (name, [])) next
+
+    go : (b1 b2 b3 b4 b5 b6 : Bool) → First word rest
+        (cond b1 (format_meaning rest) (cond b2 (load_meaning rest) (cond b3 (ask_meaning rest)
+        (cond b4 (distil_meaning rest) (cond b5 (live_meaning rest) (cond b6 (sample_meaning rest) None))))))
+        (option_map (λ (x : Text × List Text). x.0) (found (codes "format") b1 (found (codes "load") b2 (found (codes "ask") b3
+        (found (codes "distil") b4 (found (codes "live") b5 (found (codes "sample") b6 None)))))))
+    go true b2 b3 b4 b5 b6 = named (codes "format") word rest (options_leaf (codes "format") (blocks_argument ∷ [])) (format_meaning rest) refl refl refl (format_gives rest)
+    go false true b3 b4 b5 b6 = named (codes "load") word rest (options_leaf (codes "load") (workers_argument ∷ batch_argument ∷ [])) (load_meaning rest) refl refl refl (load_gives rest)
+    go false false true b4 b5 b6 = named (codes "ask") word rest (options_leaf (codes "ask") []) (ask_meaning rest) refl refl refl (ask_gives rest)
+    go false false false true b5 b6 = named (codes "distil") word rest (options_leaf (codes "distil") (workers_argument ∷ [])) (distil_meaning rest) refl refl refl (distil_gives rest)
+    go false false false false true b6 = named (codes "live") word rest (options_leaf (codes "live") (batch_argument ∷ [])) (live_meaning rest) refl refl refl (live_gives rest)
+    go false false false false false true = named (codes "sample") word rest sample_leaf (sample_meaning rest) refl refl refl (sample_gives rest)
+    go false false false false false false = unnamed word rest
 
 -- ---- as a caller of the parse meets it
 

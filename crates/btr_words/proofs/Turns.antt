@@ -1,5 +1,5 @@
 -- What is left of a parse at a subcommand without subcommands, word by word.
-use Rattle.std.proofs.Common.{◌≡◌, Bool, true, false, List, [], ◌∷◌, Option, Some, None, refl, sym, subst, fold}
+use Rattle.std.proofs.Common.{◌≡◌, ℕ, Bool, true, false, List, [], ◌∷◌, Option, Some, None, refl, sym, subst, fold}
 use Rattle.std.specs.Str.{bytes_eq}
 use Rattle.clap.specs.Lexer.{long_of, short_of}
 use Rattle.clap.specs.Walk.{Held, Row, Step, Text, Waiting, Walk, after_step, arg_by_long, finished, idle, long_word, option, plain_word, positional, settled, subcommand_met}
@@ -44,9 +44,9 @@ refused_gives F (k ∷ ks) rows f = refl
 
 -- ---- what is left
 
-abbrev pub at : Waiting → Bool → List Row → Option (Text × List Text) → Walk
-at waiting is_trailing rows pending =
-    record { held = held rows pending; waiting = waiting; position = 1; is_trailing = is_trailing; stopped = None }
+abbrev pub at : ℕ → Waiting → Bool → List Row → Option (Text × List Text) → Walk
+at position waiting is_trailing rows pending =
+    record { held = held rows pending; waiting = waiting; position = position; is_trailing = is_trailing; stopped = None }
 
 abbrev pub ending : Shape → Held → Kinds
 ending s end = or_else [] (or_else (settle_fault s.rules s.args_override_self end)
@@ -58,35 +58,35 @@ fault_from s w words = or_else (walk_fault s [] w words) (ending s (fold (walked
 abbrev pub rows_from : Shape → Walk → List Text → List Row
 rows_from s w words = finished s.rules (fold (walked s.rules []) w words).held
 
-step_is : (s : Shape) (w : Walk) (word : Text) (rest : List Text)
+pub step_is : (s : Shape) (w : Walk) (word : Text) (rest : List Text)
     → fault_from s w (word ∷ rest) ≡ or_else (turn_fault s [] w word) (fault_from s (walked s.rules [] w word) rest)
 unfolding walk_fault
 step_is s w word rest = or_else-assoc (turn_fault s [] w word) _ _
 
 -- What is left of a parse after a word that made these kinds of error and this step.
-abbrev pub After : (Kinds → List Row → Type 0) → Shape → Waiting → Text → List Row → Option (Text × List Text) → List Text → Kinds → Held × Step → Type 0
-After Q s waiting word rows pending rest ks m =
-    Q (or_else (or_else ks (step_fault s 1 m.0 m.1)) (fault_from s (after_step s.rules word (at waiting false rows pending) m.0 m.1) rest))
-    (rows_from s (after_step s.rules word (at waiting false rows pending) m.0 m.1) rest)
+abbrev pub After : (Kinds → List Row → Type 0) → Shape → ℕ → Waiting → Text → List Row → Option (Text × List Text) → List Text → Kinds → Held × Step → Type 0
+After Q s position waiting word rows pending rest ks m =
+    Q (or_else (or_else ks (step_fault s position m.0 m.1)) (fault_from s (after_step s.rules word (at position waiting false rows pending) m.0 m.1) rest))
+    (rows_from s (after_step s.rules word (at position waiting false rows pending) m.0 m.1) rest)
 
 -- A word that no subcommand's name can be.
-pub turn_cases : (Q : Kinds → List Row → Type 0) (s : Shape) (waiting : Waiting) (word : Text) (rows : List Row) (pending : Option (Text × List Text))
+pub turn_cases : (Q : Kinds → List Row → Type 0) (s : Shape) (position : ℕ) (waiting : Waiting) (word : Text) (rows : List Row) (pending : Option (Text × List Text))
     (rest : List Text) → HasNoShorts s
-    → (bytes_eq word dashes ≡ true → Q (fault_from s (at waiting true rows pending) rest) (rows_from s (at waiting true rows pending) rest))
+    → (bytes_eq word dashes ≡ true → Q (fault_from s (at position waiting true rows pending) rest) (rows_from s (at position waiting true rows pending) rest))
     → ((p : Text × Option Text) → long_of word ≡ Some p → bytes_eq word dashes ≡ false
-    → After Q s waiting word rows pending rest (long_fault s.rules s.args_override_self (arg_by_long s.rules p.0) p.1 (held rows pending))
+    → After Q s position waiting word rows pending rest (long_fault s.rules s.args_override_self (arg_by_long s.rules p.0) p.1 (held rows pending))
     (long_word s.rules waiting word p.0 p.1 (held rows pending)))
     → (long_of word ≡ None → bytes_eq word dashes ≡ false → (flags : Text) → short_of word ≡ Some flags → (k : ErrorKind) (ks : Kinds) (now : List Row) → Q (k ∷ ks) now)
     → (long_of word ≡ None → bytes_eq word dashes ≡ false
-    → After Q s waiting word rows pending rest [] (plain_word s.rules waiting word (held rows pending)))
-    → Q (fault_from s (at waiting false rows pending) (word ∷ rest)) (rows_from s (at waiting false rows pending) (word ∷ rest))
+    → After Q s position waiting word rows pending rest [] (plain_word s.rules waiting word (held rows pending)))
+    → Q (fault_from s (at position waiting false rows pending) (word ∷ rest)) (rows_from s (at position waiting false rows pending) (word ∷ rest))
 unfolding walked
-turn_cases Q s waiting word rows pending rest no_shorts on_dashes on_long on_refused on_plain =
-    let step = step_is s (at waiting false rows pending) word rest in
-    subst (λ (ks : Kinds). Q ks (rows_from s (at waiting false rows pending) (word ∷ rest))) (sym step) whole
+turn_cases Q s position waiting word rows pending rest no_shorts on_dashes on_long on_refused on_plain =
+    let step = step_is s (at position waiting false rows pending) word rest in
+    subst (λ (ks : Kinds). Q ks (rows_from s (at position waiting false rows pending) (word ∷ rest))) (sym step) whole
   where
-    other : After Q s waiting word rows pending rest (other_fault s None word (held rows pending)) (subcommand_or_other s.rules None waiting 1 word (held rows pending))
-    other = word_cases s waiting word rows pending no_shorts (After Q s waiting word rows pending rest)
+    other : After Q s position waiting word rows pending rest (other_fault s None word (held rows pending)) (subcommand_or_other s.rules None waiting position word (held rows pending))
+    other = word_cases s waiting position word rows pending no_shorts (After Q s position waiting word rows pending rest)
         on_dashes on_long (λ e d flags is m. on_refused e d flags is UnknownArgument [] _) on_plain
 
     no_name : (w : Waiting) → subcommand_met [] w word ≡ None
@@ -94,7 +94,7 @@ turn_cases Q s waiting word rows pending rest no_shorts on_dashes on_long on_ref
     no_name (option id) = refl
     no_name positional = refl
 
-    whole : Q (or_else (turn_fault s [] (at waiting false rows pending) word) (fault_from s (walked s.rules [] (at waiting false rows pending) word) rest))
-        (rows_from s (at waiting false rows pending) (word ∷ rest))
-    whole = subst (λ (name : Option Text). After Q s waiting word rows pending rest (other_fault s name word (held rows pending)) (subcommand_or_other s.rules name waiting 1 word (held rows pending)))
+    whole : Q (or_else (turn_fault s [] (at position waiting false rows pending) word) (fault_from s (walked s.rules [] (at position waiting false rows pending) word) rest))
+        (rows_from s (at position waiting false rows pending) (word ∷ rest))
+    whole = subst (λ (name : Option Text). After Q s position waiting word rows pending rest (other_fault s name word (held rows pending)) (subcommand_or_other s.rules name waiting position word (held rows pending)))
         (sym (no_name waiting)) other

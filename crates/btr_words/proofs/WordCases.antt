@@ -45,15 +45,15 @@ bundle_cases s waiting word flags h no_shorts P on_refused on_plain (suc k) = fi
     first (Some x) = rule _ _ _ (arg_by_short s.rules x) (no_shorts x)
 
 -- A word is `--`, a long option, refused, or a plain word.
-pub word_cases : (s : Shape) (waiting : Waiting) (word : Text) (rows : List Row) (pending : Option (Text × List Text)) → HasNoShorts s
+pub word_cases : (s : Shape) (waiting : Waiting) (position : ℕ) (word : Text) (rows : List Row) (pending : Option (Text × List Text)) → HasNoShorts s
     → (P : Kinds → Held × Step → Type 0)
-    → (bytes_eq word dashes ≡ true → P [] (held rows pending, trailing 1))
+    → (bytes_eq word dashes ≡ true → P [] (held rows pending, trailing position))
     → ((p : Text × Option Text) → long_of word ≡ Some p → bytes_eq word dashes ≡ false
     → P (long_fault s.rules s.args_override_self (arg_by_long s.rules p.0) p.1 (held rows pending)) (long_word s.rules waiting word p.0 p.1 (held rows pending)))
     → (long_of word ≡ None → bytes_eq word dashes ≡ false → (flags : Text) → short_of word ≡ Some flags → (m : Held × Step) → P (UnknownArgument ∷ []) m)
     → (long_of word ≡ None → bytes_eq word dashes ≡ false → P [] (plain_word s.rules waiting word (held rows pending)))
-    → P (other_fault s None word (held rows pending)) (subcommand_or_other s.rules None waiting 1 word (held rows pending))
-word_cases s waiting word rows pending no_shorts P on_dashes on_long on_refused on_plain = dash (bytes_eq word dashes) refl
+    → P (other_fault s None word (held rows pending)) (subcommand_or_other s.rules None waiting position word (held rows pending))
+word_cases s waiting position word rows pending no_shorts P on_dashes on_long on_refused on_plain = dash (bytes_eq word dashes) refl
   where
     h : Held
     h = held rows pending
@@ -70,6 +70,6 @@ word_cases s waiting word rows pending no_shorts P on_dashes on_long on_refused 
 
     dash : (b : Bool) → bytes_eq word dashes ≡ b
         → P (cond b [] (flag_word_fault s.rules s.args_override_self (long_of word) word h))
-        (cond b (h, trailing 1) (long_or_other s.rules waiting word (long_of word) h))
+        (cond b (h, trailing position) (long_or_other s.rules waiting word (long_of word) h))
     dash true e = on_dashes e
     dash false e = long (long_of word) refl e

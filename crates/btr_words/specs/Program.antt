@@ -1,29 +1,53 @@
--- How the words are read: what `clap` reads of the commands and their options, and what is made of its answer.
-use Rattle.std.specs.Prelude.{ℕ, true, List, [], ◌∷◌, codes, if◌then◌else◌, Option, Some, None, option_map, option_and_then}
+-- How the words are read: what `clap` reads of the commands and their arguments, and what is made of its answer.
+use Rattle.std.specs.Prelude.{ℕ, true, List, [], codes, if◌then◌else◌, Option, Some, None, option_map, option_and_then, unwrap_or}
 use Rattle.std.specs.Str.{bytes_eq}
-use Rattle.clap.specs.Words.{App, Row, Shape, new_app, new_rule, one_of, with_rule, with_subcommand}
+use Rattle.clap.specs.Words.{App, Row, Rule, Shape, new_app, new_rule, one_of, with_rule, with_subcommand}
 use Rattle.clap.specs.Simple.{new_shape}
 use Rattle.clap.specs.declared.builder.value_parser.ValueParser.TheVariants as vp
 use Rattle.btr_words.specs.declared.command.Command.{Command}
-use Rattle.btr_words.specs.declared.command.Command.TheVariants.{Format, Live, Ask}
-use Rattle.btr_words.specs.Words.{Text, number_of}
+use Rattle.btr_words.specs.declared.command.Command.TheVariants.{Format, Load, Ask, Distil, Live}
+use Rattle.btr_words.specs.Words.{Text, number_of, sample_within}
+
+-- An option of this name that takes a number.
+abbrev pub option_in : Text → ℕ → ℕ → Rule
+option_in name low high = record (new_rule name) { long = Some name; parser = Some (vp.Unsigned low high) }
+
+-- A value in its place among the words, which is a number.
+abbrev pub value_in : Text → ℕ → ℕ → Rule
+value_in name low high = record (new_rule name) { parser = Some (vp.Unsigned low high) }
+
+abbrev pub workers_rule : Rule
+workers_rule = option_in (codes "workers") 1 16
+
+abbrev pub batch_rule : Rule
+batch_rule = option_in (codes "batch") 1 65536
 
 abbrev pub format_app : App
-format_app = with_rule (new_app (codes "format")) (record (new_rule (codes "blocks")) {
-  long = Some (codes "blocks");
-  required = true;
-  parser = Some (vp.Unsigned 8 4294967296);
-})
+format_app = with_rule (new_app (codes "format")) (option_in (codes "blocks") 8 4294967296)
 
-abbrev pub live_app : App
-live_app = with_rule (new_app (codes "live")) (record (new_rule (codes "batch")) {
-  long = Some (codes "batch");
-  defaults = codes "4096" ∷ [];
-  parser = Some (vp.Unsigned 1 65536);
-})
+abbrev pub load_app : App
+load_app = with_rule (with_rule (new_app (codes "load")) workers_rule) batch_rule
 
 abbrev pub ask_app : App
 ask_app = new_app (codes "ask")
+
+abbrev pub distil_app : App
+distil_app = with_rule (new_app (codes "distil")) workers_rule
+
+abbrev pub live_app : App
+live_app = with_rule (new_app (codes "live")) batch_rule
+
+abbrev pub number_rule : Rule
+number_rule = value_in (codes "number") 0 2147483647
+
+abbrev pub streams_rule : Rule
+streams_rule = value_in (codes "streams") 1 1000
+
+abbrev pub points_rule : Rule
+points_rule = value_in (codes "points") 1 1000000
+
+abbrev pub sample_app : App
+sample_app = with_rule (with_rule (with_rule (new_app (codes "sample")) number_rule) streams_rule) points_rule
 
 abbrev pub program_shape : Shape
 program_shape = record (new_shape (codes "btr")) {
@@ -34,18 +58,41 @@ program_shape = record (new_shape (codes "btr")) {
   subcommand_required = true;
 }
 
-abbrev pub program_app : App
-program_app = with_subcommand (with_subcommand (with_subcommand (record { top = program_shape; subs = [] }) format_app.top) live_app.top)
+-- The program with its first three commands.
+abbrev pub first_app : App
+first_app = with_subcommand (with_subcommand (with_subcommand (record { top = program_shape; subs = [] }) format_app.top) load_app.top)
     ask_app.top
 
--- The number that the rows have for an option.
+abbrev pub program_app : App
+program_app = with_subcommand (with_subcommand (with_subcommand first_app distil_app.top) live_app.top) sample_app.top
+
+-- The number that the rows have for an argument.
 abbrev pub number_in : Text → List Row → ℕ → Option ℕ
 number_in name rows high = option_and_then (number_of 0 high) (one_of name rows)
 
--- The command of the subcommand that was found, with the rows of its options.
+abbrev pub workers_in : List Row → ℕ
+workers_in rows = unwrap_or (number_in (codes "workers") rows 255) 1
+
+abbrev pub batch_in : List Row → ℕ
+batch_in rows = unwrap_or (number_in (codes "batch") rows 4294967295) 4096
+
+abbrev pub sample_in : List Row → Option Command
+sample_in rows =
+    option_and_then (λ number. option_and_then (λ streams. option_and_then (sample_within number streams)
+    (number_in (codes "points") rows 4294967295)) (number_in (codes "streams") rows 4294967295))
+    (number_in (codes "number") rows 4294967295)
+
+-- The command of this name with these rows of its arguments.
+abbrev pub command_with_rows : Text → List Row → Option Command
+command_with_rows name rows =
+    if bytes_eq name (codes "format") then option_map (λ n. Format n) (number_in (codes "blocks") rows 18446744073709551615)
+    else (if bytes_eq name (codes "load") then Some (Load (workers_in rows) (batch_in rows))
+    else (if bytes_eq name (codes "distil") then Some (Distil (workers_in rows))
+    else (if bytes_eq name (codes "live") then Some (Live (batch_in rows))
+    else (if bytes_eq name (codes "sample") then sample_in rows
+    else Some Ask))))
+
+-- The command of the subcommand that was found.
 abbrev pub command_of_rows : Option (Text × List Row) → Option Command
 command_of_rows None = None
-command_of_rows (Some p) =
-    if bytes_eq p.0 (codes "format") then option_map (λ n. Format n) (number_in (codes "blocks") p.1 18446744073709551615)
-    else (if bytes_eq p.0 (codes "live") then option_map (λ n. Live n) (number_in (codes "batch") p.1 4294967295)
-    else Some Ask)
+command_of_rows (Some p) = command_with_rows p.0 p.1

@@ -1,12 +1,14 @@
 -- The words of a command line, and the command that they give.
-use Rattle.std.specs.Prelude.{ℕ, ◌≤◌, Bool, true, false, List, [], ◌∷◌, codes, if◌then◌else◌}
-use Rattle.std.specs.Prelude.{Option, Some, None, option_map, option_and_then}
+use Rattle.std.specs.Prelude.{ℕ, ◌≤◌, ◌*◌, nat_le, Bool, true, false, not, List, [], ◌∷◌, codes, if◌then◌else◌, find}
+use Rattle.std.specs.Prelude.{Option, Some, None, option_map, option_and_then, unwrap_or}
+use Rattle.std.specs.List.{filter}
+use Rattle.std.specs.Option.{option_map_or}
 use Rattle.std.specs.Str.{bytes_eq}
 use Rattle.std.specs.Str.Parse.{digits_value, without_leading_plus}
 use Rattle.clap.specs.Lexer.{long_of}
 use Rattle.clap.specs.ValueTests.{is_unsigned_in}
 use Rattle.btr_words.specs.declared.command.Command.{Command}
-use Rattle.btr_words.specs.declared.command.Command.TheVariants.{Format, Live, Ask}
+use Rattle.btr_words.specs.declared.command.Command.TheVariants.{Format, Load, Ask, Distil, Live, Sample}
 
 abbrev pub Text : Type 0
 Text = List ℕ
@@ -15,43 +17,128 @@ Text = List ℕ
 abbrev pub number_of : ℕ → ℕ → Text → Option ℕ
 number_of low high text = if is_unsigned_in low high text then Some (digits_value 10 (without_leading_plus text)) else None
 
+-- ---- arguments: options, which are named in the words, and values, which stand there in order
+
+-- An argument that takes a number: its name, the least number and the greatest one.
+pub record Argument : Type 0 where
+  pub name : Text
+  pub low : ℕ
+  pub high : ℕ
+
+-- The argument of this name.
+abbrev pub argument_named : Text → List Argument → Option Argument
+argument_named name arguments = find (λ a. bytes_eq a.name name) arguments
+
+-- The arguments of other names.
+abbrev pub others : Text → List Argument → List Argument
+others name arguments = filter (λ a. not (bytes_eq a.name name)) arguments
+
+-- The number that was found for the argument of this name.
+abbrev pub number_for : Text → List (Text × ℕ) → Option ℕ
+number_for name found = option_map (λ p. p.1) (find (λ p. bytes_eq p.0 name) found)
+
 -- There are no more words, or only the word `--`, which says that there are no more options.
 abbrev pub is_end : List Text → Bool
 is_end [] = true
 is_end (word ∷ []) = bytes_eq word (codes "--")
 is_end _ = false
 
--- The text, if there are no more words.
-abbrev pub last_text : Text → List Text → Option Text
-last_text text words = if is_end words then Some text else None
+-- The options that the words write, each as `--NAME=TEXT`, or as the two words `--NAME` and TEXT: names with texts, in order.
+-- Before the words stands the name of an option that has no text yet, if there is one.
+abbrev pub options_after : Option Text → List Text → Option (List (Text × Text))
+options_after (Some name) [] = None
+options_after (Some name) (text ∷ words) = option_map (λ rest. (name, text) ∷ rest) (options_after None words)
+options_after None [] = Some []
+options_after None (word ∷ words) =
+    if is_end (word ∷ words) then Some []
+    else option_and_then (λ p. option_map_or (λ text. option_map (λ rest. (p.0, text) ∷ rest) (options_after None words))
+    p.1 (options_after (Some p.0) words)) (long_of word)
 
--- The text of an option, which its word has after `=`, or else is the next word.
-abbrev pub text_of : Option Text → List Text → Option Text
-text_of (Some text) words = last_text text words
-text_of None [] = None
-text_of None (text ∷ words) = last_text text words
+-- The numbers of these options. Each has the name of one of the arguments and lies in its bounds, and no name comes twice.
+abbrev pub numbers_of : List Argument → List (Text × Text) → Option (List (Text × ℕ))
+numbers_of arguments [] = Some []
+numbers_of arguments (p ∷ options) =
+    option_and_then (λ a. option_and_then (λ n. option_map (λ found. (p.0, n) ∷ found) (numbers_of (others p.0 arguments) options))
+    (number_of a.low a.high p.1)) (argument_named p.0 arguments)
 
--- The text of the option of this name, if the words are `--NAME=TEXT`, or `--NAME` and TEXT.
-abbrev pub option_text : Text → List Text → Option Text
-option_text name [] = None
-option_text name (word ∷ words) =
-    option_and_then (λ p. if bytes_eq name p.0 then text_of p.1 words else None) (long_of word)
+-- The numbers that the words give to options.
+abbrev pub option_numbers : List Argument → List Text → Option (List (Text × ℕ))
+option_numbers arguments words = option_and_then (numbers_of arguments) (options_after None words)
 
--- The number of the option of this name, if the words are that option.
-abbrev pub option_number : Text → ℕ → ℕ → List Text → Option ℕ
-option_number name low high words = option_and_then (number_of low high) (option_text name words)
+-- The words without the first `--`.
+abbrev pub without_marker : List Text → List Text
+without_marker [] = []
+without_marker (word ∷ words) = if bytes_eq word (codes "--") then words else word ∷ without_marker words
 
--- `format --blocks N`, `live`, `live --batch B` or `ask`.
+-- The numbers that the words write, the first for the first argument, and so on.
+abbrev pub numbers_in_order : List Argument → List Text → Option (List (Text × ℕ))
+numbers_in_order arguments [] = Some []
+numbers_in_order [] (word ∷ words) = None
+numbers_in_order (a ∷ arguments) (word ∷ words) =
+    option_and_then (λ n. option_map (λ found. (a.name, n) ∷ found) (numbers_in_order arguments words)) (number_of a.low a.high word)
+
+-- ---- the commands
+
+abbrev pub blocks_argument : Argument
+blocks_argument = record { name = codes "blocks"; low = 8; high = 4294967296 }
+
+abbrev pub workers_argument : Argument
+workers_argument = record { name = codes "workers"; low = 1; high = 16 }
+
+abbrev pub batch_argument : Argument
+batch_argument = record { name = codes "batch"; low = 1; high = 65536 }
+
+abbrev pub sample_arguments : List Argument
+sample_arguments =
+    record { name = codes "number"; low = 0; high = 2147483647 }
+    ∷ record { name = codes "streams"; low = 1; high = 1000 }
+    ∷ record { name = codes "points"; low = 1; high = 1000000 } ∷ []
+
+-- `--workers K`, 1 if it is not there.
+abbrev pub workers_of : List (Text × ℕ) → ℕ
+workers_of found = unwrap_or (number_for (codes "workers") found) 1
+
+-- `--batch B`, 4096 if it is not there.
+abbrev pub batch_of : List (Text × ℕ) → ℕ
+batch_of found = unwrap_or (number_for (codes "batch") found) 4096
+
+-- At most a million points in all.
+abbrev pub sample_within : ℕ → ℕ → ℕ → Option Command
+sample_within number streams points = if nat_le (streams * points) 1000000 then Some (Sample number streams points) else None
+
+-- `format --blocks N`, where the number must be there.
+abbrev pub format_of : List (Text × ℕ) → Option Command
+format_of found = option_map (λ n. Format n) (number_for (codes "blocks") found)
+
+-- `sample NUMBER STREAMS POINTS`, where all three must be there.
+abbrev pub sample_of : List (Text × ℕ) → Option Command
+sample_of found =
+    option_and_then (λ number. option_and_then (λ streams. option_and_then (sample_within number streams)
+    (number_for (codes "points") found)) (number_for (codes "streams") found)) (number_for (codes "number") found)
+
+-- The command of this name with these words after it.
+abbrev pub command_with : Text → List Text → Option Command
+command_with name words =
+    if bytes_eq (codes "format") name then option_and_then format_of (option_numbers (blocks_argument ∷ []) words)
+    else (if bytes_eq (codes "load") name
+    then option_map (λ found. Load (workers_of found) (batch_of found)) (option_numbers (workers_argument ∷ batch_argument ∷ []) words)
+    else (if bytes_eq (codes "ask") name then option_map (λ found. Ask) (option_numbers [] words)
+    else (if bytes_eq (codes "distil") name
+    then option_map (λ found. Distil (workers_of found)) (option_numbers (workers_argument ∷ []) words)
+    else (if bytes_eq (codes "live") name then option_map (λ found. Live (batch_of found)) (option_numbers (batch_argument ∷ []) words)
+    else (if bytes_eq (codes "sample") name
+    then option_and_then sample_of (numbers_in_order sample_arguments (without_marker words)) else None)))))
+
 abbrev pub command_of : List Text → Option Command
 command_of [] = None
-command_of (name ∷ words) =
-    if bytes_eq (codes "format") name then option_map (λ n. Format n) (option_number (codes "blocks") 8 4294967296 words)
-    else (if bytes_eq (codes "live") name
-    then (if is_end words then Some (Live 4096) else option_map (λ n. Live n) (option_number (codes "batch") 1 65536 words))
-    else (if bytes_eq (codes "ask") name then (if is_end words then Some Ask else None) else None))
+command_of (name ∷ words) = command_with name words
 
--- The number of the command lies in its bounds.
+-- The numbers of the command lie in their bounds.
 abbrev pub IsInBounds : Command → Type 0
 IsInBounds (Format blocks) = (8 ≤ blocks) × (blocks ≤ 4294967296)
-IsInBounds (Live batch) = (1 ≤ batch) × (batch ≤ 65536)
+IsInBounds (Load workers batch) = (1 ≤ workers) × (workers ≤ 16) × (1 ≤ batch) × (batch ≤ 65536)
 IsInBounds Ask = Unit {0}
+IsInBounds (Distil workers) = (1 ≤ workers) × (workers ≤ 16)
+IsInBounds (Live batch) = (1 ≤ batch) × (batch ≤ 65536)
+IsInBounds (Sample number streams points) =
+    (number ≤ 2147483647) × (1 ≤ streams) × (streams ≤ 1000) × (1 ≤ points) × (points ≤ 1000000) × (streams * points ≤ 1000000)

@@ -2,11 +2,35 @@
 #[derive(Clone, Copy, Debug, PartialEq, Eq)]
 pub enum Command {
     /// `format --blocks N`: make an empty store of N blocks of 4096 bytes, from 8 to 4,294,967,296.
-    Format { blocks: u64 },
+    Format {
+        blocks: u64,
+    },
 
-    /// `live [--batch B]`: run the lines of the input on the store, in batches of B lines, from 1 to 65,536.
-    Live { batch: u32 },
+    /// `load [--workers K] [--batch B]`: put the rows of the input into the store, K workers at once, from 1 to 16, in batches
+    /// of B points of one stream, from 1 to 65,536.
+    Load {
+        workers: u8,
+        batch: u32,
+    },
 
     /// `ask`: answer the questions of the input from the store.
     Ask,
+
+    /// `distil [--workers K]`: bring each output of the store up to date once, K workers at once, from 1 to 16.
+    Distil {
+        workers: u8,
+    },
+
+    /// `live [--batch B]`: run the lines of the input on the store, and commit a feed when it has B points, from 1 to 65,536.
+    Live {
+        batch: u32,
+    },
+
+    /// `sample NUMBER STREAMS POINTS`: write the rows of a sample with this number, from 0 to 2,147,483,647, of so many
+    /// streams, from 1 to 1000, each of so many points, from 1 to 1,000,000. There are at most 1,000,000 points in all.
+    Sample {
+        number: u32,
+        streams: u32,
+        points: u32,
+    },
 }

@@ -1,8 +1,8 @@
 //! What the definitions entail. Each law is a function with an empty body, and its contract is the law.
 ghost use Rattle.std.specs.Prelude.{◌≡◌, List, [], ◌∷◌, codes, Some, None};
-ghost use Rattle.std.specs.Option.{option_map};
-ghost use Rattle.btr_words.specs.declared.command.Command.TheVariants.{Ask, Format, Live};
-ghost use Rattle.btr_words.specs.Words.{Text, command_of, number_of};
+ghost use Rattle.std.specs.Option.{option_map, option_and_then};
+ghost use Rattle.btr_words.specs.declared.command.Command.TheVariants.{Ask, Distil, Format, Live, Load};
+ghost use Rattle.btr_words.specs.Words.{Text, command_of, number_of, sample_within};
 
 /// The words of each command, each option written as two words.
 pub fn commands_are_these()
@@ -12,4 +12,24 @@ pub fn commands_are_these()
     ensures batch { (b : Text) → command_of (codes "live" ∷ codes "--batch" ∷ b ∷ []) ≡ option_map (λ n. Live n) (number_of 1 65536 b) }
     ensures format { (n : Text) → command_of (codes "format" ∷ codes "--blocks" ∷ n ∷ [])
         ≡ option_map (λ k. Format k) (number_of 8 4294967296 n) }
+    ensures distil { command_of (codes "distil" ∷ []) ≡ Some (Distil 1) }
+    ensures workers { (k : Text) → command_of (codes "distil" ∷ codes "--workers" ∷ k ∷ [])
+        ≡ option_map (λ n. Distil n) (number_of 1 16 k) }
+{}
+
+/// The words of `load`, each option written as two words, and those of `sample`.
+pub fn commands_of_rows_are_these()
+    ensures load { command_of (codes "load" ∷ []) ≡ Some (Load 1 4096) }
+    ensures workers { (k : Text) → command_of (codes "load" ∷ codes "--workers" ∷ k ∷ [])
+        ≡ option_map (λ n. Load n 4096) (number_of 1 16 k) }
+    ensures batch { (b : Text) → command_of (codes "load" ∷ codes "--batch" ∷ b ∷ [])
+        ≡ option_map (λ n. Load 1 n) (number_of 1 65536 b) }
+    ensures both { (k b : Text) → command_of (codes "load" ∷ codes "--workers" ∷ k ∷ codes "--batch" ∷ b ∷ [])
+        ≡ option_and_then (λ n. option_map (λ m. Load n m) (number_of 1 65536 b)) (number_of 1 16 k) }
+    ensures either_order { (k b : Text) → command_of (codes "load" ∷ codes "--batch" ∷ b ∷ codes "--workers" ∷ k ∷ [])
+        ≡ option_and_then (λ m. option_map (λ n. Load n m) (number_of 1 16 k)) (number_of 1 65536 b) }
+    ensures twice { (k n : Text) → command_of (codes "load" ∷ codes "--workers" ∷ k ∷ codes "--workers" ∷ n ∷ []) ≡ None }
+    ensures sample { (n s p : Text) → command_of (codes "sample" ∷ n ∷ s ∷ p ∷ [])
+        ≡ option_and_then (λ i. option_and_then (λ j. option_and_then (sample_within i j)
+        (number_of 1 1000000 p)) (number_of 1 1000 s)) (number_of 0 2147483647 n) }
 {}

@@ -1,7 +1,8 @@
-//! The commands and their options, as `clap` reads them.
-ghost use Rattle.std.specs.Prelude.{◌≡◌, IfOk};
-ghost use Rattle.clap.specs.Words.{app_of};
-ghost use Rattle.btr_words.specs.Program.{program_app, format_app, live_app, ask_app};
+//! The commands and their arguments, as `clap` reads them.
+ghost use Rattle.std.specs.Prelude.{◌≡◌, IfOk, false};
+ghost use Rattle.clap.specs.Words.{app_of, rule_of};
+ghost use Rattle.btr_words.specs.Program.{first_app, program_app, format_app, load_app, distil_app, live_app, sample_app};
+ghost use Rattle.btr_words.specs.Program.{batch_rule, workers_rule, number_rule, streams_rule, points_rule};
 
 use clap::{Arg, Command};
 use std::alloc::{AllocError, Global};
@@ -10,6 +11,16 @@ use std::alloc::{AllocError, Global};
 pub(crate) fn program<'a>(alloc: Global) -> Result<Command<'a>, AllocError>
     ensures { IfOk result (λ c. app_of c ≡ program_app) }
 {
+    first_commands(alloc)?
+        .subcommand(distil_command(alloc)?)?
+        .subcommand(live_command(alloc)?)?
+        .subcommand(sample_command(alloc)?)
+}
+
+/// Returns the description of the first three commands. An `Err` means out of memory.
+fn first_commands<'a>(alloc: Global) -> Result<Command<'a>, AllocError>
+    ensures { IfOk result (λ c. app_of c ≡ first_app) }
+{
     Command::new(alloc, "btr")
         .no_binary_name(true)
         .disable_help_flag(true)
@@ -17,8 +28,8 @@ pub(crate) fn program<'a>(alloc: Global) -> Result<Command<'a>, AllocError>
         .disable_version_flag(true)
         .subcommand_required(true)
         .subcommand(format_command(alloc)?)?
-        .subcommand(live_command(alloc)?)?
-        .subcommand(ask_command(alloc))
+        .subcommand(load_command(alloc)?)?
+        .subcommand(Command::new(alloc, "ask"))
 }
 
 /// Returns the description of `format --blocks N`. An `Err` means out of memory.
@@ -27,25 +38,83 @@ fn format_command<'a>(alloc: Global) -> Result<Command<'a>, AllocError>
 {
     let blocks = Arg::new(alloc, "blocks")
         .long("blocks")
-        .required(true)
         .value_parser(clap::value_parser!(u64).range(8..=4294967296));
     Command::new(alloc, "format").arg(blocks)
+}
+
+/// Returns the description of `load [--workers K] [--batch B]`. An `Err` means out of memory.
+fn load_command<'a>(alloc: Global) -> Result<Command<'a>, AllocError>
+    ensures { IfOk result (λ c. app_of c ≡ load_app) }
+{
+    Command::new(alloc, "load")
+        .arg(workers(alloc))?
+        .arg(batch(alloc))
+}
+
+/// Returns the description of `distil [--workers K]`. An `Err` means out of memory.
+fn distil_command<'a>(alloc: Global) -> Result<Command<'a>, AllocError>
+    ensures { IfOk result (λ c. app_of c ≡ distil_app) }
+{
+    Command::new(alloc, "distil").arg(workers(alloc))
 }
 
 /// Returns the description of `live [--batch B]`. An `Err` means out of memory.
 fn live_command<'a>(alloc: Global) -> Result<Command<'a>, AllocError>
     ensures { IfOk result (λ c. app_of c ≡ live_app) }
 {
-    let batch = Arg::new(alloc, "batch")
-        .long("batch")
-        .default_value("4096")
-        .value_parser(clap::value_parser!(u64).range(1..=65536));
-    Command::new(alloc, "live").arg(batch)
+    Command::new(alloc, "live").arg(batch(alloc))
 }
 
-/// Returns the description of `ask`.
-fn ask_command<'a>(alloc: Global) -> Command<'a>
-    ensures { app_of result ≡ ask_app }
+/// Returns the description of `sample NUMBER STREAMS POINTS`. An `Err` means out of memory.
+fn sample_command<'a>(alloc: Global) -> Result<Command<'a>, AllocError>
+    ensures { IfOk result (λ c. app_of c ≡ sample_app) }
 {
-    Command::new(alloc, "ask")
+    Command::new(alloc, "sample")
+        .arg(number(alloc))?
+        .arg(streams(alloc))?
+        .arg(points(alloc))
+}
+
+/// Returns the description of `--workers K`.
+fn workers<'a>(alloc: Global) -> Arg<'a>
+    ensures local { result.global ≡ false }
+    ensures rule { rule_of result ≡ workers_rule }
+{
+    Arg::new(alloc, "workers")
+        .long("workers")
+        .value_parser(clap::value_parser!(u64).range(1..=16))
+}
+
+/// Returns the description of `--batch B`.
+fn batch<'a>(alloc: Global) -> Arg<'a>
+    ensures local { result.global ≡ false }
+    ensures rule { rule_of result ≡ batch_rule }
+{
+    Arg::new(alloc, "batch")
+        .long("batch")
+        .value_parser(clap::value_parser!(u64).range(1..=65536))
+}
+
+/// Returns the description of NUMBER.
+fn number<'a>(alloc: Global) -> Arg<'a>
+    ensures local { result.global ≡ false }
+    ensures rule { rule_of result ≡ number_rule }
+{
+    Arg::new(alloc, "number").value_parser(clap::value_parser!(u64).range(0..=2147483647))
+}
+
+/// Returns the description of STREAMS.
+fn streams<'a>(alloc: Global) -> Arg<'a>
+    ensures local { result.global ≡ false }
+    ensures rule { rule_of result ≡ streams_rule }
+{
+    Arg::new(alloc, "streams").value_parser(clap::value_parser!(u64).range(1..=1000))
+}
+
+/// Returns the description of POINTS.
+fn points<'a>(alloc: Global) -> Arg<'a>
+    ensures local { result.global ≡ false }
+    ensures rule { rule_of result ≡ points_rule }
+{
+    Arg::new(alloc, "points").value_parser(clap::value_parser!(u64).range(1..=1000000))
 }

@@ -3,6 +3,7 @@ ghost use Rattle.std.specs.Prelude.{◌≡◌, map, string_bytes, IfOk, IfSome};
 ghost use Rattle.clap.specs.Words.{found_of, rows_of, subcommand_rows_of};
 ghost use Rattle.btr_words.specs.Words.{command_of, IsInBounds};
 ghost use Rattle.btr_words.specs.Program.{command_of_rows, number_in};
+ghost use Rattle.btr_words.specs.Program as spec;
 
 use crate::command::Command;
 use crate::program::program;
@@ -32,28 +33,76 @@ pub fn read_words(alloc: Global, words: &[String]) -> Result<Option<Command>, Al
 fn command_in(matches: &ArgMatches) -> Option<Command>
     ensures { result ≡ command_of_rows (subcommand_rows_of matches.now) }
 {
-    let (name, options) = matches.subcommand()?;
+    let (name, arguments) = matches.subcommand()?;
     if name == "format" {
-        let blocks = number(options, "blocks")?;
+        let blocks = number(arguments, "blocks")?;
         Some(Command::Format { blocks })
+    } else if name == "load" {
+        let workers = workers_in(arguments);
+        let batch = batch_in(arguments);
+        Some(Command::Load { workers, batch })
+    } else if name == "distil" {
+        let workers = workers_in(arguments);
+        Some(Command::Distil { workers })
     } else if name == "live" {
-        let batch = small_number(options, "batch")?;
+        let batch = batch_in(arguments);
         Some(Command::Live { batch })
+    } else if name == "sample" {
+        sample_in(arguments)
     } else {
         Some(Command::Ask)
     }
 }
 
-/// Returns the number that was found for an option.
-fn number(options: &ArgMatches, name: &str) -> Option<u64>
-    ensures { result ≡ number_in name.now (rows_of (found_of options.now)) 18446744073709551615 }
+/// Returns the `sample` command that was found, if it asks for at most a million points in all.
+fn sample_in(arguments: &ArgMatches) -> Option<Command>
+    ensures { result ≡ spec.sample_in (rows_of (found_of arguments.now)) }
 {
-    options.get_one::<u64>(name)
+    let number = small_number(arguments, "number")?;
+    let streams = small_number(arguments, "streams")?;
+    let points = small_number(arguments, "points")?;
+    if u64::from(streams) * u64::from(points) <= 1_000_000 {
+        Some(Command::Sample {
+            number,
+            streams,
+            points,
+        })
+    } else {
+        None
+    }
 }
 
-/// Returns the number that was found for an option, if it has at most 32 bits.
-fn small_number(options: &ArgMatches, name: &str) -> Option<u32>
-    ensures { result ≡ number_in name.now (rows_of (found_of options.now)) 4294967295 }
+/// Returns the number of workers that was found, or the default.
+fn workers_in(arguments: &ArgMatches) -> u8
+    ensures { result ≡ spec.workers_in (rows_of (found_of arguments.now)) }
 {
-    u32::try_from(number(options, name)?).ok()
+    tiny_number(arguments, "workers").unwrap_or(1)
+}
+
+/// Returns the size of a batch that was found, or the default.
+fn batch_in(arguments: &ArgMatches) -> u32
+    ensures { result ≡ spec.batch_in (rows_of (found_of arguments.now)) }
+{
+    small_number(arguments, "batch").unwrap_or(4096)
+}
+
+/// Returns the number that was found for an argument.
+fn number(arguments: &ArgMatches, name: &str) -> Option<u64>
+    ensures { result ≡ number_in name.now (rows_of (found_of arguments.now)) 18446744073709551615 }
+{
+    arguments.get_one::<u64>(name)
+}
+
+/// Returns the number that was found for an argument, if it has at most 32 bits.
+fn small_number(arguments: &ArgMatches, name: &str) -> Option<u32>
+    ensures { result ≡ number_in name.now (rows_of (found_of arguments.now)) 4294967295 }
+{
+    u32::try_from(number(arguments, name)?).ok()
+}
+
+/// Returns the number that was found for an argument, if it has at most 8 bits.
+fn tiny_number(arguments: &ArgMatches, name: &str) -> Option<u8>
+    ensures { result ≡ number_in name.now (rows_of (found_of arguments.now)) 255 }
+{
+    u8::try_from(number(arguments, name)?).ok()
 }

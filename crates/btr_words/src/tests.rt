@@ -20,10 +20,26 @@ fn live(batch: u32) -> Option<Command> {
     Some(Command::Live { batch })
 }
 
+fn load(workers: u8, batch: u32) -> Option<Command> {
+    Some(Command::Load { workers, batch })
+}
+
+fn distil(workers: u8) -> Option<Command> {
+    Some(Command::Distil { workers })
+}
+
+fn sample(number: u32, streams: u32, points: u32) -> Option<Command> {
+    Some(Command::Sample {
+        number,
+        streams,
+        points,
+    })
+}
+
 #[test]
 fn lines_that_give_a_command(rt: HostRuntime) -> Result<(), Fail> {
     let alloc = rt.alloc();
-    let lines: [(&[&str], Option<Command>); 18] = [
+    let lines: [(&[&str], Option<Command>); 41] = [
         (&["ask"], Some(Command::Ask)),
         (&["ask", "--"], Some(Command::Ask)),
         (&["live"], live(4096)),
@@ -49,6 +65,32 @@ fn lines_that_give_a_command(rt: HostRuntime) -> Result<(), Fail> {
         (&["format", "--blocks=+0064"], format(64)),
         (&["format", "--blocks", "8", "--"], format(8)),
         (&["format", "--blocks=8", "--"], format(8)),
+        (&["load"], load(1, 4096)),
+        (&["load", "--"], load(1, 4096)),
+        (&["load", "--workers", "16"], load(16, 4096)),
+        (&["load", "--workers=2"], load(2, 4096)),
+        (&["load", "--batch", "65536"], load(1, 65536)),
+        (&["load", "--batch=1", "--"], load(1, 1)),
+        (&["load", "--workers", "2", "--batch", "5"], load(2, 5)),
+        (&["load", "--batch", "5", "--workers", "2"], load(2, 5)),
+        (&["load", "--workers=2", "--batch=5"], load(2, 5)),
+        (&["load", "--batch=5", "--workers", "2"], load(2, 5)),
+        (&["load", "--batch", "5", "--workers=2", "--"], load(2, 5)),
+        (&["load", "--workers", "+02", "--batch=0005"], load(2, 5)),
+        (&["distil"], distil(1)),
+        (&["distil", "--"], distil(1)),
+        (&["distil", "--workers", "1"], distil(1)),
+        (&["distil", "--workers=16"], distil(16)),
+        (&["sample", "1", "1", "3"], sample(1, 1, 3)),
+        (&["sample", "0", "1", "1000000"], sample(0, 1, 1000000)),
+        (
+            &["sample", "2147483647", "1000", "1000"],
+            sample(2147483647, 1000, 1000),
+        ),
+        (&["sample", "+1", "01", "3"], sample(1, 1, 3)),
+        (&["sample", "--", "1", "1", "3"], sample(1, 1, 3)),
+        (&["sample", "1", "1", "--", "3"], sample(1, 1, 3)),
+        (&["sample", "1", "1", "3", "--"], sample(1, 1, 3)),
     ];
     for (line, want) in lines {
         assert!(rt; read_words(alloc, &words_of(alloc, line)?)? == want);
@@ -59,7 +101,7 @@ fn lines_that_give_a_command(rt: HostRuntime) -> Result<(), Fail> {
 #[test]
 fn lines_that_give_none(rt: HostRuntime) -> Result<(), Fail> {
     let alloc = rt.alloc();
-    let lines: [&[&str]; 62] = [
+    let lines: [&[&str]; 105] = [
         // no command, or another word in its place
         &[],
         &[""],
@@ -127,6 +169,51 @@ fn lines_that_give_none(rt: HostRuntime) -> Result<(), Fail> {
         &["live", "--batch", "0"],
         &["live", "--batch", "65537"],
         &["live", "--batch", " 8"],
+        // options of rows
+        &["load", "--workers"],
+        &["load", "--workers", "0"],
+        &["load", "--workers", "17"],
+        &["load", "--workers="],
+        &["load", "--workers", "--batch", "5"],
+        &["load", "--workers", "--", "2"],
+        &["load", "--workers", "2", "--batch"],
+        &["load", "--workers", "2", "--batch", "0"],
+        &["load", "--workers", "2", "--batch=65537"],
+        &["load", "--workers", "2", "--workers", "2"],
+        &["load", "--workers=2", "--batch", "5", "--workers=2"],
+        &["load", "--batch=5", "--batch=5"],
+        &["load", "--workers", "2", "5"],
+        &["load", "2"],
+        &["load", "--", "--workers", "2"],
+        &["load", "--workers", "2", "--", "--batch", "5"],
+        &["load", "--workers", "2", "--", "--"],
+        &["load", "--worker", "2"],
+        &["load", "-w", "2"],
+        &["load", "--blocks", "8"],
+        &["load", "--help"],
+        &["loads"],
+        &["distil", "--batch", "5"],
+        &["distil", "--workers", "17"],
+        &["distil", "2"],
+        // a sample
+        &["sample"],
+        &["sample", "1", "1"],
+        &["sample", "1", "1", "3", "3"],
+        &["sample", "-1", "1", "3"],
+        &["sample", "--", "-1", "1", "3"],
+        &["sample", "1", "1", "-3"],
+        &["sample", "-", "1", "3"],
+        &["sample", "", "1", "3"],
+        &["sample", "2147483648", "1", "3"],
+        &["sample", "1", "0", "3"],
+        &["sample", "1", "1001", "3"],
+        &["sample", "1", "1", "0"],
+        &["sample", "1", "1", "1000001"],
+        &["sample", "1", "1000", "1001"],
+        &["sample", "1", "3", "333334"],
+        &["sample", "1", "--", "1", "--", "3"],
+        &["sample", "--number", "1", "1", "3"],
+        &["sample", "--number=1", "1", "3"],
     ];
     for line in lines {
         assert!(rt; read_words(alloc, &words_of(alloc, line)?)? == None);

@@ -6,6 +6,7 @@ use std::alloc::{AllocError, Global};
 use std::process::Abort;
 use std::sync::Wait;
 use std::test::Fail;
+use std::thread::Threads;
 
 /// What a block that was written and not synced may hold: its bytes before, the bytes written, or bytes of any kind.
 #[derive(Clone, Copy, Debug)]
@@ -91,7 +92,11 @@ fn a_commit_that_was_cut_off_is_there_or_not(rt: HostRuntime) -> Result<(), Fail
 }
 
 /// Asserts that the device has the commit or not, and takes one more.
-fn reopens(rt: &(impl AllocGlobal + Abort + Wait), bytes: Vec<u8>, has_it: bool) -> Result<(), Fail>
+fn reopens(
+    rt: &(impl AllocGlobal + Abort + Threads + Wait + Sync),
+    bytes: Vec<u8>,
+    has_it: bool,
+) -> Result<(), Fail>
     requires { length bytes.items % 4096 ≡ 0 }
 {
     let script = b"range U 0 9 latest\ninsert U 3 3\nrange U 0 9 latest\n";

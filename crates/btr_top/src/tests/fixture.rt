@@ -9,6 +9,7 @@ use std::alloc::{AllocError, Global};
 use std::process::Abort;
 use std::sync::Wait;
 use std::test::Fail;
+use std::thread::Threads;
 
 /// What the record of a device can hold.
 const CAPACITY: Capacity = Capacity {
@@ -37,7 +38,10 @@ pub(super) fn device_of(alloc: Global, bytes: Vec<u8>) -> Result<MemDisk, AllocE
 }
 
 /// Makes a device of 64 blocks with an empty store of this many.
-pub(super) fn store_of(rt: &(impl AllocGlobal + Wait), blocks: &str) -> Result<MemDisk, Fail> {
+pub(super) fn store_of(
+    rt: &(impl AllocGlobal + Threads + Wait + Sync),
+    blocks: &str,
+) -> Result<MemDisk, Fail> {
     let alloc = rt.alloc();
     let words = format!(in alloc; "format --blocks {blocks}")?;
     let ran = run_on(rt, words.as_str(), b"", empty_device(alloc, &[])?)?;
@@ -46,7 +50,7 @@ pub(super) fn store_of(rt: &(impl AllocGlobal + Wait), blocks: &str) -> Result<M
 
 /// Runs these words on a device, with an input in which `U`, `V`, `W` and `X` are short for four ids.
 pub(super) fn run_on(
-    rt: &(impl AllocGlobal + Wait),
+    rt: &(impl AllocGlobal + Threads + Wait + Sync),
     words: &str,
     input: &[u8],
     disk: MemDisk,
@@ -61,7 +65,7 @@ pub(super) fn run_on(
 
 /// Runs these words with a source and a sink, and returns the status and the device.
 pub(super) fn run_words(
-    rt: &(impl AllocGlobal + Wait),
+    rt: &(impl AllocGlobal + Threads + Wait + Sync),
     words: &str,
     source: &mut MemSource,
     sink: &mut MemSink,
@@ -95,7 +99,7 @@ pub(super) fn with_ids(alloc: Global, text: &[u8]) -> Result<Vec<u8>, AllocError
 /// input, `< LINE` a line that it must write, and `= N` the status with which it must end. The calls of the device that
 /// are listed fail. `U`, `V`, `W` and `X` are short for four ids.
 pub(super) fn play(
-    rt: &(impl AllocGlobal + Abort + Wait),
+    rt: &(impl AllocGlobal + Abort + Threads + Wait + Sync),
     failing: &[u64],
     transcript: &str,
 ) -> Result<(), Fail> {
@@ -135,7 +139,7 @@ fn push_line(text: &mut String, line: &str) -> Result<(), AllocError> {
 
 /// Asserts that a run writes this text and ends with this status, and returns the device.
 fn ends_so(
-    rt: &(impl AllocGlobal + Abort + Wait),
+    rt: &(impl AllocGlobal + Abort + Threads + Wait + Sync),
     words: &str,
     input: &str,
     disk: MemDisk,

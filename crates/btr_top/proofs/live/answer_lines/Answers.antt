@@ -13,8 +13,8 @@ loop-line-init g c = record {
   batch = ap (λ (f : FeedsValue). f.batch) c.new-feeds.ensures;
   hall = refl;
   has_run = λ h of.
-      subst (λ (f : FeedsValue). HasRun c.args.batch (lane_of h (engine_of c.args.lane.now) none_waiting) [] (engine_of c.args.lane.now) (waiting_of f) c.new-transcript.result) (sym c.new-feeds.ensures)
-      (none_run c.args.batch h (engine_of c.args.lane.now) none_waiting c.new-transcript.result of c.new-transcript.ensures);
+      subst (λ (f : FeedsValue). HasRun c.args.batch (lane_of h (engine_of c.args.lane.now) none_waiting) [] (engine_of c.args.lane.now) (waiting_of f) c.no_replies-transcript.result) (sym c.new-feeds.ensures)
+      (none_run c.args.batch h (engine_of c.args.lane.now) none_waiting c.no_replies-transcript.result of c.no_replies-transcript.ensures);
 }
 
 pub loop-line-preserved : goal.loop-line-preserved

@@ -22,3 +22,6 @@ returns-in-Ok-Some-Format-clause-format_leaves g c = λ told blocks is.
     let arm = c.in-Ok-Some-Format in
     let said = sym (arm.field-0-is ∙ ap (λ (x : Command). Some x) arm.field-0-0-is) ∙ arm.ensures.command ∙ is in
     subst (λ (n : ℕ). FormatLeaves g.D.Disk n c.args.disk c.make_store.result.disk) (same_blocks _ blocks said) (c.make_store.ensures.format_leaves told)
+
+pub returns-in-Ok-Some-Sample-clause-input : goal.returns-in-Ok-Some-Sample-clause-input
+returns-in-Ok-Some-Sample-clause-input g c = λ told. gives_none 268435457 (g.S.Source.left c.args.source.now)

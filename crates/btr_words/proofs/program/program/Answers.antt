@@ -1,15 +1,14 @@
-use Rattle.std.proofs.Common.{[], rules, ◌≡◌, ap, ap₂, ◌∙◌}
+use Rattle.std.proofs.Common.{◌≡◌, ap, ap₂, ◌∙◌}
 use Rattle.std.proofs.lemmas.Result.{IfOk-weaker}
 use Rattle.clap.specs.Words.{App, app_of, with_subcommand}
 use Rattle.clap.proofs.SimpleLemmas.{plain_fields}
-use Rattle.btr_words.specs.Program.{program_shape, format_app, live_app}
+use Rattle.btr_words.specs.Program.{first_app, distil_app, live_app}
 use Rattle.btr_words.proofs.program.program.Goals as goal
 
 pub returns : goal.returns
 returns c =
-    let start : app_of c.subcommand_required.result ≡ record { top = program_shape; subs = [] } = search rules in
-    let with_format : app_of c.in_ok-subcommand.field-0 ≡ with_subcommand (record { top = program_shape; subs = [] }) format_app.top =
-    c.in_ok-subcommand.ensures.shape (plain_fields _ (ap (λ (a : App). a.top.is_plain) c.in_ok-format_command.ensures)).globals ∙ ap₂ with_subcommand start (ap (λ (a : App). a.top) c.in_ok-format_command.ensures) in
-    let with_live : app_of c.in_ok-subcommand-2.field-0 ≡ with_subcommand (with_subcommand (record { top = program_shape; subs = [] }) format_app.top) live_app.top =
-    c.in_ok-subcommand-2.ensures.shape (plain_fields _ (ap (λ (a : App). a.top.is_plain) c.in_ok-live_command.ensures)).globals ∙ ap₂ with_subcommand with_format (ap (λ (a : App). a.top) c.in_ok-live_command.ensures) in
-    IfOk-weaker c.subcommand-3.result _ _ (λ m h. h.shape (plain_fields _ (ap (λ (a : App). a.top.is_plain) c.ask_command.ensures)).globals ∙ ap₂ with_subcommand with_live (ap (λ (a : App). a.top) c.ask_command.ensures)) c.subcommand-3.ensures
+    let with_distil : app_of c.in_ok-subcommand.field-0 ≡ with_subcommand first_app distil_app.top =
+    c.in_ok-subcommand.ensures.shape (plain_fields _ (ap (λ (a : App). a.top.is_plain) c.in_ok-distil_command.ensures)).globals ∙ ap₂ with_subcommand c.in_ok-first_commands.ensures (ap (λ (a : App). a.top) c.in_ok-distil_command.ensures) in
+    let with_live : app_of c.in_ok-subcommand-2.field-0 ≡ with_subcommand (with_subcommand first_app distil_app.top) live_app.top =
+    c.in_ok-subcommand-2.ensures.shape (plain_fields _ (ap (λ (a : App). a.top.is_plain) c.in_ok-live_command.ensures)).globals ∙ ap₂ with_subcommand with_distil (ap (λ (a : App). a.top) c.in_ok-live_command.ensures) in
+    IfOk-weaker c.subcommand-3.result _ _ (λ m h. h.shape (plain_fields _ (ap (λ (a : App). a.top.is_plain) c.in_ok-sample_command.ensures)).globals ∙ ap₂ with_subcommand with_live (ap (λ (a : App). a.top) c.in_ok-sample_command.ensures)) c.subcommand-3.ensures

@@ -5,7 +5,7 @@ use Rattle.btr_top.specs.Ending.{status_of}
 use Rattle.btr_top.proofs.BenignStatuses.{IsBenignStatus}
 use Rattle.btr_top.proofs.LiveCompletes.{benign_live, benign_shown}
 use Rattle.btr_top.proofs.AskCompletes.{benign_ask}
-use Rattle.btr_top.proofs.run_command.run.Goals as goal
+use Rattle.btr_top.proofs.run_command.run_paced.Goals as goal
 
 pub returns-clause-lives : goal.returns-clause-lives
 returns-clause-lives g c = λ source_told told batch is_live can works.

@@ -1,0 +1,66 @@
+-- The commands `load`, `distil` and `sample`: what they did on the store, and why they end as they do.
+use Rattle.std.specs.Prelude.{◌≡◌, ◌⊎◌, ℕ, ◌≤◌, List, [], length, Result, Ok, Err}
+use Rattle.std.specs.declared.alloc.AllocError.{AllocError}
+use Rattle.btr_io.specs.declared.source.Source.{Ghosts as SourceGhosts}
+use Rattle.btr_disk.specs.declared.disk.Disk.{Ghosts}
+use Rattle.btr_rows.specs.Rows.{rows_of}
+use Rattle.btr_rows.specs.Streams.{RowListValue, list_of}
+use Rattle.btr_load.specs.There.{AreDistinct}
+use Rattle.btr_jobs.specs.Course.{Start, Course}
+use Rattle.btr_bulk.specs.declared.transcript.Transcript.{Transcript}
+use Rattle.btr_bulk.specs.Work.{DoesRightly}
+use Rattle.btr_bulk.specs.Load.{LoadsStore}
+use Rattle.btr_bulk.specs.Distil.{DistilsStore}
+use Rattle.btr_bulk.specs.Sample.{Samples}
+use Rattle.btr_top.specs.declared.script.TheConstants.{MAX_INPUT}
+use Rattle.btr_top.specs.declared.ending.Ending.{Ending}
+use Rattle.btr_top.specs.declared.ending.Ending.TheVariants.{OutOfMemory, Replied}
+use Rattle.btr_top.specs.Script.{IsKept, InputCause, OpeningCause}
+
+-- How a command ends that did its work and says this of it.
+abbrev pub ending_of : Result Transcript AllocError → Ending
+ending_of (Ok transcript) = Replied transcript
+ending_of (Err error) = OutOfMemory
+
+-- What work does that says this: from a start, over a course, with these numbers of what it added.
+abbrev pub Doing : Type 1
+Doing = Result Transcript AllocError → Start → Course → List ℕ → Type 0
+
+module _ {D : Type 0} (disk : Ghosts D) where
+  -- Why a command ends so that opens a store and does this work on it. If memory runs out the store was not opened and nothing was
+  -- written, or the work was done as far as it says.
+  abbrev pub WorkCause : Doing → D → D → Ending → Type 0
+  WorkCause What old new (Replied transcript) = DoesRightly disk (What (Ok transcript)) old new
+  WorkCause What old new OutOfMemory =
+      IsKept disk old new ⊎ ((error : AllocError) × DoesRightly disk (What (Err error)) old new)
+  WorkCause What old new e = OpeningCause disk old new e × IsKept disk old new
+
+  -- Why `distil` ends so.
+  abbrev pub DistilCause : D → D → Ending → Type 0
+  DistilCause old new e = WorkCause (λ said start course own. DistilsStore start course said own) old new e
+
+  -- Why `sample` ends so.
+  abbrev pub SampleCause : ℕ → ℕ → ℕ → D → D → Ending → Type 0
+  SampleCause number streams points old new e =
+      WorkCause (λ said start course own. Samples number streams points start course start.history said own) old new e
+
+  -- Why `load` ends so, after its rows were read.
+  abbrev pub RowsCause : ℕ → RowListValue → D → D → Ending → Type 0
+  RowsCause batch rows old new e =
+      WorkCause (λ said start course own. LoadsStore start course rows batch said own) old new e
+
+-- The source gave the rows of its whole input, which is within the limit.
+pub record HasReadRows {S : Type 0} (source : SourceGhosts S) (rows : RowListValue) (old new : S) : Type 0 where
+  pub input : List ℕ
+  pub within : length input ≤ MAX_INPUT
+  pub all : source.is_observable → input ≡ source.left old
+  pub at_end : source.is_observable → source.left new ≡ []
+  pub same_rows : rows ≡ list_of (rows_of input)
+  -- each id has its rows once
+  pub distinct : AreDistinct rows.streams
+
+-- Why `load` ends so. The device is not called before all rows are read.
+abbrev pub LoadCause : {S D : Type 0} → SourceGhosts S → Ghosts D → ℕ → S → S → D → D → Ending → Type 0
+LoadCause source disk batch given rest old new e =
+    (InputCause source given rest e × (new ≡ old))
+    ⊎ ((rows : RowListValue) × HasReadRows source rows given rest × RowsCause disk batch rows old new e)

@@ -1,0 +1,140 @@
+//! The commands `load`, `distil` and `sample`, which work on the whole store with many threads.
+ghost use Rattle.std.specs.Prelude.{◌≡◌, ◌+◌, ◌≤◌, IfErr, IfOk};
+ghost use Rattle.btr_io.specs.Bytes.{Gives};
+ghost use Rattle.btr_rows.specs.Rows.{rows_of};
+ghost use Rattle.btr_rows.specs.Streams.{list_of};
+ghost use Rattle.btr_load.specs.There.{AreDistinct};
+ghost use Rattle.btr_top.specs.declared.script.TheConstants.{MAX_INPUT};
+ghost use Rattle.btr_top.specs.Script.{InputCause};
+ghost use Rattle.btr_top.specs.Bulk.{DistilCause, HasReadRows, LoadCause, RowsCause, SampleCause, ending_of};
+
+use crate::ending::Ending;
+use crate::script::{CommandResult, MAX_INPUT, open_refusal};
+use btr_bulk::{Worked, distil_store, load_store, sample_store};
+use btr_disk::Disk;
+use btr_io::{ReadAllFault, Source, read_all};
+use btr_jobs::Pace;
+use btr_load::rows_are_distinct;
+use btr_rows::{RowList, read_rows};
+use std::alloc::Global;
+use std::sync::Wait;
+use std::thread::Threads;
+
+/// `load`: reads the source to its end, opens the store, and loads the rows of the input. It does not call the device before all rows
+/// are read.
+pub(crate) fn run_load<R: Threads + Wait + Sync, S: Source, D: Disk + Send, P: Pace + Sync>(
+    rt: &R,
+    alloc: Global,
+    workers: u8,
+    batch: u32,
+    source: &mut S,
+    disk: D,
+    pace: &P,
+) -> CommandResult<D>
+    requires { 1 ≤ batch }
+    ensures size { D.size result.disk ≡ D.size disk }
+    ensures input { S.is_observable → Gives (MAX_INPUT + 1) (S.left source.old) (S.left source.new) }
+    ensures cause { LoadCause ⟦<S as Source>⟧ ⟦<D as Disk>⟧ batch source.old source.new disk result.disk result.ending }
+{
+    match read_input_rows(alloc, source) {
+        Ok(rows) => load_rows(rt, alloc, workers, batch, rows, disk, pace),
+        Err(ending) => CommandResult { ending, disk },
+    }
+}
+
+/// Reads the source to its end, and returns the rows of the input. An `Err` is how the command ends then.
+fn read_input_rows<S: Source>(alloc: Global, source: &mut S) -> Result<RowList, Ending>
+    ensures input { S.is_observable → Gives (MAX_INPUT + 1) (S.left source.old) (S.left source.new) }
+    ensures read { IfOk result (λ rows. HasReadRows ⟦<S as Source>⟧ rows source.old source.new) }
+    ensures cause { IfErr result (λ e. InputCause ⟦<S as Source>⟧ source.old source.new e) }
+{
+    match read_all(alloc, source, MAX_INPUT) {
+        Ok(input) => rows_in(alloc, &input),
+        Err(ReadAllFault::Fault) => Err(Ending::NoSource),
+        Err(ReadAllFault::TooLong) => Err(Ending::TooLong),
+        Err(ReadAllFault::Want) => Err(Ending::OutOfMemory),
+    }
+}
+
+/// Returns the rows of an input. An `Err` is that there is no memory for them.
+fn rows_in(alloc: Global, input: &[u8]) -> Result<RowList, Ending>
+    ensures rows { IfOk result (λ rows. rows ≡ list_of (rows_of input.now)) }
+    ensures distinct { IfOk result (λ rows. AreDistinct rows.streams) }
+    ensures cause { IfErr result (λ e. e ≡ Ending.OutOfMemory) }
+{
+    // the rows of an input have each id once
+    rows_are_distinct();
+    match read_rows(alloc, input) {
+        Ok(rows) => Ok(rows),
+        Err(_) => Err(Ending::OutOfMemory),
+    }
+}
+
+/// Loads rows into the store of a device.
+fn load_rows<R: Threads + Wait + Sync, D: Disk + Send, P: Pace + Sync>(
+    rt: &R,
+    alloc: Global,
+    workers: u8,
+    batch: u32,
+    rows: RowList,
+    disk: D,
+    pace: &P,
+) -> CommandResult<D>
+    requires { 1 ≤ batch }
+    ensures size { D.size result.disk ≡ D.size disk }
+    ensures cause { RowsCause ⟦<D as Disk>⟧ batch rows disk result.disk result.ending }
+{
+    match load_store(rt, alloc, rows, batch, workers, pace, disk) {
+        Ok(worked) => work_result(worked),
+        Err(fault) => open_refusal(fault),
+    }
+}
+
+/// `distil`: opens the store, and brings each output up to date once. It reads no input.
+pub(crate) fn run_distil<R: Threads + Wait + Sync, D: Disk + Send, P: Pace + Sync>(
+    rt: &R,
+    alloc: Global,
+    workers: u8,
+    disk: D,
+    pace: &P,
+) -> CommandResult<D>
+    ensures size { D.size result.disk ≡ D.size disk }
+    ensures cause { DistilCause ⟦<D as Disk>⟧ disk result.disk result.ending }
+{
+    match distil_store(rt, alloc, workers, pace, disk) {
+        Ok(worked) => work_result(worked),
+        Err(fault) => open_refusal(fault),
+    }
+}
+
+/// `sample`: opens the store, and fills it with a sample if it is empty. It reads no input.
+pub(crate) fn run_sample<R: Threads + Wait + Sync, D: Disk + Send, P: Pace + Sync>(
+    rt: &R,
+    alloc: Global,
+    number: u32,
+    streams: u32,
+    points: u32,
+    disk: D,
+    pace: &P,
+) -> CommandResult<D>
+    ensures size { D.size result.disk ≡ D.size disk }
+    ensures cause { SampleCause ⟦<D as Disk>⟧ number streams points disk result.disk result.ending }
+{
+    match sample_store(rt, alloc, number, streams, points, pace, disk) {
+        Ok(worked) => work_result(worked),
+        Err(fault) => open_refusal(fault),
+    }
+}
+
+/// Returns how a command ends that did its work.
+fn work_result<D>(worked: Worked<D>) -> CommandResult<D>
+    ensures disk { result.disk ≡ worked.disk }
+    ensures ending { result.ending ≡ ending_of worked.said }
+{
+    let Worked { said, disk } = worked;
+    let ending = match said {
+        Ok(transcript) => Ending::Replied(transcript),
+        Err(_) => Ending::OutOfMemory,
+    };
+    CommandResult { ending, disk }
+}

@@ -1,0 +1,236 @@
+//! Runs of `load`, `distil` and `sample`, as transcripts in the form of the document on commands.
+use super::fixture::play;
+use std::test::Fail;
+
+// rows, refused ones among them, and then more points of the same stream
+const ROWS: &str = "\
+$ load
+< no store
+= 6
+$ format --blocks 64
+< formatted 64
+= 0
+$ load
+< loaded 0 refused 0
+= 0
+$ load --workers 2
+> U,0,5
+> nonsense,1,1
+> U,2
+> \"U\",\"3\",\"7\"
+> U,4,-2
+< row 2: no id
+< row 3: no fields
+< U 1 3
+< loaded 3 refused 2
+= 1
+$ ask
+> range U 0 10 1
+< ok 1 3
+< 0 5
+< 3 7
+< 4 -2
+= 0
+$ load --batch 1
+> U,5,1
+> V,5,1
+> U,6,2
+< U 3 2
+< V 1 1
+< loaded 3 refused 0
+= 0
+";
+
+// each way in which a row is refused
+const BAD_ROWS: &str = "\
+$ format --blocks 64
+< formatted 64
+= 0
+$ load
+> id,time,value
+> 
+> U
+> U,1,2,3
+> 11111111111141118111111111111111,1,1
+> {U},2,2
+> urn:uuid:U,3,3
+> \"U\"\"\",4,4
+> U,+5,1
+> U,5.0,1
+> U,9223372036854775808,1
+> U,3458764513820540928,1
+> U,-9223372036854775808,1
+> U,5,
+> U,5,x
+> U,6,6
+> \"U,7,7
+< row 1: no id
+< row 2: no fields
+< row 3: no fields
+< row 7: no id
+< row 8: no time
+< row 9: no time
+< row 10: no time
+< row 11: no domain 3458764513820540928
+< row 12: no domain -9223372036854775808
+< row 13: no value
+< row 14: no value
+< row 16: no fields
+< U 1 4
+< loaded 4 refused 12
+= 1
+";
+
+// rows of an output are refused one by one, among the others
+const OUTPUT_ROWS: &str = "\
+$ format --blocks 64
+< formatted 64
+= 0
+$ live
+> create V
+> insert V 0 10 10 20 20 30
+> distiller W sum 10 0 V
+> distiller X affine 2 1 3 0 0 W
+< ok 0 0
+< ok 1 0
+< ok 0 0
+< ok 0 0
+= 0
+$ load
+> W,1,1
+> x
+> V,30,1
+> W,2,2
+< row 1: no output
+< row 2: no fields
+< row 4: no output
+< V 2 1
+< loaded 1 refused 3
+= 1
+$ distil --workers 2
+< W 1 2
+< X 1 1
+= 0
+$ distil
+< W 1 2
+< X 1 1
+= 0
+$ ask
+> range X 0 100 1
+< ok 1 4
+< 0 7
+< 10 20
+< 20 33
+< 30 21
+= 0
+";
+
+// outputs of a chain, each after its inputs
+const CHAIN: &str = "\
+$ distil
+< no store
+= 6
+$ format --blocks 64
+< formatted 64
+= 0
+$ distil
+= 0
+$ live
+> create V
+> insert V 0 10 10 20 20 30
+> distiller W sum 10 0 V
+> distiller X affine 2 1 3 0 0 W
+< ok 0 0
+< ok 1 0
+< ok 0 0
+< ok 0 0
+= 0
+$ distil --workers 2
+< W 1 1
+< X 1 1
+= 0
+$ ask
+> range X 0 100 1
+< ok 1 3
+< 0 7
+< 10 20
+< 20 33
+= 0
+";
+
+// the device becomes full in the middle of the batches
+const FULL: &str = "\
+$ format --blocks 12
+< formatted 12
+= 0
+$ load --batch 1
+> U,0,1
+> U,1,2
+> V,2,3
+< U rows 2 2: no full 2 1
+< U 1 1
+< V rows 3 3: no full 2 1
+< V 0 0
+< loaded 1 refused 2
+= 8
+";
+
+// a stream cannot be created
+const NOT_CREATED: &str = "\
+$ format --blocks 8
+< formatted 8
+= 0
+$ load --batch 1
+> U,0,1
+> V,1,1
+> U,2,2
+> V,3,3
+< U rows 1 1: no full 2 1
+< U rows 3 3: no full 2 1
+< U 0 0
+< V rows 2 4: no full 2 1
+< loaded 0 refused 4
+= 8
+";
+
+// a small sample, and a second one
+const SAMPLE: &str = "\
+$ sample 1 1 3
+< no store
+= 6
+$ format --blocks 64
+< formatted 64
+= 0
+$ sample 1 1 3
+< 00000000-0000-0000-0000-000000000001 1 3 -306 -892 756
+< 00000000-0000-0001-0000-000000000001 1 3 55 -170 293
+= 0
+$ sample 1 1 3
+< no used 4
+= 1
+$ distil
+< 00000000-0000-0001-0000-000000000001 1 1
+= 0
+";
+
+#[test]
+fn rows_are_loaded(rt: HostRuntime) -> Result<(), Fail> {
+    play(&rt, &[], ROWS)?;
+    play(&rt, &[], BAD_ROWS)?;
+    play(&rt, &[], OUTPUT_ROWS)?;
+    play(&rt, &[], FULL)?;
+    play(&rt, &[], NOT_CREATED)?;
+    Ok(())
+}
+
+#[test]
+fn outputs_are_brought_up_to_date(rt: HostRuntime) -> Result<(), Fail> {
+    play(&rt, &[], CHAIN)?;
+    Ok(())
+}
+
+#[test]
+fn an_empty_store_is_filled_with_a_sample(rt: HostRuntime) -> Result<(), Fail> {
+    play(&rt, &[], SAMPLE)?;
+    Ok(())
+}
