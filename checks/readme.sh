@@ -26,6 +26,7 @@ cut_pairs() {
 run_pairs() {
     local cut=$folder/$2.cut n=1 title
     mkdir "$cut" "$folder/$2.run"
+    ln -s "$top/examples" "$folder/$2.run/examples"
     cut_pairs "$1" "$cut"
     cd "$folder/$2.run" || exit 1
     while [ -f "$cut/$n.command" ]; do
