@@ -36,8 +36,8 @@ pub struct Outcome<D> {
 }
 
 /// Runs the command that the words say: it works on the device, and writes the text of its ending to the sink. `load`, `live` and `ask`
-/// read the source to its end first. The others read nothing. `load`, `distil` and `sample` start threads by `rt`, and a session waits by it for
-/// its turns at the store.
+/// read the source to its end first. The others read nothing. `load`, `distil` and `sample` start threads by `rt`, and a session waits
+/// by it for its turns at the store.
 ///
 /// It is [`run_paced`] with a pace that does nothing.
 pub fn run<R: Threads + Wait + Sync, S: Source, K: Sink, D: Disk + Send>(
