@@ -1,7 +1,8 @@
 -- Lemmas on what has happened in a hall: what one session has seen later goes on from what it had seen earlier.
-use Rattle.std.specs.Prelude.{◌≡◌, ℕ, ◌+◌, Bool, true, false, ◌||◌, List, [], ◌∷◌, ◌++◌, length, None, replicate}
+use Rattle.std.specs.Prelude.{◌≡◌, ℕ, ◌+◌, ◌≤◌, Bool, true, false, ◌||◌, List, [], ◌∷◌, ◌++◌, length, None, replicate}
 use Rattle.std.specs.Option.{is_some}
 use Rattle.std.proofs.Common.{zero, suc, refl, sym, ap, ◌∙◌, subst, arith}
+use Rattle.std.proofs.lemmas.Bool.{false_from_ne_true}
 use Rattle.std.proofs.lemmas.List.{append-nil}
 use mathlib.Core.List.{head-eq_of_cons-eq, tail-eq_of_cons-eq}
 use Rattle.btr_disk.specs.declared.disk.Disk.{Ghosts}
@@ -9,7 +10,7 @@ use Rattle.btr_hist.specs.declared.entry.Entry.{Entry}
 use Rattle.btr_engine.specs.declared.engine.Engine.{Engine}
 use Rattle.btr_engine.specs.Engine.{entries_of, is_stopped, IsEngineOf}
 use Rattle.btr_engine.specs.Step.{CanStep, IsStepped, StopsByFault}
-use Rattle.btr_gate.specs.Numbers.{one}
+use Rattle.btr_gate.specs.Numbers.{one, times}
 use Rattle.btr_gate.specs.Prefixes.{StartsWith}
 use Rattle.btr_hall.specs.declared.item.Item.{Item}
 use Rattle.btr_hall.specs.declared.item.Item.TheVariants.{Earlier, Added, Halted}
@@ -21,7 +22,7 @@ use Rattle.btr_hall.specs.StoreLaws.{ends_stopped}
 use Rattle.btr_hall.proofs.LandLemmas.{history_starts}
 use Rattle.btr_hall.proofs.TraceLemmas.{engine_of_list, length_of_list}
 use Rattle.btr_jobs.specs.Course.{Course, GoesOn, failed_in, start_with, course_of, start_of}
-use Rattle.btr_jobs.specs.Jobs.{IsAt}
+use Rattle.btr_jobs.specs.Jobs.{IsAt, Goes}
 
 either : (a b : Bool) (P : Type 0) → (a ≡ true → P) → (b ≡ true → P) → (a || b) ≡ true → P
 either true b P first second is = first refl
@@ -130,3 +131,13 @@ module _ {D : Type 0} {disk : Ghosts D} where
       let entries = (engine_of_list h (opening_of hall) (seen_of s) of at.trace).entries in
       let failed : one (is_some (failed_in (seen_of s))) ≡ one (has_halt (seen_of s)) = ap one (failed_halt (seen_of s)) in
       omega (arith, all, entries, failed)
+
+  -- If a session added anything, the store was not stopped when the hall began, and the session had not seen the device fail.
+  pub not_ended : (h : List Entry) (hall : Hall D disk) (old new : Session D disk) (own : List ℕ) → IsEngineOf h (opening_of hall) → IsAt hall old → IsAt hall new → Goes old new own → (n : ℕ) → 1 ≤ times n own → ((start_of h hall).stopped || is_some (course_of h old).failed) ≡ false
+  not_ended h hall old new own of before after goes n some =
+      false_from_ne_true ((start_of h hall).stopped || is_some (course_of h old).failed) (λ ended.
+      let same = (goes_on h hall new old of after goes.seen).ends ended in
+      let entries : length (course_of h new).history ≡ length (course_of h old).history = ap (λ (c : Course). length c.history) same in
+      let failed : one (is_some (course_of h new).failed) ≡ one (is_some (course_of h old).failed) = ap (λ (c : Course). one (is_some c.failed)) same in
+      let fresh = goes.fresh n some in
+      omega (arith, entries, failed, fresh.0, fresh.1, course_length h hall old of before, course_length h hall new of after))

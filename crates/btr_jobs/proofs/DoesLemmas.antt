@@ -1,13 +1,15 @@
 -- Lemmas on sessions that go on: one piece of work after another, and two beside each other.
-use Rattle.std.specs.Prelude.{◌≡◌, ℕ, ◌+◌, List, [], ◌++◌, length, nat_lt, if◌then◌else◌, true, false}
-use Rattle.std.proofs.Common.{refl, sym, ap, ◌∙◌, subst, arith}
+use Rattle.std.specs.Prelude.{◌≡◌, ◌⊎◌, ℕ, ◌+◌, ◌<◌, ◌≤◌, List, [], ◌++◌, length, nat_lt, if◌then◌else◌, true, false}
+use Rattle.std.proofs.Common.{inl, inr, refl, sym, ap, ◌∙◌, subst, arith}
+use Rattle.std.proofs.lemmas.Bool.{cases_lt}
 use Rattle.btr_disk.specs.declared.disk.Disk.{Ghosts}
 use Rattle.btr_hist.specs.declared.entry.Entry.{Entry}
 use Rattle.btr_engine.specs.declared.engine.Engine.{Engine}
 use Rattle.btr_gate.specs.Numbers.{times, merged}
 use Rattle.btr_gate.specs.Prefixes.{StartsWith, longer}
 use Rattle.btr_gate.proofs.NumberLemmas.{times_append, times_merged}
-use Rattle.btr_gate.proofs.PrefixLemmas.{starts_refl, starts_trans}
+use Rattle.btr_gate.proofs.PrefixLemmas.{starts_refl, starts_trans, starts_length}
+use Rattle.btr_hall.specs.declared.item.Item.{Item}
 use Rattle.btr_hall.specs.declared.session.Hall.{Hall}
 use Rattle.btr_hall.specs.declared.session.Session.{Session}
 use Rattle.btr_hall.specs.Trace.{IsTraceOf}
@@ -20,6 +22,14 @@ use Rattle.btr_jobs.proofs.CourseLemmas.{goes_on, history_goes_on, course_at}
 either_longer : {A : Type 0} (P : List A → Type 0) (a b : List A) → P a → P b → P (longer a b)
 either_longer P a b first second =
     elim (nat_lt (length a) (length b)) as (λ c. P (if c then b else a)) [ true ↦ second | false ↦ first ]
+
+-- A number of a list that has the numbers of two others is in one of them.
+pub in_sum : (n : ℕ) (own first rest : List ℕ) → times n own ≡ times n first + times n rest → 0 < times n own → (0 < times n first) ⊎ (0 < times n rest)
+in_sum n own first rest sum some =
+    elim (cases_lt 0 (times n first)) [
+      | inl of_first ↦ inl of_first
+      | inr none_first ↦ inr (omega (arith, sum, some, none_first))
+    ]
 
 module _ {D : Type 0} {disk : Ghosts D} where
   -- ---- the beginning and the end
@@ -37,7 +47,13 @@ module _ {D : Type 0} {disk : Ghosts D} where
 
   -- A session that did nothing.
   pub goes_none : (s : Session D disk) → Goes s s []
-  goes_none s = record { seen = starts_refl (seen_of s); mine = λ n. omega arith; start = refl; paths = λ path. refl }
+  goes_none s = record {
+    seen = starts_refl (seen_of s);
+    mine = λ n. omega arith;
+    fresh = λ n some. absurd (omega (arith, some));
+    start = refl;
+    paths = λ path. refl;
+  }
 
   -- A session went on twice.
   pub goes_then : (old mid new : Session D disk) (a b : List ℕ) → Goes old mid a → Goes mid new b → Goes old new (a ++ b)
@@ -48,6 +64,13 @@ module _ {D : Type 0} {disk : Ghosts D} where
         let two = second.mine n in
         let both = times_append n a b in
         omega (arith, one, two, both);
+    fresh = λ n some.
+        let middle = starts_length (seen_of mid) (seen_of old) first.seen in
+        let end = starts_length (seen_of new) (seen_of mid) second.seen in
+        elim (in_sum n (a ++ b) a b (times_append n a b) (omega (arith, some))) [
+          | inl here ↦ let at = first.fresh n (omega (arith, here)) in (at.0, omega (arith, at.1, end))
+          | inr here ↦ let at = second.fresh n (omega (arith, here)) in (omega (arith, at.0, middle), at.1)
+        ];
     start = second.start ∙ first.start;
     paths = λ path. second.paths path ∙ first.paths path;
   }
@@ -57,6 +80,7 @@ module _ {D : Type 0} {disk : Ghosts D} where
   goes_alike old new own other alike goes = record {
     seen = goes.seen;
     mine = λ n. goes.mine n ∙ ap (λ k. times n (mine_of old) + k) (sym (alike n));
+    fresh = λ n some. goes.fresh n (subst (λ k. 1 ≤ k) (alike n) some);
     start = goes.start;
     paths = goes.paths;
   }
@@ -113,6 +137,15 @@ module _ {D : Type 0} {disk : Ghosts D} where
           let other_mine : times n (mine_of other) ≡ times n [] = ap (times n) splits.other_mine in
           let both = times_append n a b in
           omega (arith, all, sum, one, two, kept_mine, other_mine, both);
+      fresh = λ n some.
+          let kept_long = ap (length {A = Item D disk}) splits.seen in
+          let other_long = ap (length {A = Item D disk}) splits.other_seen in
+          let this = starts_length (seen_of new) (seen_of left) meets.this in
+          let that = starts_length (seen_of new) (seen_of right) meets.that in
+          elim (in_sum n (a ++ b) a b (times_append n a b) (omega (arith, some))) [
+            | inl here ↦ let at = first.fresh n (omega (arith, here)) in (omega (arith, at.0, kept_long), omega (arith, at.1, this))
+            | inr here ↦ let at = second.fresh n (omega (arith, here)) in (omega (arith, at.0, other_long), omega (arith, at.1, that))
+          ];
       start = meets.start ∙ first.start ∙ splits.start;
       paths = λ path.
           let met = meet_paths path left right new meets in

@@ -13,11 +13,11 @@ use Rattle.btr_engine.specs.declared.step.StepFault.{StepFault}
 use Rattle.btr_engine.specs.declared.step.StepFault.TheVariants as steps
 use Rattle.btr_engine.specs.Body.{need_of}
 use Rattle.btr_engine.specs.Engine.{is_stopped, room_of, IsEngineOf}
-use Rattle.btr_gate.specs.Numbers.{one, times}
+use Rattle.btr_gate.specs.Numbers.{one, times, Climbs}
 use Rattle.btr_gate.specs.Prefixes.{StartsWith}
 use Rattle.btr_gate.specs.Shares.{on_path}
-use Rattle.btr_gate.proofs.NumberLemmas.{times_append}
-use Rattle.btr_gate.proofs.PrefixLemmas.{starts_refl, starts_trans}
+use Rattle.btr_gate.proofs.NumberLemmas.{times_append, times_within}
+use Rattle.btr_gate.proofs.PrefixLemmas.{starts_refl, starts_trans, starts_length}
 use Rattle.btr_hall.specs.declared.item.Item.{Item}
 use Rattle.btr_hall.specs.declared.item.Item.TheVariants.{Added, Halted}
 use Rattle.btr_hall.specs.declared.land.LandFault.{LandFault}
@@ -161,11 +161,27 @@ module _ {D : Type 0} {disk : Ghosts D} where
 
   -- ---- the session
 
+  -- A step numbers what it adds after all that was there.
+  step_climbs : (before after : List (Item D disk)) (e : Entry) (y : Engine D disk) (result : Result Receipt StepFault) → after ≡ before ++ option_to_list (item_by result e y) → Climbs (length before) (option_to_list (number_by result (length after))) (length after)
+  step_climbs before after e y (Ok receipt) seen =
+      let long = ap (length {A = Item D disk}) seen ∙ length-append before (Added (shown e) (shown y) ∷ []) in
+      (omega (arith, long), omega arith, tt)
+  step_climbs before after e y (Err steps.DeviceFault) seen =
+      let long = ap (length {A = Item D disk}) seen ∙ length-append before (Halted (shown e) (shown y) ∷ []) in
+      (omega (arith, long), omega arith, tt)
+  step_climbs before after e y (Err (steps.Stopped entries)) seen = tt
+  step_climbs before after e y (Err (steps.Rejected why)) seen = tt
+  step_climbs before after e y (Err steps.Want) seen = tt
+  step_climbs before after e y (Err (steps.DeviceFull need left)) seen = tt
+
   -- A turn that adds these numbers.
-  goes_by : (old new : Session D disk) (before : List (Item D disk)) (own : List ℕ) → IsSame old new → StartsWith (seen_of new) before → StartsWith before (seen_of old) → mine_of new ≡ mine_of old ++ own → Goes old new own
-  goes_by old new before own same ends grows mine = record {
+  goes_by : (old new : Session D disk) (before : List (Item D disk)) (own : List ℕ) → IsSame old new → StartsWith (seen_of new) before → StartsWith before (seen_of old) → mine_of new ≡ mine_of old ++ own → Climbs (length before) own (length (seen_of new)) → Goes old new own
+  goes_by old new before own same ends grows mine climbs = record {
     seen = starts_trans (seen_of new) before (seen_of old) ends grows;
     mine = λ n. ap (times n) mine ∙ times_append n (mine_of old) own;
+    fresh = λ n some.
+        let at = times_within (length before) (length (seen_of new)) n own climbs (omega (arith, some)) in
+        (omega (arith, at.0, starts_length before (seen_of old) grows), at.1);
     start = same.start;
     paths = λ path. ap (on_path path) same.share;
   }
@@ -181,7 +197,9 @@ module _ {D : Type 0} {disk : Ghosts D} where
     ends = (option_to_list (item_by result e (engine_of hall new)), commits.seen)
 
     goes : Goes old new (option_to_list (number_by result (length (seen_of new))))
-    goes = goes_by old new commits.before _ same ends commits.grows commits.mine
+    goes =
+        goes_by old new commits.before _ same ends commits.grows commits.mine
+        (step_climbs commits.before (seen_of new) e (engine_of hall new) result commits.seen)
 
     says : (h : List Entry) → IsEngineOf h (opening_of hall) → (next : List Entry) × Committed (start_of h hall) (course_of h new) (history_of h commits.before) e result (option_to_list (number_by result (length (seen_of new)))) next × StartsWith (course_of h new).history next
     says h of =
@@ -217,7 +235,9 @@ module _ {D : Type 0} {disk : Ghosts D} where
     plan_ends = (option_to_list (item_by (step_result result) (entry_of plan) (engine_of hall new)), lands.seen)
 
     plan_goes : Goes old new (option_to_list (number_by (step_result result) (length (seen_of new))))
-    plan_goes = goes_by old new lands.before _ same plan_ends lands.grows lands.mine
+    plan_goes =
+        goes_by old new lands.before _ same plan_ends lands.grows lands.mine
+        (step_climbs lands.before (seen_of new) (entry_of plan) (engine_of hall new) (step_result result) lands.seen)
 
     plan_says : (h : List Entry) → IsEngineOf h (opening_of hall) → (next : List Entry) × Landed (start_of h hall) (course_of h new) (history_of h lands.before) plan result (option_to_list (number_by (step_result result) (length (seen_of new)))) next × StartsWith (course_of h new).history next
     plan_says h of =
@@ -257,6 +277,6 @@ module _ {D : Type 0} {disk : Ghosts D} where
     pub look_turn : (Fact : List Entry → Type 0) → ((h : List Entry) → IsEngineOf h (opening_of hall) → Fact (history_of h (seen_of new))) → Does hall old new (λ start course low own. (own ≡ []) × StartsWith course.history low × Fact course.history)
     look_turn Fact fact = (
       [],
-      goes_by old new (seen_of new) [] looks.same (starts_refl (seen_of new)) looks.grows (looks.mine ∙ sym (append-nil (mine_of old))),
+      goes_by old new (seen_of new) [] looks.same (starts_refl (seen_of new)) looks.grows (looks.mine ∙ sym (append-nil (mine_of old))) tt,
       λ h of. (refl, history_goes_on h new old looks.grows, fact h of),
     )

@@ -1,5 +1,5 @@
 -- Jobs: what one does to a session, and what many do that share the shares of one.
-use Rattle.std.specs.Prelude.{◌≡◌, ℕ, ◌+◌, Bool, List, [], ◌∷◌}
+use Rattle.std.specs.Prelude.{◌≡◌, ℕ, ◌+◌, ◌<◌, ◌≤◌, Bool, List, [], ◌∷◌, length}
 use Rattle.btr_disk.specs.declared.disk.Disk.{Ghosts}
 use Rattle.btr_hist.specs.declared.entry.Entry.{Entry}
 use Rattle.btr_engine.specs.Engine.{IsEngineOf}
@@ -33,11 +33,12 @@ module _ {D : Type 0} {disk : Ghosts D} where
     pub own : IsSessionOf hall s
     pub trace : IsTraceOf (opening_of hall) (seen_of s)
 
-  -- A session went on, and these are the numbers of what it added. It meets the paths that it met: if it was the only session of its
-  -- hall, it is so again.
+  -- A session went on, and these are the numbers of what it added. What it added comes after all that it had seen: nothing, if it had
+  -- seen the device fail. It meets the paths that it met: if it was the only session of its hall, it is so again.
   pub record Goes (old new : Session D disk) (own : List ℕ) : Type 0 where
     pub seen : StartsWith (seen_of new) (seen_of old)
     pub mine : (n : ℕ) → times n (mine_of new) ≡ times n (mine_of old) + times n own
+    pub fresh : (n : ℕ) → 1 ≤ times n own → (length (seen_of old) < n) × (n ≤ length (seen_of new))
     pub start : session.start_of new ≡ session.start_of old
     pub paths : (path : ℕ → Bool) → on_path path (share_of new) ≡ on_path path (share_of old)
 

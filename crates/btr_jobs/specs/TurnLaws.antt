@@ -1,7 +1,8 @@
 -- The laws of what turns say, which the ghost members of jobs cite: it is true for ever, and also of who had seen less.
-use Rattle.std.specs.Prelude.{◌≡◌, ℕ, Bool, true, false, ◌||◌, List, Result, Ok, Err}
+use Rattle.std.specs.Prelude.{◌≡◌, ℕ, true, ◌||◌, List, Result, Ok, Err}
 use Rattle.std.specs.Option.{is_some}
 use Rattle.std.proofs.Common.{refl, sym, ap, ◌∙◌, subst}
+use Rattle.std.proofs.lemmas.Bool.{or_right}
 use Rattle.btr_hist.specs.declared.entry.Entry.{Entry}
 use Rattle.btr_distil.specs.Plan.{PlanValue, entry_of}
 use Rattle.btr_engine.specs.declared.board.Receipt.{Receipt}
@@ -13,10 +14,6 @@ use Rattle.btr_hall.specs.declared.land.LandFault.{LandFault}
 use Rattle.btr_hall.specs.declared.land.LandFault.TheVariants as faults
 use Rattle.btr_jobs.specs.Course.{Start, Course, GoesOn}
 use Rattle.btr_jobs.specs.Turns.{IsAdded, IsFailed, IsStopped, Committed, CommittedAfter, Landed, LandedAfter}
-
-either : (a b : Bool) → b ≡ true → (a || b) ≡ true
-either true b is = refl
-either false b is = is
 
 -- ---- courses
 
@@ -48,7 +45,7 @@ failed_lasts : (start : Start) (late early : Course) (p : List Entry) (e : Entry
     → GoesOn start late early → IsFailed early p e own next → IsFailed late p e own next
 failed_lasts start late early p e own next on is =
     let failed : is_some early.failed ≡ true = ap is_some is.failed in
-    subst (λ c. IsFailed c p e own next) (sym (on.ends (either start.stopped (is_some early.failed) failed))) is
+    subst (λ c. IsFailed c p e own next) (sym (on.ends (or_right start.stopped (is_some early.failed) failed))) is
 
 stopped_lasts : (start : Start) (late early : Course) (p : List Entry) (entries : ℕ) → GoesOn start late early
     → IsStopped start early p entries → IsStopped start late p entries

@@ -67,7 +67,7 @@ fn share_out<R: Threads + Wait + Sync, D: Disk + Send, J: Job + Send, P: Pace + 
 {
     if workers <= 1 || jobs.len() <= 1 {
         let hall = worker.hall;
-        run_in_turn(rt, alloc, hall, pace, first, &mut worker.session, jobs);
+        run_in_turn(rt, alloc, hall, &mut worker.session, first, jobs, pace);
         return;
     }
     let here = workers - workers / 2;
@@ -149,15 +149,16 @@ fn turn_after(first: u32, count: usize) -> u32 {
     first.wrapping_add((count % (1 << 32)) as u32)
 }
 
-/// Does the jobs one after another.
-fn run_in_turn<R: Wait, D: Disk, J: Job, P: Pace>(
+/// Does the jobs one after another in this session, without other threads: [`run_jobs`] with one worker. The turns of `pace` are the
+/// jobs, from `first` on.
+pub fn run_in_turn<R: Wait, D: Disk, J: Job, P: Pace>(
     rt: &R,
     alloc: Global,
     hall: &Hall<D>,
-    pace: &P,
-    first: u32,
     session: &mut Session<D>,
+    first: u32,
     jobs: &mut [J],
+    pace: &P,
 )
     requires at { IsAt hall.now session.old }
     ensures at { IsAt hall.now session.new }

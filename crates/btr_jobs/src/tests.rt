@@ -150,6 +150,14 @@ fn done<R: Threads + Wait + Sync, P: Pace + Sync>(
     Ok(engine.entries())
 }
 
+/// Does the jobs in turn at a hall of their own. Returns the number of its entries in the end.
+fn done_in_turn<R: Wait>(rt: &R, alloc: Global, jobs: &mut [Make]) -> Result<u64, Fail> {
+    let (hall, mut session) = begun(alloc)?;
+    run_in_turn(rt, alloc, &hall, &mut session, 0, jobs, &NoPace);
+    let engine = hall.close(session);
+    Ok(engine.entries())
+}
+
 /// Returns the numbers of the receipts of jobs, in rising order, and how many were refused since the stream existed.
 fn told(alloc: Global, jobs: &[Make]) -> Result<(Vec<u64>, u32), AllocError> {
     let mut numbers = Vec::new(alloc);
@@ -184,6 +192,18 @@ fn each_job_is_done_once_by_any_number_of_workers(rt: HostRuntime) -> Result<(),
         );
         assert_eq!(rt; refused, 2, "by {workers}");
     }
+    Ok(())
+}
+
+/// In turn in one session, three jobs make two streams, and the last one is refused.
+#[test]
+fn jobs_are_done_in_turn(rt: HostRuntime) -> Result<(), Fail> {
+    let alloc = rt.alloc();
+    let mut jobs = makes(alloc, &[7, 8, 7])?;
+    let entries = done_in_turn(&rt, alloc, &mut jobs)?;
+    let (numbers, refused) = told(alloc, &jobs)?;
+    assert_eq!(rt; (entries, refused), (2, 1));
+    assert_eq!(rt; numbers.as_slice(), [1, 2].as_slice());
     Ok(())
 }
 

@@ -4,7 +4,7 @@ use Rattle.std.specs.Prelude.{Option, Some, None, Result, Ok, Err}
 use Rattle.std.specs.List.{AllByRecursion, cons_option}
 use Rattle.std.specs.Option.{is_some}
 use Rattle.std.proofs.Common.{refl, sym, ap, ◌∙◌, subst, arith, inl, inr}
-use Rattle.std.proofs.lemmas.List.{append-nil}
+use Rattle.std.proofs.lemmas.List.{append-nil, nil_from_length}
 use Rattle.std.proofs.lemmas.Bool.{cases_eq}
 use Rattle.std.proofs.lemmas.Option.{slice_get_within}
 use Rattle.btr_base.specs.Commit.{Change}
@@ -415,10 +415,6 @@ all_make start course low p batch (r ∷ rows) (s ∷ streams) own last opens =
     let both = total_append makes (create_entry (stream_of low s.rows.id) s.rows.id s.fate) (create_entries low streams) in
     omega (arith, one, rest, both)
 
-empty : {A : Type 0} (l : List A) → length l ≡ 0 → l ≡ []
-empty [] none = refl
-empty (x ∷ l) none = absurd (omega (arith, none))
-
 -- The batches make no stream, in the plain load either.
 rows_ids : (q : List Entry) (batch : ℕ) (r : StreamValue) (t : Target) → (ids (after_rows q batch r t) ≡ ids q) × (kinds (after_rows q batch r t) ≡ kinds q)
 rows_ids q batch r AnOutput = (refl, refl)
@@ -475,9 +471,9 @@ loads_alike start course low rows batch told numbers follows distinct mine loads
     let made = all_make start course low low batch rows.streams streams loads.created mid loads.opens in
     omega (arith, all, whole, ids_total sound.since.0, sum, both, batches_make streams, made) in
     let h_ids : ids h ≡ ids mid =
-    ap ids loads.begins.1 ∙ ids-append mid rest ∙ ap (λ l. ids mid ++ l) (empty (ids rest) long) ∙ append-nil (ids mid) in
+    ap ids loads.begins.1 ∙ ids-append mid rest ∙ ap (λ l. ids mid ++ l) (nil_from_length (ids rest) long) ∙ append-nil (ids mid) in
     let h_kinds : kinds h ≡ kinds mid =
-    ap kinds loads.begins.1 ∙ kinds-append mid rest ∙ ap (λ l. kinds mid ++ l) (empty (kinds rest) (length-kinds rest ∙ long)) ∙ append-nil (kinds mid) in
+    ap kinds loads.begins.1 ∙ kinds-append mid rest ∙ ap (λ l. kinds mid ++ l) (nil_from_length (kinds rest) (length-kinds rest ∙ long)) ∙ append-nil (kinds mid) in
     let begins : mid ≡ after_creates low low rows.streams = creates.0 in
     let end_same : (x : ℕ) → commits h x ≡ commits (after_batches mid batch rows.streams ts) x = λ x.
     elim (all_end start course mid loads.begins batch mid x rows.streams ts streams loads.committed (starts_refl mid) fit refl) [

@@ -11,7 +11,7 @@ use Rattle.btr_engine.specs.declared.board.Receipt.{Receipt}
 use Rattle.btr_engine.specs.declared.step.StepFault.{StepFault}
 use Rattle.btr_engine.specs.declared.step.StepFault.TheVariants.{Want}
 use Rattle.btr_gate.specs.Prefixes.{StartsWith}
-use Rattle.btr_gate.proofs.PrefixLemmas.{starts_trans, starts_refl}
+use Rattle.btr_gate.proofs.PrefixLemmas.{starts_trans, starts_refl, starts_append, starts_whole}
 use Rattle.btr_jobs.specs.Course.{Start, Course, GoesOn}
 use Rattle.btr_load.specs.Batches.{some_batches, batches_of, batch_entry, last_version}
 use Rattle.btr_load.specs.declared.fate.Fate.{Fate}
@@ -154,17 +154,14 @@ done_push start late early low stream size points rest results result own more o
       seen = starts_trans late.history one.0 lower.0 one.2 lower.1;
     }
 
-no_more : {A : Type 0} (l m : List A) → length (l ++ m) ≡ length l → l ++ m ≡ l
-no_more l [] same = append-nil l
-no_more l (x ∷ m) same = let both = length-append l (x ∷ m) in absurd (omega (arith, both, same))
-
 -- All of them.
 pub done_all : (start : Start) (course : Course) (low : List Entry) (stream size : ℕ) (points rest : List NumberedPoint) (places results : List (Result Receipt StepFault)) (own : List ℕ) → length results ≡ length places → SomeDone start course low stream size points rest results own → AllBatchesDid start course low stream size points places results own
 done_all start course low stream size points rest places results own long was some places_long =
     let all = was some (omega (arith, long, places_long)) in
     let each = did_long start course low stream all.done results own all.last all.did in
+    let same = ap (length {A = List NumberedPoint}) all.all in
     let whole : all.done ++ batches_of size rest ≡ all.done =
-    no_more all.done (batches_of size rest) (ap (length {A = List NumberedPoint}) all.all ∙ omega (arith, long, places_long, each)) in
+    starts_whole (all.done ++ batches_of size rest) all.done (starts_append all.done (batches_of size rest)) (omega (arith, same, long, places_long, each)) in
     (all.last, subst (λ b. BatchesDid start course low stream b results own all.last) (sym whole ∙ all.all) all.did)
 
 -- The same of a batch and of lists that are these.

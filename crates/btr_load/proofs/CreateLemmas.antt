@@ -1,8 +1,8 @@
 -- Lemmas on the creates of a load: each is a turn right after what the session, which is alone, had seen.
-use Rattle.std.specs.Prelude.{◌≡◌, ℕ, ◌+◌, Bool, true, false, ◌||◌, List, [], ◌∷◌, ◌++◌, ◌<◌, length, take, drop, Option, Some, None, option_to_list, Result, Ok, Err}
+use Rattle.std.specs.Prelude.{◌≡◌, ℕ, ◌+◌, true, false, List, [], ◌∷◌, ◌++◌, ◌<◌, length, take, drop, Option, Some, None, option_to_list, Result, Ok, Err}
 use Rattle.std.specs.Option.{is_some}
-use Rattle.std.proofs.Common.{refl, sym, ap, ◌∙◌, subst, arith, append_assoc, get_or, set}
-use Rattle.std.proofs.lemmas.List.{append-nil, get_or-drop, take_more, take_more_set, drop-set-lt, drop-drop}
+use Rattle.std.proofs.Common.{refl, sym, ap, ◌∙◌, subst, append_assoc, get_or, set}
+use Rattle.std.proofs.lemmas.List.{append-nil}
 use Rattle.btr_disk.specs.declared.disk.Disk.{Ghosts}
 use Rattle.btr_hist.specs.declared.entry.Entry.{Entry}
 use Rattle.btr_hist.specs.declared.entry.Entry.TheVariants as entries
@@ -23,9 +23,9 @@ use Rattle.btr_hall.specs.Commit.{shown, item_by, Commits}
 use Rattle.btr_hall.proofs.TraceLemmas.{entries_append}
 use Rattle.btr_jobs.specs.Course.{Start, Course, GoesOn, course_of, start_of}
 use Rattle.btr_jobs.specs.Turns as turns
-use Rattle.btr_jobs.specs.Turns.{IsIdle, IsStopped, IsFailed}
-use Rattle.btr_jobs.specs.TurnLaws.{history_later}
+use Rattle.btr_jobs.specs.TurnLaws.{committed_still}
 use Rattle.btr_jobs.specs.Jobs.{Does}
+use Rattle.btr_jobs.proofs.RunLemmas.{items_more, now_more}
 use Rattle.btr_jobs.proofs.TurnLemmas.{commit_turn_alone}
 use Rattle.btr_load.specs.declared.fate.Fate.{Fate}
 use Rattle.btr_load.specs.declared.fate.Fate.TheVariants.{Output, NotCreated, Committed}
@@ -71,24 +71,6 @@ module _ {D : Type 0} {disk : Ghosts D} where
             let then = next_is (start_of h hall) (course_of h new) (history_of h (seen_of old)) e result does.0 said.0 said.1 in
             subst (turns.Committed (start_of h hall) (course_of h new) (history_of h (seen_of old)) e result does.0) (then ∙ sym now) said.1,
       )
-
--- ---- what a turn says is true for ever
-
-either : (a b : Bool) → b ≡ true → (a || b) ≡ true
-either true b is = refl
-either false b is = is
-
-committed_still : (start : Start) (late early : Course) (p : List Entry) (e : Entry) (result : Result Receipt StepFault) (own : List ℕ) (next : List Entry) → GoesOn start late early → turns.Committed start early p e result own next → turns.Committed start late p e result own next
-committed_still start late early p e (Ok receipt) own next on is =
-    (is.0, is.1, record { follows = history_later start late early (p ++ e ∷ []) on is.2.follows; own = is.2.own; next = is.2.next })
-committed_still start late early p e (Err (steps.Stopped count)) own next on is =
-    (subst (λ c. IsStopped start c p count) (sym (on.ends is.0.stopped)) is.0, is.1)
-committed_still start late early p e (Err (steps.Rejected why)) own next on is = is
-committed_still start late early p e (Err steps.Want) own next on is = is
-committed_still start late early p e (Err (steps.DeviceFull need left)) own next on is = is
-committed_still start late early p e (Err steps.DeviceFault) own next on is =
-    let failed : is_some early.failed ≡ true = ap is_some is.1.failed in
-    (is.0, subst (λ c. IsFailed c p e own next) (sym (on.ends (either start.stopped (is_some early.failed) failed))) is.1)
 
 -- ---- one stream
 
@@ -162,18 +144,8 @@ opened_push start course h p (s ∷ before) (t ∷ after) own mid was now more l
     (all.0, all.1 ++ more, all.2, ap (λ l. l ++ more) all.3 ∙ append_assoc all.0 all.1 more, all.4, opened_push start course h all.2 before after all.1 mid was now more last all.5 one)
 
 -- One stream more, of lists of which it is the next.
-pub opened_step : (start : Start) (late early : Course) (h low : List Entry) (before after : List LoadedStream) (i : ℕ) (was now : LoadedStream) (own more : List ℕ) → i < length before → i < length after → drop i after ≡ drop i before → was ≡ get_or after i was → GoesOn start late early → AreOpened start early h low (take i before) (take i after) own early.history → IsOpened start late h early.history was now more late.history → AreOpened start late h low (take (i + 1) before) (take (i + 1) (set after i now)) (own ++ more) late.history
-opened_step start late early h low before after i was now own more here there rest is on all one =
-    let same : get_or before i was ≡ was =
-    sym (get_or-drop i before 0 was ∙ ap (λ k. get_or before k was) (omega arith)) ∙ ap (λ l. get_or l 0 was) (sym rest)
-    ∙ get_or-drop i after 0 was ∙ ap (λ k. get_or after k was) (omega arith) ∙ sym is in
-    let old : take (i + 1) before ≡ take i before ++ was ∷ [] = take_more before i was here ∙ ap (λ s. take i before ++ s ∷ []) same in
-    let new : take (i + 1) (set after i now) ≡ take i after ++ now ∷ [] = take_more_set after i now there in
+pub opened_step : (start : Start) (late early : Course) (h low : List Entry) (before after : List LoadedStream) (i : ℕ) (was now : LoadedStream) (own more : List ℕ) → i < length after → length after ≡ length before → drop i after ≡ drop i before → was ≡ get_or after i was → GoesOn start late early → AreOpened start early h low (take i before) (take i after) own early.history → IsOpened start late h early.history was now more late.history → AreOpened start late h low (take (i + 1) before) (take (i + 1) (set after i now)) (own ++ more) late.history
+opened_step start late early h low before after i was now own more inside long rest is on all one =
     let pushed = opened_push start late h low (take i before) (take i after) own early.history was now more late.history (all_opened_last start late early h low (take i before) (take i after) own early.history on all) one in
-    subst (λ l. AreOpened start late h low l (take (i + 1) (set after i now)) (own ++ more) late.history) (sym old)
-    (subst (λ l. AreOpened start late h low (take i before ++ was ∷ []) l (own ++ more) late.history) (sym new) pushed)
-
--- What is left after it.
-pub rest_step : (before after : List LoadedStream) (i : ℕ) (now : LoadedStream) → drop i after ≡ drop i before → drop (i + 1) (set after i now) ≡ drop (i + 1) before
-rest_step before after i now rest =
-    drop-set-lt (i + 1) after i now (omega arith) ∙ sym (drop-drop 1 i after) ∙ ap (drop 1) rest ∙ drop-drop 1 i before
+    subst (λ l. AreOpened start late h low l (take (i + 1) (set after i now)) (own ++ more) late.history) (items_more before after i was now inside long rest is)
+    (subst (λ l. AreOpened start late h low (take i before ++ was ∷ []) l (own ++ more) late.history) (now_more before after i was now inside long rest is) pushed)

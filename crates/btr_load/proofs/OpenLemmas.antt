@@ -2,7 +2,7 @@
 use Rattle.std.specs.Prelude.{◌≡◌, ℕ, ◌<◌, Bool, true, false, nat_le, List, [], ◌∷◌, ◌++◌, length, if◌then◌else◌}
 use Rattle.std.specs.Prelude.{Option, Some, None, Result, Ok, Err, IfOk}
 use Rattle.std.specs.Option.{is_some, unwrap_or}
-use Rattle.std.proofs.Common.{refl, ap, ◌∙◌, subst, arith}
+use Rattle.std.proofs.Common.{refl, ap, ◌∙◌, subst}
 use Rattle.std.proofs.lemmas.Bool.{lt-leb}
 use Rattle.btr_hist.specs.declared.entry.Entry.{Entry}
 use Rattle.btr_hist.specs.declared.kernel.Spec.{Spec}
@@ -45,7 +45,3 @@ planned_push h batch (first ∷ rows) (s ∷ streams) r fate one all = (all.0, a
 pub ready_push : (streams : List LoadedStream) (s : LoadedStream) → IsReady s → AreReady streams → AreReady (streams ++ s ∷ [])
 ready_push [] s one all = (one, tt)
 ready_push (first ∷ streams) s one all = (all.0, ready_push streams s one all.1)
-
-pub nothing_left : {A : Type 0} (l : List A) → length l ≡ 0 → l ≡ []
-nothing_left [] none = refl
-nothing_left (x ∷ l) none = absurd (omega arith)

@@ -18,7 +18,7 @@ use Rattle.btr_hist.specs.Machine.{Landing, planned, plan_of, same_reads, landin
 use Rattle.btr_hist.specs.Machine as machine
 use Rattle.btr_hist.specs.Machine.Reply.{Accepted, Rejected}
 use Rattle.btr_hist.proofs.HistoryLemmas.{commits-append, recorded-append, legal-prefix, legal-follows, follows-prefix}
-use Rattle.btr_hist.proofs.VersionLemmas.{spec_of-stays, latest-push}
+use Rattle.btr_hist.proofs.VersionLemmas.{latest-push}
 use Rattle.btr_distil.specs.Plan.{PlanValue}
 use Rattle.btr_distil.specs.Plan as plans
 use Rattle.btr_gate.specs.Prefixes.{StartsWith}
@@ -37,8 +37,8 @@ use Rattle.btr_work.specs.Levels.{levels_of, outputs, AreGroups}
 use Rattle.btr_work.specs.Laws.{AreAllSince}
 use Rattle.btr_work.specs.Alike.{landed_next, landed_each, landed_levels, result_by, IsUndisturbed, IsAlike, BroughtIsAlike}
 use Rattle.btr_gate.proofs.NumberLemmas.{one_other, given_inside}
-use Rattle.btr_work.proofs.OwnLemmas.{AreAll, IsSplit, each-split, levels-owned, all-first, all-rest}
-use Rattle.btr_work.proofs.CurrentLemmas.{level-quiet, mine-quiet, levels-quiet, all-since}
+use Rattle.btr_work.proofs.OwnLemmas.{same_some, AreAll, IsSplit, each-split, levels-owned, all-first, all-rest}
+use Rattle.btr_work.proofs.CurrentLemmas.{spec-stays, level-quiet, mine-quiet, levels-quiet, all-since}
 use Rattle.btr_work.proofs.MemberLemmas.{IsIn, IsInAny, Distinct, Graded, groups-graded, groups-unique, graded-above, first-lower, second-below, level-output, output-level, output-in, output-spec}
 use Rattle.btr_work.proofs.QuietLemmas.{IsOther, Quiet, Same, same_refl, same_sym, same_trans, quiet-same, quiet-more, quiet-less, get-past, get-before, SameInputs, latest-same, latest_reads-same, reads-same, planned-same}
 
@@ -173,10 +173,6 @@ landed-starts h output spec is =
 
 -- ---- a level, one output after another
 
-spec-kept : (h low : List Entry) (stream : ℕ) (spec : Spec) → StartsWith h low → spec_of low stream ≡ Some spec → spec_of h stream ≡ Some spec
-spec-kept h low stream spec starts output =
-    subst (λ l. spec_of l stream ≡ Some spec) (sym starts.1) (spec_of-stays low starts.0 stream spec output)
-
 -- Each of these is an output.
 abbrev pub AreOutputs : List Entry → List ℕ → Type 0
 AreOutputs h outputs = (output : ℕ) → IsIn output outputs → (spec : Spec) × (spec_of h output ≡ Some spec)
@@ -186,7 +182,7 @@ module _ (seen : List Entry) where
   each-starts h [] starts are = starts_refl h
   each-starts h (output ∷ outputs) starts are =
       let spec = are output (inl refl) in
-      let first = landed-starts h output spec.0 (spec-kept h seen output spec.0 starts spec.1) in
+      let first = landed-starts h output spec.0 (spec-stays h seen output spec.0 starts spec.1) in
       starts_trans (landed_each (landed_next h output) outputs) (landed_next h output) h
       (each-starts (landed_next h output) outputs (starts_trans (landed_next h output) h seen first starts) (λ s is. are s (inr is))) first
 
@@ -195,7 +191,7 @@ module _ (seen : List Entry) where
   each-other h [] stream starts are not = same_refl stream h
   each-other h (output ∷ outputs) stream starts are not =
       let spec = are output (inl refl) in
-      let here = spec-kept h seen output spec.0 starts spec.1 in
+      let here = spec-stays h seen output spec.0 starts spec.1 in
       let first = landed-starts h output spec.0 here in
       same_trans stream h (landed_next h output) (landed_each (landed_next h output) outputs)
       (landed-other h output spec.0 stream here (λ same. not (inl (sym same))))
@@ -207,13 +203,13 @@ module _ (seen : List Entry) where
   each-mine h (first ∷ outputs) output spec starts are distinct (inl here) spec_is not_first not_second =
       let mid = landed_next h first in
       let first_spec = are first (inl refl) in
-      let mid_starts = starts_trans mid h seen (landed-starts h first first_spec.0 (spec-kept h seen first first_spec.0 starts first_spec.1)) starts in
+      let mid_starts = starts_trans mid h seen (landed-starts h first first_spec.0 (spec-stays h seen first first_spec.0 starts first_spec.1)) starts in
       subst (λ s. Same output (landed_next h s) (landed_each mid outputs)) (sym here)
       (each-other mid outputs output mid_starts (λ s is. are s (inr is)) (λ is. distinct.0 (subst (λ s. IsIn s outputs) here is)))
   each-mine h (first ∷ outputs) output spec starts are distinct (inr later) spec_is not_first not_second =
       let mid = landed_next h first in
       let first_spec = are first (inl refl) in
-      let in_h = spec-kept h seen first first_spec.0 starts first_spec.1 in
+      let in_h = spec-stays h seen first first_spec.0 starts first_spec.1 in
       let mid_starts = starts_trans mid h seen (landed-starts h first first_spec.0 in_h) starts in
       let other : (stream : ℕ) → first ≢ stream → Same stream h mid = λ stream differs. landed-other h first first_spec.0 stream in_h differs in
       let inputs : SameInputs h mid spec = record {
@@ -222,7 +218,7 @@ module _ (seen : List Entry) where
       } in
       let rest = each-mine mid outputs output spec mid_starts (λ s is. are s (inr is)) distinct.1 later spec_is (λ is. not_first (inr is)) (λ s at is. not_second s at (inr is)) in
       same_trans output (landed_next h output) (landed_next mid output) (landed_each mid outputs)
-      (landed-same h mid output spec (spec-kept h seen output spec starts spec_is) (spec-kept mid seen output spec mid_starts spec_is)
+      (landed-same h mid output spec (spec-stays h seen output spec starts spec_is) (spec-stays mid seen output spec mid_starts spec_is)
       (other output (λ same. distinct.0 (subst (λ s. IsIn s outputs) (sym same) later))) inputs)
       rest
 
@@ -239,15 +235,9 @@ rejected-some : (h : List Entry) (e : Entry) (o : Option Rejection) (why : Rejec
 rejected-some h e None why is = absurd (cc)
 rejected-some h e (Some other) why is = let same : other ≡ why = cc in ap (λ (r : Rejection). Some r) same
 
-same_landing : (a b : Landing) → Some a ≡ Some b → a ≡ b
-same_landing a b is = cc
-
-same_spec : (a b : Spec) → Some a ≡ Some b → a ≡ b
-same_spec a b is = cc
-
 planned-parts : (h : List Entry) (output : ℕ) (spec : Spec) (l : Landing) (t : Bool) → cond {A = Option Landing} t None (Some (next h output spec)) ≡ Some l → (t ≡ false) × (next h output spec ≡ l)
 planned-parts h output spec l true is = absurd (cc)
-planned-parts h output spec l false is = (refl, same_landing (next h output spec) l is)
+planned-parts h output spec l false is = (refl, same_some (next h output spec) l is)
 
 planned-none-parts : (h : List Entry) (output : ℕ) (spec : Spec) (t : Bool) → cond {A = Option Landing} t None (Some (next h output spec)) ≡ None → t ≡ true
 planned-none-parts h output spec true is = refl
@@ -283,12 +273,12 @@ module _ (at p : List Entry) (output : ℕ) (spec : Spec) (plan : PlanValue) (fo
       (λ i. same_reads (has_read i) (to_read i)) ∙ parts.0
 
   spec-here : spec_of p output ≡ Some spec
-  spec-here = spec-kept p at output spec starts is_spec
+  spec-here = spec-stays p at output spec starts is_spec
 
   entry-here : landing p (landing_of plan) spec ≡ plans.entry_of plan
   entry-here =
       let own : spec_of p plan.stream ≡ Some spec = ap (spec_of p) is.same_stream ∙ spec-here in
-      let same_one : plan-here.spec ≡ spec = same_spec plan-here.spec spec (sym plan-here.output ∙ own) in
+      let same_one : plan-here.spec ≡ spec = same_some plan-here.spec spec (sym plan-here.output ∙ own) in
       sym (plan-entry p plan plan-here plan-current ∙ ap (landing p (landing_of plan)) same_one)
 
   -- What its landing leaves at p.
@@ -360,14 +350,14 @@ module _ (low hist : List Entry) (output : ℕ) (spec : Spec) (is_spec : spec_of
   end-current at version above inside is quiet =
       let same_at = quiet-same output low at above (quiet-less output low at hist inside quiet) in
       let same_hist = quiet-same output low hist whole quiet in
-      let spec_same : is.spec ≡ spec = same_spec is.spec spec (sym is.output ∙ spec-kept at low output spec above is_spec) in
+      let spec_same : is.spec ≡ spec = same_some is.spec spec (sym is.output ∙ spec-stays at low output spec above is_spec) in
       let none : planned low output spec ≡ None =
       sym (planned-same low at output spec same_at (inputs-between low at (starts_refl low) above inside)) ∙ ap (planned at output) (sym spec_same) ∙ is.nothing in
       let landed : landed_next low output ≡ low =
       landed-is low output spec is_spec ∙ ap (after_next low output spec) (planned-none-parts low output spec (is_current low output spec) none) in
       let version_is : version ≡ latest hist output = is.latest ∙ latest-same low at output same_at ∙ sym (latest-same low hist output same_hist) in (
         subst (λ l. Same output l hist) (sym landed) same_hist,
-        result-current low hist output spec (spec-kept hist low output spec whole is_spec) same_hist (inputs-between low hist (starts_refl low) whole (starts_refl hist)) version none version_is,
+        result-current low hist output spec (spec-stays hist low output spec whole is_spec) same_hist (inputs-between low hist (starts_refl low) whole (starts_refl hist)) version none version_is,
       )
 
   module _ (at p : List Entry) (plan : PlanValue) (follows : Follows p) (above : StartsWith at low) (starts : StartsWith p at) (inside : StartsWith hist p) (is : IsNextPlan at output plan) (quiet : Quiet output low p) where
@@ -381,13 +371,13 @@ module _ (low hist : List Entry) (output : ℕ) (spec : Spec) (is_spec : spec_of
     same-low = quiet-same output low p low-p quiet
 
     spec-at : spec_of at output ≡ Some spec
-    spec-at = spec-kept at low output spec above is_spec
+    spec-at = spec-stays at low output spec above is_spec
 
     inputs-at : SameInputs at p spec
     inputs-at = inputs-between at p above starts inside
 
     landed-p : Same output (landed_next low output) (landed_next p output)
-    landed-p = landed-same low p output spec is_spec (spec-kept p low output spec low-p is_spec) same-low (inputs-between low p (starts_refl low) low-p inside)
+    landed-p = landed-same low p output spec is_spec (spec-stays p low output spec low-p is_spec) same-low (inputs-between low p (starts_refl low) low-p inside)
 
     p-is : landed_next p output ≡ committed p (plans.entry_of plan) (landing_rejection p (landing_of plan))
     p-is = landed-here at p output spec plan follows starts spec-at is same-at inputs-at
@@ -421,7 +411,7 @@ module _ (low hist : List Entry) (output : ℕ) (spec : Spec) (is_spec : spec_of
         sym (planned-same low at output spec (quiet-same output low at above (quiet-less output low at p starts quiet)) (inputs-between low at (starts_refl low) above (starts_trans hist p at inside starts)))
         ∙ sym (ap (plan_of at output) spec-at) ∙ is.planned in (
           same_trans output (landed_next low output) (landed_next p output) hist landed-p (subst (λ l. Same output l hist) (sym landed) same_p),
-          result-limit low hist output spec (spec-kept hist low output spec whole is_spec) same_hist (inputs-between low hist (starts_refl low) whole (starts_refl hist)) (landing_of plan) some,
+          result-limit low hist output spec (spec-stays hist low output spec whole is_spec) same_hist (inputs-between low hist (starts_refl low) whole (starts_refl hist)) (landing_of plan) some,
         )
 
     -- No other version has followed.
@@ -539,7 +529,7 @@ module _ (start : Start) (result : ℕ → Brought) (seen : List Entry) (follows
     level-ends output here =
         let spec = are output (inl here) in
         let split = each-split start middle low result level brings.3 output brings.5 graded.1 here in
-        level-end start middle low result level brings.3 brings.5 first-all output split legal-middle spec.0 (spec-kept low seen output spec.0 begins spec.1) brings.2
+        level-end start middle low result level brings.3 brings.5 first-all output split legal-middle spec.0 (spec-stays low seen output spec.0 begins spec.1) brings.2
         (end-first output here) (end-second output here) (result output) (free output (inl here)) split.brought
 
     -- If each stream had the same commits before the level, each has so after it.
@@ -552,7 +542,7 @@ module _ (start : Start) (result : ℕ → Brought) (seen : List Entry) (follows
               let mine = each-mine seen h level stream spec.0 starts (λ s is. are s (inl is)) graded.1 here spec.1
               (lower spec.0.first (first-lower seen follows stream spec.0 spec.1)) (λ s is. lower s (second-below seen follows stream spec.0 spec.1 s is)) in
               let inputs : SameInputs h low spec.0 = record { first = same spec.0.first; second = λ s is. same s } in
-              let landed = landed-same h low stream spec.0 (spec-kept h seen stream spec.0 starts spec.1) (spec-kept low seen stream spec.0 begins spec.1) (same stream) inputs in
+              let landed = landed-same h low stream spec.0 (spec-stays h seen stream spec.0 starts spec.1) (spec-stays low seen stream spec.0 begins spec.1) (same stream) inputs in
               same_trans stream (landed_each h level) (landed_next h stream) middle.history
               (same_sym stream (landed_next h stream) (landed_each h level) mine)
               (same_trans stream (landed_next h stream) (landed_next low stream) middle.history landed (level-ends stream here).0)
@@ -584,8 +574,8 @@ module _ (start : Start) (result : ℕ → Brought) (seen : List Entry) (follows
   levels-results base low (level ∷ levels) late own begins graded are brings all legal free output (inl here) =
       let mid = brings.0.history in
       let spec = are output (inl here) in
-      let in_mid = spec-kept mid seen output spec.0 (starts_trans mid low seen brings.2 begins) spec.1 in
-      let in_late = spec-kept late.history mid output spec.0 brings.1.begins in_mid in
+      let in_mid = spec-stays mid seen output spec.0 (starts_trans mid low seen brings.2 begins) spec.1 in
+      let in_late = spec-stays late.history mid output spec.0 brings.1.begins in_mid in
       let rest = all-rest start result low level levels late own brings all in
       let still : (s : ℕ) → of s ≤ of output → Same s mid late.history = λ s lower.
       quiet-same s mid late.history brings.1.begins
@@ -599,7 +589,7 @@ module _ (start : Start) (result : ℕ → Brought) (seen : List Entry) (follows
   levels-results base low (level ∷ levels) late own begins graded are brings all legal free output (inr later) =
       let mid = brings.0.history in
       let spec = are output (inr later) in
-      let in_late = spec-kept late.history seen output spec.0 (starts_trans late.history mid seen brings.1.begins (starts_trans mid low seen brings.2 begins)) spec.1 in
+      let in_late = spec-stays late.history seen output spec.0 (starts_trans late.history mid seen brings.1.begins (starts_trans mid low seen brings.2 begins)) spec.1 in
       let above = graded-above (levels_of seen) (suc base) levels output graded.2 later in
       let before : Same output low mid = quiet-same output low mid brings.2
       (quiet-other base low level levels late own begins graded are brings all legal free output (λ is. absurd (omega (arith, above, graded.0 output is)))) in
@@ -670,8 +660,8 @@ module _ (start : Start) (course : Course) (low : List Entry) (report : List Rep
       let end = landed_levels seen brings.levels in
       let back : (s : ℕ) → Same s course.history end = λ s. same_sym s end course.history (alike s) in
       levels-results start brings.result seen seen-follows 1 seen brings.levels course own (starts_refl seen) graded are-outputs brings.brings every legal free output any
-      ∙ sym (result-same seen seen course.history end output spec.0 (spec-kept course.history seen output spec.0 brings.before spec.1)
-      (spec-kept end seen output spec.0 (levels-starts seen seen brings.levels (starts_refl seen) are-outputs) spec.1)
+      ∙ sym (result-same seen seen course.history end output spec.0 (spec-stays course.history seen output spec.0 brings.before spec.1)
+      (spec-stays end seen output spec.0 (levels-starts seen seen brings.levels (starts_refl seen) are-outputs) spec.1)
       (same_refl output seen) (back output) (record { first = back spec.0.first; second = λ s at. back s }))
 
   pub seen-alike : IsAlike course.history (landed_levels seen brings.levels) seen report

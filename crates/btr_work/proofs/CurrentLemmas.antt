@@ -30,20 +30,18 @@ use Rattle.btr_work.specs.Report.{IsBrought, BringsEach, BringsLevels}
 use Rattle.btr_work.specs.Laws.{AreAllSince, IsCurrentIn, BroughtIsCurrent}
 use Rattle.btr_work.proofs.MemberLemmas.{IsIn, IsInAny, Graded, groups-graded, graded-above, first-lower, second-below, output-level, output-spec, all-members}
 use Rattle.btr_work.proofs.QuietLemmas.{IsOther, Quiet, Same, SameInputs, quiet-same, quiet-more, get-past, latest-same, latest_reads-same, reads-same, up_to_date-same}
-use Rattle.btr_work.proofs.OwnLemmas.{AreAll, IsSplit, each-owned, each-split, levels-owned, all-first, all-rest}
+use Rattle.btr_work.proofs.OwnLemmas.{same_some, AreAll, IsSplit, each-owned, each-split, levels-owned, all-first, all-rest}
 
 -- ---- what stays
 
-spec-stays : (h low : List Entry) (stream : ℕ) (spec : Spec) → StartsWith h low → spec_of low stream ≡ Some spec → spec_of h stream ≡ Some spec
+-- An output is one after more.
+pub spec-stays : (h low : List Entry) (stream : ℕ) (spec : Spec) → StartsWith h low → spec_of low stream ≡ Some spec → spec_of h stream ≡ Some spec
 spec-stays h low stream spec starts output =
     subst (λ l. spec_of l stream ≡ Some spec) (sym starts.1) (spec_of-stays low starts.0 stream spec output)
 
 -- ---- an output that was up to date when it was looked at, or has landed
 
 module _ (h at : List Entry) (output : ℕ) (spec : Spec) (starts : StartsWith h at) (spec_is : spec_of at output ≡ Some spec) (inputs : SameInputs at h spec) where
-  same_some : (a b : Spec) → Some a ≡ Some b → a ≡ b
-  same_some a b is = cc
-
   -- An output that was up to date, and to which nothing was added.
   pub current-still : (version : ℕ) → IsUpToDate at output version → Same output at h → IsUpToDate h output version
   current-still version is same =

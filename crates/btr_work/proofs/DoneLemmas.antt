@@ -1,7 +1,8 @@
 -- Lemmas on the jobs of levels: one level more, and what the report says when all are done.
-use Rattle.std.specs.Prelude.{◌≡◌, ℕ, ◌<◌, List, [], ◌∷◌, ◌++◌, length, map, slice_set}
-use Rattle.std.proofs.Common.{suc, refl, sym, ap, ◌∙◌, subst, arith, inl, inr}
-use Rattle.std.proofs.lemmas.List.{length-set, get_or-set_same, get_or-set_other}
+use Rattle.std.specs.Prelude.{◌≡◌, ℕ, ◌+◌, ◌<◌, List, [], ◌∷◌, ◌++◌, length, map, take, drop, slice_set}
+use Rattle.std.specs.Vec.{with_items}
+use Rattle.std.proofs.Common.{suc, get_or, set, refl, sym, ap, ◌∙◌, subst, arith, inl, inr}
+use Rattle.std.proofs.lemmas.List.{length-set, get_or-set_same, get_or-set_other, with_items_is}
 use Rattle.btr_disk.specs.declared.disk.Disk.{Ghosts}
 use Rattle.btr_hist.specs.declared.entry.Entry.{Entry}
 use Rattle.btr_hist.specs.History.{kinds}
@@ -19,17 +20,19 @@ use Rattle.btr_hall.specs.Session.{Looks, opening_of, seen_of}
 use Rattle.btr_jobs.specs.Course.{Start, Course, GoesOn}
 use Rattle.btr_jobs.specs.Jobs.{AllDid, IsAt, Does}
 use Rattle.btr_jobs.specs.TurnLaws.{goes_refl, goes_trans}
-use Rattle.btr_jobs.specs.JobLaws.{all_did_append, all_did_lasts, all_did_lowers, all_did_one}
+use Rattle.btr_jobs.specs.JobLaws.{all_did_lowers}
 use Rattle.btr_jobs.proofs.DoesLemmas.{does_none, does_then}
+use Rattle.btr_jobs.proofs.RunLemmas.{length_after, rest_after, items_more, now_more}
 use Rattle.btr_jobs.proofs.TurnLemmas.{look_turn}
 use Rattle.btr_work.specs.declared.bringing.OutputJob.{OutputJob}
 use Rattle.btr_work.specs.declared.prepare.Level.{Level}
 use Rattle.btr_work.specs.declared.prepare.Work.{Work}
 use Rattle.btr_work.specs.declared.report.Brought.{Brought}
 use Rattle.btr_work.specs.declared.report.Brought.TheVariants.{Refused}
+use Rattle.btr_work.specs.declared.report.ReportLine.{ReportLine}
 use Rattle.btr_work.specs.Levels.{levels_of, outputs}
 use Rattle.btr_work.specs.Report.{IsBrought, BringsEach, BringsLevels, Brings}
-use Rattle.btr_work.specs.ReportLaws.{done_lasts, done_lowers}
+use Rattle.btr_work.specs.ReportLaws.{done_lowers}
 use Rattle.btr_work.specs.Bringing.{IsDone, AreDone, outputs_in, jobs_in, groups_in, blank, IsPrepared, noted, noted_all, result_at, filled}
 use Rattle.btr_work.proofs.MemberLemmas.{IsIn, IsInAny, Distinct, Graded, groups-graded, graded-above, inside-some, levels-length}
 
@@ -83,23 +86,25 @@ module _ {D : Type 0} {disk : Ghosts D} (hall : Hall D disk) where
       (done-snoc start low (jobs_in before) (jobs_in after) early late was.jobs.items now.jobs.items a b on first second)))
       done level
 
--- These outputs were done.
-abbrev pub JobsDone : List OutputJob → List OutputJob → Start → Course → List Entry → List ℕ → Type 0
-JobsDone before after start course low own = AllDid IsDone start course low before after own
+  -- The levels before the index i were done. The others are as they were.
+  abbrev pub LevelsDoneTo : Session D disk → Session D disk → ℕ → List Level → List Level → Type 0
+  LevelsDoneTo old new i levels now =
+      IsAt hall new × (length now ≡ length levels) × (drop i now ≡ drop i levels) × Does hall old new (LevelsDone (take i levels) (take i now))
 
-module _ {D : Type 0} {disk : Ghosts D} (hall : Hall D disk) where
-  pub jobs-none : (s : Session D disk) → Does hall s s (JobsDone [] [])
-  jobs-none s = does_none hall s (JobsDone [] []) (λ start course n. refl)
-
-  -- One job more was done.
-  pub jobs-more : (old mid new : Session D disk) (before after : List OutputJob) (was now : OutputJob) → IsAt hall new → Does hall old mid (JobsDone before after) → Does hall mid new (λ start course low own. IsDone start course low was now own) → Does hall old new (JobsDone (before ++ was ∷ []) (after ++ now ∷ []))
-  jobs-more old mid new before after was now at all one =
-      does_then hall old mid new (JobsDone before after) (λ start course low own. IsDone start course low was now own) (JobsDone (before ++ was ∷ []) (after ++ now ∷ [])) at
-      (λ start late early low a b on starts first second.
-      all_did_append IsDone start late low before after a (was ∷ []) (now ∷ []) b
-      (all_did_lasts IsDone start late early low (λ w n o is. done_lasts start late early low w n o on is) before after a first)
-      (all_did_one IsDone start late low was now b (done_lowers start late early.history low was now b starts second)))
-      all one
+  -- The level at the index i was done too.
+  pub levels-step : (old mid new : Session D disk) (levels now : List Level) (i : ℕ) (was done : Level) → i < length now → LevelsDoneTo old mid i levels now → was ≡ get_or now i was → IsAt hall new → Does hall mid new (λ start course low own. AllDid IsDone start course low (get_or now i was).jobs.items done.jobs.items own) → LevelsDoneTo old new (i + 1) levels (set now i done)
+  levels-step old mid new levels now i was done inside so_far is at one =
+      let long = so_far.1 in
+      let rest = so_far.2 in
+      let level = subst (λ (w : Level). Does hall mid new (λ start course low own. AllDid IsDone start course low w.jobs.items done.jobs.items own)) (sym is) one in
+      let more = levels-more old mid new (take i levels) (take i now) was done at so_far.3 level in
+      let before = items_more levels now i was done inside long rest is in
+      let after = now_more levels now i was done inside long rest is in (
+        at,
+        length_after levels now i was done inside long rest is,
+        rest_after levels now i was done inside long rest is,
+        subst (λ l. Does hall old new (LevelsDone (take (i + 1) levels) l)) after (subst (λ l. Does hall old new (LevelsDone l (take i now ++ done ∷ []))) before more),
+      )
 
 -- ---- from jobs to results
 
@@ -220,14 +225,17 @@ done-brings start low seen work after late own starts before prepared done =
     }
 
 module _ {D : Type 0} {disk : Ghosts D} (hall : Hall D disk) where
-  pub all-brought : (old mid new : Session D disk) (work : Work) (after : List Level) → IsAt hall new → Looks hall old mid → ((h : List Entry) → IsEngineOf h (opening_of hall) → IsPrepared (history_of h (seen_of mid)) work) → Does hall mid new (LevelsDone work.levels.items after) → Does hall old new (λ start course low own. Brings start course low (map (filled (noted_all work.results.items (jobs_in after))) work.lines.items) own)
-  all-brought old mid new work after at looks prepared done =
-      let report = map (filled (noted_all work.results.items (jobs_in after))) work.lines.items in
+  -- The report that is made from work that was prepared and done.
+  pub all-brought : (old mid new : Session D disk) (work : Work) (before after : List Level) (report : List ReportLine) → IsAt hall new → Looks hall old mid → ((h : List Entry) → IsEngineOf h (opening_of hall) → IsPrepared (history_of h (seen_of mid)) work) → before ≡ work.levels.items → length after ≡ work.levels.len → Does hall mid new (LevelsDone before after) → report ≡ map (filled (noted_all work.results.items (jobs_in (with_items work.levels after).items))) work.lines.items → Does hall old new (λ start course low own. Brings start course low report own)
+  all-brought old mid new work before after report at looks prepared same long done is =
+      let made = is ∙ ap (λ ls. map (filled (noted_all work.results.items (jobs_in ls))) work.lines.items) (with_items_is work.levels after long) in
+      let all = subst (λ ls. Does hall mid new (LevelsDone ls after)) same done in
       does_then hall old mid new (λ start course low own. (own ≡ []) × StartsWith course.history low × IsPrepared course.history work) (LevelsDone work.levels.items after) (λ start course low own. Brings start course low report own) at
       (λ start late early low a b on starts first second.
       subst (λ own. Brings start late low report (own ++ b)) (sym first.0)
-      (done-brings start low early.history work after late b starts on.begins first.2 second))
-      (look_turn hall old mid looks (λ h. IsPrepared h work) prepared) done
+      (subst (λ r. Brings start late low r b) (sym made)
+      (done-brings start low early.history work after late b starts on.begins first.2 second)))
+      (look_turn hall old mid looks (λ h. IsPrepared h work) prepared) all
 
   -- Nothing was added.
   pub none-brought : (old new : Session D disk) → Looks hall old new → Does hall old new (λ start course low own. (n : ℕ) → times n own ≡ 0)

@@ -4,6 +4,5 @@ pub mod QuietLemmas
 pub mod OwnLemmas
 pub mod CurrentLemmas
 pub mod AlikeLemmas
-mod SliceLemmas
 mod BringLemmas
 mod DoneLemmas

@@ -3,7 +3,7 @@ use Rattle.std.specs.Prelude.{◌≡◌, ◌≢◌, ◌⊎◌, ℕ, ◌+◌, ◌
 use Rattle.std.specs.Prelude.{Result, Ok, Err}
 use Rattle.std.specs.Option.{is_some}
 use Rattle.std.proofs.Common.{refl, sym, ap, ◌∙◌, subst, arith, inl, inr, length-append, append_assoc}
-use Rattle.std.proofs.lemmas.Bool.{ne_eqb, or_right, cases_lt, cases_eq}
+use Rattle.std.proofs.lemmas.Bool.{ne_eqb, or_right, cases_eq}
 use Rattle.btr_base.specs.Commit.{Change}
 use Rattle.btr_hist.specs.declared.entry.Entry.{Entry}
 use Rattle.btr_hist.specs.declared.kernel.Reads.{Reads}
@@ -18,6 +18,7 @@ use Rattle.btr_hall.specs.declared.land.LandFault.TheVariants as faults
 use Rattle.btr_jobs.specs.Course.{Start, Course, GoesOn}
 use Rattle.btr_jobs.specs.Turns.{IsAdded, IsFailed, IsIdle, Landed, LandedAfter}
 use Rattle.btr_jobs.specs.TurnLaws.{landed_lasts}
+use Rattle.btr_jobs.proofs.DoesLemmas.{in_sum}
 use Rattle.btr_work.specs.declared.report.Brought.{Brought}
 use Rattle.btr_work.specs.declared.report.Brought.TheVariants as brought
 use Rattle.btr_work.specs.declared.report.ReportLine.{ReportLine}
@@ -54,8 +55,8 @@ only n m own is some =
 none-own : (n : ℕ) (own : List ℕ) → own ≡ [] → 0 < times n own → ⊥
 none-own n own is some = absurd (omega (arith, some, ap (times n) is))
 
-the-entry : (a b : Entry) → Some a ≡ Some b → a ≡ b
-the-entry a b is = cc
+pub same_some : {A : Type 0} (a b : A) → Some a ≡ Some b → a ≡ b
+same_some a b is = cc
 
 module _ (course : Course) (p : List Entry) (plan : PlanValue) (own : List ℕ) (next : List Entry) (n : ℕ) (some : 0 < times n own) where
   -- What it says of the number that it was added, or that the device failed.
@@ -72,7 +73,7 @@ module _ (course : Course) (p : List Entry) (plan : PlanValue) (own : List ℕ) 
       record {
         number = number;
         within = inl (omega (arith, number, starts_length course.history (p ++ entry_of plan ∷ []) is.follows, length-append p (entry_of plan ∷ [])));
-        entry = λ e here. the-entry e (entry_of plan)
+        entry = λ e here. same_some e (entry_of plan)
             (sym here ∙ ap (slice_get course.history) at ∙ ap (λ l. slice_get l (length p + 0)) all ∙ get-after p (entry_of plan ∷ is.follows.0) 0);
       }
 
@@ -124,19 +125,12 @@ module _ (start : Start) (course : Course) (low : List Entry) (output : ℕ) (ow
 
 -- ---- one level
 
-in-sum : (n : ℕ) (own first rest : List ℕ) → times n own ≡ times n first + times n rest → 0 < times n own → (0 < times n first) ⊎ (0 < times n rest)
-in-sum n own first rest sum some =
-    elim (cases_lt 0 (times n first)) [
-      | inl of_first ↦ inl of_first
-      | inr zero_first ↦ inr (omega (arith, sum, some, zero_first))
-    ]
-
 module _ (start : Start) (course : Course) (low : List Entry) (result : ℕ → Brought) where
   -- Each number is that of one output of the level.
   pub each-owned : (level : List ℕ) (own : List ℕ) → BringsEach start course low result level own → (n : ℕ) → 0 < times n own → (output : ℕ) × IsIn output level × Owns output course low n
   each-owned [] own brings n some = absurd (omega (arith, some, brings n))
   each-owned (output ∷ level) own brings n some =
-      elim (in-sum n own brings.0 brings.1 (brings.4 n) some) [
+      elim (in_sum n own brings.0 brings.1 (brings.4 n) some) [
         | inl first ↦ (output, inl refl, brought-owns start course low output brings.0 n first (result output) brings.2)
         | inr rest ↦ let r = each-owned level brings.1 brings.3 n rest in (r.0, inr r.1, r.2)
       ]
@@ -168,7 +162,7 @@ module _ (start : Start) (course : Course) (low : List Entry) (result : ℕ → 
         brought = rest.brought;
         sum = λ n. omega (arith, brings.4 n, rest.sum n, times_append n brings.0 rest.others);
         owned = λ n some.
-            elim (in-sum n (brings.0 ++ rest.others) brings.0 rest.others (times_append n brings.0 rest.others) some) [
+            elim (in_sum n (brings.0 ++ rest.others) brings.0 rest.others (times_append n brings.0 rest.others) some) [
               | inl of_first ↦ (
                 first,
                 inl refl,
@@ -203,7 +197,7 @@ module _ (start : Start) (result : ℕ → Brought) where
   pub levels-owned : (low : List Entry) (levels : List (List ℕ)) (late : Course) (own : List ℕ) → BringsLevels start low result levels late own → (n : ℕ) → 0 < times n own → (output : ℕ) × IsInAny output levels × Owns output late low n
   levels-owned low [] late own brings n some = absurd (omega (arith, some, brings.1 n))
   levels-owned low (level ∷ levels) late own brings n some =
-      elim (in-sum n own brings.3 brings.4 (brings.7 n) some) [
+      elim (in_sum n own brings.3 brings.4 (brings.7 n) some) [
         | inl first ↦
             let r = each-owned start brings.0 low result level brings.3 brings.5 n first in
             (r.0, inl r.1, owns-lasts start late brings.0 low r.0 n brings.1 r.2)
@@ -223,7 +217,7 @@ module _ (start : Start) (result : ℕ → Brought) (low : List Entry) (level : 
   -- The numbers of the first level are those of the entries at its end, and those of the others are those of the entries after it.
   pub all-first : AreAll low middle.history brings.3
   all-first n after inside =
-      elim (in-sum n own brings.3 brings.4 (brings.7 n) (all n after (omega (arith, inside, starts_length late.history middle.history brings.1.begins)))) [
+      elim (in_sum n own brings.3 brings.4 (brings.7 n) (all n after (omega (arith, inside, starts_length late.history middle.history brings.1.begins)))) [
         | inl first ↦ first
         | inr rest ↦
             let r = levels-owned start result middle.history levels late brings.4 brings.6 n rest in
@@ -233,7 +227,7 @@ module _ (start : Start) (result : ℕ → Brought) (low : List Entry) (level : 
 
   pub all-rest : AreAll middle.history late.history brings.4
   all-rest n after inside =
-      elim (in-sum n own brings.3 brings.4 (brings.7 n) (all n (omega (arith, after, starts_length middle.history low brings.2)) inside)) [
+      elim (in_sum n own brings.3 brings.4 (brings.7 n) (all n (omega (arith, after, starts_length middle.history low brings.2)) inside)) [
         | inl first ↦
             let r = each-owned start middle low result level brings.3 brings.5 n first in
             absurd (elim r.2.within as (λ _. ⊥) [
@@ -301,7 +295,7 @@ module _ (start : Start) (result : ℕ → Brought) where
   each-landing : (course : Course) (low : List Entry) (level own : List ℕ) → BringsEach start course low result level own → (n : ℕ) → 0 < times n own → IsLanding start course low n
   each-landing course low [] own brings n some = absurd (omega (arith, some, brings n))
   each-landing course low (output ∷ level) own brings n some =
-      elim (in-sum n own brings.0 brings.1 (brings.4 n) some) [
+      elim (in_sum n own brings.0 brings.1 (brings.4 n) some) [
         | inl first ↦ brought-landing start course low output brings.0 n first (result output) brings.2
         | inr rest ↦ each-landing course low level brings.1 brings.3 n rest
       ]
@@ -309,7 +303,7 @@ module _ (start : Start) (result : ℕ → Brought) where
   levels-landing : (low : List Entry) (levels : List (List ℕ)) (late : Course) (own : List ℕ) → BringsLevels start low result levels late own → (n : ℕ) → 0 < times n own → IsLanding start late low n
   levels-landing low [] late own brings n some = absurd (omega (arith, some, brings.1 n))
   levels-landing low (level ∷ levels) late own brings n some =
-      elim (in-sum n own brings.3 brings.4 (brings.7 n) some) [
+      elim (in_sum n own brings.3 brings.4 (brings.7 n) some) [
         | inl first ↦ landing-lasts start late brings.0 low n brings.1 (each-landing brings.0 low level brings.3 brings.5 n first)
         | inr rest ↦ landing-lowers start late brings.0.history low n brings.2 (levels-landing brings.0.history levels late brings.4 brings.6 n rest)
       ]

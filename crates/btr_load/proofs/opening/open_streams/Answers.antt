@@ -1,10 +1,11 @@
-use Rattle.std.proofs.Common.{◌≡◌, ◌+◌, ◌∙◌, List, [], refl, take, set, get_or, subst, arith}
-use Rattle.std.proofs.lemmas.List.{take_all, length-set, get_or_default}
+use Rattle.std.proofs.Common.{◌≡◌, ◌<◌, ◌+◌, List, [], length, refl, take, set, get_or, subst, arith}
+use Rattle.std.proofs.lemmas.List.{take_all, get_or_default}
 use Rattle.btr_hist.specs.declared.entry.Entry.{Entry}
 use Rattle.btr_engine.specs.Snapshot.{IsSnapshotOf}
 use Rattle.btr_jobs.proofs.DoesLemmas.{does_none, does_then, does_implied}
 use Rattle.btr_load.specs.Plan.{IsOpened, AreOpened}
-use Rattle.btr_load.proofs.CreateLemmas.{opened_step, rest_step}
+use Rattle.btr_jobs.proofs.RunLemmas.{length_after, rest_after}
+use Rattle.btr_load.proofs.CreateLemmas.{opened_step}
 use Rattle.btr_load.proofs.opening.open_streams.Goals as goal
 
 pub loop-stream-init : goal.loop-stream-init
@@ -27,18 +28,20 @@ loop-stream-preserved g c =
     let i = c.loop-stream.stream-index in
     let was = get_or after i c.stream-item.result in
     let now = c.open_stream.new.stream in
+    let inside : i < length after = omega (arith, c.loop-stream-test.true, inv.long) in
+    let is : was ≡ get_or after i was = get_or_default after i c.stream-item.result was inside in
     record {
       at = done.at;
       alone = done.alone;
-      long = length-set after i now ∙ inv.long;
-      rest = rest_step before after i now inv.rest;
+      long = length_after before after i was now inside inv.long inv.rest is;
+      rest = rest_after before after i was now inside inv.long inv.rest is;
       does = does_then c.args.hall.now c.args.session.now c.loop-stream.session c.open_stream.new.session
           (λ start course low own. (h : List Entry) → IsSnapshotOf h c.args.snapshot.now → AreOpened start course h low (take i before) (take i after) own course.history)
           (λ start course low own. (h : List Entry) → IsSnapshotOf h c.args.snapshot.now → IsOpened start course h low was now own course.history)
           (λ start course low own. (h : List Entry) → IsSnapshotOf h c.args.snapshot.now → AreOpened start course h low (take (i + 1) before) (take (i + 1) (set after i now)) own course.history)
           done.at
           (λ start late early low a b on starts all one. λ h of.
-          opened_step start late early h low before after i was now a b c.loop-stream-test.true (omega (arith, inv.long)) inv.rest (get_or_default after i c.stream-item.result was (omega (arith, inv.long))) on (all h of) (one h of))
+          opened_step start late early h low before after i was now a b inside inv.long inv.rest is on (all h of) (one h of))
           inv.does done.does;
     }
 

@@ -1,8 +1,9 @@
 use Rattle.std.proofs.Common.{◌≡◌, ◌∷◌, [], ◌++◌, length, sym, ap, subst, ◌∙◌, append_assoc, append-nil, arith}
+use Rattle.std.proofs.lemmas.List.{nil_from_length}
 use Rattle.std.specs.Vec.Iter.{into_iter_items}
 use Rattle.btr_load.specs.declared.stream.LoadedStream.{LoadedStream}
 use Rattle.btr_load.specs.Plan.{ArePlanned, AreReady}
-use Rattle.btr_load.proofs.OpenLemmas.{planned_push, ready_push, nothing_left}
+use Rattle.btr_load.proofs.OpenLemmas.{planned_push, ready_push}
 use Rattle.btr_load.proofs.plan.planned.Goals as goal
 
 pub loop-of_stream-preserved : goal.loop-of_stream-preserved
@@ -28,6 +29,6 @@ pub returns-clause-planned : goal.returns-clause-planned
 returns-clause-planned c = λ h of.
     let at = c.loop-of_stream in
     let none = c.in-None.ensures.steps in
-    let empty : into_iter_items at.of_stream-iterator ≡ [] = nothing_left _ (sym at.invariant.long ∙ none.0) in
+    let empty : into_iter_items at.of_stream-iterator ≡ [] = nil_from_length _ (sym at.invariant.long ∙ none.0) in
     let all = sym (append-nil at.yielded) ∙ rw empty at at.invariant.rest ∙ c.into_iter-of_stream-iterator.ensures.into_iter_gives.0 in
     subst (λ l. ArePlanned h c.args.batch l at.streams.items) all (at.invariant.planned h of)

@@ -1,9 +1,5 @@
-use Rattle.std.proofs.Common.{◌<◌, ◌+◌, length, [], ◌∷◌, ◌++◌, take, refl, sym, subst, arith}
-use Rattle.btr_jobs.specs.Jobs.{Does, AllDid}
-use Rattle.btr_work.proofs.SliceLemmas.{length-after, rest-after, items-more, now-more}
-use Rattle.btr_work.specs.declared.prepare.Level.{Level}
-use Rattle.btr_work.specs.Bringing.{IsDone}
-use Rattle.btr_work.proofs.DoneLemmas.{LevelsDone, levels-none, levels-more}
+use Rattle.std.proofs.Common.{◌<◌, length, refl, arith}
+use Rattle.btr_work.proofs.DoneLemmas.{levels-none, levels-step}
 use Rattle.btr_work.proofs.current.bring_levels.Goals as goal
 
 pub loop-level-init : goal.loop-level-init
@@ -11,20 +7,8 @@ loop-level-init g c = (c.requires.at, refl, refl, levels-none c.args.hall.now c.
 
 pub loop-level-preserved : goal.loop-level-preserved
 loop-level-preserved g c =
-    let hall = c.args.hall.now in
-    let old = c.args.session.now in
-    let i = c.loop-level.level-index in
-    let levels = c.args.levels.now in
+    let done = c.bring_level.ensures in
     let now = c.loop-level.levels in
-    let was = c.level-item.result in
-    let done = c.bring_level.new.level in
-    let new = c.bring_level.new.session in
-    let long = c.loop-level.invariant.1 in
-    let rest = c.loop-level.invariant.2 in
-    let inside : i < length now = omega arith in
-    let one = subst (λ (w : Level). Does hall c.loop-level.session new (λ start course low own. AllDid IsDone start course low w.jobs.items done.jobs.items own)) (sym c.level-item.is) c.bring_level.ensures.done in
-    let more = levels-more hall old c.loop-level.session new (take i levels) (take i now) was done c.bring_level.ensures.at c.loop-level.invariant.3 one in
-    let before = items-more levels now i was done inside long rest c.level-item.is in
-    let after = now-more levels now i was done inside long rest c.level-item.is in
-    let all = subst (λ l. Does hall old new (LevelsDone (take (i + 1) levels) l)) after (subst (λ l. Does hall old new (LevelsDone l (take i now ++ done ∷ []))) before more) in
-    (c.bring_level.ensures.at, length-after levels now i was done inside long rest c.level-item.is, rest-after levels now i was done inside long rest c.level-item.is, all)
+    let i = c.loop-level.level-index in
+    let inside : i < length now = omega (arith, c.loop-level-test.true, c.loop-level.invariant.1) in
+    levels-step c.args.hall.now c.args.session.now c.loop-level.session c.bring_level.new.session c.args.levels.now now i c.level-item.result c.bring_level.new.level inside c.loop-level.invariant c.level-item.is done.at done.done

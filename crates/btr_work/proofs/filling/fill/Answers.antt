@@ -1,7 +1,7 @@
 use Rattle.std.proofs.Common.{◌≡◌, ◌<◌, length, [], ◌∷◌, ◌++◌, take, map, slice_index_or, sym, ap, ◌∙◌, arith}
 use Rattle.std.proofs.lemmas.List.{get_or_default}
 use mathlib.Core.List.{map-append}
-use Rattle.btr_work.proofs.SliceLemmas.{length-after, rest-after, items-more, now-more}
+use Rattle.btr_jobs.proofs.RunLemmas.{length_after, rest_after, items_more, now_more}
 use Rattle.btr_work.specs.declared.report.Brought.TheVariants.{Landed}
 use Rattle.btr_work.specs.declared.report.ReportLine.{ReportLine}
 use Rattle.btr_work.specs.Bringing.{filled}
@@ -21,11 +21,11 @@ loop-line-preserved c =
     let inside : i < length now = omega (arith, c.loop-line-test.true, long) in
     let is : was ≡ slice_index_or now i was = get_or_default now i none was inside in
     let is_filled : done ≡ f was = λ j. record { output = was.output; result = c.result_at-line.ensures j } in (
-      length-after lines now i was done inside long rest is,
-      rest-after lines now i was done inside long rest is,
-      sym (now-more lines now i was done inside long rest is)
+      length_after lines now i was done inside long rest is,
+      rest_after lines now i was done inside long rest is,
+      sym (now_more lines now i was done inside long rest is)
           ∙ ap (λ l. l ++ done ∷ []) c.loop-line.invariant.2
           ∙ ap (λ x. map f (take i lines) ++ x ∷ []) is_filled
           ∙ sym (map-append f (take i lines) (was ∷ []))
-          ∙ ap (map f) (items-more lines now i was done inside long rest is),
+          ∙ ap (map f) (items_more lines now i was done inside long rest is),
     )
