@@ -10,9 +10,9 @@ use Rattle.clap.specs.ValueTests.{is_numeral, is_unsigned_in}
 use Rattle.clap.proofs.WalkLemmas.{both}
 use Rattle.btr_words.specs.declared.command.Command.{Command}
 use Rattle.btr_words.specs.declared.command.Command.TheVariants.{Format, Load, Ask, Distil, Live, Sample}
-use Rattle.btr_words.specs.Words.{Argument, IsInBounds, Text, argument_named, batch_argument, batch_of, blocks_argument, command_of, format_of, number_for, number_of}
-use Rattle.btr_words.specs.Words.{numbers_in_order, numbers_of, option_numbers, options_after, others, sample_arguments, sample_of, sample_within, without_marker}
-use Rattle.btr_words.specs.Words.{workers_argument, workers_of}
+use Rattle.btr_words.specs.Words.{Argument, Found, IsInBounds, Takes, Text, argument_named, batch_argument, batch_of, between, blocks_argument, command_of, format_of, live_arguments}
+use Rattle.btr_words.specs.Words.{materialize_of, nothing, number_for, number_of, numbers_in_order, numbers_of, option_numbers, options_after, others, sample_arguments, sample_of}
+use Rattle.btr_words.specs.Words.{sample_within, taken, without_marker, workers_argument, workers_of}
 use Rattle.btr_words.proofs.Found.{named_in_others, some_is}
 
 abbrev Within : ℕ → ℕ → ℕ → Type 0
@@ -32,46 +32,61 @@ number_lies low high text = go (is_unsigned_in low high text) refl
             let c = both (nat_le low k) (nat_le k high) b.1 in
             (leb-true low k c.0, leb-true k high c.1)
 
--- Each number that was found for one of the arguments lies in its bounds.
-abbrev Lie : List Argument → List (Text × ℕ) → Type 0
-Lie arguments found = (name : Text) (a : Argument) → argument_named name arguments ≡ Some a → IfSome (number_for name found) (Within a.low a.high)
+-- The number lies in the bounds of what an argument takes.
+abbrev Fits : Takes → ℕ → Type 0
+Fits (between low high) n = Within low high n
+Fits nothing n = Unit {0}
 
--- One more number, if its argument is the only one of its name that counts.
-lie_more : (arguments : List Argument) (a : Argument) (name : Text) (n : ℕ) (found : List (Text × ℕ)) → argument_named name arguments ≡ Some a → Within a.low a.high n
-    → ((other : Text) (b : Argument) → bytes_eq name other ≡ false → argument_named other arguments ≡ Some b → IfSome (number_for other found) (Within b.low b.high))
+taken_fits : (takes : Takes) (v : Option Text) → IfSome (taken takes v) (λ n. IfSome n (Fits takes))
+taken_fits (between low high) (Some text) = go (number_of low high text) (number_lies low high text)
+  where
+    go : (o : Option ℕ) → IfSome o (Within low high) → IfSome (option_map (λ (n : ℕ). Some n) o) (λ n. IfSome n (Within low high))
+    go None h = tt
+    go (Some n) h = h
+taken_fits (between low high) None = tt
+taken_fits nothing (Some text) = tt
+taken_fits nothing None = tt
+
+-- Each number that was found for one of the arguments lies in its bounds.
+abbrev Lie : List Argument → Found → Type 0
+Lie arguments found = (name : Text) (a : Argument) → argument_named name arguments ≡ Some a → IfSome (number_for name found) (Fits a.takes)
+
+-- One more argument is found, if it is the only one of its name that counts.
+lie_more : (arguments : List Argument) (a : Argument) (name : Text) (n : Option ℕ) (found : Found) → argument_named name arguments ≡ Some a → IfSome n (Fits a.takes)
+    → ((other : Text) (b : Argument) → bytes_eq name other ≡ false → argument_named other arguments ≡ Some b → IfSome (number_for other found) (Fits b.takes))
     → Lie arguments ((name, n) ∷ found)
 lie_more arguments a name n found named lies rest other b named_b = go (bytes_eq name other) refl
   where
     go : (c : Bool) → bytes_eq name other ≡ c
-        → IfSome (option_map (λ (p : Text × ℕ). p.1) (cond c (Some (name, n)) (find (λ (p : Text × ℕ). bytes_eq p.0 other) found))) (Within b.low b.high)
+        → IfSome (option_and_then (λ (p : Text × Option ℕ). p.1) (cond c (Some (name, n)) (find (λ (p : Text × Option ℕ). bytes_eq p.0 other) found))) (Fits b.takes)
     go true e =
         let same : name ≡ other = (bytes_eq-Decides name other).0 e in
         let it : a ≡ b = some_is a b (sym named ∙ ap (λ (t : Text). argument_named t arguments) same ∙ named_b) in
-        subst (λ (y : Argument). Within y.low y.high n) it lies
+        subst (λ (y : Argument). IfSome n (Fits y.takes)) it lies
     go false e = rest other b e named_b
 
-numbers_lie : (arguments : List Argument) (options : List (Text × Text)) → IfSome (numbers_of arguments options) (Lie arguments)
+numbers_lie : (arguments : List Argument) (options : List (Text × Option Text)) → IfSome (numbers_of arguments options) (Lie arguments)
 numbers_lie arguments [] = λ name a named. tt
 numbers_lie arguments (p ∷ options) = go (numbers_of (others p.0 arguments) options) (numbers_lie (others p.0 arguments) options) (argument_named p.0 arguments) refl
   where
-    go : (later : Option (List (Text × ℕ))) → IfSome later (Lie (others p.0 arguments)) → (o : Option Argument) → argument_named p.0 arguments ≡ o
-        → IfSome (option_and_then (λ a. option_and_then (λ n. option_map (λ found. (p.0, n) ∷ found) later) (number_of a.low a.high p.1)) o) (Lie arguments)
+    go : (later : Option Found) → IfSome later (Lie (others p.0 arguments)) → (o : Option Argument) → argument_named p.0 arguments ≡ o
+        → IfSome (option_and_then (λ a. option_and_then (λ n. option_map (λ found. (p.0, n) ∷ found) later) (taken a.takes p.1)) o) (Lie arguments)
     go later h None e = tt
-    go later h (Some a) e = number (number_of a.low a.high p.1) (number_lies a.low a.high p.1)
+    go later h (Some a) e = number (taken a.takes p.1) (taken_fits a.takes p.1)
       where
-        all : (n : ℕ) → Within a.low a.high n → (l : Option (List (Text × ℕ))) → IfSome l (Lie (others p.0 arguments)) → IfSome (option_map (λ found. (p.0, n) ∷ found) l) (Lie arguments)
+        all : (n : Option ℕ) → IfSome n (Fits a.takes) → (l : Option Found) → IfSome l (Lie (others p.0 arguments)) → IfSome (option_map (λ found. (p.0, n) ∷ found) l) (Lie arguments)
         all n w None i = tt
         all n w (Some found) i = lie_more arguments a p.0 n found e w
             (λ other b differ named. i other b (named_in_others p.0 other arguments ∙ ap (λ (c : Bool). cond c None (argument_named other arguments)) differ ∙ named))
 
-        number : (o : Option ℕ) → IfSome o (Within a.low a.high) → IfSome (option_and_then (λ n. option_map (λ found. (p.0, n) ∷ found) later) o) (Lie arguments)
+        number : (o : Option (Option ℕ)) → IfSome o (λ n. IfSome n (Fits a.takes)) → IfSome (option_and_then (λ n. option_map (λ found. (p.0, n) ∷ found) later) o) (Lie arguments)
         number None w = tt
         number (Some n) w = all n w later h
 
 options_lie : (arguments : List Argument) (words : List Text) → IfSome (option_numbers arguments words) (Lie arguments)
-options_lie arguments words = go (options_after None words)
+options_lie arguments words = go (options_after arguments None words)
   where
-    go : (o : Option (List (Text × Text))) → IfSome (option_and_then (numbers_of arguments) o) (Lie arguments)
+    go : (o : Option (List (Text × Option Text))) → IfSome (option_and_then (numbers_of arguments) o) (Lie arguments)
     go None = tt
     go (Some options) = numbers_lie arguments options
 
@@ -82,17 +97,17 @@ values_lie : (arguments : List Argument) (words : List Text) → IfSome (numbers
 values_lie [] [] = λ name a named. tt
 values_lie (a ∷ rest) [] = λ name b named. tt
 values_lie [] (word ∷ words) = tt
-values_lie (a ∷ rest) (word ∷ words) = number (number_of a.low a.high word) (number_lies a.low a.high word) (numbers_in_order rest words) (values_lie rest words)
+values_lie (a ∷ rest) (word ∷ words) = number (taken a.takes (Some word)) (taken_fits a.takes (Some word)) (numbers_in_order rest words) (values_lie rest words)
   where
     first : argument_named a.name (a ∷ rest) ≡ Some a
     first = ap (λ (c : Bool). cond c (Some a) (argument_named a.name rest)) (same_name a.name)
 
-    all : (n : ℕ) → Within a.low a.high n → (l : Option (List (Text × ℕ))) → IfSome l (Lie rest) → IfSome (option_map (λ found. (a.name, n) ∷ found) l) (Lie (a ∷ rest))
+    all : (n : Option ℕ) → IfSome n (Fits a.takes) → (l : Option Found) → IfSome l (Lie rest) → IfSome (option_map (λ found. (a.name, n) ∷ found) l) (Lie (a ∷ rest))
     all n w None i = tt
     all n w (Some found) i = lie_more (a ∷ rest) a a.name n found first w
         (λ other b differ named. i other b (sym (ap (λ (c : Bool). cond c (Some a) (argument_named other rest)) differ) ∙ named))
 
-    number : (o : Option ℕ) → IfSome o (Within a.low a.high) → (l : Option (List (Text × ℕ))) → IfSome l (Lie rest)
+    number : (o : Option (Option ℕ)) → IfSome o (λ n. IfSome n (Fits a.takes)) → (l : Option Found) → IfSome l (Lie rest)
         → IfSome (option_and_then (λ n. option_map (λ found. (a.name, n) ∷ found) l) o) (Lie (a ∷ rest))
     number None w l i = tt
     number (Some n) w l i = all n w l i
@@ -102,16 +117,16 @@ values_lie (a ∷ rest) (word ∷ words) = number (number_of a.low a.high word) 
 abbrev Good : Option Command → Type 0
 Good o = IfSome o IsInBounds
 
-mapped : (arguments : List Argument) (command : List (Text × ℕ) → Command) → ((found : List (Text × ℕ)) → Lie arguments found → IsInBounds (command found))
+mapped : (arguments : List Argument) (command : Found → Command) → ((found : Found) → Lie arguments found → IsInBounds (command found))
     → (words : List Text) → Good (option_map command (option_numbers arguments words))
 mapped arguments command each words = go (option_numbers arguments words) (options_lie arguments words)
   where
-    go : (o : Option (List (Text × ℕ))) → IfSome o (Lie arguments) → Good (option_map command o)
+    go : (o : Option Found) → IfSome o (Lie arguments) → Good (option_map command o)
     go None h = tt
     go (Some found) h = each found h
 
-chained : (arguments : List Argument) (command : List (Text × ℕ) → Option Command) → ((found : List (Text × ℕ)) → Lie arguments found → Good (command found))
-    → (o : Option (List (Text × ℕ))) → IfSome o (Lie arguments) → Good (option_and_then command o)
+chained : (arguments : List Argument) (command : Found → Option Command) → ((found : Found) → Lie arguments found → Good (command found))
+    → (o : Option Found) → IfSome o (Lie arguments) → Good (option_and_then command o)
 chained arguments command each None h = tt
 chained arguments command each (Some found) h = each found h
 
@@ -119,10 +134,10 @@ or_default : (low high default : ℕ) (o : Option ℕ) → Within low high defau
 or_default low high default None d h = d
 or_default low high default (Some n) d h = h
 
-workers_lie : (arguments : List Argument) → argument_named (codes "workers") arguments ≡ Some workers_argument → (found : List (Text × ℕ)) → Lie arguments found → Within 1 16 (workers_of found)
+workers_lie : (arguments : List Argument) → argument_named (codes "workers") arguments ≡ Some workers_argument → (found : Found) → Lie arguments found → Within 1 16 (workers_of found)
 workers_lie arguments named found h = or_default 1 16 1 (number_for (codes "workers") found) (omega arith, omega arith) (h (codes "workers") workers_argument named)
 
-batch_lies : (arguments : List Argument) → argument_named (codes "batch") arguments ≡ Some batch_argument → (found : List (Text × ℕ)) → Lie arguments found → Within 1 65536 (batch_of found)
+batch_lies : (arguments : List Argument) → argument_named (codes "batch") arguments ≡ Some batch_argument → (found : Found) → Lie arguments found → Within 1 65536 (batch_of found)
 batch_lies arguments named found h = or_default 1 65536 4096 (number_for (codes "batch") found) (omega arith, omega arith) (h (codes "batch") batch_argument named)
 
 format_good : (words : List Text) → Good (option_and_then format_of (option_numbers (blocks_argument ∷ []) words))
@@ -143,9 +158,9 @@ load_good words = mapped (workers_argument ∷ batch_argument ∷ []) (λ found.
 
 sample_good : (words : List Text) → Good (option_and_then sample_of (numbers_in_order sample_arguments words))
 sample_good words = chained sample_arguments sample_of
-    (λ found h. go (number_for (codes "number") found) (h (codes "number") (record { name = codes "number"; low = 0; high = 2147483647 }) refl)
-    (number_for (codes "streams") found) (h (codes "streams") (record { name = codes "streams"; low = 1; high = 1000 }) refl)
-    (number_for (codes "points") found) (h (codes "points") (record { name = codes "points"; low = 1; high = 1000000 }) refl))
+    (λ found h. go (number_for (codes "number") found) (h (codes "number") (record { name = codes "number"; takes = between 0 2147483647 }) refl)
+    (number_for (codes "streams") found) (h (codes "streams") (record { name = codes "streams"; takes = between 1 1000 }) refl)
+    (number_for (codes "points") found) (h (codes "points") (record { name = codes "points"; takes = between 1 1000000 }) refl))
     (numbers_in_order sample_arguments words) (values_lie sample_arguments words)
   where
     product : (i j k : ℕ) → Within 0 2147483647 i → Within 1 1000 j → Within 1 1000000 k → (b : Bool) → nat_le (j * k) 1000000 ≡ b → Good (cond b (Some (Sample i j k)) None)
@@ -170,12 +185,12 @@ in_bounds (word ∷ words) = go (is (codes "format")) (is (codes "load")) (is (c
         (cond b2 (option_map (λ found. Load (workers_of found) (batch_of found)) (option_numbers (workers_argument ∷ batch_argument ∷ []) words))
         (cond b3 (option_map (λ found. Ask) (option_numbers [] words))
         (cond b4 (option_map (λ found. Distil (workers_of found)) (option_numbers (workers_argument ∷ []) words))
-        (cond b5 (option_map (λ found. Live (batch_of found)) (option_numbers (batch_argument ∷ []) words))
+        (cond b5 (option_map (λ found. Live (batch_of found) (materialize_of found)) (option_numbers live_arguments words))
         (cond b6 (option_and_then sample_of (numbers_in_order sample_arguments (without_marker words))) None))))))
     go true b2 b3 b4 b5 b6 = format_good words
     go false true b3 b4 b5 b6 = load_good words
     go false false true b4 b5 b6 = mapped [] (λ found. Ask) (λ found h. tt) words
     go false false false true b5 b6 = mapped (workers_argument ∷ []) (λ found. Distil (workers_of found)) (workers_lie (workers_argument ∷ []) refl) words
-    go false false false false true b6 = mapped (batch_argument ∷ []) (λ found. Live (batch_of found)) (batch_lies (batch_argument ∷ []) refl) words
+    go false false false false true b6 = mapped live_arguments (λ found. Live (batch_of found) (materialize_of found)) (batch_lies live_arguments refl) words
     go false false false false false true = sample_good (without_marker words)
     go false false false false false false = tt

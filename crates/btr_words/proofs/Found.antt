@@ -1,7 +1,8 @@
--- Rows that a parse finds, and the numbers that they stand for.
-use Rattle.std.proofs.Common.{◌≡◌, ◌≤◌, ◌&&◌, ◌||◌, ◌++◌, ℕ, Bool, true, false, not, cond, List, [], ◌∷◌, Some, None, refl, sym, ap, ◌∙◌, subst, arith, nat_lt, nat_le, ◌^◌}
+-- Rows that a parse finds, and the numbers and flags that they stand for.
+use Rattle.std.proofs.Common.{◌≡◌, ◌≤◌, ◌&&◌, ◌||◌, ◌++◌, ℕ, Bool, true, false, not, cond, List, [], ◌∷◌, Option, Some, None, refl, sym, ap, ◌∙◌, subst, arith, codes, nat_lt, nat_le, ◌^◌}
 use Rattle.std.specs.Prelude.{find}
-use Rattle.std.specs.Option.{option_and_then, option_map}
+use Rattle.std.specs.Prelude.{is_some}
+use Rattle.std.specs.Option.{option_and_then, option_map_or}
 use Rattle.std.specs.Str.{bytes_eq}
 use Rattle.std.specs.Str.Parse.{digits_value, without_leading_plus}
 use Rattle.std.proofs.lemmas.Slice.Eq.{bytes_eq-Decides}
@@ -11,8 +12,9 @@ use Rattle.clap.specs.Walk.{Row, Text, at_row, has_row, row_text}
 use Rattle.clap.proofs.WalkLemmas.{both}
 use Rattle.clap.specs.declared.builder.value_parser.Reading.TheVariants as reading
 use Rattle.clap.specs.declared.parser.matches.ValueSource.TheVariants.{CommandLine}
-use Rattle.btr_words.specs.Words.{Argument, argument_named, number_for, number_of, others}
-use Rattle.btr_words.specs.Program.{number_in}
+use Rattle.btr_words.specs.Words.{Argument, Found, Takes, argument_named, is_found, number_for, number_of, others}
+use Rattle.btr_words.specs.Words.{between, nothing}
+use Rattle.btr_words.specs.Program.{flag_in, number_in}
 
 -- What the words found of an argument.
 abbrev pub row : Text → Text → Row
@@ -105,23 +107,29 @@ no_such_row name change missing (x ∷ rows) h = go (no_such_row name change mis
     go below true bad = absurd (cc)
     go below false e = ap (λ (l : List Row). x ∷ l) (below e)
 
--- ---- rows and numbers
+-- ---- rows and what they stand for
 
--- The row was found for one of the arguments, and stands for this number.
-pub record Read (arguments : List Argument) (r : Row) (p : Text × ℕ) : Type 0 where
+-- What is found for an argument that takes this, by the text of its row.
+abbrev pub Stands : Takes → Text → Option ℕ → Type 0
+Stands (between low high) text (Some n) = number_of low high text ≡ Some n
+Stands (between low high) text None = ⊥
+Stands nothing text n = (text ≡ codes "true") × (n ≡ None)
+
+-- The row was found for one of the arguments, and stands for this number, or for a flag.
+pub record Read (arguments : List Argument) (r : Row) (p : Text × Option ℕ) : Type 0 where
   pub text : Text
   pub argument : Argument
   pub is : r ≡ row p.0 text
   pub named : argument_named p.0 arguments ≡ Some argument
-  pub number : number_of argument.low argument.high text ≡ Some p.1
+  pub stands : Stands argument.takes text p.1
 
-abbrev pub Reads : List Argument → List Row → List (Text × ℕ) → Type 0
+abbrev pub Reads : List Argument → List Row → Found → Type 0
 Reads arguments [] [] = Unit {0}
 Reads arguments [] (p ∷ found) = ⊥
 Reads arguments (r ∷ rows) [] = ⊥
 Reads arguments (r ∷ rows) (p ∷ found) = Read arguments r p × Reads arguments rows found
 
-pub read_more : (arguments : List Argument) (rows : List Row) (found : List (Text × ℕ)) (r : Row) (p : Text × ℕ)
+pub read_more : (arguments : List Argument) (rows : List Row) (found : Found) (r : Row) (p : Text × Option ℕ)
     → Reads arguments rows found → Read arguments r p → Reads arguments (rows ++ r ∷ []) (found ++ p ∷ [])
 read_more arguments [] [] r p h one = (one, tt)
 read_more arguments [] (q ∷ found) r p h one = absurd h
@@ -131,22 +139,41 @@ read_more arguments (x ∷ rows) (q ∷ found) r p h one = (h.0, read_more argum
 pub some_is : (x y : Argument) → Some x ≡ Some y → x ≡ y
 some_is x y e = cc
 
--- The number of an argument in the rows is the number that was found for it.
-pub number_is : (arguments : List Argument) (name : Text) (a : Argument) (big : ℕ) (rows : List Row) (found : List (Text × ℕ))
-    → argument_named name arguments ≡ Some a → a.high ≤ big → Reads arguments rows found → number_in name rows big ≡ number_for name found
-number_is arguments name a big [] [] named le h = refl
-number_is arguments name a big [] (q ∷ found) named le h = absurd h
-number_is arguments name a big (x ∷ rows) [] named le h = absurd h
-number_is arguments name a big (x ∷ rows) (q ∷ found) named le h =
-    subst (λ (r : Row). option_and_then (number_of 0 big) (option_and_then row_text (cond (bytes_eq r.id name) (Some r) (find (λ y. bytes_eq y.id name) rows)))
-    ≡ number_for name (q ∷ found)) (sym h.0.is) (go (number_is arguments name a big rows found named le h.1) (bytes_eq q.0 name) refl)
+-- What is read of the row of an argument is what was found for it.
+read_is : {X : Type 0} → (G : Option Row → X) (H : Option (Text × Option ℕ) → X) (arguments : List Argument) (name : Text) (a : Argument)
+    → G None ≡ H None → ((text : Text) (p : Text × Option ℕ) → Stands a.takes text p.1 → G (Some (row p.0 text)) ≡ H (Some p))
+    → argument_named name arguments ≡ Some a → (rows : List Row) (found : Found) → Reads arguments rows found
+    → G (find (λ r. bytes_eq r.id name) rows) ≡ H (find (λ p. bytes_eq p.0 name) found)
+read_is G H arguments name a none one named [] [] h = none
+read_is G H arguments name a none one named [] (q ∷ found) h = absurd h
+read_is G H arguments name a none one named (x ∷ rows) [] h = absurd h
+read_is G H arguments name a none one named (x ∷ rows) (q ∷ found) h =
+    subst (λ (r : Row). G (cond (bytes_eq r.id name) (Some r) (find (λ y. bytes_eq y.id name) rows)) ≡ H (find (λ p. bytes_eq p.0 name) (q ∷ found)))
+    (sym h.0.is) (go (read_is G H arguments name a none one named rows found h.1) (bytes_eq q.0 name) refl)
   where
-    go : number_in name rows big ≡ number_for name found → (b : Bool) → bytes_eq q.0 name ≡ b
-        → option_and_then (number_of 0 big) (option_and_then row_text (cond b (Some (row q.0 h.0.text)) (find (λ y. bytes_eq y.id name) rows)))
-        ≡ option_map (λ (p : Text × ℕ). p.1) (cond b (Some q) (find (λ (p : Text × ℕ). bytes_eq p.0 name) found))
+    go : G (find (λ r. bytes_eq r.id name) rows) ≡ H (find (λ p. bytes_eq p.0 name) found) → (b : Bool) → bytes_eq q.0 name ≡ b
+        → G (cond b (Some (row q.0 h.0.text)) (find (λ y. bytes_eq y.id name) rows)) ≡ H (cond b (Some q) (find (λ p. bytes_eq p.0 name) found))
     go below true e =
         let same : q.0 ≡ name = (bytes_eq-Decides q.0 name).0 e in
         let it : h.0.argument ≡ a = some_is h.0.argument a (sym h.0.named ∙ ap (λ (n : Text). argument_named n arguments) same ∙ named) in
-        let fits : h.0.argument.high ≤ big = subst (λ (y : Argument). y.high ≤ big) (sym it) le in
-        reads_in h.0.argument.low h.0.argument.high big h.0.text q.1 fits h.0.number
+        one h.0.text q (subst (λ (y : Argument). Stands y.takes h.0.text q.1) it h.0.stands)
     go below false e = below
+
+-- The number of an argument in the rows is the number that was found for it.
+pub number_is : (arguments : List Argument) (name : Text) (low high big : ℕ) (rows : List Row) (found : Found)
+    → argument_named name arguments ≡ Some (record { name = name; takes = between low high }) → high ≤ big → Reads arguments rows found
+    → number_in name rows big ≡ number_for name found
+number_is arguments name low high big rows found named le h =
+    read_is (λ r. option_and_then (number_of 0 big) (option_and_then row_text r)) (λ p. option_and_then (λ x. x.1) p)
+    arguments name (record { name = name; takes = between low high }) refl (λ text p stands. go text p.1 stands) named rows found h
+  where
+    go : (text : Text) (n : Option ℕ) → Stands (between low high) text n → number_of 0 big text ≡ n
+    go text (Some n) stands = reads_in low high big text n le stands
+    go text None stands = absurd stands
+
+-- The rows say that a flag was given if it was found.
+pub flag_is : (arguments : List Argument) (name : Text) (rows : List Row) (found : Found)
+    → argument_named name arguments ≡ Some (record { name = name; takes = nothing }) → Reads arguments rows found → flag_in name rows ≡ is_found name found
+flag_is arguments name rows found named h =
+    read_is (λ r. option_map_or (λ t. bytes_eq t (codes "true")) (option_and_then row_text r) false) (λ p. is_some p)
+    arguments name (record { name = name; takes = nothing }) refl (λ text p stands. ap (λ (t : Text). bytes_eq t (codes "true")) stands.0) named rows found h

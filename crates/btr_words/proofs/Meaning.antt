@@ -4,7 +4,7 @@ use Rattle.std.specs.Prelude.{find}
 use Rattle.std.specs.Option.{option_and_then, option_map, option_map_or}
 use Rattle.std.specs.Str.{bytes_eq}
 use Rattle.std.proofs.lemmas.List.{append_assoc, append-nil}
-use Rattle.clap.specs.Walk.{Held, Names, Row, Step, Text, Walk, after_step, answers_to, finished, idle, nothing_held, settled, subcommand_or_other, trailing, walk_from, walked}
+use Rattle.clap.specs.Walk.{Held, Names, Row, Step, Text, Walk, after_step, answers_to, finished, idle, nothing_held, settled, subcommand_or_other, trailing, walk_from, walked, with_default}
 use Rattle.clap.specs.Faults.{check_fault, defaults_fault, entered_fault, fault_of, is_simple_and_free, level_fault, other_fault, settle_fault, step_fault, walk_fault}
 use Rattle.clap.specs.Kinds.{IsAmong, Kinds, or_else}
 use Rattle.clap.specs.Simple.{App, Shape, built, entered, is_simple, label_of, names_of, rows_at, subcommand_of}
@@ -13,15 +13,15 @@ use Rattle.clap.specs.declared.error.kind.ErrorKind.TheVariants.{InvalidSubcomma
 use Rattle.clap.proofs.FaultLemmas.{stopped_fault}
 use Rattle.btr_words.specs.declared.command.Command.{Command}
 use Rattle.btr_words.specs.declared.command.Command.TheVariants.{Format, Load, Ask, Distil, Live}
-use Rattle.btr_words.specs.Words.{Argument, argument_named, batch_argument, batch_of, blocks_argument, command_of, format_of, number_for, numbers_in_order, option_numbers}
-use Rattle.btr_words.specs.Words.{sample_arguments, sample_of, sample_within, without_marker, workers_argument, workers_of}
+use Rattle.btr_words.specs.Words.{Argument, Found, argument_named, batch_argument, batch_of, blocks_argument, command_of, format_of, between, live_arguments, materialize_of, number_for}
+use Rattle.btr_words.specs.Words.{numbers_in_order, option_numbers, sample_arguments, sample_of, sample_within, without_marker, workers_argument, workers_of}
 use Rattle.btr_words.specs.Program.{batch_in, command_of_rows, number_in, program_app, workers_in}
 use Rattle.btr_words.proofs.WordCases.{word_cases}
 use Rattle.btr_words.proofs.Turns.{Gives, IsFault, at, fault_from, is_fault, rows_from}
-use Rattle.btr_words.proofs.Found.{Reads, number_is}
-use Rattle.btr_words.proofs.Leaf.{leaf}
-use Rattle.btr_words.proofs.OptionsLeaf.{option_rule, options_give}
-use Rattle.btr_words.proofs.ValuesLeaf.{value_rule, values_give}
+use Rattle.btr_words.proofs.Found.{Reads}
+use Rattle.btr_words.proofs.Leaf.{Blank, flag_at_end, leaf, number_at_end, plain}
+use Rattle.btr_words.proofs.OptionsLeaf.{blank_rules, option_rule, options_give}
+use Rattle.btr_words.proofs.ValuesLeaf.{Value, value_rule, values_give}
 
 -- ---- the subcommands
 
@@ -31,17 +31,26 @@ of_sub name rows = command_of_rows (Some (name, rows))
 abbrev options_leaf : Text → List Argument → Shape
 options_leaf name arguments = leaf name (map option_rule arguments)
 
-abbrev number : Argument
+abbrev number : Value
 number = record { name = codes "number"; low = 0; high = 2147483647 }
 
-abbrev streams : Argument
+abbrev streams : Value
 streams = record { name = codes "streams"; low = 1; high = 1000 }
 
-abbrev points : Argument
+abbrev points : Value
 points = record { name = codes "points"; low = 1; high = 1000000 }
+
+abbrev sample_values : List Value
+sample_values = number ∷ streams ∷ points ∷ []
 
 abbrev sample_leaf : Shape
 sample_leaf = leaf (codes "sample") (value_rule 1 number ∷ value_rule 2 streams ∷ value_rule 3 points ∷ [])
+
+blank_values : Blank sample_leaf.rules
+blank_values = (
+  plain None (Some 1) number.name (between number.low number.high),
+  (plain None (Some 2) streams.name (between streams.low streams.high), (plain None (Some 3) points.name (between points.low points.high), tt)),
+)
 
 abbrev LeafGives : Text → Shape → (List Text → Option Command) → List Text → Type 0
 LeafGives name s meaning words = Gives (of_sub name) (fault_from s (at 1 idle false [] None) words) (rows_from s (at 1 idle false [] None) words) (meaning words)
@@ -50,9 +59,13 @@ map_is : {X : Type 0} → (f : X → Command) (o : Option X) → option_and_then
 map_is f None = refl
 map_is f (Some x) = refl
 
+-- The rows at the end, of a subcommand with options that found these.
+abbrev at_end : List Argument → List Row → List Row
+at_end arguments rows = fold with_default rows (map option_rule arguments)
+
 -- The words of a subcommand with options, each command of which has all that it needs.
-with_options : (name : Text) (arguments : List Argument) (command : List (Text × ℕ) → Command)
-    → ((rows : List Row) (found : List (Text × ℕ)) → Reads arguments rows found → of_sub name rows ≡ Some (command found)) → (words : List Text)
+with_options : (name : Text) (arguments : List Argument) (command : Found → Command)
+    → ((rows : List Row) (found : Found) → Reads arguments rows found → of_sub name (at_end arguments rows) ≡ Some (command found)) → (words : List Text)
     → LeafGives name (options_leaf name arguments) (λ l. option_map command (option_numbers arguments l)) words
 with_options name arguments command same words =
     subst (Gives (of_sub name) (fault_from (options_leaf name arguments) (at 1 idle false [] None) words) (rows_from (options_leaf name arguments) (at 1 idle false [] None) words))
@@ -62,21 +75,22 @@ with_options name arguments command same words =
 abbrev of_workers : List Argument → Type 0
 of_workers arguments = argument_named (codes "workers") arguments ≡ Some workers_argument
 
-workers_are : (arguments : List Argument) → of_workers arguments → (rows : List Row) (found : List (Text × ℕ)) → Reads arguments rows found → workers_in rows ≡ workers_of found
+workers_are : (arguments : List Argument) → of_workers arguments → (rows : List Row) (found : Found) → Reads arguments rows found → workers_in (at_end arguments rows) ≡ workers_of found
 workers_are arguments named rows found reads =
-    ap (λ (o : Option ℕ). unwrap_or o 1) (number_is arguments (codes "workers") workers_argument 255 rows found named (omega arith) reads)
+    ap (λ (o : Option ℕ). unwrap_or o 1) (number_at_end (map option_rule arguments) arguments (codes "workers") 1 16 255 rows found (blank_rules arguments) named (omega arith) reads)
 
-batch_is : (arguments : List Argument) → argument_named (codes "batch") arguments ≡ Some batch_argument → (rows : List Row) (found : List (Text × ℕ)) → Reads arguments rows found
-    → batch_in rows ≡ batch_of found
+batch_is : (arguments : List Argument) → argument_named (codes "batch") arguments ≡ Some batch_argument → (rows : List Row) (found : Found) → Reads arguments rows found
+    → batch_in (at_end arguments rows) ≡ batch_of found
 batch_is arguments named rows found reads =
-    ap (λ (o : Option ℕ). unwrap_or o 4096) (number_is arguments (codes "batch") batch_argument 4294967295 rows found named (omega arith) reads)
+    ap (λ (o : Option ℕ). unwrap_or o 4096) (number_at_end (map option_rule arguments) arguments (codes "batch") 1 65536 4294967295 rows found (blank_rules arguments) named (omega arith) reads)
 
 abbrev format_meaning : List Text → Option Command
 format_meaning words = option_and_then format_of (option_numbers (blocks_argument ∷ []) words)
 
 format_gives : (words : List Text) → LeafGives (codes "format") (options_leaf (codes "format") (blocks_argument ∷ [])) format_meaning words
 format_gives words = options_give (codes "format") (blocks_argument ∷ []) (of_sub (codes "format")) format_of
-    (λ rows found reads. ap (option_map (λ n. Format n)) (number_is (blocks_argument ∷ []) (codes "blocks") blocks_argument 18446744073709551615 rows found refl (omega arith) reads))
+    (λ rows found reads. ap (option_map (λ n. Format n)) (number_at_end (map option_rule (blocks_argument ∷ [])) (blocks_argument ∷ []) (codes "blocks") 8 4294967296 18446744073709551615 rows found
+    (blank_rules (blocks_argument ∷ [])) refl (omega arith) reads))
     words
 
 abbrev load_meaning : List Text → Option Command
@@ -101,11 +115,12 @@ distil_gives words = with_options (codes "distil") (workers_argument ∷ []) (λ
     (λ rows found reads. ap (λ (w : ℕ). Some (Distil w)) (workers_are (workers_argument ∷ []) refl rows found reads)) words
 
 abbrev live_meaning : List Text → Option Command
-live_meaning words = option_map (λ found. Live (batch_of found)) (option_numbers (batch_argument ∷ []) words)
+live_meaning words = option_map (λ found. Live (batch_of found) (materialize_of found)) (option_numbers live_arguments words)
 
-live_gives : (words : List Text) → LeafGives (codes "live") (options_leaf (codes "live") (batch_argument ∷ [])) live_meaning words
-live_gives words = with_options (codes "live") (batch_argument ∷ []) (λ found. Live (batch_of found))
-    (λ rows found reads. ap (λ (b : ℕ). Some (Live b)) (batch_is (batch_argument ∷ []) refl rows found reads)) words
+live_gives : (words : List Text) → LeafGives (codes "live") (options_leaf (codes "live") live_arguments) live_meaning words
+live_gives words = with_options (codes "live") live_arguments (λ found. Live (batch_of found) (materialize_of found))
+    (λ rows found reads. ap₂ (λ (b : ℕ) (m : Bool). Some (Live b m)) (batch_is live_arguments refl rows found reads)
+    (flag_at_end (map option_rule live_arguments) live_arguments (codes "materialize") rows found (blank_rules live_arguments) refl reads)) words
 
 abbrev sample_meaning : List Text → Option Command
 sample_meaning words = option_and_then sample_of (numbers_in_order sample_arguments (without_marker words))
@@ -113,21 +128,23 @@ sample_meaning words = option_and_then sample_of (numbers_in_order sample_argume
 abbrev sampled : Option ℕ → Option ℕ → Option ℕ → Option Command
 sampled x y z = option_and_then (λ i. option_and_then (λ j. option_and_then (sample_within i j) z) y) x
 
-sample_same : (rows : List Row) (found : List (Text × ℕ)) → Reads sample_arguments rows found → of_sub (codes "sample") rows ≡ sample_of found
+sample_same : (rows : List Row) (found : Found) → Reads sample_arguments rows found
+    → of_sub (codes "sample") (fold with_default rows sample_leaf.rules) ≡ sample_of found
 sample_same rows found reads =
-    let x : number_in (codes "number") rows 4294967295 ≡ number_for (codes "number") found =
-    number_is sample_arguments (codes "number") number 4294967295 rows found refl (omega arith) reads in
-    let y : number_in (codes "streams") rows 4294967295 ≡ number_for (codes "streams") found =
-    number_is sample_arguments (codes "streams") streams 4294967295 rows found refl (omega arith) reads in
-    let z : number_in (codes "points") rows 4294967295 ≡ number_for (codes "points") found =
-    number_is sample_arguments (codes "points") points 4294967295 rows found refl (omega arith) reads in
-    ap (λ (o : Option ℕ). sampled o (number_in (codes "streams") rows 4294967295) (number_in (codes "points") rows 4294967295)) x
-    ∙ ap (λ (o : Option ℕ). sampled (number_for (codes "number") found) o (number_in (codes "points") rows 4294967295)) y
+    let end = fold with_default rows sample_leaf.rules in
+    let x : number_in (codes "number") end 4294967295 ≡ number_for (codes "number") found =
+    number_at_end sample_leaf.rules sample_arguments (codes "number") 0 2147483647 4294967295 rows found blank_values refl (omega arith) reads in
+    let y : number_in (codes "streams") end 4294967295 ≡ number_for (codes "streams") found =
+    number_at_end sample_leaf.rules sample_arguments (codes "streams") 1 1000 4294967295 rows found blank_values refl (omega arith) reads in
+    let z : number_in (codes "points") end 4294967295 ≡ number_for (codes "points") found =
+    number_at_end sample_leaf.rules sample_arguments (codes "points") 1 1000000 4294967295 rows found blank_values refl (omega arith) reads in
+    ap (λ (o : Option ℕ). sampled o (number_in (codes "streams") end 4294967295) (number_in (codes "points") end 4294967295)) x
+    ∙ ap (λ (o : Option ℕ). sampled (number_for (codes "number") found) o (number_in (codes "points") end 4294967295)) y
     ∙ ap (λ (o : Option ℕ). sampled (number_for (codes "number") found) (number_for (codes "streams") found) o) z
 
 sample_gives : (words : List Text) → LeafGives (codes "sample") sample_leaf sample_meaning words
-sample_gives words = values_give (codes "sample") sample_leaf.rules sample_arguments (refl, refl, refl, (refl, refl, refl, (refl, refl, refl, tt)))
-    (λ x. refl) (λ name. refl) (of_sub (codes "sample")) sample_of sample_same
+sample_gives words = values_give (codes "sample") sample_leaf.rules sample_arguments blank_values
+    (λ x. refl) (λ name. refl) (of_sub (codes "sample")) sample_of sample_same sample_values
     (refl, refl, refl, refl, λ v. (refl, refl, refl, refl, λ w. (refl, refl, refl, refl, λ x. refl))) words
 
 -- ---- the whole command line
@@ -245,7 +262,7 @@ words_give (word ∷ rest) = go (is (codes "format")) (is (codes "load")) (is (c
     go false true b3 b4 b5 b6 = named (codes "load") word rest (options_leaf (codes "load") (workers_argument ∷ batch_argument ∷ [])) (load_meaning rest) refl refl refl (load_gives rest)
     go false false true b4 b5 b6 = named (codes "ask") word rest (options_leaf (codes "ask") []) (ask_meaning rest) refl refl refl (ask_gives rest)
     go false false false true b5 b6 = named (codes "distil") word rest (options_leaf (codes "distil") (workers_argument ∷ [])) (distil_meaning rest) refl refl refl (distil_gives rest)
-    go false false false false true b6 = named (codes "live") word rest (options_leaf (codes "live") (batch_argument ∷ [])) (live_meaning rest) refl refl refl (live_gives rest)
+    go false false false false true b6 = named (codes "live") word rest (options_leaf (codes "live") live_arguments) (live_meaning rest) refl refl refl (live_gives rest)
     go false false false false false true = named (codes "sample") word rest sample_leaf (sample_meaning rest) refl refl refl (sample_gives rest)
     go false false false false false false = unnamed word rest
 

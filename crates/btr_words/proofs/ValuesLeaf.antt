@@ -1,33 +1,40 @@
 -- What a parse makes of the words of a subcommand with numbers in their places.
-use Rattle.std.proofs.Common.{◌≡◌, ◌&&◌, ◌||◌, ◌+◌, ◌++◌, ℕ, Bool, true, false, cond, List, [], ◌∷◌, Option, Some, None, refl, sym, ap, ◌∙◌, subst, min}
+use Rattle.std.proofs.Common.{◌≡◌, ◌&&◌, ◌||◌, ◌+◌, ◌++◌, ℕ, Bool, true, false, cond, List, [], ◌∷◌, Option, Some, None, refl, sym, ap, ◌∙◌, subst, fold, map, min}
 use Rattle.std.specs.Option.{option_and_then, option_map, option_map_or}
 use Rattle.std.specs.Str.{bytes_eq}
-use Rattle.std.specs.Str.Parse.{digits_value, without_leading_plus}
 use Rattle.std.proofs.lemmas.List.{append_assoc, append-nil}
 use Rattle.clap.specs.Lexer.{long_of, usize_max}
-use Rattle.clap.specs.ValueTests.{is_unsigned_in}
 use Rattle.clap.specs.Walk.{Held, Row, Rule, Text, Walk, after_flag, arg_by_id, arg_by_index, arg_by_long, finished, has_row, idle, is_pending, long_met}
-use Rattle.clap.specs.Walk.{pushed, settled, settled_rows, takes_several, to_positional, used_by_id, value, walked}
+use Rattle.clap.specs.Walk.{pushed, settled, settled_rows, takes_several, to_positional, used_by_id, value, walked, with_default}
 use Rattle.clap.specs.Faults.{long_fault, positional_fault, settle_fault, step_fault, stray_fault, use_fault, walk_fault}
 use Rattle.clap.specs.Kinds.{Kinds, or_else}
 use Rattle.clap.specs.Simple.{Shape}
 use Rattle.clap.specs.declared.error.kind.ErrorKind.TheVariants.{UnknownArgument}
 use Rattle.btr_words.specs.declared.command.Command.{Command}
-use Rattle.btr_words.specs.Words.{Argument, argument_named, number_of, numbers_in_order, without_marker}
+use Rattle.btr_words.specs.Words.{Argument, Found, argument_named, between, number_of, numbers_in_order, taken, without_marker}
 use Rattle.btr_words.proofs.WordCases.{HasNoShorts, dashes, held}
 use Rattle.btr_words.proofs.Turns.{After, Gives, IsFault, at, ending, fault_from, first_fault, is_fault, refused_gives, rows_from, step_is, turn_cases}
 use Rattle.btr_words.proofs.Found.{Reads, read_more, row}
-use Rattle.btr_words.proofs.Leaf.{Blank, a_number, bad_use, ends_with, good_use, leaf, long_is_none, no_number, one_value, rule, short_is_none, used_is}
+use Rattle.btr_words.proofs.Leaf.{Blank, Use, accepted, ends_with, first_use, leaf, long_is_none, one_value, refused, rule, short_is_none}
 
-abbrev pub value_rule : ℕ → Argument → Rule
-value_rule place a = rule None (Some place) a
+-- A value: its name, the least number and the greatest one.
+pub record Value : Type 0 where
+  pub name : Text
+  pub low : ℕ
+  pub high : ℕ
 
--- The arguments that come next, from a place on, after these rows.
-abbrev pub Ahead : List Rule → List Argument → ℕ → List Argument → List Row → Type 0
+abbrev pub argument_of : Value → Argument
+argument_of a = record { name = a.name; takes = between a.low a.high }
+
+abbrev pub value_rule : ℕ → Value → Rule
+value_rule place a = rule None (Some place) a.name (between a.low a.high)
+
+-- The values that come next, from a place on, after these rows.
+abbrev pub Ahead : List Rule → List Argument → ℕ → List Value → List Row → Type 0
 Ahead rules all place [] now = arg_by_index rules place ≡ None
 Ahead rules all place (a ∷ rest) now =
     (arg_by_index rules place ≡ Some (value_rule place a)) × (arg_by_id rules a.name ≡ Some (value_rule place a))
-    × (argument_named a.name all ≡ Some a) × (has_row a.name now ≡ false)
+    × (argument_named a.name all ≡ Some (argument_of a)) × (has_row a.name now ≡ false)
     × ((v : Text) → Ahead rules all (min (place + 1) usize_max) rest (now ++ row a.name v ∷ []))
 
 module _ (label : Text) (R : List Rule) (all : List Argument) (blank : Blank R) (no_shorts : HasNoShorts (leaf label R))
@@ -66,18 +73,21 @@ module _ (label : Text) (R : List Rule) (all : List Argument) (blank : Blank R) 
       (λ _ _ _ _ k ks _. is_fault k ks)
       (λ _ _. first_fault _ _ (value_fails place (held rows pending) f))
 
-  module _ (F : List Row → Option Command) (K : List (Text × ℕ) → Option Command)
-      (same : (rows : List Row) (found : List (Text × ℕ)) → Reads all rows found → F rows ≡ K found) where
-    abbrev completed : List (Text × ℕ) → Option (List (Text × ℕ)) → Option Command
+  module _ (F : List Row → Option Command) (K : Found → Option Command)
+      (same : (rows : List Row) (found : Found) → Reads all rows found → F (fold with_default rows R) ≡ K found) where
+    abbrev completed : Found → Option Found → Option Command
     completed before found = option_and_then (λ more. K (before ++ more)) found
 
-    abbrev meaning : List Argument → List (Text × ℕ) → List Text → Option Command
-    meaning ahead before words = completed before (numbers_in_order ahead words)
+    abbrev numbers : List Value → List Text → Option Found
+    numbers ahead words = numbers_in_order (map argument_of ahead) words
 
-    abbrev value_in : Text → ℕ
-    value_in text = digits_value 10 (without_leading_plus text)
+    abbrev meaning : List Value → Found → List Text → Option Command
+    meaning ahead before words = completed before (numbers ahead words)
 
-    record Quiet (place : ℕ) (rows : List Row) (pending : Option (Text × List Text)) (now : List Row) (ahead : List Argument) (before : List (Text × ℕ)) : Type 0 where
+    abbrev taken_by : Value → Text → Option (Option ℕ)
+    taken_by a word = taken (between a.low a.high) (Some word)
+
+    record Quiet (place : ℕ) (rows : List Row) (pending : Option (Text × List Text)) (now : List Row) (ahead : List Value) (before : Found) : Type 0 where
       settles : settle_fault R false (held rows pending) ≡ []
       settled : settled_rows R pending rows ≡ now
       next : Ahead R all place ahead now
@@ -88,7 +98,7 @@ module _ (label : Text) (R : List Rule) (all : List Argument) (blank : Blank R) 
     values is_trailing words = cond is_trailing words (without_marker words)
 
     abbrev Gained : List Text → Type 0
-    Gained words = (is_trailing : Bool) (place : ℕ) (rows : List Row) (pending : Option (Text × List Text)) (now : List Row) (ahead : List Argument) (before : List (Text × ℕ))
+    Gained words = (is_trailing : Bool) (place : ℕ) (rows : List Row) (pending : Option (Text × List Text)) (now : List Row) (ahead : List Value) (before : Found)
         → Quiet place rows pending now ahead before
         → Gives F (fault_from s (at place idle is_trailing rows pending) words) (rows_from s (at place idle is_trailing rows pending) words) (meaning ahead before (values is_trailing words))
 
@@ -107,25 +117,27 @@ module _ (label : Text) (R : List Rule) (all : List Argument) (blank : Blank R) 
 
     -- ---- the meaning with one value first
 
-    refused : (a : Argument) (ahead : List Argument) (before : List (Text × ℕ)) (word : Text) (words : List Text) → number_of a.low a.high word ≡ None
-        → meaning (a ∷ ahead) before (word ∷ words) ≡ None
-    refused a ahead before word words none =
-        ap (λ (x : Option ℕ). completed before (option_and_then (λ n. option_map (λ found. (a.name, n) ∷ found) (numbers_in_order ahead words)) x)) none
+    -- What the values come to, if the first gives this number.
+    abbrev by_number : Value → List Value → Found → List Text → Option (Option ℕ) → Option Command
+    by_number a ahead before words o = completed before (option_and_then (λ n. option_map (λ found. (a.name, n) ∷ found) (numbers ahead words)) o)
 
-    one_more : (a : Argument) (ahead : List Argument) (before : List (Text × ℕ)) (word : Text) (words : List Text) (n : ℕ) → number_of a.low a.high word ≡ Some n
+    not_taken : (a : Value) (ahead : List Value) (before : Found) (word : Text) (words : List Text) → taken_by a word ≡ None
+        → meaning (a ∷ ahead) before (word ∷ words) ≡ None
+    not_taken a ahead before word words none = ap (by_number a ahead before words) none
+
+    one_more : (a : Value) (ahead : List Value) (before : Found) (word : Text) (words : List Text) (n : Option ℕ) → taken_by a word ≡ Some n
         → meaning (a ∷ ahead) before (word ∷ words) ≡ meaning ahead (before ++ (a.name, n) ∷ []) words
-    one_more a ahead before word words n is =
-        ap (λ (x : Option ℕ). completed before (option_and_then (λ n. option_map (λ found. (a.name, n) ∷ found) (numbers_in_order ahead words)) x)) is
-        ∙ rest (numbers_in_order ahead words)
+    one_more a ahead before word words n is = ap (by_number a ahead before words) is ∙ rest (numbers ahead words)
       where
-        rest : (found : Option (List (Text × ℕ))) → completed before (option_map (λ found. (a.name, n) ∷ found) found) ≡ completed (before ++ (a.name, n) ∷ []) found
+        rest : (found : Option Found) → completed before (option_map (λ found. (a.name, n) ∷ found) found) ≡ completed (before ++ (a.name, n) ∷ []) found
         rest None = refl
         rest (Some found) = ap K (sym (append_assoc before ((a.name, n) ∷ []) found))
 
-    no_value : (ahead : List Argument) (before : List (Text × ℕ)) (word : Text) (words : List Text) → ((low high : ℕ) → number_of low high word ≡ None)
+    no_value : (ahead : List Value) (before : Found) (word : Text) (words : List Text) → ((low high : ℕ) → number_of low high word ≡ None)
         → meaning ahead before (word ∷ words) ≡ None
     no_value [] before word words none = refl
-    no_value (a ∷ ahead) before word words none = refused a ahead before word words (none a.low a.high)
+    no_value (a ∷ ahead) before word words none =
+        not_taken a ahead before word words (ap (option_map (λ (n : ℕ). Some n)) (none a.low a.high))
 
     -- ---- one more value
 
@@ -141,7 +153,7 @@ module _ (label : Text) (R : List Rule) (all : List Argument) (blank : Blank R) 
     still false = refl
 
     value_step : (word : Text) (rest : List Text) → Gained rest → (is_trailing : Bool) (place : ℕ) (rows : List Row) (pending : Option (Text × List Text)) (now : List Row)
-        (ahead : List Argument) (before : List (Text × ℕ)) → Quiet place rows pending now ahead before
+        (ahead : List Value) (before : Found) → Quiet place rows pending now ahead before
         → ValueGives is_trailing place rows pending word rest (arg_by_index R place) (meaning ahead before (word ∷ values is_trailing rest))
     value_step word rest below is_trailing place rows pending now [] before q =
         subst (λ (r : Option Rule). ValueGives is_trailing place rows pending word rest r None) (sym q.next) refl
@@ -150,7 +162,7 @@ module _ (label : Text) (R : List Rule) (all : List Argument) (blank : Blank R) 
         (subst at_fault (sym (single pends false (settle_fault R false (held rows pending)) refl ∙ q.settles))
         (subst at_held (sym (ap (pushed a.name word) (keeps pends) ∙ ap (λ (l : List Row). held l (Some (a.name, word ∷ []))) q.settled))
         (subst (λ (t : Bool). Gives F (fault_from s (at later idle t now (Some (a.name, word ∷ []))) rest) (rows_from s (at later idle t now (Some (a.name, word ∷ []))) rest) c)
-        (sym (still is_trailing)) (go (is_unsigned_in a.low a.high word) refl))))
+        (sym (still is_trailing)) (go (first_use None (Some place) a.name (between a.low a.high) (Some word) now q.next.3)))))
       where
         r : Rule
         r = value_rule place a
@@ -181,26 +193,26 @@ module _ (label : Text) (R : List Rule) (all : List Argument) (blank : Blank R) 
         by_id : (vs : List Text) → settle_fault R false (held now (Some (a.name, vs))) ≡ use_fault false r vs now
         by_id vs = ap (λ (x : Option Rule). option_map_or (λ (y : Rule). use_fault false y vs now) x []) q.next.1
 
-        go : (b : Bool) → is_unsigned_in a.low a.high word ≡ b
-            → Gives F (fault_from s (at later idle is_trailing now (Some (a.name, word ∷ []))) rest) (rows_from s (at later idle is_trailing now (Some (a.name, word ∷ []))) rest) c
-        go false bad = subst (Gives F (fault_from s (at later idle is_trailing now (Some (a.name, word ∷ []))) rest) (rows_from s (at later idle is_trailing now (Some (a.name, word ∷ []))) rest))
-            (sym (refused a ahead before word (values is_trailing rest) (no_number a.low a.high word bad)))
-            (refused_gives F _ _ (doomed rest is_trailing later now (Some (a.name, word ∷ [])) (subst IsFault (sym (by_id (word ∷ []))) (bad_use None (Some place) a word now bad))))
-        go true good =
-            let number : number_of a.low a.high word ≡ Some (value_in word) = a_number a.low a.high word good in
-            let quiet : Quiet later now (Some (a.name, word ∷ [])) (now ++ row a.name word ∷ []) ahead (before ++ (a.name, value_in word) ∷ []) = record {
-              settles = by_id (word ∷ []) ∙ good_use None (Some place) a word now q.next.3 good;
-              settled = ap (λ (x : Option Rule). used_by_id x (word ∷ []) now) q.next.1 ∙ used_is None (Some place) a word now q.next.3;
-              next = q.next.4 word;
-              reads = read_more all now before (row a.name word) (a.name, value_in word) q.reads
-                  (record { text = word; argument = a; is = refl; named = q.next.2; number = number });
+        ends : Option Command → Type 0
+        ends x = Gives F (fault_from s (at later idle is_trailing now (Some (a.name, word ∷ []))) rest)
+            (rows_from s (at later idle is_trailing now (Some (a.name, word ∷ []))) rest) x
+
+        go : Use None (Some place) a.name (between a.low a.high) (Some word) now → ends c
+        go (refused f none) = subst ends (sym (not_taken a ahead before word (values is_trailing rest) none))
+            (refused_gives F _ _ (doomed rest is_trailing later now (Some (a.name, word ∷ [])) (subst IsFault (sym (by_id (word ∷ []))) f)))
+        go (accepted text n usage row_is is stands) =
+            let quiet : Quiet later now (Some (a.name, word ∷ [])) (now ++ row a.name text ∷ []) ahead (before ++ (a.name, n) ∷ []) = record {
+              settles = by_id (word ∷ []) ∙ usage;
+              settled = ap (λ (x : Option Rule). used_by_id x (word ∷ []) now) q.next.1 ∙ row_is;
+              next = q.next.4 text;
+              reads = read_more all now before (row a.name text) (a.name, n) q.reads
+                  (record { text = text; argument = argument_of a; is = refl; named = q.next.2; stands = stands });
             } in
-            subst (Gives F (fault_from s (at later idle is_trailing now (Some (a.name, word ∷ []))) rest) (rows_from s (at later idle is_trailing now (Some (a.name, word ∷ []))) rest))
-            (sym (one_more a ahead before word (values is_trailing rest) (value_in word) number))
-            (below is_trailing later now (Some (a.name, word ∷ [])) (now ++ row a.name word ∷ []) ahead (before ++ (a.name, value_in word) ∷ []) quiet)
+            subst ends (sym (one_more a ahead before word (values is_trailing rest) n is))
+            (below is_trailing later now (Some (a.name, word ∷ [])) (now ++ row a.name text ∷ []) ahead (before ++ (a.name, n) ∷ []) quiet)
 
     trailing_step : (word : Text) (rest : List Text) → Gained rest → (place : ℕ) (rows : List Row) (pending : Option (Text × List Text)) (now : List Row)
-        (ahead : List Argument) (before : List (Text × ℕ)) → Quiet place rows pending now ahead before
+        (ahead : List Value) (before : Found) → Quiet place rows pending now ahead before
         → Gives F (fault_from s (at place idle true rows pending) (word ∷ rest)) (rows_from s (at place idle true rows pending) (word ∷ rest)) (meaning ahead before (word ∷ rest))
     unfolding walked
     trailing_step word rest below place rows pending now ahead before q =
@@ -209,7 +221,7 @@ module _ (label : Text) (R : List Rule) (all : List Argument) (blank : Blank R) 
         (value_step word rest below true place rows pending now ahead before q)
 
     open_step : (word : Text) (rest : List Text) → Gained rest → (place : ℕ) (rows : List Row) (pending : Option (Text × List Text)) (now : List Row)
-        (ahead : List Argument) (before : List (Text × ℕ)) → Quiet place rows pending now ahead before
+        (ahead : List Value) (before : Found) → Quiet place rows pending now ahead before
         → Gives F (fault_from s (at place idle false rows pending) (word ∷ rest)) (rows_from s (at place idle false rows pending) (word ∷ rest))
         (meaning ahead before (without_marker (word ∷ rest)))
     open_step word rest below place rows pending now ahead before q =
@@ -241,7 +253,7 @@ module _ (label : Text) (R : List Rule) (all : List Argument) (blank : Blank R) 
         step below false place rows pending now ahead before q = open_step word rest below place rows pending now ahead before q
 
     -- The parse of the words of the subcommand gives their meaning.
-    pub values_give : Ahead R all 1 all [] → (words : List Text)
+    pub values_give : (ahead : List Value) → Ahead R all 1 ahead [] → (words : List Text)
         → Gives F (fault_from s (at 1 idle false [] None) words) (rows_from s (at 1 idle false [] None) words)
-        (option_and_then K (numbers_in_order all (without_marker words)))
-    values_give next words = gains words false 1 [] None [] all [] (record { settles = refl; settled = refl; next = next; reads = tt })
+        (option_and_then K (numbers ahead (without_marker words)))
+    values_give ahead next words = gains words false 1 [] None [] ahead [] (record { settles = refl; settled = refl; next = next; reads = tt })

@@ -1,8 +1,10 @@
 -- How the words are read: what `clap` reads of the commands and their arguments, and what is made of its answer.
-use Rattle.std.specs.Prelude.{ℕ, true, List, [], codes, if◌then◌else◌, Option, Some, None, option_map, option_and_then, unwrap_or}
+use Rattle.std.specs.Prelude.{ℕ, Bool, true, false, List, [], codes, if◌then◌else◌, Option, Some, None, option_map, option_and_then, unwrap_or}
+use Rattle.std.specs.Option.{option_map_or}
 use Rattle.std.specs.Str.{bytes_eq}
 use Rattle.clap.specs.Words.{App, Row, Rule, Shape, new_app, new_rule, one_of, with_rule, with_subcommand}
 use Rattle.clap.specs.Simple.{new_shape}
+use Rattle.clap.specs.declared.builder.action.ArgAction.TheVariants as action
 use Rattle.clap.specs.declared.builder.value_parser.ValueParser.TheVariants as vp
 use Rattle.btr_words.specs.declared.command.Command.{Command}
 use Rattle.btr_words.specs.declared.command.Command.TheVariants.{Format, Load, Ask, Distil, Live}
@@ -11,6 +13,10 @@ use Rattle.btr_words.specs.Words.{Text, number_of, sample_within}
 -- An option of this name that takes a number.
 abbrev pub option_in : Text → ℕ → ℕ → Rule
 option_in name low high = record (new_rule name) { long = Some name; parser = Some (vp.Unsigned low high) }
+
+-- A flag of this name.
+abbrev pub flag_rule : Text → Rule
+flag_rule name = record (new_rule name) { long = Some name; action = Some action.SetTrue }
 
 -- A value in its place among the words, which is a number.
 abbrev pub value_in : Text → ℕ → ℕ → Rule
@@ -21,6 +27,9 @@ workers_rule = option_in (codes "workers") 1 16
 
 abbrev pub batch_rule : Rule
 batch_rule = option_in (codes "batch") 1 65536
+
+abbrev pub materialize_rule : Rule
+materialize_rule = flag_rule (codes "materialize")
 
 abbrev pub format_app : App
 format_app = with_rule (new_app (codes "format")) (option_in (codes "blocks") 8 4294967296)
@@ -35,7 +44,7 @@ abbrev pub distil_app : App
 distil_app = with_rule (new_app (codes "distil")) workers_rule
 
 abbrev pub live_app : App
-live_app = with_rule (new_app (codes "live")) batch_rule
+live_app = with_rule (with_rule (new_app (codes "live")) batch_rule) materialize_rule
 
 abbrev pub number_rule : Rule
 number_rule = value_in (codes "number") 0 2147483647
@@ -70,11 +79,18 @@ program_app = with_subcommand (with_subcommand (with_subcommand first_app distil
 abbrev pub number_in : Text → List Row → ℕ → Option ℕ
 number_in name rows high = option_and_then (number_of 0 high) (one_of name rows)
 
+-- The rows say that a flag was given.
+abbrev pub flag_in : Text → List Row → Bool
+flag_in name rows = option_map_or (λ text. bytes_eq text (codes "true")) (one_of name rows) false
+
 abbrev pub workers_in : List Row → ℕ
 workers_in rows = unwrap_or (number_in (codes "workers") rows 255) 1
 
 abbrev pub batch_in : List Row → ℕ
 batch_in rows = unwrap_or (number_in (codes "batch") rows 4294967295) 4096
+
+abbrev pub live_in : List Row → Command
+live_in rows = Live (batch_in rows) (flag_in (codes "materialize") rows)
 
 abbrev pub sample_in : List Row → Option Command
 sample_in rows =
@@ -88,7 +104,7 @@ command_with_rows name rows =
     if bytes_eq name (codes "format") then option_map (λ n. Format n) (number_in (codes "blocks") rows 18446744073709551615)
     else (if bytes_eq name (codes "load") then Some (Load (workers_in rows) (batch_in rows))
     else (if bytes_eq name (codes "distil") then Some (Distil (workers_in rows))
-    else (if bytes_eq name (codes "live") then Some (Live (batch_in rows))
+    else (if bytes_eq name (codes "live") then Some (live_in rows)
     else (if bytes_eq name (codes "sample") then sample_in rows
     else Some Ask))))
 

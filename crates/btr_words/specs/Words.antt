@@ -1,6 +1,6 @@
 -- The words of a command line, and the command that they give.
-use Rattle.std.specs.Prelude.{ℕ, ◌≤◌, ◌*◌, nat_le, Bool, true, false, not, List, [], ◌∷◌, codes, if◌then◌else◌, find}
-use Rattle.std.specs.Prelude.{Option, Some, None, option_map, option_and_then, unwrap_or}
+use Rattle.std.specs.Prelude.{ℕ, ◌≤◌, ◌*◌, ◌||◌, nat_le, Bool, true, false, not, List, [], ◌∷◌, codes, if◌then◌else◌, find}
+use Rattle.std.specs.Prelude.{Option, Some, None, is_some, option_map, option_and_then, unwrap_or}
 use Rattle.std.specs.List.{filter}
 use Rattle.std.specs.Option.{option_map_or}
 use Rattle.std.specs.Str.{bytes_eq}
@@ -19,11 +19,15 @@ number_of low high text = if is_unsigned_in low high text then Some (digits_valu
 
 -- ---- arguments: options, which are named in the words, and values, which stand there in order
 
--- An argument that takes a number: its name, the least number and the greatest one.
+-- What an argument takes: a number from the least to the greatest one, or nothing. An argument that takes nothing is a flag.
+pub data Takes : Type 0 where
+  between : ℕ → ℕ → Takes
+  nothing : Takes
+
+-- An argument: its name, and what it takes.
 pub record Argument : Type 0 where
   pub name : Text
-  pub low : ℕ
-  pub high : ℕ
+  pub takes : Takes
 
 -- The argument of this name.
 abbrev pub argument_named : Text → List Argument → Option Argument
@@ -33,9 +37,32 @@ argument_named name arguments = find (λ a. bytes_eq a.name name) arguments
 abbrev pub others : Text → List Argument → List Argument
 others name arguments = filter (λ a. not (bytes_eq a.name name)) arguments
 
+abbrev pub takes_nothing : Takes → Bool
+takes_nothing (between low high) = false
+takes_nothing nothing = true
+
+-- The argument of this name is a flag.
+abbrev pub is_flag : Text → List Argument → Bool
+is_flag name arguments = option_map_or (λ a. takes_nothing a.takes) (argument_named name arguments) false
+
+-- What was found in the words: the names of arguments, each with its number, or with none if it is a flag.
+abbrev pub Found : Type 0
+Found = List (Text × Option ℕ)
+
 -- The number that was found for the argument of this name.
-abbrev pub number_for : Text → List (Text × ℕ) → Option ℕ
-number_for name found = option_map (λ p. p.1) (find (λ p. bytes_eq p.0 name) found)
+abbrev pub number_for : Text → Found → Option ℕ
+number_for name found = option_and_then (λ p. p.1) (find (λ p. bytes_eq p.0 name) found)
+
+-- The argument of this name was found.
+abbrev pub is_found : Text → Found → Bool
+is_found name found = is_some (find (λ p. bytes_eq p.0 name) found)
+
+-- What is found for an argument that takes this, if the words write it with this text, or with none.
+abbrev pub taken : Takes → Option Text → Option (Option ℕ)
+taken (between low high) (Some text) = option_map (λ n. Some n) (number_of low high text)
+taken (between low high) None = None
+taken nothing (Some text) = None
+taken nothing None = Some None
 
 -- There are no more words, or only the word `--`, which says that there are no more options.
 abbrev pub is_end : List Text → Bool
@@ -43,27 +70,29 @@ is_end [] = true
 is_end (word ∷ []) = bytes_eq word (codes "--")
 is_end _ = false
 
--- The options that the words write, each as `--NAME=TEXT`, or as the two words `--NAME` and TEXT: names with texts, in order.
+-- The options that the words write, in order: names with texts. A flag is the word `--NAME` alone, and has no text. Each other
+-- option is `--NAME=TEXT`, or the two words `--NAME` and TEXT.
 -- Before the words stands the name of an option that has no text yet, if there is one.
-abbrev pub options_after : Option Text → List Text → Option (List (Text × Text))
-options_after (Some name) [] = None
-options_after (Some name) (text ∷ words) = option_map (λ rest. (name, text) ∷ rest) (options_after None words)
-options_after None [] = Some []
-options_after None (word ∷ words) =
+abbrev pub options_after : List Argument → Option Text → List Text → Option (List (Text × Option Text))
+options_after arguments (Some name) [] = None
+options_after arguments (Some name) (text ∷ words) = option_map (λ rest. (name, Some text) ∷ rest) (options_after arguments None words)
+options_after arguments None [] = Some []
+options_after arguments None (word ∷ words) =
     if is_end (word ∷ words) then Some []
-    else option_and_then (λ p. option_map_or (λ text. option_map (λ rest. (p.0, text) ∷ rest) (options_after None words))
-    p.1 (options_after (Some p.0) words)) (long_of word)
+    else option_and_then (λ p. if is_some p.1 || is_flag p.0 arguments
+    then option_map (λ rest. (p.0, p.1) ∷ rest) (options_after arguments None words)
+    else options_after arguments (Some p.0) words) (long_of word)
 
--- The numbers of these options. Each has the name of one of the arguments and lies in its bounds, and no name comes twice.
-abbrev pub numbers_of : List Argument → List (Text × Text) → Option (List (Text × ℕ))
+-- What these options give. Each has the name of one of the arguments, and what that takes, and no name comes twice.
+abbrev pub numbers_of : List Argument → List (Text × Option Text) → Option Found
 numbers_of arguments [] = Some []
 numbers_of arguments (p ∷ options) =
     option_and_then (λ a. option_and_then (λ n. option_map (λ found. (p.0, n) ∷ found) (numbers_of (others p.0 arguments) options))
-    (number_of a.low a.high p.1)) (argument_named p.0 arguments)
+    (taken a.takes p.1)) (argument_named p.0 arguments)
 
--- The numbers that the words give to options.
-abbrev pub option_numbers : List Argument → List Text → Option (List (Text × ℕ))
-option_numbers arguments words = option_and_then (numbers_of arguments) (options_after None words)
+-- What the words give to options.
+abbrev pub option_numbers : List Argument → List Text → Option Found
+option_numbers arguments words = option_and_then (numbers_of arguments) (options_after arguments None words)
 
 -- The words without the first `--`.
 abbrev pub without_marker : List Text → List Text
@@ -71,47 +100,57 @@ without_marker [] = []
 without_marker (word ∷ words) = if bytes_eq word (codes "--") then words else word ∷ without_marker words
 
 -- The numbers that the words write, the first for the first argument, and so on.
-abbrev pub numbers_in_order : List Argument → List Text → Option (List (Text × ℕ))
+abbrev pub numbers_in_order : List Argument → List Text → Option Found
 numbers_in_order arguments [] = Some []
 numbers_in_order [] (word ∷ words) = None
 numbers_in_order (a ∷ arguments) (word ∷ words) =
-    option_and_then (λ n. option_map (λ found. (a.name, n) ∷ found) (numbers_in_order arguments words)) (number_of a.low a.high word)
+    option_and_then (λ n. option_map (λ found. (a.name, n) ∷ found) (numbers_in_order arguments words)) (taken a.takes (Some word))
 
 -- ---- the commands
 
 abbrev pub blocks_argument : Argument
-blocks_argument = record { name = codes "blocks"; low = 8; high = 4294967296 }
+blocks_argument = record { name = codes "blocks"; takes = between 8 4294967296 }
 
 abbrev pub workers_argument : Argument
-workers_argument = record { name = codes "workers"; low = 1; high = 16 }
+workers_argument = record { name = codes "workers"; takes = between 1 16 }
 
 abbrev pub batch_argument : Argument
-batch_argument = record { name = codes "batch"; low = 1; high = 65536 }
+batch_argument = record { name = codes "batch"; takes = between 1 65536 }
+
+abbrev pub materialize_argument : Argument
+materialize_argument = record { name = codes "materialize"; takes = nothing }
+
+abbrev pub live_arguments : List Argument
+live_arguments = batch_argument ∷ materialize_argument ∷ []
 
 abbrev pub sample_arguments : List Argument
 sample_arguments =
-    record { name = codes "number"; low = 0; high = 2147483647 }
-    ∷ record { name = codes "streams"; low = 1; high = 1000 }
-    ∷ record { name = codes "points"; low = 1; high = 1000000 } ∷ []
+    record { name = codes "number"; takes = between 0 2147483647 }
+    ∷ record { name = codes "streams"; takes = between 1 1000 }
+    ∷ record { name = codes "points"; takes = between 1 1000000 } ∷ []
 
 -- `--workers K`, 1 if it is not there.
-abbrev pub workers_of : List (Text × ℕ) → ℕ
+abbrev pub workers_of : Found → ℕ
 workers_of found = unwrap_or (number_for (codes "workers") found) 1
 
 -- `--batch B`, 4096 if it is not there.
-abbrev pub batch_of : List (Text × ℕ) → ℕ
+abbrev pub batch_of : Found → ℕ
 batch_of found = unwrap_or (number_for (codes "batch") found) 4096
+
+-- `--materialize` is there.
+abbrev pub materialize_of : Found → Bool
+materialize_of found = is_found (codes "materialize") found
 
 -- At most a million points in all.
 abbrev pub sample_within : ℕ → ℕ → ℕ → Option Command
 sample_within number streams points = if nat_le (streams * points) 1000000 then Some (Sample number streams points) else None
 
 -- `format --blocks N`, where the number must be there.
-abbrev pub format_of : List (Text × ℕ) → Option Command
+abbrev pub format_of : Found → Option Command
 format_of found = option_map (λ n. Format n) (number_for (codes "blocks") found)
 
 -- `sample NUMBER STREAMS POINTS`, where all three must be there.
-abbrev pub sample_of : List (Text × ℕ) → Option Command
+abbrev pub sample_of : Found → Option Command
 sample_of found =
     option_and_then (λ number. option_and_then (λ streams. option_and_then (sample_within number streams)
     (number_for (codes "points") found)) (number_for (codes "streams") found)) (number_for (codes "number") found)
@@ -125,7 +164,8 @@ command_with name words =
     else (if bytes_eq (codes "ask") name then option_map (λ found. Ask) (option_numbers [] words)
     else (if bytes_eq (codes "distil") name
     then option_map (λ found. Distil (workers_of found)) (option_numbers (workers_argument ∷ []) words)
-    else (if bytes_eq (codes "live") name then option_map (λ found. Live (batch_of found)) (option_numbers (batch_argument ∷ []) words)
+    else (if bytes_eq (codes "live") name
+    then option_map (λ found. Live (batch_of found) (materialize_of found)) (option_numbers live_arguments words)
     else (if bytes_eq (codes "sample") name
     then option_and_then sample_of (numbers_in_order sample_arguments (without_marker words)) else None)))))
 
@@ -139,6 +179,6 @@ IsInBounds (Format blocks) = (8 ≤ blocks) × (blocks ≤ 4294967296)
 IsInBounds (Load workers batch) = (1 ≤ workers) × (workers ≤ 16) × (1 ≤ batch) × (batch ≤ 65536)
 IsInBounds Ask = Unit {0}
 IsInBounds (Distil workers) = (1 ≤ workers) × (workers ≤ 16)
-IsInBounds (Live batch) = (1 ≤ batch) × (batch ≤ 65536)
+IsInBounds (Live batch materialize) = (1 ≤ batch) × (batch ≤ 65536)
 IsInBounds (Sample number streams points) =
     (number ≤ 2147483647) × (1 ≤ streams) × (streams ≤ 1000) × (1 ≤ points) × (points ≤ 1000000) × (streams * points ≤ 1000000)

@@ -21,9 +21,11 @@ pub enum Command {
         workers: u8,
     },
 
-    /// `live [--batch B]`: run the lines of the input on the store, and commit a feed when it has B points, from 1 to 65,536.
+    /// `live [--materialize] [--batch B]`: run the lines of the input on the store, and commit a feed when it has B points, from
+    /// 1 to 65,536. `--materialize`: bring outputs up to date beside the lines, and once more at the end.
     Live {
         batch: u32,
+        materialize: bool,
     },
 
     /// `sample NUMBER STREAMS POINTS`: write the rows of a sample with this number, from 0 to 2,147,483,647, of so many

@@ -1,5 +1,5 @@
 //! What the definitions entail. Each law is a function with an empty body, and its contract is the law.
-ghost use Rattle.std.specs.Prelude.{◌≡◌, List, [], ◌∷◌, codes, Some, None};
+ghost use Rattle.std.specs.Prelude.{◌≡◌, List, [], ◌∷◌, ◌++◌, codes, Some, None, true, false};
 ghost use Rattle.std.specs.Option.{option_map, option_and_then};
 ghost use Rattle.btr_words.specs.declared.command.Command.TheVariants.{Ask, Distil, Format, Live, Load};
 ghost use Rattle.btr_words.specs.Words.{Text, command_of, number_of, sample_within};
@@ -8,13 +8,25 @@ ghost use Rattle.btr_words.specs.Words.{Text, command_of, number_of, sample_with
 pub fn commands_are_these()
     ensures none { command_of [] ≡ None }
     ensures ask { command_of (codes "ask" ∷ []) ≡ Some Ask }
-    ensures live { command_of (codes "live" ∷ []) ≡ Some (Live 4096) }
-    ensures batch { (b : Text) → command_of (codes "live" ∷ codes "--batch" ∷ b ∷ []) ≡ option_map (λ n. Live n) (number_of 1 65536 b) }
+    ensures live { command_of (codes "live" ∷ []) ≡ Some (Live 4096 false) }
+    ensures batch { (b : Text) → command_of (codes "live" ∷ codes "--batch" ∷ b ∷ [])
+        ≡ option_map (λ n. Live n false) (number_of 1 65536 b) }
+    ensures materialize { command_of (codes "live" ∷ codes "--materialize" ∷ []) ≡ Some (Live 4096 true) }
     ensures format { (n : Text) → command_of (codes "format" ∷ codes "--blocks" ∷ n ∷ [])
         ≡ option_map (λ k. Format k) (number_of 8 4294967296 n) }
     ensures distil { command_of (codes "distil" ∷ []) ≡ Some (Distil 1) }
     ensures workers { (k : Text) → command_of (codes "distil" ∷ codes "--workers" ∷ k ∷ [])
         ≡ option_map (λ n. Distil n) (number_of 1 16 k) }
+{}
+
+/// The words of `live` with its flag: the flag stands before or after the option, once, and has no text.
+pub fn commands_with_a_flag_are_these()
+    ensures first { (b : Text) → command_of (codes "live" ∷ codes "--materialize" ∷ codes "--batch" ∷ b ∷ [])
+        ≡ option_map (λ n. Live n true) (number_of 1 65536 b) }
+    ensures last { (b : Text) → command_of (codes "live" ∷ codes "--batch" ∷ b ∷ codes "--materialize" ∷ [])
+        ≡ option_map (λ n. Live n true) (number_of 1 65536 b) }
+    ensures twice { command_of (codes "live" ∷ codes "--materialize" ∷ codes "--materialize" ∷ []) ≡ None }
+    ensures alone { (t : Text) → command_of (codes "live" ∷ (codes "--materialize=" ++ t) ∷ []) ≡ None }
 {}
 
 /// The words of `load`, each option written as two words, and those of `sample`.

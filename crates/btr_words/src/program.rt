@@ -2,9 +2,9 @@
 ghost use Rattle.std.specs.Prelude.{◌≡◌, IfOk, false};
 ghost use Rattle.clap.specs.Words.{app_of, rule_of};
 ghost use Rattle.btr_words.specs.Program.{first_app, program_app, format_app, load_app, distil_app, live_app, sample_app};
-ghost use Rattle.btr_words.specs.Program.{batch_rule, workers_rule, number_rule, streams_rule, points_rule};
+ghost use Rattle.btr_words.specs.Program.{batch_rule, materialize_rule, workers_rule, number_rule, streams_rule, points_rule};
 
-use clap::{Arg, Command};
+use clap::{Arg, ArgAction, Command};
 use std::alloc::{AllocError, Global};
 
 /// Returns the description of all commands. Help and versions cannot be asked for. An `Err` means out of memory.
@@ -58,11 +58,13 @@ fn distil_command<'a>(alloc: Global) -> Result<Command<'a>, AllocError>
     Command::new(alloc, "distil").arg(workers(alloc))
 }
 
-/// Returns the description of `live [--batch B]`. An `Err` means out of memory.
+/// Returns the description of `live [--materialize] [--batch B]`. An `Err` means out of memory.
 fn live_command<'a>(alloc: Global) -> Result<Command<'a>, AllocError>
     ensures { IfOk result (λ c. app_of c ≡ live_app) }
 {
-    Command::new(alloc, "live").arg(batch(alloc))
+    Command::new(alloc, "live")
+        .arg(batch(alloc))?
+        .arg(materialize(alloc))
 }
 
 /// Returns the description of `sample NUMBER STREAMS POINTS`. An `Err` means out of memory.
@@ -93,6 +95,16 @@ fn batch<'a>(alloc: Global) -> Arg<'a>
     Arg::new(alloc, "batch")
         .long("batch")
         .value_parser(clap::value_parser!(u64).range(1..=65536))
+}
+
+/// Returns the description of `--materialize`.
+fn materialize<'a>(alloc: Global) -> Arg<'a>
+    ensures local { result.global ≡ false }
+    ensures rule { rule_of result ≡ materialize_rule }
+{
+    Arg::new(alloc, "materialize")
+        .long("materialize")
+        .action(ArgAction::SetTrue)
 }
 
 /// Returns the description of NUMBER.

@@ -2,7 +2,7 @@
 ghost use Rattle.std.specs.Prelude.{◌≡◌, map, string_bytes, IfOk, IfSome};
 ghost use Rattle.clap.specs.Words.{found_of, rows_of, subcommand_rows_of};
 ghost use Rattle.btr_words.specs.Words.{command_of, IsInBounds};
-ghost use Rattle.btr_words.specs.Program.{command_of_rows, number_in};
+ghost use Rattle.btr_words.specs.Program.{command_of_rows, flag_in, number_in};
 ghost use Rattle.btr_words.specs.Program as spec;
 
 use crate::command::Command;
@@ -45,13 +45,21 @@ fn command_in(matches: &ArgMatches) -> Option<Command>
         let workers = workers_in(arguments);
         Some(Command::Distil { workers })
     } else if name == "live" {
-        let batch = batch_in(arguments);
-        Some(Command::Live { batch })
+        Some(live_in(arguments))
     } else if name == "sample" {
         sample_in(arguments)
     } else {
         Some(Command::Ask)
     }
+}
+
+/// Returns the `live` command that was found.
+fn live_in(arguments: &ArgMatches) -> Command
+    ensures { result ≡ spec.live_in (rows_of (found_of arguments.now)) }
+{
+    let batch = batch_in(arguments);
+    let materialize = is_set(arguments, "materialize");
+    Command::Live { batch, materialize }
 }
 
 /// Returns the `sample` command that was found, if it asks for at most a million points in all.
@@ -84,6 +92,14 @@ fn batch_in(arguments: &ArgMatches) -> u32
     ensures { result ≡ spec.batch_in (rows_of (found_of arguments.now)) }
 {
     small_number(arguments, "batch").unwrap_or(4096)
+}
+
+/// Returns whether a flag was found.
+fn is_set(arguments: &ArgMatches, name: &str) -> bool
+    ensures { result ≡ flag_in name.now (rows_of (found_of arguments.now)) }
+{
+    // as `get_flag`, which promises nothing of a text that is no `bool`
+    arguments.get_one::<bool>(name).unwrap_or(false)
 }
 
 /// Returns the number that was found for an argument.

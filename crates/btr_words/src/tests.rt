@@ -16,8 +16,8 @@ fn format(blocks: u64) -> Option<Command> {
     Some(Command::Format { blocks })
 }
 
-fn live(batch: u32) -> Option<Command> {
-    Some(Command::Live { batch })
+fn live(batch: u32, materialize: bool) -> Option<Command> {
+    Some(Command::Live { batch, materialize })
 }
 
 fn load(workers: u8, batch: u32) -> Option<Command> {
@@ -39,15 +39,22 @@ fn sample(number: u32, streams: u32, points: u32) -> Option<Command> {
 #[test]
 fn lines_that_give_a_command(rt: HostRuntime) -> Result<(), Fail> {
     let alloc = rt.alloc();
-    let lines: [(&[&str], Option<Command>); 41] = [
+    let lines: [(&[&str], Option<Command>); 48] = [
         (&["ask"], Some(Command::Ask)),
         (&["ask", "--"], Some(Command::Ask)),
-        (&["live"], live(4096)),
-        (&["live", "--"], live(4096)),
-        (&["live", "--batch", "1"], live(1)),
-        (&["live", "--batch", "65536"], live(65536)),
-        (&["live", "--batch=7"], live(7)),
-        (&["live", "--batch=+07", "--"], live(7)),
+        (&["live"], live(4096, false)),
+        (&["live", "--"], live(4096, false)),
+        (&["live", "--batch", "1"], live(1, false)),
+        (&["live", "--batch", "65536"], live(65536, false)),
+        (&["live", "--batch=7"], live(7, false)),
+        (&["live", "--batch=+07", "--"], live(7, false)),
+        (&["live", "--materialize"], live(4096, true)),
+        (&["live", "--materialize", "--"], live(4096, true)),
+        (&["live", "--materialize", "--batch", "8"], live(8, true)),
+        (&["live", "--materialize", "--batch=8"], live(8, true)),
+        (&["live", "--batch", "8", "--materialize"], live(8, true)),
+        (&["live", "--batch=8", "--materialize"], live(8, true)),
+        (&["live", "--batch=8", "--materialize", "--"], live(8, true)),
         (&["format", "--blocks", "8"], format(8)),
         (&["format", "--blocks", "64"], format(64)),
         (&["format", "--blocks=64"], format(64)),
@@ -101,7 +108,7 @@ fn lines_that_give_a_command(rt: HostRuntime) -> Result<(), Fail> {
 #[test]
 fn lines_that_give_none(rt: HostRuntime) -> Result<(), Fail> {
     let alloc = rt.alloc();
-    let lines: [&[&str]; 105] = [
+    let lines: [&[&str]; 137] = [
         // no command, or another word in its place
         &[],
         &[""],
@@ -157,6 +164,39 @@ fn lines_that_give_none(rt: HostRuntime) -> Result<(), Fail> {
         &["live", "--", "--"],
         &["ask", ""],
         &["ask", "ask"],
+        // the flag with a text, twice, in part, after the end of options, or where a number is wanted
+        &["live", "--materialize=true"],
+        &["live", "--materialize=false"],
+        &["live", "--materialize=1"],
+        &["live", "--materialize="],
+        &["live", "--materialize", "true"],
+        &["live", "--materialize", "8"],
+        &["live", "--materialize", ""],
+        &["live", "--materialize", "--materialize"],
+        &["live", "--materialize", "--batch", "8", "--materialize"],
+        &["live", "--materialize", "--batch", "8", "--batch", "8"],
+        &["live", "--mat"],
+        &["live", "--m"],
+        &["live", "--materializ"],
+        &["live", "--materialized"],
+        &["live", "--Materialize"],
+        &["live", "-materialize"],
+        &["live", "-m"],
+        &["live", "materialize"],
+        &["live", "--", "--materialize"],
+        &["live", "--batch", "8", "--", "--materialize"],
+        &["live", "--materialize", "--", "--batch", "8"],
+        &["live", "--batch", "--materialize"],
+        &["live", "--batch", "--materialize", "8"],
+        &["live", "--batch=", "--materialize"],
+        &["live", "--materialize", "--batch"],
+        &["live", "--materialize", "--batch", "0"],
+        &["--materialize", "live"],
+        &["load", "--materialize"],
+        &["format", "--blocks", "64", "--materialize"],
+        &["ask", "--materialize"],
+        &["distil", "--materialize"],
+        &["sample", "1", "1", "3", "--materialize"],
         // numbers
         &["format", "--blocks", "7"],
         &["format", "--blocks", "4294967297"],

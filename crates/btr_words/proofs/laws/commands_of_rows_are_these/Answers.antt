@@ -13,11 +13,15 @@ meaning words = option_and_then sample_of (numbers_in_order sample_arguments wor
 abbrev wanted : Option ℕ → Option ℕ → Option ℕ → Option Command
 wanted x y z = option_and_then (λ i. option_and_then (λ j. option_and_then (sample_within i j) z) y) x
 
+-- What is found for a value.
+abbrev some_of : Option ℕ → Option (Option ℕ)
+some_of o = option_map (λ (n : ℕ). Some n) o
+
 two : (n s : Text) → meaning (n ∷ s ∷ []) ≡ None
 two n s = go (number_of 0 2147483647 n) (number_of 1 1000 s)
   where
     go : (x y : Option ℕ) → option_and_then sample_of (option_and_then (λ i. option_map (λ f. (codes "number", i) ∷ f)
-        (option_and_then (λ j. option_map (λ f. (codes "streams", j) ∷ f) (Some [])) y)) x) ≡ None
+        (option_and_then (λ j. option_map (λ f. (codes "streams", j) ∷ f) (Some [])) (some_of y))) (some_of x)) ≡ None
     go None y = refl
     go (Some i) None = refl
     go (Some i) (Some j) = refl
@@ -27,7 +31,7 @@ three n s p = go (number_of 0 2147483647 n) (number_of 1 1000 s) (number_of 1 10
   where
     go : (x y z : Option ℕ) → option_and_then sample_of (option_and_then (λ i. option_map (λ f. (codes "number", i) ∷ f)
         (option_and_then (λ j. option_map (λ f. (codes "streams", j) ∷ f)
-        (option_and_then (λ k. option_map (λ f. (codes "points", k) ∷ f) (Some [])) z)) y)) x) ≡ wanted x y z
+        (option_and_then (λ k. option_map (λ f. (codes "points", k) ∷ f) (Some [])) (some_of z))) (some_of y))) (some_of x)) ≡ wanted x y z
     go None y z = refl
     go (Some i) None z = refl
     go (Some i) (Some j) None = refl
