@@ -8,7 +8,7 @@ use Rattle.btr_report.specs.declared.line.RowRefusal.{RowRefusal}
 use Rattle.btr_report.specs.declared.line.RowRefusal.TheVariants.{Row, Output}
 use Rattle.btr_report.specs.declared.line.ReportLine.{ReportLine}
 use Rattle.btr_report.specs.declared.line.ReportLine.TheVariants.{RowRefused, BatchRefused, StreamLoaded, Loaded}
-use Rattle.btr_report.specs.declared.line.ReportLine.TheVariants.{OutputCurrent, OutputRefused, Used, StreamSummary}
+use Rattle.btr_report.specs.declared.line.ReportLine.TheVariants.{OutputCurrent, OutputRefused, RoundRefused, Used, StreamSummary}
 
 -- A number with a colon, after which the reason of a refusal comes.
 abbrev pub marked : ℕ → List ℕ
@@ -36,6 +36,7 @@ report_words (StreamLoaded id version points) = id_text id ∷ decimal version �
 report_words (Loaded good refused) = codes "loaded" ∷ decimal good ∷ codes "refused" ∷ decimal refused ∷ []
 report_words (OutputCurrent id version reads) = id_text id ∷ decimal version ∷ reads_words reads
 report_words (OutputRefused id reason) = id_text id ∷ codes "no" ∷ reason_words reason
+report_words (RoundRefused id reason) = codes "materialize" ∷ id_text id ∷ codes "no" ∷ reason_words reason
 report_words (Used entries) = codes "no" ∷ codes "used" ∷ decimal entries ∷ []
 report_words (StreamSummary id version agg) = id_text id ∷ decimal version ∷ agg_words agg
 

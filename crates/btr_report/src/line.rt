@@ -57,6 +57,12 @@ pub enum ReportLine {
         reason: Reason,
     },
 
+    /// `materialize ID no REASON`: the last round could not bring this output up to date.
+    RoundRefused {
+        id: u128,
+        reason: Reason,
+    },
+
     /// `no used ENTRIES`: the store is not empty. This is the number of its entries.
     Used {
         entries: u64,

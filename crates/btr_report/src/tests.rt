@@ -94,6 +94,14 @@ fn each_line_of_outputs_and_samples_has_its_words(rt: HostRuntime) -> Result<(),
             id: ONES,
             reason: Reason::Superseded { version: 9 },
         },
+        ReportLine::RoundRefused {
+            id: ONES,
+            reason: Reason::Crowded { start: -4 },
+        },
+        ReportLine::RoundRefused {
+            id: MIXED,
+            reason: Reason::Device,
+        },
         ReportLine::Used { entries: 6 },
         ReportLine::StreamSummary {
             id: 1,
@@ -110,7 +118,9 @@ fn each_line_of_outputs_and_samples_has_its_words(rt: HostRuntime) -> Result<(),
     }
     let want = b"abcdef01-2345-6789-abcd-ef0123456789 2 1\n\
         11111111-1111-4111-8111-111111111111 4294967295 1 3\n\
-        11111111-1111-4111-8111-111111111111 no superseded 9\nno used 6\n\
+        11111111-1111-4111-8111-111111111111 no superseded 9\n\
+        materialize 11111111-1111-4111-8111-111111111111 no crowded -4\n\
+        materialize abcdef01-2345-6789-abcd-ef0123456789 no device\nno used 6\n\
         00000000-0000-0000-0000-000000000001 1 2 -136 -306 170\n\
         00000000-0000-0000-0000-000000000000 0 0 0\n";
     assert_eq!(rt; out.as_slice(), want.as_slice());

@@ -50,6 +50,7 @@ fn append_report(out: &mut Vec<u8>, line: &ReportLine) -> Result<(), AllocError>
             out, *id, *version, *reads,
         ),
         ReportLine::OutputRefused { id, reason } => append_refused(out, *id, *reason),
+        ReportLine::RoundRefused { id, reason } => append_round(out, *id, *reason),
         ReportLine::Used { entries } => append_used(out, *entries),
         ReportLine::StreamSummary { id, version, agg } => append_summary(out, *id, *version, agg),
     }
@@ -171,6 +172,16 @@ fn append_refused(out: &mut Vec<u8>, id: u128, reason: Reason) -> Result<(), All
 {
     append_id(out, id)?;
     append_reason(out, reason)
+}
+
+/// Appends the line of an output that the last round could not bring up to date. An `Err` may leave a part of it.
+fn append_round(out: &mut Vec<u8>, id: u128, reason: Reason) -> Result<(), AllocError>
+    ensures ok { OnOk result (out.new.items ≡ out.old.items
+        ++ line_text (codes "materialize" ∷ id_text id ∷ codes "no" ∷ reason_words reason)) }
+    ensures err { OnErr result (take (length out.old.items) out.new.items ≡ out.old.items) }
+{
+    append_word(out, b"materialize")?;
+    append_refused(out, id, reason)
 }
 
 /// Appends the line of a store that is not empty. An `Err` may leave a part of it.

@@ -1,4 +1,5 @@
 pub mod WordLemmas
 pub mod DigitLemmas
 pub mod FormLemmas
+pub mod LaneLemmas
 pub mod TextLemmas

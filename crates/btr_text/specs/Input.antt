@@ -1,21 +1,26 @@
--- The lines of an input, and which of them have a reply.
-use Rattle.std.specs.Prelude.{ℕ, ◌==◌, List, [], ◌∷◌, map, filter_map, if◌then◌else◌, codes, bytes_eq, Option, Some, None}
-use Rattle.std.specs.List.{slice_split, starts_with}
+-- The lines of an input, which of them have a reply, and the lane of each.
+use Rattle.std.specs.Prelude.{ℕ, ◌<◌, ◌==◌, List, [], ◌∷◌, map, filter_map, if◌then◌else◌, codes, Option, Some, None}
+use Rattle.std.specs.List.{AllByRecursion, slice_split, starts_with}
+use Rattle.std.specs.Option.{option_map_or}
 use Rattle.std.specs.Prelude.{nat_eq}
 use Rattle.std.specs.Str.Lines.{strip_carriage_return}
 use Rattle.btr_text.specs.declared.script.ScriptLine.{ScriptLine}
 use Rattle.btr_text.specs.declared.word.TheConstants.{LINE_FEED}
-use Rattle.btr_text.specs.Word.{words_of}
+use Rattle.btr_text.specs.Word.{words_of, lane_of}
 use Rattle.btr_text.specs.Form.{line_of}
 
 -- The pieces of an input between its line feeds. One carriage return at the end of a piece is dropped.
 abbrev pub lines_of : List ℕ → List (List ℕ)
 lines_of input = map strip_carriage_return (slice_split (λ b. b == LINE_FEED) input)
 
--- What words say, if there is a word. The first word may be the name of the lane.
+-- A line of this lane, of which these are the words of the form.
+abbrev pub in_lane : ℕ → List (List ℕ) → ScriptLine
+in_lane lane ws = record { lane = lane; line = line_of ws }
+
+-- What words say, if there is a word. If the first word names a lane, the form begins after it. If not, the lane is 0.
 abbrev pub said : List (List ℕ) → Option ScriptLine
 said [] = None
-said (w ∷ ws) = Some (record { lane = 0; line = line_of (if bytes_eq w (codes "@0") then ws else w ∷ ws) })
+said (w ∷ ws) = Some (option_map_or (λ lane. in_lane lane ws) (lane_of w) (in_lane 0 (w ∷ ws)))
 
 -- What a line says, if it has a reply. A line that begins with `#`, or has no word, has no reply.
 abbrev pub script_line : List ℕ → Option ScriptLine
@@ -24,3 +29,7 @@ script_line line = if starts_with nat_eq line (codes "#") then None else said (w
 -- The lines of an input that have a reply, in order.
 abbrev pub script_of : List ℕ → List ScriptLine
 script_of input = filter_map script_line (lines_of input)
+
+-- Each line has a lane from 0 to 7.
+abbrev pub HaveLanes : List ScriptLine → Type 0
+HaveLanes script = AllByRecursion (λ line. line.lane < 8) script

@@ -1,4 +1,4 @@
--- The words of a line, and the values that one word can mean: a number, a direction, the id of a stream, a version.
+-- The words of a line, and the values that one word can mean: a number, a direction, the id of a stream, a version, a lane.
 use Rattle.std.specs.Prelude.{ℕ, ◌+◌, ◌-◌, ◌*◌, ◌^◌, nat_lt, nat_le, ℤ, pos, neg_ℤ, not, ◌==◌, ◌&&◌, if◌then◌else◌}
 use Rattle.std.specs.Prelude.{List, [], ◌∷◌, length, filter, codes, bytes_eq, Option, Some, None, option_map}
 use Rattle.std.specs.List.{slice_split, list_all}
@@ -10,7 +10,7 @@ use Rattle.btr_base.specs.declared.toward.Toward.{Toward}
 use Rattle.btr_base.specs.declared.toward.Toward.TheVariants.{Forward, Backward}
 use Rattle.btr_hist.specs.declared.query.At.{At}
 use Rattle.btr_hist.specs.declared.query.At.TheVariants.{Number, Latest}
-use Rattle.btr_text.specs.declared.word.TheConstants.{SPACE, MINUS}
+use Rattle.btr_text.specs.declared.word.TheConstants.{SPACE, MINUS, LANE_MARK}
 
 -- The words of a line: the pieces between its spaces that are not empty.
 abbrev pub words_of : List ℕ → List (List ℕ)
@@ -48,6 +48,11 @@ id_of w = option_map (from_be_bytes w128) (parsed w)
 -- A version: its number, or `latest`.
 abbrev pub at_of : List ℕ → Option At
 at_of w = if bytes_eq w (codes "latest") then Some Latest else option_map Number (unsigned_of w)
+
+-- The lane that a word names: `@` and one digit from 0 to 7. Any other word names none.
+abbrev pub lane_of : List ℕ → Option ℕ
+lane_of [] = None
+lane_of (mark ∷ number) = if mark == LANE_MARK && length number == 1 then number_up_to 7 number else None
 
 -- The number `n` with one more digit, if `digit` is a digit and the result is at most `most`.
 abbrev pub next_number : ℕ → ℕ → ℕ → Option ℕ

@@ -1,25 +1,30 @@
 ghost use Rattle.std.specs.Prelude.{◌≡◌, ◌++◌, IfOk, OnOk, option_to_list};
 ghost use Rattle.std.specs.Str.Lines.{strip_carriage_return};
-ghost use Rattle.btr_text.specs.Input.{script_line, script_of};
+ghost use Rattle.btr_text.specs.Input.{HaveLanes, script_line, script_of};
 
 use crate::form::read_form;
 use crate::script::{Script, ScriptLine};
-use crate::word::{LINE_FEED, next_word};
+use crate::word::{LINE_FEED, next_word, read_lane};
 use std::alloc::{AllocError, Global};
 
 /// Reads the lines of an input that have a reply, in order. It takes time linear in the input, and memory for the lines
 /// and their points. An `Err` means out of memory.
 ///
 /// The input is cut at line feeds, and one carriage return at the end of a line is dropped. A line is words, with one
-/// or more spaces between each two. A line that begins with `#`, or has no word, has no reply. A first word `@0` names
-/// lane 0, which is also the lane of a line without it. The forms are those of [`Line`]. An id is the text of a UUID in
-/// any of its forms (RFC 9562). Times and values are decimal digits within `i64`, with or without a minus in front. A
-/// version is digits within `u64`, or `latest`. The lead of an output is digits within `u64`, and its grain is digits, at
-/// most 255. A line that fits no form is kept without one, even if it is not UTF-8.
+/// or more spaces between each two. A line that begins with `#`, or has no word, has no reply.
+///
+/// A first word `@0` to `@7` names the lane of the line, and the form begins after it. Lane 0 is also the lane of a line
+/// without such a word. Any other first word is the first word of the form, as `@8`, `@00` or `@`, which no form has.
+///
+/// The forms are those of [`Line`]. An id is the text of a UUID in any of its forms (RFC 9562). Times and values are
+/// decimal digits within `i64`, with or without a minus in front. A version is digits within `u64`, or `latest`. The lead
+/// of an output is digits within `u64`, and its grain is digits, at most 255. A line that fits no form, as the name of a
+/// lane alone, is kept in its lane without one, even if it is not UTF-8.
 ///
 /// [`Line`]: crate::Line
 pub fn read_script(alloc: Global, bytes: &[u8]) -> Result<Script, AllocError>
-    ensures { IfOk result (λ s. s ≡ script_of bytes.now) }
+    ensures script { IfOk result (λ s. s ≡ script_of bytes.now) }
+    ensures lanes { IfOk result (λ s. HaveLanes s) }
 {
     let mut lines = Vec::new(alloc);
     for line in bytes.split(|b| *b == LINE_FEED) {
@@ -58,11 +63,10 @@ fn read_line(alloc: Global, line: &[u8]) -> Result<Option<ScriptLine>, AllocErro
     let Some((first, rest)) = next_word(line) else {
         return Ok(None);
     };
-    let words = if first == b"@0".as_slice() {
-        rest
-    } else {
-        line
+    let (lane, words) = match read_lane(first) {
+        Some(lane) => (lane, rest),
+        None => (0, line),
     };
     let line = read_form(alloc, words)?;
-    Ok(Some(ScriptLine { lane: 0, line }))
+    Ok(Some(ScriptLine { lane, line }))
 }

@@ -71,7 +71,7 @@ pub enum Line {
 /// A line that has a reply.
 #[derive(Debug, Drop)]
 pub struct ScriptLine {
-    /// The lane of the line: 0.
+    /// The lane of the line, from 0 to 7.
     pub lane: u8,
 
     /// What it says, or `None` if it fits no form.

@@ -1,6 +1,7 @@
 ghost use Rattle.std.specs.Prelude.{◌≡◌, ◌<◌, ◌≤◌, ◌^◌, pos, neg_ℤ, ◌==◌, not, [], ◌∷◌, length, MatchOption, IfSome};
 ghost use Rattle.std.specs.List.{prefix_len};
 ghost use Rattle.btr_text.specs.Word.{words_of, number_up_to, next_number, unsigned_of, power_of, toward_of, signed_of, id_of, at_of};
+ghost use Rattle.btr_text.specs.Word.{lane_of};
 
 use btr_base::Toward;
 use btr_hist::At;
@@ -14,6 +15,9 @@ pub const SPACE: u8 = b' ';
 
 /// The sign of a number below 0.
 pub const MINUS: u8 = b'-';
+
+/// The byte before the number of a lane.
+pub const LANE_MARK: u8 = b'@';
 
 /// Returns the first word and the rest of the line after it, or `None` if the line has no word.
 pub fn next_word(line: &[u8]) -> Option<(&[u8], &[u8])>
@@ -152,4 +156,15 @@ pub fn read_at(word: &[u8]) -> Option<At>
         return Some(At::Latest);
     }
     Some(At::Number(read_unsigned(word)?))
+}
+
+/// Reads the name of a lane: `@` and one digit from 0 to 7.
+pub fn read_lane(word: &[u8]) -> Option<u8>
+    ensures { result ≡ lane_of word.now }
+{
+    let (mark, number) = word.split_first()?;
+    if *mark != LANE_MARK || number.len() != 1 {
+        return None;
+    }
+    Some(read_number(number, 7)? as u8)
 }

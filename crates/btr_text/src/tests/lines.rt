@@ -130,7 +130,6 @@ fn a_line_that_fits_no_form_has_none(rt: HostRuntime) -> Result<(), Fail> {
          Streams\n\
          stream\n\
          @0\n\
-         @1 create ID\n\
          @0 @0 create ID\n\
          @0create ID\n\
          \x20#\n\
@@ -163,7 +162,10 @@ fn each_text_of_an_id_is_read(rt: HostRuntime) -> Result<(), Fail> {
 fn the_input_is_cut_into_lines(rt: HostRuntime) -> Result<(), Fail> {
     // An input, and for each line with a reply whether it fits a form.
     for (input, want) in [
-        (b"\r\n \n#\xff\n# x\n\r".as_slice(), [].as_slice()),
+        (
+            b"\r\n \n#\xff\n# x\n#@1 streams\n\r".as_slice(),
+            [].as_slice(),
+        ),
         (b"streams \xff\n\xfe", &[false, false]),
         (b"streams\r\nstreams\r", &[true, true]),
         (b"streams\r\r\nstream\rs\n", &[false, false]),
@@ -184,5 +186,53 @@ fn a_script_gives_its_lines_back(rt: HostRuntime) -> Result<(), Fail> {
     let lines = script.into_lines();
     assert_eq!(rt; lines.len(), 2);
     assert_eq!(rt; Script::from_lines(lines).as_slice().len(), 2);
+    Ok(())
+}
+
+#[test]
+fn a_first_word_names_the_lane(rt: HostRuntime) -> Result<(), Fail> {
+    // A line, its lane, and whether it fits a form.
+    for (line, lane, fits) in [
+        (b"streams".as_slice(), 0, true),
+        (b"@0 streams", 0, true),
+        (b"@1 streams", 1, true),
+        (b"@2 streams", 2, true),
+        (b"@3 streams", 3, true),
+        (b"@4 streams", 4, true),
+        (b"@5 streams", 5, true),
+        (b"@6 streams", 6, true),
+        (b"@7 streams", 7, true),
+        (b"@8 streams", 0, false),
+        (b"@9 streams", 0, false),
+        (b"@ streams", 0, false),
+        (b"@ 1 streams", 0, false),
+        (b"@01 streams", 0, false),
+        (b"@10 streams", 0, false),
+        (b"@-1 streams", 0, false),
+        (b"@a streams", 0, false),
+        (b"1 streams", 0, false),
+        (b" #@1 streams", 0, false),
+        (b" @1 create 00000000000000000000000000000005", 1, true),
+        (b"   @7    streams   ", 7, true),
+        (b"@1", 1, false),
+        (b" @3 ", 3, false),
+        (b"@1 #x", 1, false),
+        (b"@1 @2 streams", 1, false),
+        (b"streams @1", 0, false),
+        (b"@1 \xff", 1, false),
+        (b"@6 streams \xff", 6, false),
+        (b"@1\xff streams", 0, false),
+        (b"\xff @1 streams", 0, false),
+        (b"@1\tstreams", 0, false),
+        (b"\t@1 streams", 0, false),
+        (b"@1 \tstreams", 1, false),
+        (b"@2 streams\r", 2, true),
+    ] {
+        let lines = read_script(rt.alloc(), line)?.into_lines();
+        assert_eq!(rt; lines.len(), 1);
+        for said in lines {
+            assert_eq!(rt; (said.lane, said.line.is_some()), (lane, fits));
+        }
+    }
     Ok(())
 }

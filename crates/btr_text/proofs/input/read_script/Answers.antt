@@ -1,11 +1,12 @@
-use Rattle.std.proofs.Common.{◌∙◌, ◌++◌, sym, ap, map, eqb, rules, tests}
+use Rattle.std.proofs.Common.{◌∙◌, ◌++◌, sym, ap, subst, map, eqb, rules, tests}
 use Rattle.std.specs.List.{filter_map}
 use Rattle.std.specs.Option.{option_to_list}
 use Rattle.std.specs.Str.Lines.{strip_carriage_return}
 use Rattle.std.proofs.lemmas.Iterator.Consumers.{YieldsList-end, YieldsList-at}
 use Rattle.std.proofs.lemmas.Iterator.Splits.{YieldsList-from_slice_split}
-use Rattle.btr_text.specs.Input.{script_line}
+use Rattle.btr_text.specs.Input.{HaveLanes, script_line}
 use Rattle.btr_text.proofs.FormLemmas.{filter_map-one_more, map-twice}
+use Rattle.btr_text.proofs.LaneLemmas.{script_of-lanes}
 use Rattle.btr_text.proofs.input.read_script.Goals as goal
 
 pub loop-line-preserved : goal.loop-line-preserved
@@ -14,7 +15,10 @@ loop-line-preserved c =
     c.loop-line.invariant
     (c.in_ok-add_line.ensures ∙ ap (λ line. c.loop-line.lines.items ++ option_to_list (script_line line)) c.without_carriage_return.ensures)
 
-pub returns : goal.returns
-returns c =
+pub returns-clause-script : goal.returns-clause-script
+returns-clause-script c =
     let t = YieldsList-end (YieldsList-at c.into_iter-line-iterator.ensures.into_iter_gives (YieldsList-from_slice_split _ (λ b. eqb b 10) c.args.bytes.now c.split-line-items.ensures.rest c.split-line-items.ensures.done c.split-line-items.ensures.closure (λ x b q k. search (rules, tests)))) c.loop-line.yielded _ c.loop-line.yielded_by _ _ c.in-None.is c.next.ensures.steps in
     c.from_lines.ensures ∙ c.loop-line.invariant ∙ ap (filter_map script_line) (sym (map-twice strip_carriage_return (λ x. x.now) c.loop-line.yielded) ∙ ap (map strip_carriage_return) t.0)
+
+pub returns-clause-lanes : goal.returns-clause-lanes
+returns-clause-lanes c = subst HaveLanes (sym (returns-clause-script c)) (script_of-lanes c.args.bytes.now)
