@@ -1,0 +1,32 @@
+-- the points that wait
+pub mod WaitingLemmas
+-- what lines ask for
+mod StreamLemmas
+mod FeedLines
+mod OutputLines
+mod DeleteLines
+-- the turns of a line
+mod ToldLemmas
+mod ServeLemmas
+mod AskLines
+-- lanes
+mod LaneLemmas
+mod PartLemmas
+-- replies in the order of the script
+mod OrderLemmas
+-- rounds, and a whole run
+mod RoundLemmas
+pub mod HistoryLemmas
+pub mod CloseLemmas
+-- the last round
+mod NumberBounds
+mod CurrentLemmas
+-- a script by the model
+pub mod ScriptLemmas
+pub mod Legality
+mod Refreshes
+-- a script in one lane
+mod NumberLemmas
+mod TurnEntries
+mod StoreSteps
+mod OneLaneLemmas

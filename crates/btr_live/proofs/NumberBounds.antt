@@ -1,0 +1,121 @@
+-- Bounds of the numbers of what was added: after the history of the turn, and in the history that is known if nothing failed.
+use Rattle.std.specs.Prelude.{◌≡◌, ℕ, Bool, ◌+◌, ◌<◌, ◌≤◌, List, [], ◌∷◌, ◌++◌, length, Option, Some, None, Result, Ok, Err}
+use Rattle.std.proofs.Common.{refl, sym, ap, arith, inl, inr, length-append}
+use Rattle.std.proofs.lemmas.Bool.{cases_lt, cases_eq}
+use Rattle.btr_hist.specs.declared.entry.Entry.{Entry}
+use Rattle.btr_hist.specs.declared.entry.Entry.TheVariants as entries
+use Rattle.btr_distil.specs.Plan.{PlanValue, entry_of}
+use Rattle.btr_engine.specs.declared.board.Receipt.{Receipt}
+use Rattle.btr_engine.specs.declared.step.StepFault.{StepFault}
+use Rattle.btr_engine.specs.declared.step.StepFault.TheVariants as steps
+use Rattle.btr_text.specs.declared.script.Line.{Line}
+use Rattle.btr_text.specs.declared.reply.LineReply.{LineReply}
+use Rattle.btr_gate.specs.Numbers.{times}
+use Rattle.btr_gate.specs.Prefixes.{StartsWith}
+use Rattle.btr_gate.proofs.NumberLemmas.{one_other, one_same, times_append}
+use Rattle.btr_gate.proofs.PrefixLemmas.{starts_length}
+use Rattle.btr_hall.specs.declared.land.LandFault.{LandFault}
+use Rattle.btr_hall.specs.declared.land.LandFault.TheVariants as faults
+use Rattle.btr_jobs.specs.Course.{Start, Course}
+use Rattle.btr_jobs.specs.Turns.{IsAdded, IsFailed, IsIdle, Committed, CommittedAfter, Landed, LandedAfter}
+use Rattle.btr_live.specs.Meaning.{Meaning, Commits, Asks, Holds, Current, Refuses}
+use Rattle.btr_live.specs.Lanes.{Offers, Answers, LaneState, begun, RunsLines, RunsLane}
+use Rattle.btr_live.specs.Landings.{IsLanding}
+
+only : (n m : ℕ) (own : List ℕ) → own ≡ m ∷ [] → 1 ≤ times n own → n ≡ m
+only n m own is some =
+    elim (cases_eq n m) [
+      | inl same ↦ same
+      | inr differs ↦ absurd (omega (arith, some, ap (times n) is, one_other m n (λ e. differs (sym e))))
+    ]
+
+nothing : (P : Type 0) (n : ℕ) (own : List ℕ) → own ≡ [] → 1 ≤ times n own → P
+nothing P n own is some = absurd (omega (arith, some, ap (times n) is))
+
+no_failure : (P : Type 0) (failed : Option Entry) (e : Entry) → failed ≡ None → failed ≡ Some e → P
+no_failure P failed e none some = absurd (cc)
+
+-- The number is after a history, and in the one that is known.
+pub record IsWithin (course : Course) (low : List Entry) (n : ℕ) : Type 0 where
+  pub above : length low < n
+  pub inside : n ≤ length course.history
+
+module _ (start : Start) (course : Course) (sound : course.failed ≡ None) (n : ℕ) where
+  added : (p : List Entry) (e : Entry) (own : List ℕ) (next : List Entry) → IsAdded course p e own next → 1 ≤ times n own → IsWithin course p n
+  added p e own next is some =
+      let number = only n (length p + 1) own is.own some in
+      let long = starts_length course.history (p ++ e ∷ []) is.follows in
+      let all = length-append p (e ∷ []) in
+      record { above = omega (arith, number); inside = omega (arith, number, long, all) }
+
+  failed : (p : List Entry) (e : Entry) (own : List ℕ) (next : List Entry) → IsFailed course p e own next → IsWithin course p n
+  failed p e own next is = no_failure (IsWithin course p n) course.failed e sound is.failed
+
+  idle : (p : List Entry) (own : List ℕ) (next : List Entry) → IsIdle p own next → 1 ≤ times n own → IsWithin course p n
+  idle p own next is some = nothing (IsWithin course p n) n own is.own some
+
+  committed : (p : List Entry) (e : Entry) (result : Result Receipt StepFault) (own : List ℕ) (next : List Entry) → Committed start course p e result own next → 1 ≤ times n own → IsWithin course p n
+  committed p e (Ok receipt) own next is some = added p e own next is.2 some
+  committed p e (Err (steps.Stopped entries)) own next is some = idle p own next is.1 some
+  committed p e (Err (steps.Rejected why)) own next is some = idle p own next is.1 some
+  committed p e (Err steps.Want) own next is some = idle p own next is.1 some
+  committed p e (Err (steps.DeviceFull need left)) own next is some = idle p own next is.2 some
+  committed p e (Err steps.DeviceFault) own next is some = failed p e own next is.1
+
+  landed : (p : List Entry) (plan : PlanValue) (result : Result Receipt LandFault) (own : List ℕ) (next : List Entry) → Landed start course p plan result own next → 1 ≤ times n own → IsWithin course p n
+  landed p plan (Ok receipt) own next is some = added p (entry_of plan) own next is.2 some
+  landed p plan (Err (faults.Stopped entries)) own next is some = idle p own next is.1 some
+  landed p plan (Err (faults.Superseded version)) own next is some = idle p own next is.3 some
+  landed p plan (Err faults.VersionLimit) own next is some = idle p own next is.2 some
+  landed p plan (Err (faults.Crowded at)) own next is some = idle p own next is.3 some
+  landed p plan (Err (faults.TooManyPoints count)) own next is some = idle p own next is.3 some
+  landed p plan (Err faults.Want) own next is some = idle p own next is.2 some
+  landed p plan (Err (faults.DeviceFull need left)) own next is some = idle p own next is.3 some
+  landed p plan (Err faults.DeviceFault) own next is some = failed p (entry_of plan) own next is.2
+
+  after : (p low : List Entry) → StartsWith p low → IsWithin course p n → IsWithin course low n
+  after p low starts is =
+      let long = starts_length p low starts in
+      record { above = omega (arith, is.above, long); inside = is.inside }
+
+  committed_after : (low : List Entry) (e : Entry) (result : Result Receipt StepFault) (own : List ℕ) (next : List Entry) → CommittedAfter start course low e result own next → 1 ≤ times n own → IsWithin course low n
+  committed_after low e result own next is some = after is.0 low is.1 (committed is.0 e result own next is.3 some)
+
+  landed_after : (low : List Entry) (plan : PlanValue) (result : Result Receipt LandFault) (own : List ℕ) (next : List Entry) → LandedAfter start course low plan result own next → 1 ≤ times n own → IsWithin course low n
+  landed_after low plan result own next is some = after is.0 low is.1 (landed is.0 plan result own next is.3 some)
+
+  offers_within : (told : Bool) (low : List Entry) (e : Entry) (reply : LineReply) (own : List ℕ) (next : List Entry) → Offers start course told low e reply own next → 1 ≤ times n own → IsWithin course low n
+  offers_within told low (entries.Create id) reply own next is some = committed_after low (entries.Create id) is.0 own next is.1 some
+  offers_within told low (entries.Define id spec) reply own next is some = committed_after low (entries.Define id spec) is.0 own next is.1 some
+  offers_within told low (entries.Commit stream cut more) reply own next is some = committed_after low (entries.Commit stream cut more) is.0 own next is.1 some
+  offers_within told low (entries.Distillate stream cut more reads) reply own next is some = landed_after low is.0 is.3 own next is.4 some
+
+  answers_within : (told : Bool) (low : List Entry) (m : Meaning) (reply : LineReply) (own : List ℕ) (next : List Entry) → Answers start course told low m reply own next → 1 ≤ times n own → IsWithin course low n
+  answers_within told low (Commits e) reply own next is some = offers_within told low e reply own next is some
+  answers_within told low (Asks query) reply own next is some = idle low own next is.1 some
+  answers_within told low (Holds count) reply own next is some = idle low own next is.1 some
+  answers_within told low (Current version) reply own next is some = idle low own next is.1 some
+  answers_within told low (Refuses reason) reply own next is some = idle low own next is.1 some
+
+  lines_inside : (batch : ℕ) (old : LaneState) (lines : List (Option Line)) (replies : List LineReply) (own : List ℕ) (new : LaneState) → RunsLines batch start course old lines replies own new → 1 ≤ times n own → n ≤ length course.history
+  lines_inside batch old [] [] own new is some = nothing (n ≤ length course.history) n own is.0 some
+  lines_inside batch old [] (r ∷ rs) own new is some = absurd is
+  lines_inside batch old (l ∷ ls) [] own new is some = absurd is
+  lines_inside batch old (l ∷ ls) (r ∷ rs) own new is some =
+      elim (cases_lt 0 (times n is.0)) [
+        | inl first ↦ (answers_within old.told is.4.admitted is.4.asked r is.0 is.2.history is.4.answers first).inside
+        | inr none ↦ lines_inside batch is.2 ls rs is.1 new is.5
+            (let all = ap (times n) is.3 in let both = times_append n is.0 is.1 in omega (arith, some, none, all, both))
+      ]
+
+  -- The number of an entry of a lane is in the history.
+  pub lane_inside : (batch : ℕ) (low : List Entry) (lines : List (Option Line)) (replies : List LineReply) (own : List ℕ) → RunsLane batch start course low lines replies own → 1 ≤ times n own → n ≤ length course.history
+  lane_inside batch low lines replies own is some = lines_inside batch (begun low) lines replies own is.0 is.1 some
+
+  -- So is the number of a landing, which is after the history at which it was planned.
+  pub landing_within : (low : List Entry) → IsLanding start course low n → IsWithin course low n
+  landing_within low is =
+      after is.at low is.after (landed_after is.at is.plan is.result (n ∷ []) is.next is.landed (omega (arith, one_here)))
+    where
+      one_here : times n (n ∷ []) ≡ 1
+      one_here = let here = one_same n n refl in omega (arith, here)

@@ -1,0 +1,390 @@
+-- A script in one lane, on a store that nobody else uses, has the model's replies: by induction over the lines.
+use Rattle.std.specs.Prelude.{◌≡◌, ℕ, ◌+◌, ◌<◌, ◌≤◌, Bool, true, false, ◌||◌, List, [], ◌∷◌, ◌++◌, length, map}
+use Rattle.std.specs.Prelude.{slice_index_or, cond, Option, Some, None, Result}
+use Rattle.std.specs.Option.{is_some}
+use Rattle.std.specs.declared.alloc.AllocError.{AllocError}
+use Rattle.std.proofs.Common.{refl, sym, ap, ap₂, ◌∙◌, subst, arith, inl, inr}
+use Rattle.std.proofs.lemmas.Bool.{cases_lt, or_right, eq-eqb, ne_eqb}
+use Rattle.std.proofs.lemmas.List.{length-map}
+use Rattle.btr_hist.specs.declared.entry.Entry.{Entry}
+use Rattle.btr_hist.specs.declared.entry.Entry.TheVariants as entries
+use Rattle.btr_hist.specs.declared.kernel.Reads.{Reads}
+use Rattle.btr_hist.specs.Legal.{Follows}
+use Rattle.btr_base.specs.declared.point.Point.{Point}
+use Rattle.btr_base.specs.Range.{RangeValue}
+use Rattle.btr_text.specs.declared.script.Line.{Line}
+use Rattle.btr_text.specs.declared.script.ScriptLine.{ScriptLine}
+use Rattle.btr_text.specs.declared.reply.LineReply.{LineReply}
+use Rattle.btr_text.specs.declared.reply.LineReply.TheVariants.{No}
+use Rattle.btr_text.specs.declared.reply.Reason.TheVariants as reasons
+use Rattle.btr_engine.specs.declared.board.Receipt.{Receipt}
+use Rattle.btr_engine.specs.declared.step.StepFault.{StepFault}
+use Rattle.btr_gate.specs.Numbers.{one, times, given}
+use Rattle.btr_gate.specs.Prefixes.{StartsWith}
+use Rattle.btr_gate.proofs.NumberLemmas.{given_inside, times_append}
+use Rattle.btr_gate.proofs.PrefixLemmas.{starts_refl, starts_trans, starts_length, starts_whole}
+use Rattle.btr_work.specs.declared.report.ReportLine.{ReportLine}
+use Rattle.btr_work.specs.Laws.{AreAllSince}
+use Rattle.btr_jobs.specs.Course.{Start, Course}
+use Rattle.btr_jobs.specs.Turns.{IsIdle, Committed, CommittedAfter}
+use Rattle.btr_plan.specs.Next.{IsNextPlan}
+use Rattle.btr_live.specs.declared.live.LiveReport.{LiveReport}
+use Rattle.btr_live.specs.Feeds.{none_waiting, fed}
+use Rattle.btr_live.specs.Meaning.{Meaning, Commits, Asks, Holds, Current, Refuses}
+use Rattle.btr_live.specs.Replies.{waiting_after, Means}
+use Rattle.btr_live.specs.Lanes.{reply_of_step, Offers, Answers, LaneState, tells_failure, RunsLine, RunsLines, RunsLane}
+use Rattle.btr_live.specs.Lanes.{begun as lane_begun}
+use Rattle.btr_live.specs.LaneLaws.{lane_lasts}
+use Rattle.btr_live.specs.OneHistory.{of_lane, lanes_of, lines_of}
+use Rattle.btr_live.specs.Live.{LastRound, RunsLive}
+use Rattle.btr_live.specs.Script.{State, begun, RepliesToLine, RunsScript}
+use Rattle.btr_live.specs.OneLane.{AreInLane, store_at, Fits, OneLaneIsTheModel}
+use Rattle.btr_live.proofs.NumberLemmas.{given_rest, in_one}
+use Rattle.btr_live.proofs.TurnEntries.{Adds, adds_none, adds_above, committed_adds, landed_adds, next_current, IsStepOf, as_step}
+use Rattle.btr_live.proofs.StoreSteps.{IsDone, IsLast, all_numbers, room, store_of, Stepped, stepped, at_most}
+
+-- ---- one lane
+
+-- The items of the lane of all lines are all items.
+all_items : {A : Type 0} (lane : ℕ) (script : List ScriptLine) (items : List A) → AreInLane lane script → length items ≡ length script → of_lane lane (lanes_of script) items ≡ items
+all_items lane [] [] in_lane each = refl
+all_items lane [] (item ∷ items) in_lane each = absurd (omega (arith, each))
+all_items lane (line ∷ script) [] in_lane each = absurd (omega (arith, each))
+all_items lane (line ∷ script) (item ∷ items) in_lane each =
+    let rest = all_items lane script items in_lane.1 (omega (arith, each)) in
+    ap (λ t. cond t (item ∷ of_lane lane (lanes_of script) items) (of_lane lane (lanes_of script) items)) (eq-eqb line.lane lane in_lane.0)
+    ∙ ap (λ l. item ∷ l) rest
+
+-- Another lane has none.
+no_items : {A : Type 0} (lane k : ℕ) (script : List ScriptLine) (items : List A) → (k ≡ lane → ⊥) → AreInLane lane script → of_lane k (lanes_of script) items ≡ []
+no_items lane k [] items other in_lane = refl
+no_items lane k (line ∷ script) [] other in_lane = refl
+no_items lane k (line ∷ script) (item ∷ items) other in_lane =
+    ap (λ t. cond t (item ∷ of_lane k (lanes_of script) items) (of_lane k (lanes_of script) items))
+    (ne_eqb line.lane k (λ same. other (sym same ∙ in_lane.0)))
+    ∙ no_items lane k script items other in_lane.1
+
+-- A lane without lines added nothing.
+no_lines : (batch : ℕ) (start : Start) (course : Course) (old : LaneState) (lines : List (Option Line)) (replies : List LineReply) (own : List ℕ) (new : LaneState) → lines ≡ [] → RunsLines batch start course old lines replies own new → own ≡ []
+no_lines batch start course old [] [] own new none is = is.0
+no_lines batch start course old [] (reply ∷ replies) own new none is = absurd is
+no_lines batch start course old (line ∷ lines) replies own new none is = absurd (cc)
+
+-- A number that is not at least 1 is 0.
+none_if : (k : ℕ) → (1 ≤ k → ⊥) → k ≡ 0
+none_if k none =
+    elim (cases_lt 0 k) [
+      | inl some ↦ absurd (none some)
+      | inr low ↦ omega (arith, low)
+    ]
+
+-- What counts as none is false.
+not_failed : (b : Bool) → one b ≡ 0 → false ≡ b
+not_failed true none = absurd (omega (arith, none))
+not_failed false none = refl
+
+-- ---- what one line did
+
+module _ (start : Start) (course : Course) (all : Follows course.history) where
+  -- A line was answered in a turn, which may have seen more than it was admitted to.
+  record InTurn (told : Bool) (a : List Entry) (m : Meaning) (reply : LineReply) (own : List ℕ) (next : List Entry) : Type 0 where
+    pub at : List Entry
+    pub after : StartsWith at a
+    pub begins : StartsWith course.history at
+    pub adds : Adds at reply own next
+    pub stops : told ≡ true → own ≡ []
+    pub done : a ≡ at → IsDone start course told at m reply own next
+
+  -- An entry was offered, but no distillate.
+  abbrev OffersPlain : Bool → List Entry → Entry → LineReply → List ℕ → List Entry → Type 0
+  OffersPlain told a e reply own next =
+      (result : Result Receipt StepFault) × CommittedAfter start course a e result own next × (reply ≡ reply_of_step result)
+      × (told ≡ true → (count : ℕ) × (reply ≡ No (reasons.Stopped count)))
+
+  -- The turn of an entry that is no distillate.
+  plain_turn : (told : Bool) (a : List Entry) (e : Entry) (reply : LineReply) (own : List ℕ) (next : List Entry) → OffersPlain told a e reply own next → InTurn told a (Commits e) reply own next
+  plain_turn told a e reply own next is =
+      let adds : Adds is.1.0 reply own next = subst (λ r. Adds is.1.0 r own next) (sym is.2) (committed_adds start course is.1.0 e is.0 own next is.1.3) in record {
+        at = is.1.0;
+        after = is.1.1;
+        begins = is.1.2;
+        adds = adds;
+        stops = λ heard. let refused = is.3 heard in adds.stops refused.0 refused.1;
+        done = λ same. (is.0, is.1.3, is.2, is.3);
+      }
+
+  -- The turn of a distillate: its plan is that of the history of the turn.
+  landing_turn : (told : Bool) (a : List Entry) (stream : ℕ) (cut : List RangeValue) (added : List Point) (reads : Reads) (reply : LineReply) (own : List ℕ) (next : List Entry) → Offers start course told a (entries.Distillate stream cut added reads) reply own next → InTurn told a (Commits (entries.Distillate stream cut added reads)) reply own next
+  landing_turn told a stream cut added reads reply own next is =
+      let at : List Entry = is.4.0 in
+      let adds : Adds at reply own next = subst (λ r. Adds at r own next) (sym is.5) (landed_adds start course at is.0 is.3 own next is.4.3) in record {
+        at = at;
+        after = is.4.1;
+        begins = is.4.2;
+        adds = adds;
+        stops = λ heard. let refused = is.6 heard in adds.stops refused.0 refused.1;
+        done = λ same.
+            let made : IsNextPlan at stream is.0 = subst (λ x. IsNextPlan x stream is.0) same is.1 in
+            let step : IsStepOf start course all at is.4.2 is.0 made.of (next_current at stream is.0 made) is.3 own next =
+            as_step start course all at is.4.2 is.0 made.of (next_current at stream is.0 made) is.3 own next is.4.3 in
+            (step.step, subst (λ e. Committed start course at e step.step own next) is.2 step.committed, is.5 ∙ step.same, is.6);
+      }
+
+  -- What is no commit was answered at the history to which the line was admitted.
+  idle_turn : (told : Bool) (a : List Entry) (m : Meaning) (reply : LineReply) (own : List ℕ) (next : List Entry) → StartsWith course.history a → IsIdle a own next → IsDone start course told a m reply own next → InTurn told a m reply own next
+  idle_turn told a m reply own next begins idle done = record {
+    at = a;
+    after = starts_refl a;
+    begins = begins;
+    adds = adds_none a reply own next idle;
+    stops = λ heard. idle.own;
+    done = λ same. done;
+  }
+
+  -- The turn of a line.
+  in_turn : (told : Bool) (a : List Entry) (m : Meaning) (reply : LineReply) (own : List ℕ) (next : List Entry) → StartsWith course.history a → Answers start course told a m reply own next → InTurn told a m reply own next
+  in_turn told a (Commits (entries.Create id)) reply own next begins is = plain_turn told a (entries.Create id) reply own next is
+  in_turn told a (Commits (entries.Define id spec)) reply own next begins is = plain_turn told a (entries.Define id spec) reply own next is
+  in_turn told a (Commits (entries.Commit stream cut added)) reply own next begins is = plain_turn told a (entries.Commit stream cut added) reply own next is
+  in_turn told a (Commits (entries.Distillate stream cut added reads)) reply own next begins is =
+      landing_turn told a stream cut added reads reply own next is
+  in_turn told a (Asks query) reply own next begins is = idle_turn told a (Asks query) reply own next begins is.1 is
+  in_turn told a (Holds count) reply own next begins is = idle_turn told a (Holds count) reply own next begins is.1 is
+  in_turn told a (Current version) reply own next begins is = idle_turn told a (Current version) reply own next begins is.1 is
+  in_turn told a (Refuses reason) reply own next begins is = idle_turn told a (Refuses reason) reply own next begins is.1 is
+
+  -- ---- a lane that runs alone
+
+  -- The lane knows all entries so far, and all that follow are its own.
+  record Alone (s : LaneState) (stopped : Bool) (own : List ℕ) : Type 0 where
+    pub begins : StartsWith course.history s.history
+    pub known : stopped ≡ true → IsLast course s.history s.told
+    pub numbers : (n : ℕ) → times n own ≡ given (length s.history + one stopped) (all_numbers course) n
+
+  -- A history is no longer than the one that the lane knows, if it has no number more.
+  no_longer : (s : LaneState) (stopped : Bool) (own : List ℕ) (at : List Entry) → Alone s stopped own → StartsWith course.history at → length at ≤ length s.history + one stopped → length at ≤ length s.history
+  no_longer s true own at alone begins high =
+      let last = alone.known refl in
+      let same : length course.history ≡ length s.history = ap (λ (x : List Entry). length x) last.last in
+      let inside = starts_length course.history at begins in
+      omega (arith, same, inside)
+  no_longer s false own at alone begins high = omega (arith, high)
+
+  -- The turn of its next line is at the history that it knows, since nobody else has the next number.
+  same_history : (s : LaneState) (stopped : Bool) (own first rest : List ℕ) (at : List Entry) → Alone s stopped own → own ≡ first ++ rest → StartsWith at s.history → StartsWith course.history at → ((n : ℕ) → 1 ≤ times n first → length at < n) → ((n : ℕ) → 1 ≤ times n rest → length at < n) → at ≡ s.history
+  same_history s stopped own first rest at alone split after begins above later =
+      let n : ℕ = length s.history + one stopped + 1 in
+      elim (cases_lt (length s.history + one stopped) (length at)) [
+        | inr high ↦ starts_whole at s.history after (no_longer s stopped own at alone begins high)
+        | inl low ↦
+            let inside = starts_length course.history at begins in
+            let once = given_inside (length s.history + one stopped) (all_numbers course) n (omega arith) (omega (arith, low, inside)) in
+            let every = alone.numbers n in
+            let sum = ap (times n) split in
+            let both = times_append n first rest in
+            let no_first = none_if (times n first) (λ some. let high = above n some in omega (arith, high, low)) in
+            let no_rest = none_if (times n rest) (λ some. let high = later n some in omega (arith, high, low)) in
+            absurd (omega (arith, once, every, sum, both, no_first, no_rest))
+      ]
+
+  -- After the last line it knows all entries, and whether the device failed.
+  all_known : (s : LaneState) (stopped : Bool) (own : List ℕ) → Alone s stopped own → own ≡ [] → (s.history ≡ course.history) × (stopped ≡ is_some course.failed)
+  all_known s true own alone none = let last = alone.known refl in (sym last.last, sym last.failed)
+  all_known s false own alone none =
+      let n : ℕ = all_numbers course in
+      let long = starts_length course.history s.history alone.begins in
+      elim (cases_lt (length s.history + one false) n) [
+        | inl low ↦
+            let once = given_inside (length s.history + one false) n n low (omega arith) in
+            let every = alone.numbers n in
+            let no = ap (times n) none in
+            absurd (omega (arith, once, every, no))
+        | inr high ↦ (
+          sym (starts_whole course.history s.history alone.begins (omega (arith, high))),
+          not_failed (is_some course.failed) (omega (arith, high, long)),
+        )
+      ]
+
+  -- ---- what later lines add
+
+  module _ (batch : ℕ) where
+    -- The turn of a line that ran.
+    turn_of : (old : LaneState) (line : Option Line) (reply : LineReply) (own : List ℕ) (new : LaneState) → (is : RunsLine batch start course old line reply own new) → InTurn old.told is.admitted is.asked reply own new.history
+    turn_of old line reply own new is = in_turn old.told is.admitted is.asked reply own new.history is.begins is.answers
+
+    -- Each number of lines is above the history that their lane knew.
+    lines_above : (n : ℕ) (old : LaneState) (lines : List (Option Line)) (replies : List LineReply) (own : List ℕ) (new : LaneState) → RunsLines batch start course old lines replies own new → 1 ≤ times n own → length old.history < n
+    lines_above n old [] [] own new is some = let none = ap (times n) is.0 in absurd (omega (arith, some, none))
+    lines_above n old [] (reply ∷ replies) own new is some = absurd is
+    lines_above n old (line ∷ lines) [] own new is some = absurd is
+    lines_above n old (line ∷ lines) (reply ∷ replies) own new is some =
+        let ran : RunsLine batch start course old line reply is.0 is.2 = is.4 in
+        let turn : InTurn old.told ran.admitted ran.asked reply is.0 is.2.history = turn_of old line reply is.0 is.2 ran in
+        let low = starts_length turn.at old.history (starts_trans turn.at ran.admitted old.history turn.after ran.after) in
+        let high = starts_length is.2.history turn.at turn.adds.later in
+        let sum = ap (times n) is.3 in
+        let both = times_append n is.0 is.1 in
+        elim (cases_lt 0 (times n is.0)) [
+          | inl first ↦ let above = adds_above turn.at reply is.0 is.2.history turn.adds n first in omega (arith, low, above)
+          | inr none ↦
+              let above = lines_above n is.2 lines replies is.1 new is.5 (omega (arith, some, none, sum, both)) in
+              omega (arith, low, high, above)
+        ]
+
+    -- Lines add nothing after a reply told that the device failed.
+    lines_told : (n : ℕ) (old : LaneState) (lines : List (Option Line)) (replies : List LineReply) (own : List ℕ) (new : LaneState) → RunsLines batch start course old lines replies own new → old.told ≡ true → times n own ≡ 0
+    lines_told n old [] [] own new is heard = ap (times n) is.0
+    lines_told n old [] (reply ∷ replies) own new is heard = absurd is
+    lines_told n old (line ∷ lines) [] own new is heard = absurd is
+    lines_told n old (line ∷ lines) (reply ∷ replies) own new is heard =
+        let ran : RunsLine batch start course old line reply is.0 is.2 = is.4 in
+        let turn : InTurn old.told ran.admitted ran.asked reply is.0 is.2.history = turn_of old line reply is.0 is.2 ran in
+        let none : times n is.0 ≡ 0 = ap (times n) (turn.stops heard) in
+        let still : is.2.told ≡ true = ran.told ∙ ap (λ t. t || tells_failure reply) heard in
+        let rest = lines_told n is.2 lines replies is.1 new is.5 still in
+        let sum = ap (times n) is.3 in
+        let both = times_append n is.0 is.1 in
+        omega (arith, none, rest, sum, both)
+
+    -- ---- all lines of a lane that runs alone
+
+    module _ (fits : Fits start course) (runs : start.stopped ≡ false) where
+      -- The state of the model of a lane between two lines.
+      abbrev state_of : LaneState → Bool → State
+      state_of s stopped = record { store = store_of start s.history stopped; waiting = s.waiting }
+
+      -- Lines had the model's replies, and the store is then that of the course.
+      record RanAlone (s : State) (script : List ScriptLine) (replies : List LineReply) : Type 0 where
+        pub last : State
+        pub replied : RunsScript batch s script replies last
+        pub history : last.store.history ≡ course.history
+        pub stopped : last.store.stopped ≡ is_some course.failed
+
+      -- If the store was not stopped before, nobody was told that the device had failed before.
+      not_before : (s : LaneState) (stopped : Bool) (own first rest : List ℕ) → Alone s stopped own → own ≡ first ++ rest → stopped ≡ false → first ≡ [] → ((n : ℕ) → times n rest ≡ 0) → course.history ≡ s.history → is_some course.failed ≡ true → ⊥
+      not_before s stopped own first rest alone split not none no_rest last failed =
+          let n : ℕ = all_numbers course in
+          let same : length course.history ≡ length s.history = ap (λ (x : List Entry). length x) last in
+          let one_failed : one (is_some course.failed) ≡ 1 = ap one failed in
+          let zero_stopped : one stopped ≡ 0 = ap one not in
+          let once = given_inside (length s.history + one stopped) n n (omega (arith, same, one_failed, zero_stopped)) (omega arith) in
+          let every = alone.numbers n in
+          let sum = ap (times n) split in
+          let both = times_append n first rest in
+          let no_first : times n first ≡ 0 = ap (times n) none in
+          let no_more = no_rest n in
+          omega (arith, once, every, sum, both, no_first, no_more)
+
+      -- The lines have the model's replies, one after another.
+      lines_alone : (s : LaneState) (stopped : Bool) (script : List ScriptLine) (replies : List LineReply) (own : List ℕ) (new : LaneState) → Alone s stopped own → RunsLines batch start course s (map (λ (line : ScriptLine). line.line) script) replies own new → RanAlone (state_of s stopped) script replies
+      lines_alone s stopped [] [] own new alone is =
+          let ends = all_known s stopped own alone is.0 in
+          record { last = state_of s stopped; replied = refl; history = ends.0; stopped = ends.1 }
+      lines_alone s stopped [] (reply ∷ replies) own new alone is = absurd is
+      lines_alone s stopped (line ∷ script) [] own new alone is = absurd is
+      lines_alone s stopped (line ∷ script) (reply ∷ replies) own new alone is =
+          let after : LaneState = is.2 in
+          let ran : RunsLine batch start course s line.line reply is.0 after = is.4 in
+          let turn : InTurn s.told ran.admitted ran.asked reply is.0 after.history = turn_of s line.line reply is.0 after ran in
+          let later : (n : ℕ) → 1 ≤ times n is.1 → length turn.at < n = λ n some.
+          let above = lines_above n after (map (λ (line : ScriptLine). line.line) script) replies is.1 new is.5 some in
+          let high = starts_length after.history turn.at turn.adds.later in
+          omega (arith, above, high) in
+          let at_is : turn.at ≡ s.history =
+          same_history s stopped own is.0 is.1 turn.at alone is.3 (starts_trans turn.at ran.admitted s.history turn.after ran.after) turn.begins (adds_above turn.at reply is.0 after.history turn.adds) later in
+          let admitted_is : ran.admitted ≡ s.history =
+          starts_whole ran.admitted s.history ran.after
+          (let less = starts_length turn.at ran.admitted turn.after in
+          let same : length turn.at ≡ length s.history = ap (λ (x : List Entry). length x) at_is in
+          omega (arith, less, same)) in
+          let done : IsDone start course s.told s.history ran.asked reply is.0 after.history =
+          subst (λ h. IsDone start course s.told h ran.asked reply is.0 after.history) at_is (turn.done (admitted_is ∙ sym at_is)) in
+          let no_stop : stopped ≡ false → (count : ℕ) → reply ≡ No (reasons.Stopped count) → is.0 ≡ [] → course.history ≡ s.history → is_some course.failed ≡ true → ⊥ =
+          λ not count refused none.
+          not_before s stopped own is.0 is.1 alone is.3 not none
+          (λ n. lines_told n after (map (λ (line : ScriptLine). line.line) script) replies is.1 new is.5 (ran.told ∙ or_right s.told (tells_failure reply) (ap tells_failure refused))) in
+          let step : Stepped start course fits runs s.history stopped s.told ran.asked reply is.0 after.history =
+          stepped start course fits runs s.history stopped s.told ran.asked reply is.0 after.history alone.begins alone.known no_stop done in
+          let known : step.stops ≡ true → IsLast course after.history after.told = λ stops.
+          let l = step.known stops in record { last = l.last; failed = l.failed; told = ran.told ∙ l.told } in
+          let next : Alone after step.stops is.1 = record {
+            begins = step.ends;
+            known = known;
+            numbers = given_rest (length s.history + one stopped) (length after.history + one step.stops) (all_numbers course) is.0 is.1 own is.3
+                (at_most course after.history step.stops after.told step.ends known) step.moves alone.numbers;
+          } in
+          let replied : RepliesToLine batch (state_of s stopped) line.line ran.asked reply (state_of after step.stops) = record {
+            means = subst (λ h. Means batch h s.waiting line.line ran.asked) admitted_is ran.means;
+            replied = step.replied;
+            waiting = ran.waiting ∙ ap (λ h. waiting_after s.waiting (fed h s.waiting line.line) ran.asked reply) admitted_is;
+          } in
+          let rest : RanAlone (state_of after step.stops) script replies = lines_alone after step.stops script replies is.1 new next is.5 in record {
+            last = rest.last;
+            replied = (state_of after step.stops, ran.asked, replied, rest.replied);
+            history = rest.history;
+            stopped = rest.stopped;
+          }
+
+-- ---- a whole run
+
+-- Without a last round no number is added after the lanes.
+no_last : (start : Start) (course : Course) (low : List Entry) (last : Option (Result (List ReportLine) AllocError)) (own : List ℕ) → LastRound start course low false last own → (n : ℕ) → times n own ≡ 0
+no_last start course low None own is = is
+no_last start course low (Some result) own is = absurd is
+
+-- The state of a store with the history of its beginning.
+abbrev state_with : Start → ℕ → Bool → State
+state_with start left stopped = record { store = record { history = start.history; left = left; stopped = stopped }; waiting = none_waiting }
+
+-- A lane begins with the store of its run.
+begun_same : (start : Start) → start.stopped ≡ false → state_with start (room start start.history) false ≡ begun (store_at start)
+begun_same start runs =
+    let same : room start start.history ≡ start.left = omega arith in
+    ap₂ (λ left stopped. state_with start left stopped) same (sym runs)
+
+module _ (batch lane : ℕ) (start : Start) (course : Course) (script : List ScriptLine) (report : LiveReport) (own : List ℕ) (runs : RunsLive batch false start course start.history script report own) (all : AreAllSince start.history course own) (in_lane : AreInLane lane script) where
+  -- No other lane has a number.
+  other_none : (k : ℕ) → (k ≡ lane → ⊥) → slice_index_or runs.mine k [] ≡ []
+  other_none k other =
+      let ran : RunsLane batch start runs.middle start.history (lines_of k script) (of_lane k (lanes_of script) report.replies.items) (slice_index_or runs.mine k []) = runs.lanes.lanes k in
+      no_lines batch start runs.middle (lane_begun start.history) (lines_of k script) (of_lane k (lanes_of script) report.replies.items) (slice_index_or runs.mine k []) ran.0
+      (no_items lane k script (map (λ (line : ScriptLine). line.line) script) other in_lane) ran.1
+
+  -- All numbers are those of the one lane.
+  mine_all : (n : ℕ) → times n (slice_index_or runs.mine lane []) ≡ given (length start.history + one false) (all_numbers course) n
+  mine_all n =
+      let sum = runs.numbers n in
+      let only = in_one n lane runs.mine (λ k other. ap (times n) (other_none k other)) in
+      let no_landed : times n runs.landed ≡ 0 = ap (times n) (runs.no_rounds refl) in
+      let no_more = no_last start course runs.middle.history report.last runs.lastly runs.last n in
+      let every = all n in
+      let low : length start.history + one false ≡ length start.history = omega arith in
+      let same = ap (λ low. given low (all_numbers course) n) low in
+      omega (arith, sum, only, no_landed, no_more, every, same)
+
+  -- The lane ran on the course, and its lines and replies are all lines and replies.
+  lane_ran : RunsLane batch start course start.history (map (λ (line : ScriptLine). line.line) script) report.replies.items (slice_index_or runs.mine lane [])
+  lane_ran =
+      let lines : List (Option Line) = map (λ (line : ScriptLine). line.line) script in
+      let all_lines : lines_of lane script ≡ lines = all_items lane script lines in_lane (length-map script (λ (line : ScriptLine). line.line)) in
+      let all_replies : of_lane lane (lanes_of script) report.replies.items ≡ report.replies.items = all_items lane script report.replies.items in_lane runs.lanes.each in
+      subst (λ ls. RunsLane batch start course start.history ls report.replies.items (slice_index_or runs.mine lane [])) all_lines
+      (subst (λ rs. RunsLane batch start course start.history (lines_of lane script) rs (slice_index_or runs.mine lane [])) all_replies
+      (lane_lasts start course runs.middle runs.goes_on batch start.history (lines_of lane script) (of_lane lane (lanes_of script) report.replies.items) (slice_index_or runs.mine lane []) (runs.lanes.lanes lane)))
+
+-- A script in one lane that ran alone has the model's replies.
+pub one_lane : OneLaneIsTheModel
+one_lane batch lane start course script report own runs all sound follows fits in_lane =
+    let ran = lane_ran batch lane start course script report own runs all in_lane in
+    let alone : Alone start course follows (lane_begun start.history) false (slice_index_or runs.mine lane []) = record {
+      begins = starts_trans course.history runs.middle.history start.history runs.goes_on.begins runs.after;
+      known = λ stops. absurd (cc);
+      numbers = mine_all batch lane start course script report own runs all in_lane;
+    } in
+    let told : RanAlone start course follows batch fits sound (state_with start (room start start.history) false) script report.replies.items =
+    lines_alone start course follows batch fits sound (lane_begun start.history) false script report.replies.items (slice_index_or runs.mine lane []) ran.0 alone ran.1 in record {
+      last = told.last;
+      runs = subst (λ s. RunsScript batch s script report.replies.items told.last) (begun_same start sound) told.replied;
+      history = told.history;
+      stopped = told.stopped;
+    }

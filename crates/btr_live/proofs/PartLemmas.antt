@@ -1,0 +1,156 @@
+-- Lemmas on the parts of a run: all lanes and rounds together.
+use Rattle.std.specs.Prelude.{◌≡◌, ℕ, zero, suc, ◌+◌, ◌≤◌, ◌<◌, ◌==◌, true, false, cond, List, [], ◌∷◌, ◌++◌, length, map, slice_index_or, Option}
+use Rattle.std.specs.List.{AllByRecursion}
+use Rattle.std.specs.declared.vec.Vec.{Vec}
+use Rattle.std.specs.declared.alloc.Global.{Global}
+use Rattle.std.proofs.Common.{refl, sym, ap, ◌∙◌, subst, arith, get_or, set}
+use Rattle.std.proofs.lemmas.Bool.{eqb-true, eqb-false}
+use Rattle.std.proofs.lemmas.List.{append-nil}
+use Rattle.btr_board.proofs.ListLemmas.{set-same, set-other}
+use Rattle.btr_text.specs.declared.script.Line.{Line}
+use Rattle.btr_text.specs.declared.reply.LineReply.{LineReply}
+use Rattle.btr_hist.specs.declared.entry.Entry.{Entry}
+use Rattle.btr_gate.specs.Numbers.{total, times}
+use Rattle.btr_gate.proofs.NumberLemmas.{times_append}
+use Rattle.btr_jobs.specs.Course.{Start, Course}
+use Rattle.btr_jobs.specs.Jobs.{AllDid}
+use Rattle.btr_live.specs.Lanes.{begun, RunsLane}
+use Rattle.btr_live.specs.Landings.{IsLanding, Landings}
+use Rattle.btr_live.specs.declared.part.Part.{Part}
+use Rattle.btr_live.specs.declared.part.Part.TheVariants as parts
+use Rattle.btr_live.specs.declared.rounds.Rounds.{Rounds}
+use Rattle.btr_live.specs.OneHistory.{of_lane}
+use Rattle.btr_live.specs.Parts.{PartDid, IsLane, HaveBatch, lines_at, replies_of, replies_in, replies_at, lane_with, list_in, list_at}
+
+-- All parts together: each lane ran, and the other numbers are those of landings.
+pub record RanParts (batch : ℕ) (start : Start) (course : Course) (low : List Entry) (before after : List Part) (own : List ℕ) : Type 0 where
+  pub mine : List (List ℕ)
+  pub landed : List ℕ
+  pub lanes : (k : ℕ) → RunsLane batch start course low (lines_at before k) (replies_at after k) (slice_index_or mine k [])
+  pub lands : Landings start course low landed
+  pub numbers : (n : ℕ) → times n own ≡ total (times n) mine + times n landed
+  pub no_rounds : AllByRecursion IsLane before → landed ≡ []
+
+pub none_landed : (start : Start) (course : Course) (low : List Entry) → Landings start course low []
+none_landed start course low = λ n there. absurd (omega (arith, there))
+
+pub both_landed : (start : Start) (course : Course) (low : List Entry) (a b : List ℕ) → Landings start course low a → Landings start course low b → Landings start course low (a ++ b)
+both_landed start course low a b first second = λ n there. pick n (times n a) refl there
+  where
+    pick : (n count : ℕ) → times n a ≡ count → 1 ≤ times n (a ++ b) → IsLanding start course low n
+    pick n zero is there = second n (let both = times_append n a b in omega (arith, both, is, there))
+    pick n (suc count) is there = first n (omega (arith, is))
+
+module _ (batch : ℕ) (start : Start) (course : Course) (low : List Entry) where
+  pub ran_parts : (before after : List Part) (own : List ℕ) → HaveBatch batch before → AllDid PartDid start course low before after own → RanParts batch start course low before after own
+  ran_parts [] [] own have did = record {
+    mine = [];
+    landed = [];
+    lanes = λ k. (begun low, (refl, refl));
+    lands = none_landed start course low;
+    numbers = λ n. did n;
+    no_rounds = λ all. refl;
+  }
+  ran_parts [] (p ∷ after) own have did = absurd did
+  ran_parts (p ∷ before) [] own have did = absurd did
+  ran_parts (parts.Lane was ∷ before) (parts.Lane now ∷ after) own have did =
+      let rest : RanParts batch start course low before after did.1 = ran_parts before after did.1 have.1 did.3 in
+      let first : RunsLane batch start course low was.lines now.replies did.0 = subst (λ b. RunsLane b start course low was.lines now.replies did.0) have.0 did.2 in record {
+        mine = did.0 ∷ rest.mine;
+        landed = rest.landed;
+        lanes = λ k. elim k as (λ k. RunsLane batch start course low (lines_at (parts.Lane was ∷ before) k) (replies_at (parts.Lane now ∷ after) k) (slice_index_or (did.0 ∷ rest.mine) k [])) [
+          | zero ↦ first
+          | suc k ↦ rest.lanes k
+        ];
+        lands = rest.lands;
+        numbers = λ n.
+            let sum = did.4 n in
+            let more = rest.numbers n in
+            omega (arith, sum, more);
+        no_rounds = λ all. rest.no_rounds all.1;
+      }
+  ran_parts (parts.Lane was ∷ before) (parts.Rounds now ∷ after) own have did = absurd did.2
+  ran_parts (parts.Rounds was ∷ before) (parts.Lane now ∷ after) own have did = absurd did.2
+  ran_parts (parts.Rounds was ∷ before) (parts.Rounds now ∷ after) own have did =
+      let rest : RanParts batch start course low before after did.1 = ran_parts before after did.1 have.1 did.3 in record {
+        mine = [] ∷ rest.mine;
+        landed = did.0 ++ rest.landed;
+        lanes = λ k. elim k as (λ k. RunsLane batch start course low (lines_at (parts.Rounds was ∷ before) k) (replies_at (parts.Rounds now ∷ after) k) (slice_index_or ([] ∷ rest.mine) k [])) [
+          | zero ↦ (begun low, (refl, refl))
+          | suc k ↦ rest.lanes k
+        ];
+        lands = both_landed start course low did.0 rest.landed did.2 rest.lands;
+        numbers = λ n.
+            let sum = did.4 n in
+            let more = rest.numbers n in
+            let both = times_append n did.0 rest.landed in
+            omega (arith, sum, more, both);
+        no_rounds = λ all. absurd all.0;
+      }
+
+-- ---- before a run
+
+-- A lane of a list has its lines.
+pub lines-lane : (batch : ℕ) (lists : List (Vec (Option Line) Global)) (k : ℕ) → lines_at (map (lane_with batch) lists) k ≡ list_at lists k
+lines-lane batch [] k = refl
+lines-lane batch (list ∷ lists) zero = refl
+lines-lane batch (list ∷ lists) (suc k) = lines-lane batch lists k
+
+pub batch-lane : (batch : ℕ) (lists : List (Vec (Option Line) Global)) → HaveBatch batch (map (lane_with batch) lists)
+batch-lane batch [] = tt
+batch-lane batch (list ∷ lists) = (refl, batch-lane batch lists)
+
+pub lane-each : (batch : ℕ) (lists : List (Vec (Option Line) Global)) → AllByRecursion IsLane (map (lane_with batch) lists)
+lane-each batch [] = tt
+lane-each batch (list ∷ lists) = (tt, lane-each batch lists)
+
+-- Rounds have no lines.
+pub lines-rounds : (all : List Part) (rounds : Rounds) (k : ℕ) → lines_at (all ++ parts.Rounds rounds ∷ []) k ≡ lines_at all k
+lines-rounds [] rounds zero = refl
+lines-rounds [] rounds (suc k) = refl
+lines-rounds (part ∷ all) rounds zero = refl
+lines-rounds (part ∷ all) rounds (suc k) = lines-rounds all rounds k
+
+pub batch-rounds : (batch : ℕ) (all : List Part) (rounds : Rounds) → HaveBatch batch all → HaveBatch batch (all ++ parts.Rounds rounds ∷ [])
+batch-rounds batch [] rounds have = (tt, tt)
+batch-rounds batch (part ∷ all) rounds have = (have.0, batch-rounds batch all rounds have.1)
+
+-- ---- one place of a list
+
+-- A part that has replies is there.
+pub replies-there : (all : List Part) (k : ℕ) → 1 ≤ length (replies_at all k) → k < length all
+replies-there [] k some = absurd (omega (arith, some))
+replies-there (part ∷ all) zero some = omega arith
+replies-there (part ∷ all) (suc k) some = let more = replies-there all k some in omega (arith, more)
+
+pub replies-place : (all : List Part) (k : ℕ) (d : Part) → k < length all → replies_at all k ≡ replies_of (get_or all k d)
+replies-place [] k d low = absurd (omega (arith, low))
+replies-place (part ∷ all) zero d low = refl
+replies-place (part ∷ all) (suc k) d low = replies-place all k d (omega (arith, low))
+
+-- One part has told a reply.
+pub replies-told : (all : List Part) (lane : ℕ) (now : Part) (reply : LineReply) → lane < length all → replies_at all lane ≡ reply ∷ replies_of now → (k : ℕ) → replies_at all k ≡ of_lane k (lane ∷ []) (reply ∷ []) ++ replies_at (set all lane now) k
+replies-told all lane now reply low is k =
+    elim (lane == k) as (λ t. (lane == k) ≡ t → replies_at all k ≡ cond t (reply ∷ []) [] ++ replies_at (set all lane now) k) [
+      | true ↦ λ e.
+          let same : lane ≡ k = eqb-true lane k e in
+          subst (λ j. replies_at all j ≡ (reply ∷ []) ++ replies_at (set all lane now) j) same
+          (is ∙ ap (λ rs. reply ∷ rs) (sym (ap replies_in (set-same all lane now low))))
+      | false ↦ λ e. sym (ap replies_in (set-other all lane now k (λ same. eqb-false lane k e (sym same))))
+    ] refl
+
+-- One list has one line more.
+pub list-put : (lists : List (Vec (Option Line) Global)) (lane : ℕ) (now : Vec (Option Line) Global) (line : Option Line) → lane < length lists → now.items ≡ list_at lists lane ++ line ∷ [] → (k : ℕ) → list_at (set lists lane now) k ≡ list_at lists k ++ of_lane k (lane ∷ []) (line ∷ [])
+list-put lists lane now line low is k =
+    elim (lane == k) as (λ t. (lane == k) ≡ t → list_at (set lists lane now) k ≡ list_at lists k ++ cond t (line ∷ []) []) [
+      | true ↦ λ e.
+          let same : lane ≡ k = eqb-true lane k e in
+          subst (λ j. list_at (set lists lane now) j ≡ list_at lists j ++ line ∷ []) same
+          (ap list_in (set-same lists lane now low) ∙ is)
+      | false ↦ λ e. ap list_in (set-other lists lane now k (λ same. eqb-false lane k e (sym same))) ∙ sym (append-nil (list_at lists k))
+    ] refl
+
+pub list-place : (lists : List (Vec (Option Line) Global)) (k : ℕ) (d : Vec (Option Line) Global) → k < length lists → list_at lists k ≡ (get_or lists k d).items
+list-place [] k d low = absurd (omega (arith, low))
+list-place (list ∷ lists) zero d low = refl
+list-place (list ∷ lists) (suc k) d low = list-place lists k d (omega (arith, low))

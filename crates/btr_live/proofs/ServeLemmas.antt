@@ -1,0 +1,175 @@
+-- Lemmas on the turns of a line: a look, what is asked for after it, and replies that take no turn.
+use Rattle.std.specs.Prelude.{◌≡◌, ℕ, Bool, List, [], ◌++◌, length, true, false, Result}
+use Rattle.std.proofs.Common.{refl, sym, ap, subst}
+use Rattle.btr_disk.specs.declared.disk.Disk.{Ghosts}
+use Rattle.btr_hist.specs.declared.entry.Entry.{Entry}
+use Rattle.btr_hist.specs.declared.entry.Entry.TheVariants as entries
+use Rattle.btr_distil.specs.Plan.{PlanValue, entry_of}
+use Rattle.btr_plan.specs.Next.{IsNextPlan}
+use Rattle.btr_engine.specs.declared.board.Receipt.{Receipt}
+use Rattle.btr_engine.specs.declared.step.StepFault.{StepFault}
+use Rattle.btr_engine.specs.Engine.{IsEngineOf}
+use Rattle.btr_text.specs.declared.reply.LineReply.{LineReply}
+use Rattle.btr_text.specs.declared.reply.LineReply.TheVariants as replies
+use Rattle.btr_text.specs.declared.reply.LineReply.TheVariants.{No}
+use Rattle.btr_text.specs.declared.reply.Reason.TheVariants as reasons
+use Rattle.btr_text.specs.declared.reply.Reason.{Reason}
+use Rattle.btr_gate.specs.Prefixes.{StartsWith}
+use Rattle.btr_gate.proofs.PrefixLemmas.{starts_refl, starts_trans}
+use Rattle.btr_hall.specs.declared.land.LandFault.{LandFault}
+use Rattle.btr_hall.specs.declared.session.Hall.{Hall}
+use Rattle.btr_hall.specs.declared.session.Session.{Session}
+use Rattle.btr_hall.specs.Trace.{history_of}
+use Rattle.btr_hall.specs.Session.{IsSame, Looks, opening_of, seen_of}
+use Rattle.btr_hall.specs.Commit.{Commits, is_distillate}
+use Rattle.btr_hall.specs.Landing.{Lands}
+use Rattle.btr_jobs.specs.Course.{Start, Course, course_of, start_of}
+use Rattle.btr_jobs.specs.Turns.{Committed, CommittedAfter, LandedAfter}
+use Rattle.btr_jobs.specs.Jobs.{IsAt}
+use Rattle.btr_jobs.proofs.DoesLemmas.{goes_none, does_then}
+use Rattle.btr_jobs.proofs.CourseLemmas.{history_goes_on}
+use Rattle.btr_jobs.proofs.TurnLemmas.{commit_turn, land_turn, look_turn}
+use Rattle.btr_live.specs.Meaning.{Meaning, Commits as CommitsEntry, Holds, Current, Refuses}
+use Rattle.btr_live.specs.Lanes.{reply_of_step, reply_of_landing, Offers, Answers}
+use Rattle.btr_live.specs.Serving.{Asking, Replies, Serves, Knows, was_told, RepliesIn, ServesIn}
+use Rattle.btr_live.proofs.ToldLemmas.{answers_told, stopped_longer}
+
+-- ---- entries
+
+-- A user's entry is offered in a turn.
+pub offers : (start : Start) (course : Course) (told : Bool) (a : List Entry) (e : Entry) (result : Result Receipt StepFault) (own : List ℕ) (next : List Entry) → is_distillate e ≡ false → CommittedAfter start course a e result own next → (told ≡ true → (count : ℕ) × (reply_of_step result ≡ No (reasons.Stopped count))) → Offers start course told a e (reply_of_step result) own next
+offers start course told a (entries.Create id) result own next user is again = (result, is, refl, again)
+offers start course told a (entries.Define id spec) result own next user is again = (result, is, refl, again)
+offers start course told a (entries.Commit stream cut added) result own next user is again = (result, is, refl, again)
+offers start course told a (entries.Distillate stream cut added reads) result own next user is again = absurd (cc)
+
+-- A plan is offered in a turn.
+pub landing_offers : (start : Start) (course : Course) (told : Bool) (a : List Entry) (plan : PlanValue) (result : Result Receipt LandFault) (own : List ℕ) (next : List Entry) → IsNextPlan a plan.stream plan → LandedAfter start course a plan result own next → (told ≡ true → (count : ℕ) × (reply_of_landing result ≡ No (reasons.Stopped count))) → Offers start course told a (entry_of plan) (reply_of_landing result) own next
+landing_offers start course told a plan result own next planned is again = (plan, planned, refl, result, is, refl, again)
+
+module _ {D : Type 0} {disk : Ghosts D} (hall : Hall D disk) where
+  -- ---- replies
+
+  -- A reply that takes no turn.
+  pub here_replies : (s : Session D disk) (m : Meaning) (reply : LineReply) → ((h : List Entry) → IsEngineOf h (opening_of hall) → Answers (start_of h hall) (course_of h s) (was_told hall s) (course_of h s).history m reply [] (course_of h s).history) → RepliesIn hall s s m reply
+  here_replies s m reply answers = (
+    [],
+    goes_none s,
+    λ h of. record {
+      next = (course_of h s).history;
+      answers = answers h of;
+      ends = starts_refl (course_of h s).history;
+    },
+  )
+
+  -- A line is refused for a reason that the model has.
+  pub refuses : (s : Session D disk) (reason : Reason) → RepliesIn hall s s (Refuses reason) (replies.No reason)
+  refuses s reason = here_replies s (Refuses reason) (replies.No reason) (λ h of. (refl, record { own = refl; next = refl }))
+
+  pub holds : (s : Session D disk) (count : ℕ) → RepliesIn hall s s (Holds count) (replies.Held count)
+  holds s count = here_replies s (Holds count) (replies.Held count) (λ h of. (refl, record { own = refl; next = refl }))
+
+  pub is_current : (s : Session D disk) (version : ℕ) → RepliesIn hall s s (Current version) (replies.Done version)
+  is_current s version = here_replies s (Current version) (replies.Done version) (λ h of. (refl, record { own = refl; next = refl }))
+
+  -- The turn of an entry.
+  pub commit_replies : (old new : Session D disk) (e : Entry) (result : Result Receipt StepFault) → is_distillate e ≡ false → IsSame old new → Commits hall old new e result → RepliesIn hall old new (CommitsEntry e) (reply_of_step result)
+  commit_replies old new e result user same commits =
+      let does = commit_turn hall old new e result same commits in (
+        does.0,
+        does.1,
+        λ h of.
+            let said = does.2 h of in
+            record { next = said.0; answers = offers (start_of h hall) (course_of h new) (was_told hall old) (course_of h old).history e result does.0 said.0 user said.1 (λ told. (length (history_of h commits.before), ap reply_of_step (commits.stopped (stopped_longer (opening_of hall) commits.before (seen_of old) commits.grows told) h of))); ends = said.2 },
+      )
+
+  -- The turn of a plan.
+  pub land_replies : (old new : Session D disk) (plan : PlanValue) (result : Result Receipt LandFault) → Knows hall old (λ h. IsNextPlan h plan.stream plan) → IsSame old new → Lands hall old new plan result → RepliesIn hall old new (CommitsEntry (entry_of plan)) (reply_of_landing result)
+  land_replies old new plan result planned same lands =
+      let does = land_turn hall old new plan result same lands in (
+        does.0,
+        does.1,
+        λ h of.
+            let said = does.2 h of in
+            record { next = said.0; answers = landing_offers (start_of h hall) (course_of h new) (was_told hall old) (course_of h old).history plan result does.0 said.0 (planned h of) said.1 (λ told. (length (history_of h lands.before), ap reply_of_landing (lands.stopped (stopped_longer (opening_of hall) lands.before (seen_of old) lands.grows told) h of))); ends = said.2 },
+      )
+
+  -- An entry of a user was refused after a look.
+  pub look_commits : (old new : Session D disk) (e : Entry) (result : Result Receipt StepFault) → is_distillate e ≡ false → Looks hall old new → ((h : List Entry) → IsEngineOf h (opening_of hall) → Committed (start_of h hall) (course_of h new) (course_of h new).history e result [] (course_of h new).history) → ((h : List Entry) → IsEngineOf h (opening_of hall) → was_told hall new ≡ true → (count : ℕ) × (reply_of_step result ≡ No (reasons.Stopped count))) → RepliesIn hall old new (CommitsEntry e) (reply_of_step result)
+  look_commits old new e result user looks says again =
+      let does = look_turn hall old new looks (λ _. Unit {0}) (λ h of. tt) in (
+        does.0,
+        does.1,
+        λ h of.
+            let seen = (course_of h new).history in
+            let none : [] ≡ does.0 = sym (does.2 h of).0 in record {
+              next = seen;
+              answers = offers (start_of h hall) (course_of h new) (was_told hall old) (course_of h old).history e result does.0 seen user
+                  (seen, history_goes_on h new old looks.grows, starts_refl seen, subst (λ own. Committed (start_of h hall) (course_of h new) seen e result own seen) none (says h of))
+                  (λ told. again h of (stopped_longer (opening_of hall) (seen_of new) (seen_of old) looks.grows told));
+              ends = starts_refl seen;
+            },
+      )
+
+  -- ---- what is asked for
+
+  -- What is asked for at what the session has seen.
+  pub replies_serve : (old new : Session D disk) (asking : Asking) (m : Meaning) (reply : LineReply) → Knows hall old (λ a. asking a m) → RepliesIn hall old new m reply → ServesIn hall old new asking reply
+  replies_serve old new asking m reply asks does = (
+    does.0,
+    does.1,
+    λ h of. record {
+      admitted = (course_of h old).history;
+      after = starts_refl (course_of h old).history;
+      begins = history_goes_on h new old does.1.seen;
+      asked = m;
+      asks = asks h of;
+      replies = does.2 h of;
+    },
+  )
+
+  -- What is asked for after a look.
+  pub after_look : (old mid new : Session D disk) (asking : Asking) (reply : LineReply) → IsAt hall new → Looks hall old mid → ServesIn hall mid new asking reply → ServesIn hall old new asking reply
+  after_look old mid new asking reply at looks serves =
+      does_then hall old mid new
+      (λ start course low own. (own ≡ []) × StartsWith course.history low × Unit {0})
+      (λ start course low own. Serves start course (was_told hall mid) low asking reply own)
+      (λ start course low own. Serves start course (was_told hall old) low asking reply own)
+      at
+      (λ start late early low a b on starts first second. record {
+        admitted = second.admitted;
+        after = starts_trans second.admitted early.history low second.after starts;
+        begins = second.begins;
+        asked = second.asked;
+        asks = second.asks;
+        replies = record {
+          next = second.replies.next;
+          answers = subst (λ l. Answers start late (was_told hall old) second.admitted second.asked reply l second.replies.next) (sym (ap (λ l. l ++ b) first.0))
+              (answers_told start late (was_told hall mid) (was_told hall old) (stopped_longer (opening_of hall) (seen_of mid) (seen_of old) looks.grows) second.admitted second.asked reply b second.replies.next second.replies.answers);
+          ends = second.replies.ends;
+        };
+      })
+      (look_turn hall old mid looks (λ _. Unit {0}) (λ h of. tt))
+      serves
+
+  -- What is asked for implies another thing, at each history that begins with what the session had seen.
+  pub serves_implied : (old new : Session D disk) (asking more : Asking) (reply : LineReply) → ((h : List Entry) → IsEngineOf h (opening_of hall) → (a : List Entry) (m : Meaning) → StartsWith a (history_of h (seen_of old)) → asking a m → more a m) → ServesIn hall old new asking reply → ServesIn hall old new more reply
+  serves_implied old new asking more reply implies serves = (
+    serves.0,
+    serves.1,
+    λ h of.
+        let said = serves.2 h of in record {
+          admitted = said.admitted;
+          after = said.after;
+          begins = said.begins;
+          asked = said.asked;
+          asks = implies h of said.admitted said.asked said.after said.asks;
+          replies = said.replies;
+        },
+  )
+
+  -- A line is refused after a look.
+  pub look_refuses : (old new : Session D disk) (asking : Asking) (reason : Reason) → IsAt hall new → Looks hall old new → Knows hall new (λ a. asking a (Refuses reason)) → ServesIn hall old new asking (replies.No reason)
+  look_refuses old new asking reason at looks asks =
+      after_look old new new asking (replies.No reason) at looks
+      (replies_serve new new asking (Refuses reason) (replies.No reason) asks (refuses new reason))

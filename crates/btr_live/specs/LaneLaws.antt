@@ -1,0 +1,118 @@
+-- The laws of lanes and landings, which the ghost members of jobs cite: what is said is true for ever, and also of who had seen less.
+use Rattle.std.specs.Prelude.{ℕ, Bool, List, [], ◌∷◌, Option}
+use Rattle.std.proofs.Common.{refl}
+use Rattle.btr_hist.specs.declared.entry.Entry.{Entry}
+use Rattle.btr_hist.specs.declared.entry.Entry.TheVariants as entries
+use Rattle.btr_text.specs.declared.script.Line.{Line}
+use Rattle.btr_text.specs.declared.reply.LineReply.{LineReply}
+use Rattle.btr_gate.specs.Prefixes.{StartsWith}
+use Rattle.btr_gate.proofs.PrefixLemmas.{starts_trans}
+use Rattle.btr_jobs.specs.Course.{Start, Course, GoesOn}
+use Rattle.btr_jobs.specs.TurnLaws.{history_later, committed_lasts, landed_lasts}
+use Rattle.btr_live.specs.Meaning.{Meaning, Commits, Asks, Holds, Current, Refuses}
+use Rattle.btr_live.specs.Lanes.{Offers, Answers, LaneState, begun, RunsLine, RunsLines, RunsLane}
+use Rattle.btr_live.specs.Landings.{IsLanding, Landings}
+
+module _ (start : Start) (late early : Course) (on : GoesOn start late early) where
+  offers_lasts : (told : Bool) (a : List Entry) (e : Entry) (reply : LineReply) (own : List ℕ) (next : List Entry)
+      → Offers start early told a e reply own next → Offers start late told a e reply own next
+  offers_lasts told a (entries.Create id) reply own next is =
+      (is.0, committed_lasts start late early a (entries.Create id) is.0 own next on is.1, is.2, is.3)
+  offers_lasts told a (entries.Define id spec) reply own next is =
+      (is.0, committed_lasts start late early a (entries.Define id spec) is.0 own next on is.1, is.2, is.3)
+  offers_lasts told a (entries.Commit stream cut added) reply own next is =
+      (is.0, committed_lasts start late early a (entries.Commit stream cut added) is.0 own next on is.1, is.2, is.3)
+  offers_lasts told a (entries.Distillate stream cut added reads) reply own next is =
+      (is.0, is.1, is.2, is.3, landed_lasts start late early a is.0 is.3 own next on is.4, is.5, is.6)
+
+  answers_lasts : (told : Bool) (a : List Entry) (m : Meaning) (reply : LineReply) (own : List ℕ) (next : List Entry)
+      → Answers start early told a m reply own next → Answers start late told a m reply own next
+  answers_lasts told a (Commits e) reply own next is = offers_lasts told a e reply own next is
+  answers_lasts told a (Asks query) reply own next is = is
+  answers_lasts told a (Holds count) reply own next is = is
+  answers_lasts told a (Current version) reply own next is = is
+  answers_lasts told a (Refuses reason) reply own next is = is
+
+  -- What a line replied is true for ever.
+  pub line_lasts : (batch : ℕ) (old : LaneState) (line : Option Line) (reply : LineReply) (own : List ℕ) (new : LaneState)
+      → RunsLine batch start early old line reply own new → RunsLine batch start late old line reply own new
+  line_lasts batch old line reply own new is = record {
+    admitted = is.admitted;
+    after = is.after;
+    begins = history_later start late early is.admitted on is.begins;
+    asked = is.asked;
+    means = is.means;
+    answers = answers_lasts old.told is.admitted is.asked reply own new.history is.answers;
+    waiting = is.waiting;
+    told = is.told;
+  }
+
+  -- So is what lines replied one after another.
+  pub lines_last : (batch : ℕ) (old : LaneState) (lines : List (Option Line)) (replies : List LineReply) (own : List ℕ)
+      (new : LaneState) → RunsLines batch start early old lines replies own new → RunsLines batch start late old lines replies own new
+  lines_last batch old [] [] own new is = is
+  lines_last batch old [] (reply ∷ replies) own new is = absurd is
+  lines_last batch old (line ∷ lines) [] own new is = absurd is
+  lines_last batch old (line ∷ lines) (reply ∷ replies) own new is =
+      (is.0, is.1, is.2, is.3, line_lasts batch old line reply is.0 is.2 is.4, lines_last batch is.2 lines replies is.1 new is.5)
+
+  -- So is what a lane did.
+  pub lane_lasts : (batch : ℕ) (low : List Entry) (lines : List (Option Line)) (replies : List LineReply) (own : List ℕ)
+      → RunsLane batch start early low lines replies own → RunsLane batch start late low lines replies own
+  lane_lasts batch low lines replies own is = (is.0, lines_last batch (begun low) lines replies own is.0 is.1)
+
+  -- So is what a landing did.
+  pub landings_last : (low : List Entry) (own : List ℕ) → Landings start early low own → Landings start late low own
+  landings_last low own are = λ n there.
+      let is : IsLanding start early low n = are n there in record {
+        at = is.at;
+        after = is.after;
+        plan = is.plan;
+        planned = is.planned;
+        result = is.result;
+        next = is.next;
+        landed = landed_lasts start late early is.at is.plan is.result (n ∷ []) is.next on is.landed;
+      }
+
+-- A lane between two lines that knows another history.
+abbrev knowing : LaneState → List Entry → LaneState
+knowing s h = record { history = h; told = s.told; waiting = s.waiting }
+
+module _ (batch : ℕ) (start : Start) (course : Course) where
+  -- What a line replied is true of a lane that had seen less.
+  pub line_lowers : (old : LaneState) (less : List Entry) (line : Option Line) (reply : LineReply) (own : List ℕ) (new : LaneState)
+      → StartsWith old.history less → RunsLine batch start course old line reply own new
+      → RunsLine batch start course (knowing old less) line reply own new
+  line_lowers old less line reply own new starts is = record {
+    admitted = is.admitted;
+    after = starts_trans is.admitted old.history less is.after starts;
+    begins = is.begins;
+    asked = is.asked;
+    means = is.means;
+    answers = is.answers;
+    waiting = is.waiting;
+    told = is.told;
+  }
+
+  -- So is what a lane did.
+  pub lane_lowers : (low less : List Entry) (lines : List (Option Line)) (replies : List LineReply) (own : List ℕ)
+      → StartsWith low less → RunsLane batch start course low lines replies own → RunsLane batch start course less lines replies own
+  lane_lowers low less [] [] own starts is = (begun less, (is.1.0, refl))
+  lane_lowers low less [] (reply ∷ replies) own starts is = absurd is.1
+  lane_lowers low less (line ∷ lines) [] own starts is = absurd is.1
+  lane_lowers low less (line ∷ lines) (reply ∷ replies) own starts is =
+      (is.0, (is.1.0, is.1.1, is.1.2, is.1.3, line_lowers (begun low) less line reply is.1.0 is.1.2 starts is.1.4, is.1.5))
+
+-- A landing is one after less had been seen.
+pub landings_lower : (start : Start) (course : Course) (low less : List Entry) (own : List ℕ)
+    → StartsWith low less → Landings start course low own → Landings start course less own
+landings_lower start course low less own starts are = λ n there.
+    let is : IsLanding start course low n = are n there in record {
+      at = is.at;
+      after = starts_trans is.at low less is.after starts;
+      plan = is.plan;
+      planned = is.planned;
+      result = is.result;
+      next = is.next;
+      landed = is.landed;
+    }

@@ -1,0 +1,125 @@
+-- What the replies to a lane's lines say of the history that all lanes share.
+use Rattle.std.specs.Prelude.{◌≡◌, ◌⊎◌, ℕ, Bool, true, false, ◌||◌, List, [], ◌∷◌, ◌++◌, Option, Result, Ok, Err}
+use Rattle.btr_hist.specs.declared.entry.Entry.{Entry}
+use Rattle.btr_hist.specs.declared.entry.Entry.TheVariants as entries
+use Rattle.btr_hist.specs.Answer.{answer}
+use Rattle.btr_distil.specs.Plan.{PlanValue, entry_of}
+use Rattle.btr_plan.specs.Next.{IsNextPlan}
+use Rattle.btr_text.specs.declared.script.Line.{Line}
+use Rattle.btr_text.specs.declared.reply.LineReply.{LineReply}
+use Rattle.btr_text.specs.declared.reply.LineReply.TheVariants as replies
+use Rattle.btr_text.specs.declared.reply.LineReply.TheVariants.{Done, No}
+use Rattle.btr_text.specs.declared.reply.Reason.{Reason}
+use Rattle.btr_text.specs.declared.reply.Reason.TheVariants as reasons
+use Rattle.btr_text.specs.Reasons.{reason_of_rejection}
+use Rattle.btr_engine.specs.declared.board.Receipt.{Receipt}
+use Rattle.btr_engine.specs.declared.step.StepFault.{StepFault}
+use Rattle.btr_engine.specs.declared.step.StepFault.TheVariants as steps
+use Rattle.btr_gate.specs.Prefixes.{StartsWith}
+use Rattle.btr_hall.specs.declared.land.LandFault.{LandFault}
+use Rattle.btr_hall.specs.declared.land.LandFault.TheVariants as faults
+use Rattle.btr_jobs.specs.Course.{Start, Course}
+use Rattle.btr_jobs.specs.Turns.{IsIdle, CommittedAfter, LandedAfter}
+use Rattle.btr_live.specs.Feeds.{Waiting, none_waiting, fed}
+use Rattle.btr_live.specs.Meaning.{Meaning, Commits, Asks, Holds, Current, Refuses}
+use Rattle.btr_live.specs.Replies.{reply_of_answer, waiting_after, Means}
+
+-- ---- replies to what was done in a turn
+
+-- Why an entry was not added.
+abbrev pub reason_of_step : StepFault → Reason
+reason_of_step (steps.Stopped entries) = reasons.Stopped entries
+reason_of_step (steps.Rejected why) = reason_of_rejection why
+reason_of_step steps.Want = reasons.Memory
+reason_of_step (steps.DeviceFull need left) = reasons.Full need left
+reason_of_step steps.DeviceFault = reasons.Device
+
+-- Why a plan was not landed.
+abbrev pub reason_of_landing : LandFault → Reason
+reason_of_landing (faults.Stopped entries) = reasons.Stopped entries
+reason_of_landing (faults.Superseded version) = reasons.Superseded version
+reason_of_landing faults.VersionLimit = reasons.Versions
+reason_of_landing (faults.Crowded start) = reasons.Crowded start
+reason_of_landing (faults.TooManyPoints count) = reasons.Points count
+reason_of_landing faults.Want = reasons.Memory
+reason_of_landing (faults.DeviceFull need left) = reasons.Full need left
+reason_of_landing faults.DeviceFault = reasons.Device
+
+-- The reply to an entry, by the result of its turn.
+abbrev pub reply_of_step : Result Receipt StepFault → LineReply
+reply_of_step (Ok receipt) = Done receipt.version
+reply_of_step (Err fault) = No (reason_of_step fault)
+
+-- The reply to a plan, by the result of its turn.
+abbrev pub reply_of_landing : Result Receipt LandFault → LineReply
+reply_of_landing (Ok receipt) = Done receipt.version
+reply_of_landing (Err fault) = No (reason_of_landing fault)
+
+-- ---- what is asked for
+
+-- The entry was offered in a turn after `a`, and this is the reply. `own` are the numbers of what the turn added, and the history that
+-- is known after it begins with `next`. A distillate is that of a plan of `a`: it is refused if its output has another version since.
+-- Who was told that the device failed is told so again.
+abbrev pub Offers : Start → Course → Bool → List Entry → Entry → LineReply → List ℕ → List Entry → Type 0
+Offers start course told a (entries.Distillate stream cut added reads) reply own next =
+    (plan : PlanValue) × IsNextPlan a stream plan × (entry_of plan ≡ entries.Distillate stream cut added reads)
+    × (result : Result Receipt LandFault) × LandedAfter start course a plan result own next × (reply ≡ reply_of_landing result)
+    × (told ≡ true → (count : ℕ) × (reply ≡ No (reasons.Stopped count)))
+Offers start course told a e reply own next =
+    (result : Result Receipt StepFault) × CommittedAfter start course a e result own next × (reply ≡ reply_of_step result)
+    × (told ≡ true → (count : ℕ) × (reply ≡ No (reasons.Stopped count)))
+
+-- What a line asked for that was admitted to `a` had this reply. Memory may run out in an answer.
+abbrev pub Answers : Start → Course → Bool → List Entry → Meaning → LineReply → List ℕ → List Entry → Type 0
+Answers start course told a (Commits e) reply own next = Offers start course told a e reply own next
+Answers start course told a (Asks query) reply own next =
+    ((reply ≡ reply_of_answer (answer a query)) ⊎ (reply ≡ No reasons.Memory)) × IsIdle a own next
+Answers start course told a (Holds count) reply own next = (reply ≡ replies.Held count) × IsIdle a own next
+Answers start course told a (Current version) reply own next = (reply ≡ Done version) × IsIdle a own next
+Answers start course told a (Refuses reason) reply own next = (reply ≡ No reason) × IsIdle a own next
+
+-- ---- lines
+
+-- Where a lane is between two lines: the history that it knows, whether a reply told it that the device failed, and the points that
+-- wait in its feeds.
+pub record LaneState : Type 0 where
+  pub history : List Entry
+  pub told : Bool
+  pub waiting : Waiting
+
+-- A lane that knows this history, before its first line.
+abbrev pub begun : List Entry → LaneState
+begun h = record { history = h; told = false; waiting = none_waiting }
+
+-- Whether a reply tells that the device failed, in this line or before it.
+abbrev pub tells_failure : LineReply → Bool
+tells_failure (No reasons.Device) = true
+tells_failure (No (reasons.Stopped entries)) = true
+tells_failure reply = false
+
+-- A line was admitted to a history that begins with what its lane knew, and had this reply by what it means there. `own` are the
+-- numbers of the entries that it added.
+pub record RunsLine (batch : ℕ) (start : Start) (course : Course) (old : LaneState) (line : Option Line) (reply : LineReply)
+    (own : List ℕ) (new : LaneState) : Type 0 where
+  pub admitted : List Entry
+  pub after : StartsWith admitted old.history
+  pub begins : StartsWith course.history admitted
+  pub asked : Meaning
+  pub means : Means batch admitted old.waiting line asked
+  pub answers : Answers start course old.told admitted asked reply own new.history
+  pub waiting : new.waiting ≡ waiting_after old.waiting (fed admitted old.waiting line) asked reply
+  pub told : new.told ≡ (old.told || tells_failure reply)
+
+-- The lines of a lane ran in order, each with its reply. `own` are the numbers of the entries that they added, in order.
+abbrev pub RunsLines : ℕ → Start → Course → LaneState → List (Option Line) → List LineReply → List ℕ → LaneState → Type 0
+RunsLines batch start course old [] [] own new = (own ≡ []) × (new ≡ old)
+RunsLines batch start course old [] (reply ∷ replies) own new = ⊥
+RunsLines batch start course old (line ∷ lines) [] own new = ⊥
+RunsLines batch start course old (line ∷ lines) (reply ∷ replies) own new =
+    (first rest : List ℕ) × (next : LaneState) × (own ≡ first ++ rest)
+    × RunsLine batch start course old line reply first next × RunsLines batch start course next lines replies rest new
+
+-- All lines of a lane that knew `low` ran, from empty feeds.
+abbrev pub RunsLane : ℕ → Start → Course → List Entry → List (Option Line) → List LineReply → List ℕ → Type 0
+RunsLane batch start course low lines replies own =
+    (last : LaneState) × RunsLines batch start course (begun low) lines replies own last

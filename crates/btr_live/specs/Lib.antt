@@ -1,0 +1,24 @@
+-- what a line asks for, and what it replies
+pub mod Feeds
+pub mod Meaning
+pub mod Replies
+-- lanes
+pub mod Lanes
+pub mod Landings
+pub mod OneHistory
+-- a whole run
+pub mod Live
+-- a script in one lane
+pub mod Script
+pub mod OneLane
+pub mod ScriptLaws
+-- the laws of lanes
+pub mod LaneLaws
+-- what the private functions promise
+pub mod Serving
+pub mod Running
+pub mod RunningLaws
+pub mod Rounds
+pub mod RoundsLaws
+pub mod Parts
+pub mod PartLaws

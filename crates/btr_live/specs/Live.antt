@@ -1,0 +1,53 @@
+-- A run of a script: its lanes beside each other, rounds beside them, and a last round after them.
+use Rattle.std.specs.Prelude.{◌≡◌, ℕ, ◌+◌, Bool, true, false, List, [], Option, Some, None, Result, Ok, Err}
+use Rattle.std.specs.declared.alloc.AllocError.{AllocError}
+use Rattle.std.specs.List.{AllByRecursion}
+use Rattle.btr_hist.specs.declared.entry.Entry.{Entry}
+use Rattle.btr_hist.specs.Legal.{Follows}
+use Rattle.btr_text.specs.declared.script.ScriptLine.{ScriptLine}
+use Rattle.btr_gate.specs.Prefixes.{StartsWith}
+use Rattle.btr_gate.specs.Numbers.{times}
+use Rattle.btr_jobs.specs.Course.{Start, Course, GoesOn}
+use Rattle.btr_work.specs.declared.report.ReportLine.{ReportLine}
+use Rattle.btr_work.specs.Report.{Brings}
+use Rattle.btr_work.specs.Laws.{AreAllSince, IsCurrentIn}
+use Rattle.btr_live.specs.declared.live.LiveReport.{LiveReport}
+use Rattle.btr_live.specs.OneHistory.{RunsLanes, OneHistory, times_all}
+
+-- The last round, if one was wanted. It had seen `low`, and `own` are the numbers of what it added. Without memory it adds nothing.
+abbrev pub LastRound : Start → Course → List Entry → Bool → Option (Result (List ReportLine) AllocError) → List ℕ → Type 0
+LastRound start course low false None own = (n : ℕ) → times n own ≡ 0
+LastRound start course low false (Some result) own = ⊥
+LastRound start course low true None own = ⊥
+LastRound start course low true (Some (Err e)) own = (n : ℕ) → times n own ≡ 0
+LastRound start course low true (Some (Ok report)) own = Brings start course low report own
+
+-- A script ran in a session that had seen `low`. `middle` is the course when all lanes had ended, of which their replies are said. The
+-- last round had seen it. `own` are the numbers of all that was added.
+pub record RunsLive (batch : ℕ) (materialize : Bool) (start : Start) (course : Course) (low : List Entry) (script : List ScriptLine)
+    (report : LiveReport) (own : List ℕ) : Type 0 where
+  pub middle : Course
+  pub goes_on : GoesOn start course middle
+  pub after : StartsWith middle.history low
+  pub mine : List (List ℕ)
+  pub landed : List ℕ
+  pub lanes : RunsLanes batch start middle low script report.replies.items mine landed
+  pub no_rounds : materialize ≡ false → landed ≡ []
+  pub lastly : List ℕ
+  pub last : LastRound start course middle.history materialize report.last lastly
+  pub numbers : (n : ℕ) → times n own ≡ times_all n mine landed + times n lastly
+
+-- A script that ran alone, from the beginning of its hall, makes one history with all that its lanes and rounds added.
+abbrev pub RunsAreOneHistory : Type 0
+RunsAreOneHistory =
+    (batch : ℕ) (materialize : Bool) (start : Start) (course : Course) (script : List ScriptLine) (report : LiveReport) (own : List ℕ)
+    → RunsLive batch materialize start course start.history script report own → AreAllSince start.history course own
+    → OneHistory batch start course script report.replies.items
+
+-- After a last round of a script that ran alone, if no device failed, each output that the round did not refuse is up to date.
+abbrev pub LastIsCurrent : Type 0
+LastIsCurrent =
+    (batch : ℕ) (start : Start) (course : Course) (script : List ScriptLine) (report : LiveReport) (own : List ℕ) (last : List ReportLine)
+    → RunsLive batch true start course start.history script report own → AreAllSince start.history course own
+    → Follows course.history → course.failed ≡ None → report.last ≡ Some (Ok last)
+    → AllByRecursion (λ line. IsCurrentIn course.history line.output line.result) last

@@ -1,0 +1,53 @@
+-- What all replies of a script mean together: one history, which all lanes and the landings beside them made.
+use Rattle.std.specs.Prelude.{◌≡◌, ℕ, ◌+◌, ◌==◌, List, [], ◌∷◌, length, map, slice_index_or, if◌then◌else◌, Option}
+use Rattle.std.specs.Option.{is_some}
+use Rattle.btr_hist.specs.declared.entry.Entry.{Entry}
+use Rattle.btr_text.specs.declared.script.Line.{Line}
+use Rattle.btr_text.specs.declared.script.ScriptLine.{ScriptLine}
+use Rattle.btr_text.specs.declared.reply.LineReply.{LineReply}
+use Rattle.btr_gate.specs.Prefixes.{StartsWith}
+use Rattle.btr_gate.specs.Numbers.{one, total, times, given}
+use Rattle.btr_jobs.specs.Course.{Start, Course}
+use Rattle.btr_live.specs.Lanes.{RunsLane}
+use Rattle.btr_live.specs.Landings.{Landings}
+
+-- ---- lanes of a script
+
+-- The items of lane k, in order, of items that have these lanes.
+abbrev pub of_lane : {A : Type 0} → ℕ → List ℕ → List A → List A
+of_lane k [] items = []
+of_lane k (lane ∷ lanes) [] = []
+of_lane k (lane ∷ lanes) (item ∷ items) = if lane == k then item ∷ of_lane k lanes items else of_lane k lanes items
+
+-- The lane of each line.
+abbrev pub lanes_of : List ScriptLine → List ℕ
+lanes_of script = map (λ line. line.lane) script
+
+-- The lines of lane k, in order.
+abbrev pub lines_of : ℕ → List ScriptLine → List (Option Line)
+lines_of k script = of_lane k (lanes_of script) (map (λ line. line.line) script)
+
+-- ---- all lanes
+
+-- The lanes of a script ran beside each other, from the history `low`, with these replies in the order of the script. `mine` are the
+-- numbers of the entries of each lane, from lane 0 on, and `landed` those of landings beside the lanes.
+pub record RunsLanes (batch : ℕ) (start : Start) (course : Course) (low : List Entry) (script : List ScriptLine)
+    (replies : List LineReply) (mine : List (List ℕ)) (landed : List ℕ) : Type 0 where
+  pub each : length replies ≡ length script
+  pub lanes : (k : ℕ)
+      → RunsLane batch start course low (lines_of k script) (of_lane k (lanes_of script) replies) (slice_index_or mine k [])
+  pub lands : Landings start course low landed
+
+-- How often n is a number of an entry of a lane, or of a landing.
+abbrev pub times_all : ℕ → List (List ℕ) → List ℕ → ℕ
+times_all n mine landed = total (times n) mine + times n landed
+
+-- One history. It begins with that of the store when the run began, and all lanes ran on it. Each entry since then, and the one in
+-- whose step the device failed, is that of exactly one line or one landing.
+pub record OneHistory (batch : ℕ) (start : Start) (course : Course) (script : List ScriptLine) (replies : List LineReply) : Type 0 where
+  pub begins : StartsWith course.history start.history
+  pub mine : List (List ℕ)
+  pub landed : List ℕ
+  pub runs : RunsLanes batch start course start.history script replies mine landed
+  pub once : (n : ℕ)
+      → times_all n mine landed ≡ given (length start.history) (length course.history + one (is_some course.failed)) n

@@ -1,0 +1,93 @@
+-- Private promises: the parts of a run, which are lanes and the rounds beside them, and what they did.
+use Rattle.std.specs.Prelude.{◌≡◌, ℕ, ◌≤◌, Bool, false, List, [], length, slice_get, Option, Some, None}
+use Rattle.std.specs.List.{AllByRecursion}
+use Rattle.std.specs.declared.vec.Vec.{Vec}
+use Rattle.std.specs.Vec.{vec_capacity}
+use Rattle.std.specs.declared.alloc.Global.{Global}
+use Rattle.btr_text.specs.declared.script.ScriptLine.{ScriptLine}
+use Rattle.btr_live.specs.declared.prepare.Prepared.{Prepared}
+use Rattle.btr_live.specs.OneHistory.{lanes_of, lines_of}
+use Rattle.btr_hist.specs.declared.entry.Entry.{Entry}
+use Rattle.btr_text.specs.declared.script.Line.{Line}
+use Rattle.btr_text.specs.declared.reply.LineReply.{LineReply}
+use Rattle.btr_jobs.specs.Course.{Start, Course}
+use Rattle.btr_live.specs.declared.part.Part.{Part}
+use Rattle.btr_live.specs.declared.part.Part.TheVariants as parts
+use Rattle.btr_live.specs.Rounds.{RoundsDid}
+use Rattle.btr_live.specs.Running.{LaneDid}
+
+-- What a part did: a lane ran, or rounds landed plans.
+abbrev pub PartDid : Start → Course → List Entry → Part → Part → List ℕ → Type 0
+PartDid start course low (parts.Lane was) (parts.Lane now) own = LaneDid start course low was now own
+PartDid start course low (parts.Lane was) (parts.Rounds now) own = ⊥
+PartDid start course low (parts.Rounds was) (parts.Lane now) own = ⊥
+PartDid start course low (parts.Rounds was) (parts.Rounds now) own = RoundsDid start course low was now own
+
+-- The lines of a part that was looked up, if it is a lane.
+abbrev pub lines_in : Option Part → List (Option Line)
+lines_in None = []
+lines_in (Some (parts.Lane lane)) = lane.lines
+lines_in (Some (parts.Rounds rounds)) = []
+
+-- The lines of the lane with this number.
+abbrev pub lines_at : List Part → ℕ → List (Option Line)
+lines_at all k = lines_in (slice_get all k)
+
+-- The replies of a part, if it is a lane.
+abbrev pub replies_of : Part → List LineReply
+replies_of (parts.Lane lane) = lane.replies
+replies_of (parts.Rounds rounds) = []
+
+-- The replies of a part that was looked up.
+abbrev pub replies_in : Option Part → List LineReply
+replies_in None = []
+replies_in (Some part) = replies_of part
+
+-- The replies of the lane with this number.
+abbrev pub replies_at : List Part → ℕ → List LineReply
+replies_at all k = replies_in (slice_get all k)
+
+-- The part is a lane.
+abbrev pub IsLane : Part → Type 0
+IsLane (parts.Lane lane) = Unit {0}
+IsLane (parts.Rounds rounds) = ⊥
+
+-- If the part is a lane, its feeds are due with so many points.
+abbrev pub HasBatch : ℕ → Part → Type 0
+HasBatch batch (parts.Lane lane) = lane.batch ≡ batch
+HasBatch batch (parts.Rounds rounds) = Unit {0}
+
+-- The feeds of all lanes are due with so many points.
+abbrev pub HaveBatch : ℕ → List Part → Type 0
+HaveBatch batch all = AllByRecursion (HasBatch batch) all
+
+-- ---- before a run
+
+-- The lines of a list that was looked up.
+abbrev pub list_in : Option (Vec (Option Line) Global) → List (Option Line)
+list_in None = []
+list_in (Some list) = list.items
+
+-- The lines of the list with this number.
+abbrev pub list_at : List (Vec (Option Line) Global) → ℕ → List (Option Line)
+list_at lists k = list_in (slice_get lists k)
+
+-- These are the lanes of the lines of a script, and there are eight lists, each with the lines of a lane.
+pub record HasLists (script : List ScriptLine) (lanes : List ℕ) (lists : List (Vec (Option Line) Global)) : Type 0 where
+  pub lanes_are : lanes ≡ lanes_of script
+  pub count : length lists ≡ 8
+  pub lines : (k : ℕ) → list_at lists k ≡ lines_of k script
+
+-- A lane of a list of lines, before it runs.
+abbrev pub lane_with : ℕ → Vec (Option Line) Global → Part
+lane_with batch list = parts.Lane (record { batch = batch; lines = list.items; replies = [] })
+
+-- The run is prepared for this script: each lane has its lines, and there is room for the replies. There are rounds only if they are
+-- wanted.
+pub record IsPrepared (batch : ℕ) (materialize : Bool) (script : List ScriptLine) (p : Prepared) : Type 0 where
+  pub lanes : p.lanes.items ≡ lanes_of script
+  pub lines : (k : ℕ) → lines_at p.parts.items k ≡ lines_of k script
+  pub batches : HaveBatch batch p.parts.items
+  pub no_rounds : materialize ≡ false → AllByRecursion IsLane p.parts.items
+  pub empty : p.told.items ≡ []
+  pub room : length script ≤ vec_capacity p.told

@@ -1,0 +1,18 @@
+-- The laws of lanes as jobs.
+use Rattle.std.specs.Prelude.{ℕ, List}
+use Rattle.btr_hist.specs.declared.entry.Entry.{Entry}
+use Rattle.btr_gate.specs.Prefixes.{StartsWith}
+use Rattle.btr_jobs.specs.Course.{Start, Course, GoesOn}
+use Rattle.btr_live.specs.LaneLaws.{lane_lasts, lane_lowers}
+use Rattle.btr_live.specs.Running.{LaneValue, LaneDid}
+
+-- What a lane did is true for ever.
+pub lane_did_lasts : (start : Start) (late early : Course) (low : List Entry) (was now : LaneValue) (own : List ℕ)
+    → GoesOn start late early → LaneDid start early low was now own → LaneDid start late low was now own
+lane_did_lasts start late early low was now own on is = lane_lasts start late early on was.batch low was.lines now.replies own is
+
+-- It is true of a lane that had seen less.
+pub lane_did_lowers : (start : Start) (course : Course) (low less : List Entry) (was now : LaneValue) (own : List ℕ)
+    → StartsWith low less → LaneDid start course low was now own → LaneDid start course less was now own
+lane_did_lowers start course low less was now own starts is =
+    lane_lowers was.batch start course low less was.lines now.replies own starts is

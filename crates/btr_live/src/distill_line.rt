@@ -1,0 +1,183 @@
+//! The lines of outputs: one defines an output, and one brings it up to date.
+ghost use Rattle.std.specs.Prelude.{◌≡◌, ℕ, Some, IfOk};
+ghost use Rattle.btr_hist.specs.declared.entry.Entry.TheVariants.{Define as DefineSpec};
+ghost use Rattle.btr_distil.specs.Plan.{entry_of};
+ghost use Rattle.btr_hist.specs.History.{stream_of};
+ghost use Rattle.btr_plan.specs.Next.{IsNext, IsNextPlan};
+ghost use Rattle.btr_hall.specs.Session.{IsSessionOf, Looks};
+ghost use Rattle.btr_text.specs.declared.script.Line.TheVariants as lines;
+ghost use Rattle.btr_jobs.specs.Jobs.{IsAt};
+ghost use Rattle.btr_live.specs.Feeds.{Waiting};
+ghost use Rattle.btr_live.specs.Meaning.{Commits, define, on_stream};
+ghost use Rattle.btr_live.specs.Replies.{Means};
+ghost use Rattle.btr_live.specs.Lanes.{reason_of_landing};
+ghost use Rattle.btr_live.specs.Serving.{AsksFor, Knows, RefreshAsks, RepliesIn, ServesIn};
+
+use crate::line::commit;
+use btr_disk::Disk;
+use btr_distil::Plan;
+use btr_hall::{Found, Hall, LandFault, Session};
+use btr_hist::{Entry, Kernel, Spec};
+use btr_plan::{Next, next_plan};
+use btr_text::{LineReply, Reason};
+use std::alloc::{AllocError, Global};
+use std::sync::Wait;
+
+/// `distiller ID KERNEL LEAD GRAIN ID [ID]`: defines an output, whose inputs are the streams with the ids `first` and `second`.
+pub(crate) fn define<R: Wait, D: Disk>(
+    rt: &R,
+    alloc: Global,
+    hall: &Hall<D>,
+    session: &mut Session<D>,
+    id: u128,
+    kernel: Kernel,
+    lead: u64,
+    grain: u8,
+    first: u128,
+    second: Option<u128>,
+) -> LineReply
+    requires at { IsAt hall.now session.old }
+    ensures at { IsAt hall.now session.new }
+    ensures serves { ServesIn hall.now session.old session.new (AsksFor (λ h. define h id kernel lead grain first second)) result }
+{
+    match session.find(rt, hall, first) {
+        None => LineReply::No(Reason::Stream),
+        Some(Found { stream, .. }) => {
+            let spec = Spec {
+                kernel,
+                lead,
+                grain,
+                first: stream,
+                second: None,
+            };
+            match second {
+                None => commit(rt, alloc, hall, session, &Entry::Define { id, spec }),
+                Some(second) => define_of_two(rt, alloc, hall, session, id, spec, second),
+            }
+        }
+    }
+}
+
+/// Defines an output with one more input, the stream with the id `second`.
+fn define_of_two<R: Wait, D: Disk>(
+    rt: &R,
+    alloc: Global,
+    hall: &Hall<D>,
+    session: &mut Session<D>,
+    id: u128,
+    spec: Spec,
+    second: u128,
+) -> LineReply
+    requires at { IsAt hall.now session.old }
+    ensures at { IsAt hall.now session.new }
+    ensures serves { ServesIn hall.now session.old session.new
+        (AsksFor (λ h. on_stream (stream_of h second) (λ s. Commits (DefineSpec id (record spec { second = Some s }))))) result }
+{
+    match session.find(rt, hall, second) {
+        None => LineReply::No(Reason::Stream),
+        Some(Found { stream, .. }) => {
+            let spec = Spec {
+                second: Some(stream),
+                ..spec
+            };
+            commit(rt, alloc, hall, session, &Entry::Define { id, spec })
+        }
+    }
+}
+
+/// `refresh ID`: brings the output with this id up to date.
+pub(crate) fn refresh<R: Wait, D: Disk>(
+    rt: &R,
+    alloc: Global,
+    hall: &Hall<D>,
+    session: &mut Session<D>,
+    id: u128,
+) -> LineReply
+    requires at { IsAt hall.now session.old }
+    ensures at { IsAt hall.now session.new }
+    ensures serves { (batch : ℕ) (w : Waiting)
+        → ServesIn hall.now session.old session.new (λ h m. Means batch h w (Some (lines.Refresh id)) m) result }
+{
+    match session.find(rt, hall, id) {
+        None => LineReply::No(Reason::Stream),
+        Some(found) => match found.spec {
+            None => LineReply::No(Reason::Plain),
+            Some(_) => refresh_stream(rt, alloc, hall, session, found.stream),
+        },
+    }
+}
+
+/// Brings an output up to date: one admission, a plan from its snapshot, after the turn, and its landing in another turn. The cost
+/// follows what has changed in its inputs since its latest version.
+fn refresh_stream<R: Wait, D: Disk>(
+    rt: &R,
+    alloc: Global,
+    hall: &Hall<D>,
+    session: &mut Session<D>,
+    stream: u32,
+) -> LineReply
+    requires at { IsAt hall.now session.old }
+    ensures at { IsAt hall.now session.new }
+    ensures serves { ServesIn hall.now session.old session.new (RefreshAsks stream) result }
+{
+    match next_now(rt, alloc, hall, session, stream) {
+        Ok(Next::NotOutput) => LineReply::No(Reason::Plain),
+        Ok(Next::UpToDate { version }) => LineReply::Done { version },
+        Ok(Next::Plan(plan)) => land(rt, alloc, hall, session, &plan),
+        Err(_) => LineReply::No(Reason::Memory),
+    }
+}
+
+/// Returns what is planned for a stream, from a snapshot that is taken in a turn. An `Err` means out of memory.
+fn next_now<R: Wait, D: Disk>(
+    rt: &R,
+    alloc: Global,
+    hall: &Hall<D>,
+    session: &mut Session<D>,
+    stream: u32,
+) -> Result<Next, AllocError>
+    requires at { IsAt hall.now session.old }
+    ensures session { IsSessionOf hall.now session.new }
+    ensures looks { Looks hall.now session.old session.new }
+    ensures next { Knows hall.now session.new (λ h. IfOk result (IsNext h stream)) }
+{
+    let snapshot = session.admit(rt, hall)?;
+    next_plan(alloc, &snapshot, stream)
+}
+
+/// Lands a plan that was made from what the session has seen.
+fn land<R: Wait, D: Disk>(
+    rt: &R,
+    alloc: Global,
+    hall: &Hall<D>,
+    session: &mut Session<D>,
+    plan: &Plan,
+) -> LineReply
+    requires at { IsAt hall.now session.old }
+    requires planned { Knows hall.now session.old (λ h. IsNextPlan h plan.now.stream plan.now) }
+    ensures at { IsAt hall.now session.new }
+    ensures replies { RepliesIn hall.now session.old session.new (Commits (entry_of plan.now)) result }
+{
+    match session.land(rt, alloc, hall, plan) {
+        Ok(receipt) => LineReply::Done {
+            version: receipt.version,
+        },
+        Err(fault) => LineReply::No(reason_of(fault)),
+    }
+}
+
+/// Returns the reason of a plan that was not landed.
+fn reason_of(fault: LandFault) -> Reason
+    ensures { result ≡ reason_of_landing fault }
+{
+    match fault {
+        LandFault::Stopped { entries } => Reason::Stopped { entries },
+        LandFault::Superseded { version } => Reason::Superseded { version },
+        LandFault::VersionLimit => Reason::Versions,
+        LandFault::Crowded { start } => Reason::Crowded { start },
+        LandFault::TooManyPoints { count } => Reason::Points { count },
+        LandFault::Want => Reason::Memory,
+        LandFault::DeviceFull { need, left } => Reason::Full { need, left },
+        LandFault::DeviceFault => Reason::Device,
+    }
+}

@@ -1,0 +1,130 @@
+//! A lane: lines that run one after another, in one session, with feeds of their own.
+ghost use Rattle.std.specs.Prelude.{◌≡◌, ◌≤◌, [], ◌∷◌, length, IfOk};
+ghost use Rattle.std.specs.Vec.{vec_len};
+ghost use Rattle.std.specs.VecDeque.{deque_capacity};
+ghost use Rattle.btr_base.specs.declared.limits.TheConstants.{MAX_COMMIT_POINTS};
+ghost use Rattle.btr_jobs.specs.Jobs.{IsAt, Does};
+ghost use Rattle.btr_live.specs.Lanes.{RunsLane};
+
+use crate::feeds::Feeds;
+use crate::line::answer_line;
+use btr_disk::Disk;
+use btr_hall::{Hall, Session};
+use btr_jobs::Job;
+use btr_text::{Line, LineReply, Reason};
+use std::alloc::{AllocError, Global};
+use std::collections::VecDeque;
+use std::marker::Model;
+use std::mem;
+use std::sync::Wait;
+
+/// The lines of a lane, and their replies. There is room for a reply to each line, so that no lane stops for want of memory.
+#[derive(Drop)]
+pub(crate) struct Lane {
+    batch: u32,
+    lines: Vec<Option<Line>>,
+    replies: VecDeque<LineReply>,
+}
+
+impl Model for Lane {
+    ghost use Rattle.std.specs.Prelude.{◌≤◌};
+    ghost use Rattle.std.specs.Vec.{vec_len};
+    ghost use Rattle.std.specs.VecDeque.{deque_capacity};
+    ghost use Rattle.btr_base.specs.declared.limits.TheConstants.{MAX_COMMIT_POINTS};
+    ghost use Rattle.btr_live.specs.Running.{LaneValue};
+
+    ghost Value = { LaneValue };
+
+    ghost view = { λ l. record { batch = l.batch; lines = l.lines.items; replies = l.replies.items } };
+
+    ghost invariant = { λ l. (1 ≤ l.batch) × (l.batch ≤ MAX_COMMIT_POINTS) × (vec_len l.lines ≤ deque_capacity l.replies) };
+}
+
+impl Lane {
+    /// Makes a lane of lines, whose feeds are due with `batch` points. It takes the memory for the replies.
+    pub(crate) fn new(
+        alloc: Global,
+        batch: u32,
+        lines: Vec<Option<Line>>,
+    ) -> Result<Lane, AllocError>
+        requires least { 1 ≤ batch }
+        requires most { batch ≤ MAX_COMMIT_POINTS }
+        ensures { IfOk result (λ l. l ≡ record { batch = batch; lines = lines.items; replies = [] }) }
+    {
+        let replies = VecDeque::with_capacity(alloc, lines.len())?;
+        Ok(Lane {
+            batch,
+            lines,
+            replies,
+        })
+    }
+
+    /// Takes the first reply that is left. There is one. It takes no memory.
+    pub(crate) fn next_reply(&mut self) -> LineReply
+        requires there { 1 ≤ length self.old.replies }
+        ensures { self.old.replies ≡ result ∷ self.new.replies }
+    {
+        match self.replies.pop_front() {
+            Some(reply) => reply,
+            None => LineReply::No(Reason::Memory),
+        }
+    }
+}
+
+impl Job for Lane {
+    ghost use Rattle.btr_live.specs.Running.{LaneDid};
+    ghost use Rattle.btr_live.specs.RunningLaws.{lane_did_lasts, lane_did_lowers};
+
+    ghost did = { LaneDid };
+
+    /// Runs the lines.
+    fn run<R: Wait, D: Disk>(
+        &mut self,
+        rt: &R,
+        alloc: Global,
+        hall: &Hall<D>,
+        session: &mut Session<D>,
+    ) {
+        let lines = mem::replace(&mut self.lines, Vec::new(alloc));
+        self.replies.clear();
+        run_lines(
+            rt,
+            alloc,
+            hall,
+            session,
+            self.batch,
+            lines,
+            &mut self.replies,
+        );
+    }
+
+    ghost lasts = { lane_did_lasts };
+
+    ghost lowers = { lane_did_lowers };
+}
+
+/// Runs lines in order, and adds their replies, for which there is room.
+fn run_lines<R: Wait, D: Disk>(
+    rt: &R,
+    alloc: Global,
+    hall: &Hall<D>,
+    session: &mut Session<D>,
+    batch: u32,
+    lines: Vec<Option<Line>>,
+    replies: &mut VecDeque<LineReply>,
+)
+    requires at { IsAt hall.now session.old }
+    requires least { 1 ≤ batch }
+    requires most { batch ≤ MAX_COMMIT_POINTS }
+    requires empty { replies.old.items ≡ [] }
+    requires room { vec_len lines ≤ deque_capacity replies.old }
+    ensures at { IsAt hall.now session.new }
+    ensures runs { Does hall.now session.old session.new
+        (λ start course low own. RunsLane batch start course low lines.items replies.new.items own) }
+{
+    let mut feeds = Feeds::new(alloc, batch);
+    for line in lines {
+        let reply = answer_line(rt, alloc, hall, session, &mut feeds, line);
+        replies.push_back_reserved(reply);
+    }
+}

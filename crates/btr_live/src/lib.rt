@@ -1,0 +1,33 @@
+//! Scripts of lines that run in lanes beside each other, at one hall.
+//!
+//! [`lanes`] runs a script. Its contract says what all replies mean together, for every schedule of the threads: there is one history,
+//! and each reply is the model's at a history that it begins with ([`OneHistory`]).
+//!
+//! [`OneHistory`]: ../specs/OneHistory.antt
+#![tactic(auto)]
+
+// the points that wait for a commit, in a lane
+mod feeds;
+// one line
+mod distill_line;
+mod feed_line;
+mod line;
+// what runs beside each other
+mod lane;
+mod part;
+mod rounds;
+// a whole script
+mod laws;
+mod live;
+mod order;
+mod prepare;
+
+pub use feeds::Feeds;
+pub use laws::{
+    last_is_current, lines_keep_legal, one_lane_is_the_model, refreshes_are_current,
+    runs_are_one_history,
+};
+pub use live::{LiveReport, lanes};
+
+#[cfg(test)]
+mod tests;

@@ -1,0 +1,284 @@
+//! One line of a lane: what it asks for is done in turns of the lane's session, and it has its reply.
+ghost use Rattle.std.specs.Prelude.{◌≡◌, ℕ, List, [], ◌∷◌, false, Some, IfOk};
+ghost use Rattle.btr_base.specs.Range.{RangeValue};
+ghost use Rattle.btr_hist.specs.declared.entry.Entry.{Entry as EntrySpec};
+ghost use Rattle.btr_hist.specs.declared.entry.Entry.TheVariants.{Commit as CommitSpec};
+ghost use Rattle.btr_hist.specs.History.{stream_of};
+ghost use Rattle.btr_hist.specs.Query.{of_stream};
+ghost use Rattle.btr_engine.specs.Snapshot.{IsSnapshotOf};
+ghost use Rattle.btr_hall.specs.Found.{IsFound};
+ghost use Rattle.btr_hall.specs.Commit.{is_distillate};
+ghost use Rattle.btr_jobs.specs.Jobs.{IsAt};
+ghost use Rattle.btr_live.specs.Feeds.{waiting_of};
+ghost use Rattle.btr_live.specs.Meaning.{Asks, Commits, delete, on_stream};
+ghost use Rattle.btr_live.specs.Lanes.{reply_of_step};
+ghost use Rattle.btr_live.specs.Serving.{AsksFor, LineAsks, IsAnswerOrNoMemory, Knows, RepliesIn, ServesIn};
+
+use crate::distill_line::{define, refresh};
+use crate::feed_line::{discard, feed, flush};
+use crate::feeds::Feeds;
+use btr_base::{Bag, Range, Ranges};
+use btr_disk::Disk;
+use btr_engine::{Receipt, Snapshot, StepFault};
+use btr_hall::{Found, Hall, Session};
+use btr_hist::{Answer, Entry, Query, StreamQuery};
+use btr_text::{Line, LineReply, Reason};
+use std::alloc::{AllocError, Global};
+use std::sync::Wait;
+
+/// Does what a line asks for, and returns the reply.
+pub(crate) fn answer_line<R: Wait, D: Disk>(
+    rt: &R,
+    alloc: Global,
+    hall: &Hall<D>,
+    session: &mut Session<D>,
+    feeds: &mut Feeds,
+    line: Option<Line>,
+) -> LineReply
+    requires at { IsAt hall.now session.old }
+    ensures at { IsAt hall.now session.new }
+    ensures line { ServesIn hall.now session.old session.new
+        (LineAsks feeds.old.batch (waiting_of feeds.old) line result (waiting_of feeds.new)) result }
+    ensures batch { feeds.new.batch ≡ feeds.old.batch }
+{
+    match line {
+        Some(Line::Create { id }) => commit(rt, alloc, hall, session, &Entry::Create { id }),
+        Some(Line::Insert { id, added }) => insert(rt, alloc, hall, session, id, added),
+        Some(Line::Delete { id, from, to }) => delete(rt, alloc, hall, session, id, from, to),
+        Some(Line::Feed { id, added }) => feed(rt, alloc, hall, session, feeds, id, &added),
+        Some(Line::Flush { id }) => flush(rt, alloc, hall, session, feeds, id),
+        Some(Line::Discard { id }) => discard(rt, hall, session, feeds, id),
+        Some(
+            Line::Distiller {
+                id,
+                kernel,
+                lead,
+                grain,
+                first,
+                second,
+            },
+        ) => {
+            define(
+                rt, alloc, hall, session, id, kernel, lead, grain, first, second,
+            )
+        }
+        Some(Line::Refresh { id }) => refresh(rt, alloc, hall, session, id),
+        Some(Line::Ask { id, query }) => ask_stream(rt, alloc, hall, session, id, query),
+        Some(Line::Streams) => ask(rt, alloc, hall, session, &Query::Streams),
+        None => LineReply::No(Reason::Line),
+    }
+}
+
+/// Commits points to the stream with this id.
+fn insert<R: Wait, D: Disk>(
+    rt: &R,
+    alloc: Global,
+    hall: &Hall<D>,
+    session: &mut Session<D>,
+    id: u128,
+    added: Bag,
+) -> LineReply
+    requires at { IsAt hall.now session.old }
+    ensures at { IsAt hall.now session.new }
+    ensures serves { ServesIn hall.now session.old session.new
+        (AsksFor (λ h. on_stream (stream_of h id) (λ stream. Commits (CommitSpec stream [] added)))) result }
+{
+    match session.find(rt, hall, id) {
+        None => LineReply::No(Reason::Stream),
+        Some(Found { stream, .. }) => {
+            let cut = Ranges::none(alloc);
+            commit(
+                rt,
+                alloc,
+                hall,
+                session,
+                &Entry::Commit { stream, cut, added },
+            )
+        }
+    }
+}
+
+/// Commits the removal of the points of a range from the stream with this id.
+fn delete<R: Wait, D: Disk>(
+    rt: &R,
+    alloc: Global,
+    hall: &Hall<D>,
+    session: &mut Session<D>,
+    id: u128,
+    from: i64,
+    to: i64,
+) -> LineReply
+    requires at { IsAt hall.now session.old }
+    ensures at { IsAt hall.now session.new }
+    ensures serves { ServesIn hall.now session.old session.new
+        (AsksFor (λ h. on_stream (stream_of h id) (λ stream. delete stream from to))) result }
+{
+    match session.find(rt, hall, id) {
+        None => LineReply::No(Reason::Stream),
+        Some(found) => match Range::new(from, to) {
+            None => LineReply::No(Reason::Range),
+            Some(range) => delete_range(rt, alloc, hall, session, found, range),
+        },
+    }
+}
+
+/// Commits the removal of the points of a range from a stream that was found.
+fn delete_range<R: Wait, D: Disk>(
+    rt: &R,
+    alloc: Global,
+    hall: &Hall<D>,
+    session: &mut Session<D>,
+    found: Found,
+    range: Range,
+) -> LineReply
+    requires at { IsAt hall.now session.old }
+    requires found { Knows hall.now session.old (λ h. (id : ℕ) × IsFound h id (Some found)) }
+    ensures at { IsAt hall.now session.new }
+    ensures replies { RepliesIn hall.now session.old session.new (Commits (CommitSpec found.stream (range ∷ []) [])) result }
+{
+    match one_range(alloc, range) {
+        Ok(cut) => {
+            let (stream, added) = (found.stream, Bag::from_points(Vec::new(alloc)));
+            commit(
+                rt,
+                alloc,
+                hall,
+                session,
+                &Entry::Commit { stream, cut, added },
+            )
+        }
+        Err(_) => refuse_range(rt, hall, session, found),
+    }
+}
+
+/// Refuses to remove the points of a range, since there is no memory for a list of it. What a commit tests before it takes memory is
+/// tested all the same: whether the store is stopped, and whether the stream is an output.
+fn refuse_range<R: Wait, D: Disk>(
+    rt: &R,
+    hall: &Hall<D>,
+    session: &mut Session<D>,
+    found: Found,
+) -> LineReply
+    requires at { IsAt hall.now session.old }
+    requires found { Knows hall.now session.old (λ h. (id : ℕ) × IsFound h id (Some found)) }
+    ensures at { IsAt hall.now session.new }
+    ensures replies { (range : RangeValue)
+        → RepliesIn hall.now session.old session.new (Commits (CommitSpec found.stream (range ∷ []) [])) result }
+{
+    match session.stopped(rt, hall) {
+        Some(entries) => LineReply::No(Reason::Stopped { entries }),
+        None => match found.spec {
+            Some(_) => LineReply::No(Reason::Output),
+            None => LineReply::No(Reason::Memory),
+        },
+    }
+}
+
+/// Returns the ranges of a commit that removes one range.
+fn one_range(alloc: Global, range: Range) -> Result<Ranges, AllocError>
+    ensures { IfOk result (λ r. r ≡ range ∷ []) }
+{
+    let mut ranges = Vec::new(alloc);
+    ranges.push(range)?;
+    match Ranges::from_ranges(ranges) {
+        Some(cut) => Ok(cut),
+        None => Err(AllocError),
+    }
+}
+
+/// Commits an entry, which is no distillate.
+pub(crate) fn commit<R: Wait, D: Disk>(
+    rt: &R,
+    alloc: Global,
+    hall: &Hall<D>,
+    session: &mut Session<D>,
+    entry: &Entry,
+) -> LineReply
+    requires at { IsAt hall.now session.old }
+    requires user { is_distillate entry.now ≡ false }
+    ensures at { IsAt hall.now session.new }
+    ensures replies { RepliesIn hall.now session.old session.new (Commits entry.now) result }
+{
+    let result = session.commit(rt, alloc, hall, entry);
+    reply_of(result)
+}
+
+/// The reply to an entry, by the result of its turn.
+fn reply_of(step: Result<Receipt, StepFault>) -> LineReply
+    ensures { result ≡ reply_of_step step }
+{
+    match step {
+        Ok(receipt) => LineReply::Done {
+            version: receipt.version,
+        },
+        Err(StepFault::Stopped { entries }) => LineReply::No(Reason::Stopped { entries }),
+        Err(StepFault::Rejected(why)) => LineReply::No(Reason::of_rejection(why)),
+        Err(StepFault::Want) => LineReply::No(Reason::Memory),
+        Err(StepFault::DeviceFull { need, left }) => LineReply::No(Reason::Full { need, left }),
+        Err(StepFault::DeviceFault) => LineReply::No(Reason::Device),
+    }
+}
+
+/// Answers a question about the stream with this id: one admission, and then an answer from its snapshot, after the turn. Without
+/// memory for the snapshot it is still tested whether the stream exists.
+fn ask_stream<R: Wait, D: Disk>(
+    rt: &R,
+    alloc: Global,
+    hall: &Hall<D>,
+    session: &mut Session<D>,
+    id: u128,
+    query: StreamQuery,
+) -> LineReply
+    requires at { IsAt hall.now session.old }
+    ensures at { IsAt hall.now session.new }
+    ensures serves { ServesIn hall.now session.old session.new
+        (AsksFor (λ h. on_stream (stream_of h id) (λ stream. Asks (of_stream query stream)))) result }
+{
+    match session.admit(rt, hall) {
+        Ok(snapshot) => answer_stream(alloc, &snapshot, id, query),
+        Err(_) => match session.find(rt, hall, id) {
+            None => LineReply::No(Reason::Stream),
+            Some(_) => LineReply::No(Reason::Memory),
+        },
+    }
+}
+
+/// Answers a question from a snapshot that is taken in a turn.
+fn ask<R: Wait, D: Disk>(
+    rt: &R,
+    alloc: Global,
+    hall: &Hall<D>,
+    session: &mut Session<D>,
+    query: &Query,
+) -> LineReply
+    requires at { IsAt hall.now session.old }
+    ensures at { IsAt hall.now session.new }
+    ensures serves { ServesIn hall.now session.old session.new (AsksFor (λ h. Asks query.now)) result }
+{
+    match session.admit(rt, hall) {
+        Ok(snapshot) => answer(alloc, &snapshot, query),
+        Err(_) => LineReply::No(Reason::Memory),
+    }
+}
+
+/// Answers a question about the stream with this id from a snapshot.
+fn answer_stream(alloc: Global, snapshot: &Snapshot, id: u128, query: StreamQuery) -> LineReply
+    ensures { (h : List EntrySpec) → IsSnapshotOf h snapshot.now
+        → IsAnswerOrNoMemory h (on_stream (stream_of h id) (λ stream. Asks (of_stream query stream))) result }
+{
+    match snapshot.find(id) {
+        None => LineReply::No(Reason::Stream),
+        Some(stream) => answer(alloc, snapshot, &query.of(stream)),
+    }
+}
+
+/// Answers a question from a snapshot.
+fn answer(alloc: Global, snapshot: &Snapshot, query: &Query) -> LineReply
+    ensures { (h : List EntrySpec) → IsSnapshotOf h snapshot.now → IsAnswerOrNoMemory h (Asks query.now) result }
+{
+    match snapshot.answer(alloc, query) {
+        Ok(Answer::Found { version, rows }) => LineReply::Found { version, rows },
+        Ok(Answer::Refused(refusal)) => LineReply::No(Reason::of_refusal(refusal)),
+        Err(_) => LineReply::No(Reason::Memory),
+    }
+}

@@ -1,0 +1,119 @@
+//! A script runs: its lanes beside each other, rounds beside them, and a last round after them.
+ghost use Rattle.std.specs.Prelude.{◌≡◌, ◌≤◌, List, IfOk, OnErr};
+ghost use Rattle.btr_base.specs.declared.limits.TheConstants.{MAX_COMMIT_POINTS};
+ghost use Rattle.btr_hist.specs.declared.entry.Entry.{Entry as EntrySpec};
+ghost use Rattle.btr_text.specs.Input.{HaveLanes};
+ghost use Rattle.btr_engine.specs.Engine.{IsEngineOf};
+ghost use Rattle.btr_hall.specs.Session.{opening_of};
+ghost use Rattle.btr_jobs.specs.Jobs.{IsAt, Does};
+ghost use Rattle.btr_live.specs.Live.{LastRound, RunsLive};
+
+use crate::order::in_order;
+use crate::prepare::{LANES, Prepared, prepare};
+use btr_disk::Disk;
+use btr_hall::{Hall, Session};
+use btr_jobs::{NoPace, Pace, run_jobs};
+use btr_text::{LineReply, ScriptLine};
+use btr_work::{Report, bring_current};
+use std::alloc::{AllocError, Global};
+use std::marker::{Send, Sync};
+use std::sync::Wait;
+use std::thread::Threads;
+
+/// What a run of a script leaves.
+#[derive(Debug, Drop)]
+pub struct LiveReport {
+    /// A reply to each line, in the order of the script.
+    pub replies: Vec<LineReply>,
+
+    /// What became of each output in the last round, if there was one. An `Err` means that there was no memory to begin it.
+    pub last: Option<Result<Report, AllocError>>,
+}
+
+/// Runs a script. The lines of each lane run in order, in a session of their own, with feeds of their own, which are due with `batch`
+/// points; points that wait at the end are dropped. The lanes run beside each other. A line is admitted to the history of one turn, its
+/// entry is committed in another, and a question is answered after its turn.
+///
+/// With `materialize` as many rounds as the script has lines run beside the lanes, in one more session, and one last round runs after
+/// all lanes have ended. A round brings each output up to date once.
+///
+/// The turns of `pace` are the lanes, 0 to 7, and 8 for the rounds. No thread is started if all lines are of one lane and no rounds are
+/// wanted.
+///
+/// Memory for the lines and the replies is taken before anything runs: after an `Err`, which means out of memory, nothing was done. If
+/// memory runs out later, the reply to the line says so.
+///
+/// If the session was the only one of its hall, it is so again. It takes time linear in the script beside what its lines and rounds take.
+pub fn lanes<R: Threads + Wait + Sync, D: Disk + Send, P: Pace + Sync>(
+    rt: &R,
+    alloc: Global,
+    hall: &Hall<D>,
+    session: &mut Session<D>,
+    script: Vec<ScriptLine>,
+    batch: u32,
+    materialize: bool,
+    pace: &P,
+) -> Result<LiveReport, AllocError>
+    requires some { (h : List EntrySpec) × IsEngineOf h (opening_of hall.now) }
+    requires at { IsAt hall.now session.old }
+    requires lanes { HaveLanes script.items }
+    requires batch { (1 ≤ batch) × (batch ≤ MAX_COMMIT_POINTS) }
+    ensures at { IsAt hall.now session.new }
+    ensures refused { OnErr result (session.new ≡ session.old) }
+    ensures runs { IfOk result (λ report. Does hall.now session.old session.new
+        (λ start course low own. RunsLive batch materialize start course low script.items report own)) }
+{
+    let Prepared {
+        lanes,
+        mut parts,
+        mut told,
+    } = prepare(alloc, batch, script, materialize)?;
+    let lanes = lanes.as_slice();
+    let all = parts.as_mut_slice();
+    let workers = workers_for(lanes, materialize);
+    run_jobs(rt, alloc, hall, session, workers, 0, all, pace);
+    in_order(lanes, all, &mut told);
+    let last = last_round(rt, alloc, hall, session, materialize);
+    Ok(LiveReport {
+        replies: told,
+        last,
+    })
+}
+
+/// The most parts that run beside each other: the lanes, and the rounds.
+const PARTS: u8 = LANES as u8 + 1;
+
+/// Returns how many workers run the parts. It is one, which starts no thread, if all lines are of one lane and no rounds run beside it.
+fn workers_for(lanes: &[u8], materialize: bool) -> u8 {
+    if materialize || are_of_many(lanes) {
+        PARTS
+    } else {
+        1
+    }
+}
+
+/// Whether the lines, which have these lanes, are of more than one.
+fn are_of_many(lanes: &[u8]) -> bool {
+    match lanes.first() {
+        None => false,
+        Some(first) => lanes.iter().any(|lane| lane != first),
+    }
+}
+
+/// Brings each output up to date once more, if that is wanted. The outputs of a level are shared among workers.
+fn last_round<R: Threads + Wait + Sync, D: Disk + Send>(
+    rt: &R,
+    alloc: Global,
+    hall: &Hall<D>,
+    session: &mut Session<D>,
+    materialize: bool,
+) -> Option<Result<Report, AllocError>>
+    requires at { IsAt hall.now session.old }
+    ensures at { IsAt hall.now session.new }
+    ensures last { Does hall.now session.old session.new (λ start course low own. LastRound start course low materialize result own) }
+{
+    if !materialize {
+        return None;
+    }
+    Some(bring_current(rt, alloc, hall, session, PARTS, &NoPace))
+}

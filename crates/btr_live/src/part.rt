@@ -1,0 +1,59 @@
+//! The parts of a run, each of which is done in a session of its own: lanes, and the rounds beside them.
+ghost use Rattle.std.specs.Prelude.{◌≡◌, ◌≤◌, ◌∷◌, length};
+ghost use Rattle.btr_live.specs.Parts.{replies_of};
+
+use crate::lane::Lane;
+use crate::rounds::Rounds;
+use btr_disk::Disk;
+use btr_hall::{Hall, Session};
+use btr_jobs::Job;
+use btr_text::{LineReply, Reason};
+use std::alloc::Global;
+use std::sync::Wait;
+
+/// A part of a run.
+#[derive(Drop)]
+pub(crate) enum Part {
+    /// The lines of one lane.
+    Lane(Lane),
+
+    /// The rounds of the materializer.
+    Rounds(Rounds),
+}
+
+impl Part {
+    /// Takes the next reply of a lane that has one. It takes no memory.
+    pub(crate) fn next_reply(&mut self) -> LineReply
+        requires there { 1 ≤ length (replies_of self.old) }
+        ensures { replies_of self.old ≡ result ∷ replies_of self.new }
+    {
+        match self {
+            Part::Lane(lane) => lane.next_reply(),
+            Part::Rounds(_) => LineReply::No(Reason::Memory),
+        }
+    }
+}
+
+impl Job for Part {
+    ghost use Rattle.btr_live.specs.Parts.{PartDid};
+    ghost use Rattle.btr_live.specs.PartLaws.{part_did_lasts, part_did_lowers};
+
+    ghost did = { PartDid };
+
+    fn run<R: Wait, D: Disk>(
+        &mut self,
+        rt: &R,
+        alloc: Global,
+        hall: &Hall<D>,
+        session: &mut Session<D>,
+    ) {
+        match self {
+            Part::Lane(lane) => lane.run(rt, alloc, hall, session),
+            Part::Rounds(rounds) => rounds.run(rt, alloc, hall, session),
+        }
+    }
+
+    ghost lasts = { part_did_lasts };
+
+    ghost lowers = { part_did_lowers };
+}
