@@ -3,7 +3,7 @@ use Rattle.std.specs.Prelude.{◌≡◌, ℕ, ◌+◌, ◌<◌, ◌≤◌, ◌==
 use Rattle.std.specs.Option.{is_some}
 use Rattle.std.proofs.Common.{refl, sym, ap, ◌∙◌, subst, arith, length-append, ⊎_elim}
 use Rattle.std.proofs.lemmas.Bool.{eqb-true, cases_lt}
-use mathlib.Core.List.{head-eq_of_cons-eq}
+use mathlib.Core.List.{head-eq_of_cons-eq, tail-eq_of_cons-eq}
 use Rattle.btr_hist.specs.declared.entry.Entry.{Entry}
 use Rattle.btr_hist.specs.declared.rejection.Rejection.{Rejection}
 use Rattle.btr_hist.specs.History.{latest}
@@ -60,6 +60,13 @@ allows_later start late early own on within allowed p e starts listed legal =
 
 -- ---- one turn
 
+-- The last entries of the same history are the same.
+pub last_same : (p q : List Entry) (e f : Entry) → p ≡ q → p ++ e ∷ [] ≡ q ++ f ∷ [] → e ≡ f
+last_same [] [] e f is whole = head-eq_of_cons-eq whole
+last_same [] (y ∷ q) e f is whole = absurd (cc)
+last_same (x ∷ p) [] e f is whole = absurd (cc)
+last_same (x ∷ p) (y ∷ q) e f is whole = last_same p q e f (tail-eq_of_cons-eq is) (tail-eq_of_cons-eq whole)
+
 -- The entry of a turn is the one that stands at its number.
 pub allows_added : (course : Course) (p : List Entry) (e : Entry) (own : List ℕ) (next : List Entry) → IsAdded course p e own next → (Legal p → Allowed p e) → AddsAllowed course own
 allows_added course p e own next added allowed q f starts listed legal =
@@ -72,12 +79,6 @@ allows_added course p e own next added allowed q f starts listed legal =
     let before : p ≡ q = starts_same course.history p q (starts_trans course.history (p ++ e ∷ []) p added.follows (e ∷ [], refl)) (starts_trans course.history (q ++ f ∷ []) q starts (f ∷ [], refl)) (omega (arith, same)) in
     let entry : e ≡ f = last_same p q e f before whole in
     subst (λ (x : Entry). Allowed q x) entry (subst (λ (k : List Entry). Allowed k e) before (allowed (subst Legal (sym before) legal)))
-  where
-    last_same : (p q : List Entry) (e f : Entry) → p ≡ q → p ++ e ∷ [] ≡ q ++ f ∷ [] → e ≡ f
-    last_same [] [] e f is whole = head-eq_of_cons-eq whole
-    last_same [] (y ∷ q) e f is whole = absurd (cc)
-    last_same (x ∷ p) [] e f is whole = absurd (cc)
-    last_same (x ∷ p) (y ∷ q) e f is whole = last_same p q e f (mathlib.Core.List.tail-eq_of_cons-eq is) (mathlib.Core.List.tail-eq_of_cons-eq whole)
 
 -- The entry of a failed turn stands nowhere.
 pub allows_failed : (course : Course) (p : List Entry) (e : Entry) (own : List ℕ) (next : List Entry) → IsFailed course p e own next → AddsAllowed course own

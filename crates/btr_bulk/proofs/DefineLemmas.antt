@@ -1,8 +1,7 @@
 -- Lemmas on the outputs of a sample: one after another, each right after the history that the session, which is alone, had seen.
-use Rattle.std.specs.Prelude.{◌≡◌, ℕ, ◌+◌, Bool, true, false, ◌||◌, List, [], ◌∷◌, ◌++◌, length, Option, Some, None, Result, Ok, Err, Vec, IsErr}
+use Rattle.std.specs.Prelude.{◌≡◌, ℕ, ◌+◌, List, [], ◌∷◌, ◌++◌, length, Option, Some, None, Result, Ok, Err, Vec, IsErr}
 use Rattle.std.specs.declared.alloc.AllocError.{AllocError}
 use Rattle.std.specs.declared.alloc.Global.{Global}
-use Rattle.std.specs.Option.{is_some}
 use Rattle.std.proofs.Common.{refl, sym, ap, ◌∙◌, subst, arith, append_assoc}
 use Rattle.std.proofs.lemmas.List.{append-nil}
 use Rattle.btr_disk.specs.declared.disk.Disk.{Ghosts}
@@ -13,7 +12,6 @@ use Rattle.btr_text.specs.declared.reply.Reason.{Reason}
 use Rattle.btr_text.specs.declared.reply.Reason.TheVariants as reasons
 use Rattle.btr_engine.specs.declared.board.Receipt.{Receipt}
 use Rattle.btr_engine.specs.declared.step.StepFault.{StepFault}
-use Rattle.btr_engine.specs.declared.step.StepFault.TheVariants as steps
 use Rattle.btr_gate.specs.Numbers.{times}
 use Rattle.btr_gate.proofs.NumberLemmas.{times_append}
 use Rattle.btr_hall.specs.declared.look.Found.{Found}
@@ -21,8 +19,8 @@ use Rattle.btr_hall.specs.declared.session.Hall.{Hall}
 use Rattle.btr_hall.specs.declared.session.Session.{Session}
 use Rattle.btr_hall.specs.Found.{IsFound}
 use Rattle.btr_jobs.specs.Course.{Start, Course, GoesOn}
-use Rattle.btr_jobs.specs.Turns.{IsStopped, IsFailed, Committed}
-use Rattle.btr_jobs.specs.TurnLaws.{history_later}
+use Rattle.btr_jobs.specs.Turns.{Committed}
+use Rattle.btr_jobs.specs.TurnLaws.{committed_still}
 use Rattle.btr_jobs.specs.Jobs.{IsAt, Does}
 use Rattle.btr_jobs.proofs.DoesLemmas.{does_implied, does_then}
 use Rattle.btr_bulk.specs.declared.define.DefinedOutput.{DefinedOutput}
@@ -31,22 +29,6 @@ use Rattle.btr_bulk.specs.Work.{AddsAllowed}
 use Rattle.btr_bulk.proofs.Allowing.{allows_nothing, allows_both, allows_committed_later}
 
 -- ---- what is true of one output
-
-either : (a b : Bool) → b ≡ true → (a || b) ≡ true
-either true b is = refl
-either false b is = is
-
-committed_still : (start : Start) (late early : Course) (p : List Entry) (e : Entry) (result : Result Receipt StepFault) (own : List ℕ) (next : List Entry) → GoesOn start late early → Committed start early p e result own next → Committed start late p e result own next
-committed_still start late early p e (Ok receipt) own next on is =
-    (is.0, is.1, record { follows = history_later start late early (p ++ e ∷ []) on is.2.follows; own = is.2.own; next = is.2.next })
-committed_still start late early p e (Err (steps.Stopped count)) own next on is =
-    (subst (λ c. IsStopped start c p count) (sym (on.ends is.0.stopped)) is.0, is.1)
-committed_still start late early p e (Err (steps.Rejected why)) own next on is = is
-committed_still start late early p e (Err steps.Want) own next on is = is
-committed_still start late early p e (Err (steps.DeviceFull need left)) own next on is = is
-committed_still start late early p e (Err steps.DeviceFault) own next on is =
-    let failed : is_some early.failed ≡ true = ap is_some is.1.failed in
-    (is.0, subst (λ c. IsFailed c p e own next) (sym (on.ends (either start.stopped (is_some early.failed) failed))) is.1)
 
 over_lasts : (start : Start) (late early : Course) (p : List Entry) (id : ℕ) (input : Option ℕ) (refused : Option Reason) (own : List ℕ) (next : List Entry) → GoesOn start late early → DefinesOver start early p id input refused own next → DefinesOver start late p id input refused own next
 over_lasts start late early p id None refused own next on is = is

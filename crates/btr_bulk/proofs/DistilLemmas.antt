@@ -1,5 +1,5 @@
 -- Lemmas on the work of bringing each output up to date: what is said of it, and that what it adds is allowed.
-use Rattle.std.specs.Prelude.{◌≡◌, ℕ, List, [], ◌∷◌, map, Option, Some, None, Result, Ok, Err, IfOk, IfSome}
+use Rattle.std.specs.Prelude.{◌≡◌, ℕ, ◌<◌, ◌≤◌, List, [], ◌∷◌, length, map, Option, Some, None, Result, Ok, Err, IfOk, IfSome}
 use Rattle.std.specs.declared.alloc.AllocError.{AllocError}
 use Rattle.std.proofs.Common.{sym, ap, ◌∙◌, subst}
 use Rattle.btr_disk.specs.declared.disk.Disk.{Ghosts}
@@ -32,6 +32,7 @@ use Rattle.btr_bulk.specs.Transcript.{SaysLines}
 use Rattle.btr_bulk.specs.Distil.{output_line, BringsIf, SaysReport, Distils, AreCurrent, AreUndisturbed, AreOfOneWorker, DistilsStore}
 use Rattle.btr_bulk.specs.Work.{AddsAllowed, OwnsEachOnce}
 use Rattle.btr_bulk.proofs.Allowing.{allows_none, allows_nothing, allows_both, allows_landed}
+use Rattle.btr_bulk.proofs.DistilCompletes.{report_completes}
 
 module _ {D : Type 0} {disk : Ghosts D} where
   -- A session that stays as it is is still alone.
@@ -43,6 +44,7 @@ module _ {D : Type 0} {disk : Ghosts D} where
   goes_stays old mid new own goes stays = record {
     seen = subst (λ l. StartsWith l (seen_of old)) (sym stays.seen) goes.seen;
     mine = λ n. ap (times n) stays.mine ∙ goes.mine n;
+    fresh = λ n some. subst (λ l. (length (seen_of old) < n) × (n ≤ length l)) (sym stays.seen) (goes.fresh n some);
     start = stays.same.start ∙ goes.start;
     paths = λ path. ap (on_path path) stays.same.share ∙ goes.paths path;
   }
@@ -131,4 +133,5 @@ module _ (start : Start) (course : Course) (own : List ℕ) (each : OwnsEachOnce
     did = is;
     current = report_current is.report follows is.brings;
     alike = λ before. report_alike is.report (legal before) is.brings;
+    completes = report_completes start course own is.report said each follows is.brings is.says;
   }

@@ -1,16 +1,24 @@
 -- what a crash leaves of the steps of a hall
 mod Moments
+-- how many blocks its entries need
+mod Rooms
 -- what work leaves
-mod WorkLemmas
+pub mod WorkLemmas
+mod WorksOn
 -- which entries are allowed
-mod Allowing
+pub mod Allowing
 -- the lines that are written
-mod TranscriptLemmas
+pub mod TranscriptLemmas
+mod Benign
 mod StreamLemmas
 -- the work of each command
-mod DistilLemmas
+mod DistilCompletes
+pub mod DistilLemmas
 mod LoadLineLemmas
+mod LoadCompletes
 mod LoadLemmas
 mod DefineLemmas
-mod SampleLineLemmas
+pub mod SampleLineLemmas
 mod SampleLemmas
+mod SampleCompletes
+mod SampleLawLemmas

@@ -36,6 +36,7 @@ use Rattle.btr_bulk.specs.LoadLines.{SaysLoad}
 use Rattle.btr_bulk.specs.Load.{LoadsIf, SaysLoaded, LoadsRows, ArePlain, LoadsStore}
 use Rattle.btr_bulk.specs.Work.{AddsAllowed, OwnsEachOnce}
 use Rattle.btr_bulk.proofs.Allowing.{allows_none, allows_nothing, allows_both, allows_committed_later}
+use Rattle.btr_bulk.proofs.LoadCompletes.{load_completes}
 
 -- ---- what is said
 
@@ -135,6 +136,7 @@ module _ (start : Start) (course : Course) (rows : RowListValue) (batch : ℕ) (
     did = is;
     there = λ distinct. loaded_there is.loaded distinct is.loads;
     alike = λ distinct. loaded_alike is.loaded distinct is.loads;
+    completes = load_completes start course rows batch own is.loaded said before each is.loads is.says;
   }
 
 pub loads_store : (start : Start) (course : Course) (rows : RowListValue) (batch : ℕ) (own : List ℕ) (said : Result Transcript AllocError) → OwnsEachOnce start course own → StartsWith course.history start.history → Follows course.history → LoadsRows start course start.history rows batch said own → LoadsStore start course rows batch said own

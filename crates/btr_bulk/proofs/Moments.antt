@@ -1,10 +1,11 @@
--- What a crash leaves of the steps of a hall, at each moment of them and at their end.
+-- What a crash leaves of the steps of a hall: at each moment of them, after each of them, and at their end.
 use Rattle.std.specs.Prelude.{◌≡◌, ℕ, ◌≤◌, List, [], ◌∷◌, ◌++◌, length, take, Option, Some, None, Result, Ok, Err}
-use Rattle.std.proofs.Common.{refl, sym, ◌∙◌, subst, append_assoc, inl, inr, ⊎_elim, arith}
+use Rattle.std.proofs.Common.{refl, sym, ap, ◌∙◌, subst, append_assoc, inl, inr, ⊎_elim, arith}
 use Rattle.std.proofs.Math.Seq.{take-append_seam}
 use Rattle.std.proofs.lemmas.List.{append-nil, length-append, take_all}
 use Rattle.btr_disk.specs.declared.disk.Disk.{Ghosts}
 use Rattle.btr_disk.specs.Bytes.{Image}
+use Rattle.btr_disk.specs.Causes.{Rose}
 use Rattle.btr_disk.specs.Moments.{Leaves}
 use Rattle.btr_disk.proofs.MomentLemmas.{begins, composes, weakens}
 use Rattle.btr_hist.specs.declared.entry.Entry.{Entry}
@@ -14,14 +15,14 @@ use Rattle.btr_engine.specs.declared.step.StepFault.{StepFault}
 use Rattle.btr_engine.specs.declared.step.StepFault.TheVariants.{DeviceFault}
 use Rattle.btr_engine.specs.Engine.{device, IsAtRest}
 use Rattle.btr_engine.specs.Holds.{HoldsHistory}
-use Rattle.btr_engine.specs.Step.{IsBeforeOrAfter, CanStep, StopsByFault}
+use Rattle.btr_engine.specs.Step.{IsBeforeOrAfter, CanStep, IsStepped, StopsByFault}
 use Rattle.btr_engine.proofs.EngineLemmas.{holds_in}
 use Rattle.btr_hall.specs.declared.item.Item.{Item}
 use Rattle.btr_hall.specs.declared.item.Item.TheVariants.{Earlier, Added, Halted}
 use Rattle.btr_hall.specs.Trace.{IsStep, IsTrace, engine_after, entries_in}
 use Rattle.btr_hall.specs.StoreLaws.{ends_stopped}
 use Rattle.btr_jobs.specs.Course.{Course, failed_in}
-use Rattle.btr_bulk.specs.Work.{HoldsPrefix, HoldsCourse}
+use Rattle.btr_bulk.specs.Work.{HoldsPrefix, HoldsCourse, Keeps, EndsAt, KeepsEach}
 use Rattle.btr_jobs.proofs.CourseLemmas.{course_at}
 
 -- A history is a prefix of one that begins with it.
@@ -139,3 +140,60 @@ module _ {D : Type 0} {disk : Ghosts D} (told : disk.is_observable) (only_now : 
       let here : disk.images_now (device y) c = subst (λ (m : List (Item D disk)). disk.images_now (device (engine_after y m)) c) none left in
       subst (λ (m : List (Item D disk)). HoldsCourse size (record { history = h ++ entries_in m; failed = Some e }) c) (sym none)
       (one_failed size h e c (moments.each c (counts_now (device y) (disk.calls (device x)) c moments.later here)))
+
+-- After each entry there is a device, and what a crash leaves from then on has the entries so far.
+module _ {D : Type 0} (disk : Ghosts D) (told : disk.is_observable) (only_now : (d : D) (c : Image) → disk.images_since d (disk.calls d) c → disk.images_now d c) (counts_now : (d : D) (t : ℕ) (c : Image) → t ≤ disk.calls d → disk.images_now d c → disk.images_since d t c) (new : D) (course : Course) where
+  abbrev size : ℕ
+  size = disk.size new
+
+  keeps_here : (h : List Entry) (x : Engine D disk) (l : List (Item D disk)) → IsAtRest h x → disk.size (device x) ≡ size → IsTrace x l → new ≡ device (engine_after x l) → course ≡ course_at h l → Keeps disk course new (device x) h
+  keeps_here h x l rest same trace ends is = record {
+    now = λ c left. subst (λ (n : ℕ). HoldsHistory n c h) same (holds_in h x rest c (rest.only.each c left));
+    since = subst (λ (k : Course). Leaves disk.calls disk.images_since (device x) new (HoldsPrefix size (length h) k)) (sym is)
+        (subst (λ (d : D). Leaves disk.calls disk.images_since (device x) d (HoldsPrefix size (length h) (course_at h l))) (sym ends)
+        (steps_leave told only_now counts_now size h x l rest same trace));
+  }
+
+  -- The device of a step, from here on.
+  moments_here : (h : List Entry) (x y : Engine D disk) (e : Entry) (result : Result Receipt StepFault) → IsAtRest h x → disk.size (device x) ≡ size → IsStep x y e result → Leaves disk.calls disk.images_since (device x) (device y) (IsBeforeOrAfter size h e)
+  moments_here h x y e result rest same step =
+      subst (λ (n : ℕ). Leaves disk.calls disk.images_since (device x) (device y) (IsBeforeOrAfter n h e)) same (step.moments told h rest)
+
+  -- The same, by the device after the step.
+  moments_last : (h : List Entry) (x y : Engine D disk) (e : Entry) → IsAtRest h x → IsStep x y e (Err DeviceFault) → Leaves disk.calls disk.images_since (device x) (device y) (IsBeforeOrAfter (disk.size (device y)) h e)
+  moments_last h x y e rest step =
+      subst (λ (n : ℕ). Leaves disk.calls disk.images_since (device x) (device y) (IsBeforeOrAfter n h e)) (sym step.kept.device_kept.same_size) (step.moments told h rest)
+
+  -- The end of a course with this failure.
+  ends_here : (failed : Option Entry) (d : D) (h : List Entry) → course.failed ≡ failed → EndsAt disk failed new d h → EndsAt disk course.failed new d h
+  ends_here failed d h is ends = subst (λ (o : Option Entry). EndsAt disk o new d h) (sym is) ends
+
+  pub keeps_each : (h : List Entry) (x : Engine D disk) (l : List (Item D disk)) → IsAtRest h x → disk.size (device x) ≡ size → IsTrace x l → new ≡ device (engine_after x l) → course ≡ course_at h l → KeepsEach disk course new (device x) h (entries_in l)
+  keeps_each h x [] rest same trace ends is =
+      (keeps_here h x [] rest same trace ends is, ends_here None (device x) h (ap (λ (k : Course). k.failed) is) ends)
+  keeps_each h x (Earlier ∷ l) rest same trace ends is = absurd trace
+  keeps_each h x (Added entry engine ∷ l) rest same trace ends is =
+      let y : Engine D disk = engine.value in
+      let e : Entry = entry.value in
+      let step : IsStep x y e (Ok trace.0.0) = trace.0.1 in
+      let stepped : IsStepped h x y e trace.0.0 = step.stepped h rest.of in
+      let sized : disk.size (device y) ≡ size = step.kept.device_kept.same_size ∙ same in
+      let next : course ≡ course_at (h ++ e ∷ []) l = is ∙ sym (ap (λ (k : List Entry). record { history = k; failed = failed_in l }) (append_assoc h (e ∷ []) (entries_in l))) in (
+        keeps_here h x (Added entry engine ∷ l) rest same trace ends is,
+        device y,
+        stepped.called,
+        moments_here h x y e (Ok trace.0.0) rest same step,
+        keeps_each (h ++ e ∷ []) y l (step.at_rest told h rest) sized trace.1 ends next,
+      )
+  keeps_each h x (Halted entry engine ∷ l) rest same trace ends is =
+      let y : Engine D disk = engine.value in
+      let e : Entry = entry.value in
+      let step : IsStep x y e (Err DeviceFault) = trace.0 in
+      let fault : CanStep h x e × StopsByFault x y = step.cause h rest.of in
+      let none : l ≡ [] = ends_stopped y l fault.1.stopped trace.1 in
+      let last : new ≡ device y = ends ∙ ap (λ (m : List (Item D disk)). device (engine_after y m)) none in
+      let end : EndsAt disk (Some e) (device y) (device x) h = (fault.1.called, fault.1.at_most, moments_last h x y e rest step) in
+      subst (λ (m : List (Item D disk)). KeepsEach disk course new (device x) h (entries_in m)) (sym none) (
+        keeps_here h x (Halted entry engine ∷ l) rest same trace ends is,
+        ends_here (Some e) (device x) h (ap (λ (k : Course). k.failed) is) (subst (λ (d : D). EndsAt disk (Some e) d (device x) h) (sym last) end),
+      )

@@ -17,7 +17,8 @@ use Rattle.btr_jobs.specs.TurnLaws.{goes_refl, goes_trans}
 use Rattle.btr_jobs.specs.Jobs.{IsAt, Does}
 use Rattle.btr_jobs.proofs.CourseLemmas.{course_at}
 use Rattle.btr_jobs.proofs.DoesLemmas.{does_implied, does_then}
-use Rattle.btr_load.specs.Loads.{LoadedValue}
+use Rattle.btr_rows.specs.Streams.{RowListValue}
+use Rattle.btr_load.specs.Loads.{LoadedValue, Loads}
 use Rattle.btr_work.specs.declared.report.ReportLine as brought
 use Rattle.btr_report.specs.declared.line.ReportLine.TheVariants as lines
 use Rattle.btr_bulk.specs.declared.define.DefinedOutput.{DefinedOutput}
@@ -30,7 +31,7 @@ use Rattle.btr_bulk.specs.Distil.{BringsIf}
 use Rattle.btr_bulk.specs.Load.{LoadsIf}
 use Rattle.btr_bulk.specs.Define.{DefinesEach, DefinesAll}
 use Rattle.btr_bulk.specs.SampleLines.{SaysFilled}
-use Rattle.btr_bulk.specs.Sample.{rows_of_sample, Work, SaysIf, Fills, Samples, LoadsSample, IsFilled}
+use Rattle.btr_bulk.specs.Sample.{rows_of_sample, Work, SaysIf, Fills, Samples, IsFilled}
 use Rattle.btr_bulk.specs.Work.{AddsAllowed}
 use Rattle.btr_bulk.proofs.Allowing.{allows_none, allows_nothing, allows_both}
 use Rattle.btr_bulk.proofs.LoadLemmas.{loads_allowed}
@@ -177,10 +178,10 @@ module _ (number streams points : ℕ) where
         × IfOk result (λ v. (v.items ≡ outputs) × (length outputs ≡ streams))
 
     -- The rows were loaded, and then outputs defined.
-    pub two_parts : (old mid new : Session D disk) (loaded : LoadedValue) (result : Result (Vec DefinedOutput Global) AllocError) → IsAt hall new → Does hall old mid (λ start course low own. LoadsSample number streams points start course low (Ok loaded) own) → Does hall mid new (λ start course low own. DefinesAll streams start course low result own) → Does hall old new (λ start course low own. Two loaded result start course low own)
-    two_parts old mid new loaded result at load define =
+    pub two_parts : (old mid new : Session D disk) (rows : RowListValue) (loaded : LoadedValue) (result : Result (Vec DefinedOutput Global) AllocError) → rows ≡ rows_of_sample number streams points → IsAt hall new → Does hall old mid (λ start course low own. Loads start course low rows BATCH loaded own) → Does hall mid new (λ start course low own. DefinesAll streams start course low result own) → Does hall old new (λ start course low own. Two loaded result start course low own)
+    two_parts old mid new rows loaded result is at load define =
         does_then hall old mid new
-        (λ start course low own. LoadsSample number streams points start course low (Ok loaded) own)
+        (λ start course low own. Loads start course low rows BATCH loaded own)
         (λ start course low own. DefinesAll streams start course low result own)
         (λ start course low own. Two loaded result start course low own)
         at
@@ -191,7 +192,7 @@ module _ (number streams points : ℕ) where
             on = on;
             load_own = a;
             define_own = b;
-            loads = first;
+            loads = subst (λ (r : RowListValue). Loads start early low r BATCH loaded a) is first;
             defines = then.1;
             own = refl;
           },
@@ -257,11 +258,12 @@ module _ (number streams points : ℕ) where
     )
 
     -- Memory ran out.
-    pub fills_none : (old new : Session D disk) (error : AllocError) → Does hall old new (λ start course low own. IsFilled number streams points start course low (Err error) own) → Does hall old new (λ start course low own. Fills number streams points start course low (Err error) own)
-    fills_none old new error does =
+    pub fills_none : (old new : Session D disk) (error : AllocError) (told : Result Transcript AllocError) → IsErr told → Does hall old new (λ start course low own. IsFilled number streams points start course low (Err error) own) → Does hall old new (λ start course low own. Fills number streams points start course low told own)
+    fills_none old new error (Ok transcript) failed does = absurd (cc)
+    fills_none old new error (Err other) failed does =
         does_implied hall old new
         (λ start course low own. IsFilled number streams points start course low (Err error) own)
-        (λ start course low own. Fills number streams points start course low (Err error) own)
+        (λ start course low own. Fills number streams points start course low (Err other) own)
         (λ start course low own is. record { loaded = is.0; outputs = is.1; report = is.2; work = is.3; says = tt }) does
 
     -- ---- the store

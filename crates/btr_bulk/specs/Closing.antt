@@ -1,4 +1,4 @@
--- Private promises: a hall of a store that was opened on a device.
+-- How work at a hall begins: the store was opened on a device.
 use Rattle.btr_disk.specs.declared.disk.Disk.{Ghosts}
 use Rattle.btr_open.specs.Opening.{IsOpened}
 use Rattle.btr_hall.specs.declared.session.Hall.{Hall}

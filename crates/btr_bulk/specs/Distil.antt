@@ -23,6 +23,7 @@ use Rattle.btr_bulk.specs.declared.transcript.Transcript.{Transcript}
 use Rattle.btr_bulk.specs.Reasons.{reason_of_landing}
 use Rattle.btr_bulk.specs.Streams.{id_of, version_of}
 use Rattle.btr_bulk.specs.Transcript.{SaysLines}
+use Rattle.btr_bulk.specs.Completes.{SaysBenign, HasRoomForOutputs}
 
 -- ---- the line of an output
 
@@ -93,3 +94,5 @@ pub record DistilsStore (start : Start) (course : Course) (said : Result Transcr
   -- any number of workers leaves what one worker leaves, if the memory and the device sufficed
   pub alike : Legal start.history
       → IfSome did.report (λ report. AreUndisturbed report → AreOfOneWorker course.history start.history report)
+  -- if there was room for all that may be landed, and the device did not fail, no line says that it was full or failed
+  pub completes : HasRoomForOutputs start → course.failed ≡ None → SaysBenign said

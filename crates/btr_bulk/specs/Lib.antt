@@ -1,9 +1,11 @@
--- what work leaves on a device
+-- how work on a device begins, and what it leaves
+pub mod Closing
 pub mod Work
 -- the lines that are written, and the status that they ask for
 pub mod Reasons
 pub mod Status
 pub mod Transcript
+pub mod Completes
 -- the work of each command
 pub mod Streams
 pub mod Distil
@@ -12,5 +14,5 @@ pub mod Load
 pub mod Define
 pub mod SampleLines
 pub mod Sample
--- what the private functions promise
-pub mod Closing
+pub mod SampleRoom
+pub mod SampleLaw

@@ -9,6 +9,7 @@ use Rattle.btr_load.specs.Loads.{LoadedValue, Loads}
 use Rattle.btr_load.specs.There.{AreDistinct, AreThere}
 use Rattle.btr_load.specs.Alike.{IsAlike, IsPlainFate}
 use Rattle.btr_bulk.specs.declared.transcript.Transcript.{Transcript}
+use Rattle.btr_bulk.specs.Completes.{SaysBenign, HasRoomForRows}
 use Rattle.btr_bulk.specs.LoadLines.{SaysLoad}
 
 -- The rows were loaded, and this became of them; or memory ran out before any entry.
@@ -44,3 +45,5 @@ pub record LoadsStore (start : Start) (course : Course) (rows : RowListValue) (b
   -- any number of workers leaves each stream as the plain load does, if the memory and the device sufficed
   pub alike : AreDistinct rows.streams
       → IfSome did.loaded (λ loaded. ArePlain loaded → IsAlike course.history start.history rows.streams batch loaded.streams)
+  -- if there was room for the rows, and the device did not fail, no line says that it was full or failed
+  pub completes : HasRoomForRows start rows batch → course.failed ≡ None → SaysBenign said

@@ -7,7 +7,7 @@ use Rattle.btr_rows.specs.Sample.{sample_text}
 use Rattle.btr_rows.specs.Streams.{RowListValue, list_of}
 use Rattle.btr_gate.specs.Numbers.{times}
 use Rattle.btr_jobs.specs.Course.{Start, Course, GoesOn}
-use Rattle.btr_load.specs.Loads.{LoadedValue, Loads}
+use Rattle.btr_load.specs.Loads.{LoadedValue}
 use Rattle.btr_work.specs.declared.report.ReportLine as brought
 use Rattle.btr_report.specs.declared.line.ReportLine.TheVariants as lines
 use Rattle.btr_bulk.specs.declared.define.DefinedOutput.{DefinedOutput}
@@ -77,12 +77,6 @@ Samples number streams points start course [] said own = Fills number streams po
 Samples number streams points start course (e ∷ low) said own = LeavesUsed course (e ∷ low) said own
 
 -- ---- what private functions promise
-
--- The rows were loaded, or memory ran out before any entry.
-abbrev pub LoadsSample : ℕ → ℕ → ℕ → Start → Course → List Entry → Result LoadedValue AllocError → List ℕ → Type 0
-LoadsSample number streams points start course low (Ok loaded) own =
-    Loads start course low (rows_of_sample number streams points) BATCH loaded own
-LoadsSample number streams points start course low (Err error) own = own ≡ []
 
 -- An empty store was filled, or filled in part.
 abbrev pub IsFilled : ℕ → ℕ → ℕ → Start → Course → List Entry → Result Filled AllocError → List ℕ → Type 0

@@ -42,6 +42,7 @@ status_of_line (lines.StreamLoaded id version points) = Done
 status_of_line (lines.Loaded good refused) = Done
 status_of_line (lines.OutputCurrent id version reads) = Done
 status_of_line (lines.OutputRefused id reason) = status_of_reason reason
+status_of_line (lines.RoundRefused id reason) = status_of_reason reason
 status_of_line (lines.Used entries) = Refused
 status_of_line (lines.StreamSummary id version agg) = Done
 

@@ -1,18 +1,21 @@
--- What work at a hall of a store leaves on the device: at its end, and after a crash at any moment.
-use Rattle.std.specs.Prelude.{◌≡◌, ◌⊎◌, ℕ, ◌+◌, ◌≤◌, true, false, List, [], ◌∷◌, ◌++◌, length, take, Some, None}
+-- What work at a hall of a store leaves on the device: at its end, after each entry, and after a crash at any moment.
+use Rattle.std.specs.Prelude.{◌≡◌, ◌⊎◌, ℕ, ◌+◌, ◌≤◌, true, false, List, [], ◌∷◌, ◌++◌, length, take}
+use Rattle.std.specs.Prelude.{Option, Some, None, option_to_list}
 use Rattle.std.specs.Option.{is_some}
 use Rattle.btr_disk.specs.declared.disk.Disk.{Ghosts}
 use Rattle.btr_disk.specs.Bytes.{Image}
 use Rattle.btr_disk.specs.Images.{Only}
-use Rattle.btr_disk.specs.Causes.{Rose}
+use Rattle.btr_disk.specs.Causes.{Rose, CountedTimes}
 use Rattle.btr_disk.specs.Moments.{Leaves, IsUnwritten}
 use Rattle.btr_log.specs.Extents.{left}
 use Rattle.btr_hist.specs.declared.entry.Entry.{Entry}
 use Rattle.btr_hist.specs.Legal.{Legal, Follows, Allowed}
 use Rattle.btr_hist.specs.Laws.{Right}
 use Rattle.btr_engine.specs.Holds.{HoldsHistory, HoldsHistoryTo}
+use Rattle.btr_engine.specs.Step.{IsBeforeOrAfter}
 use Rattle.btr_gate.specs.Numbers.{one, times, given}
 use Rattle.btr_gate.specs.Prefixes.{StartsWith}
+use Rattle.btr_hall.specs.Commit.{needs_of}
 use Rattle.btr_jobs.specs.Course.{Start, Course}
 
 -- ---- entries and who added them
@@ -58,16 +61,38 @@ module _ {D : Type 0} (disk : Ghosts D) where
     pub holds : HoldsHistory (disk.size d) (disk.contents d) h
     pub only : Only (disk.contents d) (disk.images_now d)
 
+  -- The device was `d` when the history was `h`, and work went on to the device `new` and to this course. A crash at `d` leaves just
+  -- the history `h`. A crash at any moment from `d` to `new` leaves a prefix of the last history that has all entries of `h`.
+  pub record Keeps (course : Course) (new d : D) (h : List Entry) : Type 0 where
+    pub now : (c : Image) → disk.images_now d c → HoldsHistory (disk.size new) c h
+    pub since : Leaves disk.calls disk.images_since d new (HoldsPrefix (disk.size new) (length h) course)
+
+  -- What was done to the device after the last entry, with which the history was `h`: nothing; or, if the device failed in the step of
+  -- an entry, one to four calls, in which a crash leaves the history without that entry, or with it.
+  abbrev pub EndsAt : Option Entry → D → D → List Entry → Type 0
+  EndsAt None new d h = new ≡ d
+  EndsAt (Some e) new d h =
+      Rose (disk.calls d) (disk.calls new) × (disk.calls new ≤ disk.calls d + 4)
+      × Leaves disk.calls disk.images_since d new (IsBeforeOrAfter (disk.size new) h e)
+
+  -- There is a device after each of these entries, which were added after the history `h` and the device `d`. Four calls commit an
+  -- entry. A crash in them leaves the history without the entry, or with it. From then on a crash keeps the entry.
+  abbrev pub KeepsEach : Course → D → D → List Entry → List Entry → Type 0
+  KeepsEach course new d h [] = Keeps course new d h × EndsAt course.failed new d h
+  KeepsEach course new d h (e ∷ more) =
+      Keeps course new d h × (c : D) × CountedTimes 4 (disk.calls d) (disk.calls c)
+      × Leaves disk.calls disk.images_since d c (IsBeforeOrAfter (disk.size new) h e) × KeepsEach course new c (h ++ e ∷ []) more
+
   -- What a crash leaves of work from the device `old` to the device `new`, which began with `first` and went on to this course.
   pub record CrashLeavesCourse (first : Start) (course : Course) (old new : D) : Type 0 where
     -- The opening of the store left the device so, and wrote nothing.
     pub opened : D
     pub opening : IsUnwritten disk.calls disk.contents disk.images_now disk.images_since old opened
-    -- At each moment from then on a crash leaves a prefix of the history with all entries from before.
-    pub since : Leaves disk.calls disk.images_since opened new (HoldsPrefix (disk.size new) (length first.history) course)
-    -- At each moment of the run a crash leaves such a prefix, or what it might have left before.
+    -- At each moment of the run a crash leaves a prefix of the history with all entries from before, or what it might have left before.
     pub moments : Leaves disk.calls disk.images_since old new
         (λ c. disk.images_now old c ⊎ HoldsPrefix (disk.size new) (length first.history) course c)
+    -- From the opening on, and from each entry on, a crash keeps the entries so far.
+    pub each_entry : (more : List Entry) × (course.history ≡ first.history ++ more) × KeepsEach course new opened first.history more
     -- At the end a crash leaves the whole history.
     pub now : (c : Image) → disk.images_now new c → HoldsCourse (disk.size new) course c
 
@@ -80,6 +105,8 @@ module _ {D : Type 0} (disk : Ghosts D) where
     pub follows : Follows course.history
     pub not_stopped : first.stopped ≡ false
     pub each_once : OwnsEachOnce first course own
+    -- The entries, with the one in whose step the device failed, need no more blocks than there were.
+    pub fits : needs_of (course.history ++ option_to_list course.failed) ≤ first.left + needs_of first.history
     pub legal : AddsAllowed course own → Legal first.history → Legal course.history
     pub right : AddsAllowed course own → Legal first.history → Right course.history
     pub before : disk.is_observable → HoldsStart old first

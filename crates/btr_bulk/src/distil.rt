@@ -33,7 +33,8 @@ use std::thread::Threads;
 /// was not brought up to date. Outputs that do not depend on each other are shared among at most so many workers.
 ///
 /// In the end each output is up to date whose line is no refusal. If the history was legal, and the memory and the device suffice, the
-/// commits, what they have read, and the lines are those of one worker, which lands the outputs one after another.
+/// commits, what they have read, and the lines are those of one worker, which lands the outputs one after another. If there is room
+/// for all that may be landed, and the device does not fail, no line says that it was full or failed.
 ///
 /// It costs the reading of the store, logarithmic time for each stream, and what the outputs need. If there is no memory for the
 /// lines, all outputs may have been brought up to date, or none.

@@ -1,7 +1,7 @@
 //! Work on a whole store: it is opened, one piece of work is done at its hall, with many threads, and it is closed.
 //!
 //! [`distil_store`] brings each output up to date. What is said of the device afterwards, also after a crash at any moment, is the
-//! same for all work ([`Works`]).
+//! same for all work ([`Works`]), also for work of another crate between [`open_hall`] and [`close_hall`].
 //!
 //! [`Works`]: ../specs/Work.antt
 #![tactic(auto)]
@@ -25,10 +25,12 @@ mod transcript;
 
 pub use distil::distil_store;
 pub use load::load_store;
+pub use reasons::reason_of_landing;
 pub use sample::sample_store;
 pub use status::Status;
+pub use streams::{all_streams, id_of};
 pub use transcript::Transcript;
-pub use work::Worked;
+pub use work::{Worked, close_hall, open_hall};
 
 #[cfg(test)]
 mod tests;

@@ -25,7 +25,8 @@ use std::thread::Threads;
 ///
 /// In the end a batch is in the store exactly if it was not refused, and nothing else was added but new streams. If the memory and the
 /// device suffice, each stream is as one worker leaves it, which commits the batches stream by stream. Both is so if the rows list each
-/// id once, as rows that were read do.
+/// id once, as rows that were read do. If there is room for the rows, and the device does not fail, no line says that it was full or
+/// failed.
 ///
 /// It costs the reading of the store, time linear in the rows, logarithmic time for each stream and each refused row, and what the
 /// entries need. If there is no memory for the lines, all rows may have been loaded, or none.

@@ -20,7 +20,7 @@ pub(crate) fn reason_of_step(fault: StepFault) -> Reason
 }
 
 /// Returns the reason of a line whose plan was not landed.
-pub(crate) fn reason_of_landing(fault: LandFault) -> Reason
+pub fn reason_of_landing(fault: LandFault) -> Reason
     ensures { result ≡ reason_of_landing fault }
 {
     match fault {

@@ -10,7 +10,8 @@ ghost use Rattle.btr_report.specs.declared.line.ReportLine.TheVariants as lines;
 ghost use Rattle.btr_bulk.specs.Work.{DoesRightly};
 ghost use Rattle.btr_bulk.specs.Transcript.{SaysLines};
 ghost use Rattle.btr_bulk.specs.Streams.{Stays};
-ghost use Rattle.btr_bulk.specs.Sample.{Samples, Fills, IsFilled, LoadsSample, rows_of_sample};
+ghost use Rattle.btr_bulk.specs.Sample.{IsFilled, Samples, rows_of_sample};
+ghost use Rattle.btr_bulk.specs.SampleLaw.{SamplesStore};
 ghost use Rattle.btr_bulk.specs.SampleLines.{SaysFilled};
 
 use crate::define::{DefinedOutput, define_outputs};
@@ -56,6 +57,10 @@ pub(crate) struct Filled {
 /// for each refused row, refused batch and refused output, and last one for each stream with its version and the aggregate of its
 /// points. The streams are shared among at most 4 workers. The turns of `pace` are those of the load, and then those of the outputs.
 ///
+/// If the device does not fail, the store has just what was not refused, and each output without a refusal is up to date in the end. If
+/// the memory suffices too, the streams and the outputs are those that one worker leaves. If there is also room for the sample, no line
+/// says that the device was full.
+///
 /// It costs the reading of the store, time and memory linear in the points, and what the entries need. If there is no memory for the
 /// lines, or for a part of the work, what was done before stays.
 pub fn sample_store<R: Threads + Wait + Sync, D: Disk + Send, P: Pace + Sync>(
@@ -68,7 +73,7 @@ pub fn sample_store<R: Threads + Wait + Sync, D: Disk + Send, P: Pace + Sync>(
     disk: D,
 ) -> Result<Worked<D>, OpenFault<D>>
     ensures done { IfOk result (λ w. DoesRightly ⟦<D as Disk>⟧
-        (λ start course own. Samples number streams points start course start.history w.said own) disk w.disk) }
+        (λ start course own. SamplesStore number streams points start course w.said own) disk w.disk) }
     ensures refused { IfErr result (IsNotOpened ⟦<D as Disk>⟧ disk) }
 {
     let (hall, mut session) = open_hall(alloc, disk)?;
@@ -106,7 +111,10 @@ fn sample<R: Threads + Wait + Sync, D: Disk + Send, P: Pace + Sync>(
 {
     let snapshot = session.admit(rt, hall)?;
     match snapshot.entries() {
-        0 => sample_empty(rt, alloc, hall, session, number, streams, points, pace),
+        0 => {
+            let filled = fill(rt, alloc, hall, session, number, streams, points, pace)?;
+            say_filled(rt, alloc, hall, session, &filled)
+        }
         entries => used_line(alloc, entries),
     }
 }
@@ -118,30 +126,6 @@ fn used_line(alloc: Global, entries: u64) -> Result<Transcript, AllocError>
     let mut transcript = Transcript::new(alloc);
     transcript.add(&ReportLine::Used { entries })?;
     Ok(transcript)
-}
-
-/// Fills an empty store, and says what was done. An `Err` means out of memory.
-fn sample_empty<R: Threads + Wait + Sync, D: Disk + Send, P: Pace + Sync>(
-    rt: &R,
-    alloc: Global,
-    hall: &Hall<D>,
-    session: &mut Session<D>,
-    number: u32,
-    streams: u32,
-    points: u32,
-    pace: &P,
-) -> Result<Transcript, AllocError>
-    requires at { IsAt hall.now session.old }
-    requires alone { IsAlone session.old }
-    ensures at { IsAt hall.now session.new }
-    ensures alone { IsAlone session.new }
-    ensures does { Does hall.now session.old session.new
-        (λ start course low own. Fills number streams points start course low result own) }
-{
-    match fill(rt, alloc, hall, session, number, streams, points, pace) {
-        Ok(filled) => say_filled(rt, alloc, hall, session, &filled),
-        Err(error) => Err(error),
-    }
 }
 
 /// Loads the rows of a sample, defines its outputs, and brings them up to date. An `Err` means out of memory.
@@ -162,7 +146,8 @@ fn fill<R: Threads + Wait + Sync, D: Disk + Send, P: Pace + Sync>(
     ensures does { Does hall.now session.old session.new
         (λ start course low own. IsFilled number streams points start course low result own) }
 {
-    let loaded = load_sample(rt, alloc, hall, session, number, streams, points, pace)?;
+    let rows = sample_rows(alloc, number, streams, points)?;
+    let loaded = load(rt, alloc, hall, session, rows, BATCH, WORKERS, pace)?;
     let outputs = define_outputs(rt, alloc, hall, session, streams)?;
     let report = bring_current(rt, alloc, hall, session, WORKERS, pace)?;
     Ok(Filled {
@@ -170,30 +155,6 @@ fn fill<R: Threads + Wait + Sync, D: Disk + Send, P: Pace + Sync>(
         outputs,
         report,
     })
-}
-
-/// Loads the rows of a sample. An `Err` means out of memory, and that nothing was added.
-fn load_sample<R: Threads + Wait + Sync, D: Disk + Send, P: Pace + Sync>(
-    rt: &R,
-    alloc: Global,
-    hall: &Hall<D>,
-    session: &mut Session<D>,
-    number: u32,
-    streams: u32,
-    points: u32,
-    pace: &P,
-) -> Result<Loaded, AllocError>
-    requires at { IsAt hall.now session.old }
-    requires alone { IsAlone session.old }
-    ensures at { IsAt hall.now session.new }
-    ensures alone { IsAlone session.new }
-    ensures does { Does hall.now session.old session.new
-        (λ start course low own. LoadsSample number streams points start course low result own) }
-{
-    match sample_rows(alloc, number, streams, points) {
-        Ok(rows) => load(rt, alloc, hall, session, rows, BATCH, WORKERS, pace),
-        Err(error) => Err(error),
-    }
 }
 
 /// Returns the rows of a sample, as they are read from its text. An `Err` means out of memory.

@@ -43,9 +43,9 @@ impl Status {
     {
         match line {
             ReportLine::RowRefused { .. } | ReportLine::Used { .. } => Status::Refused,
-            ReportLine::BatchRefused { reason, .. } | ReportLine::OutputRefused { reason, .. } => {
-                Status::of_reason(*reason)
-            }
+            ReportLine::BatchRefused { reason, .. }
+            | ReportLine::OutputRefused { reason, .. }
+            | ReportLine::RoundRefused { reason, .. } => Status::of_reason(*reason),
             ReportLine::StreamLoaded { .. }
             | ReportLine::Loaded { .. }
             | ReportLine::OutputCurrent { .. }

@@ -8,8 +8,8 @@ use btr_engine::Snapshot;
 use btr_hist::{Answer, Query, Rows, StreamList, StreamRow};
 use std::alloc::{AllocError, Global};
 
-/// Returns all streams of a snapshot, in order of creation. An `Err` means out of memory.
-pub(crate) fn all_streams(alloc: Global, snapshot: &Snapshot) -> Result<StreamList, AllocError>
+/// Returns all streams of a snapshot, in order of creation, in logarithmic time for each. An `Err` means out of memory.
+pub fn all_streams(alloc: Global, snapshot: &Snapshot) -> Result<StreamList, AllocError>
     ensures { (h : List EntrySpec) → IsSnapshotOf h snapshot.now → IfOk result (AreStreams h) }
 {
     match snapshot.answer(alloc, &Query::Streams)? {
@@ -22,8 +22,8 @@ pub(crate) fn all_streams(alloc: Global, snapshot: &Snapshot) -> Result<StreamLi
     }
 }
 
-/// Returns the id of the stream with this number, or 0 if there is none.
-pub(crate) fn id_of(streams: &[StreamRow], stream: u32) -> u128
+/// Returns the id of the stream with this number, or 0 if there is none, in constant time. It takes no memory.
+pub fn id_of(streams: &[StreamRow], stream: u32) -> u128
     ensures { (h : List EntrySpec) → AreStreams h streams.now → result ≡ id_of h stream }
 {
     match streams.get(stream as usize) {

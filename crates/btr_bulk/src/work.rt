@@ -30,10 +30,9 @@ pub struct Worked<D> {
 
 /// Opens the store on a device, and makes a hall of it. Returns the hall and its only session. Nothing is written. The fault also says
 /// that memory ran out if there is none for the hall.
-pub(crate) fn open_hall<D: Disk>(
-    alloc: Global,
-    disk: D,
-) -> Result<(Hall<D>, Session<D>), OpenFault<D>>
+///
+/// It costs the reading of the store. What is done at the hall until [`close_hall`] takes it is work on the device.
+pub fn open_hall<D: Disk>(alloc: Global, disk: D) -> Result<(Hall<D>, Session<D>), OpenFault<D>>
     ensures begun { IfOk result (λ r. BeginsOn ⟦<D as Disk>⟧ disk r.0 r.1) }
     ensures refused { IfErr result (IsNotOpened ⟦<D as Disk>⟧ disk) }
 {
@@ -62,7 +61,10 @@ fn begin_hall<D: Disk>(
 
 /// Closes a hall whose only session is this one, and takes the device out. It takes constant time and no memory, and does not call the
 /// device.
-pub(crate) fn close_hall<D: Disk>(hall: Hall<D>, session: Session<D>) -> D
+///
+/// If the hall was opened by [`open_hall`], its contract says what the work at the hall left on the device, also after a crash at any
+/// moment.
+pub fn close_hall<D: Disk>(hall: Hall<D>, session: Session<D>) -> D
     requires at { IsAt hall session }
     requires alone { IsAlone session }
     ensures works { (old : D) (opened : IsOpened ⟦<D as Disk>⟧ old (opening_of hall)) (begun : SessionSpec D ⟦<D as Disk>⟧) (own : List ℕ)

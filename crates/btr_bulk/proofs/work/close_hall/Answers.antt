@@ -1,6 +1,6 @@
 -- What was done at the hall was done on the device that its engine was opened on.
 use Rattle.btr_hall.specs.Session.{opening_of}
-use Rattle.btr_bulk.proofs.WorkLemmas.{works_on}
+use Rattle.btr_bulk.proofs.WorksOn.{works_on}
 use Rattle.btr_bulk.proofs.work.close_hall.Goals as goal
 
 pub returns : goal.returns
