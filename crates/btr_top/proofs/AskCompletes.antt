@@ -15,14 +15,15 @@ use Rattle.btr_bulk.specs.Status.{code_of}
 use Rattle.btr_top.specs.Status.{status_of_replies}
 use Rattle.btr_top.specs.Script.{HasRead, ExceedsInputLimit}
 use Rattle.btr_top.specs.Ask.{QuestionsCause, AskCause, CanAsk}
-use Rattle.btr_top.proofs.BenignStatuses.{IsBenignStatus, benign_code, benign_answers}
-use Rattle.btr_top.proofs.LiveCompletes.{benign_input}
+use Rattle.btr_top.specs.Run.{IsPlainStatus}
+use Rattle.btr_top.proofs.BenignStatuses.{benign_code, benign_answers}
+use Rattle.btr_top.proofs.PlainStatuses.{benign_input}
 
 module _ {S D : Type 0} (source : SourceGhosts S) (disk : Ghosts D) (given rest : S) (old new : D) (sound : HeldIsSound) (can : CanAsk source disk given old) (source_told : source.is_observable) (told : disk.is_observable) (source_works : StreamRose (source.faults given) (source.faults rest) → ⊥) (device_works : Rose (disk.faults old) (disk.faults new) → ⊥) where
   not_too_long : ExceedsInputLimit source given rest → ⊥
   not_too_long exceeds = omega (arith, exceeds source_told, can.within)
 
-  benign_cause : (lines : List ScriptLine) → (e : Ending) → QuestionsCause disk lines old new e → IsBenignStatus (status_of e)
+  benign_cause : (lines : List ScriptLine) → (e : Ending) → QuestionsCause disk lines old new e → IsPlainStatus (status_of e)
   benign_cause lines Usage why = absurd why.0
   benign_cause lines NoSource why = absurd why.0
   benign_cause lines TooLong why = absurd why.0
@@ -35,9 +36,9 @@ module _ {S D : Type 0} (source : SourceGhosts S) (disk : Ghosts D) (given rest 
   benign_cause lines (TooSmall asked has) why = absurd why.0
   benign_cause lines (Formatted blocks) why = absurd why.0
   benign_cause lines (Replied transcript) why =
-      subst (λ (s : Status). IsBenignStatus (code_of s)) (sym why.is_transcript.same_status) (benign_code (status_of_replies why.replies) (benign_answers why.history lines why.replies why.answers))
+      subst (λ (s : Status). IsPlainStatus (code_of s)) (sym why.is_transcript.same_status) (benign_code (status_of_replies why.replies) (benign_answers why.history lines why.replies why.answers))
 
-  pub benign_ask : (e : Ending) → AskCause source disk given rest old new e → IsBenignStatus (status_of e)
+  pub benign_ask : (e : Ending) → AskCause source disk given rest old new e → IsPlainStatus (status_of e)
   benign_ask e why =
       ⊎_elim
       (λ unread. benign_input source given rest source_works not_too_long e unread.0)

@@ -11,11 +11,12 @@ use Rattle.btr_open.specs.Opening.{IsOpened}
 use Rattle.btr_bulk.specs.declared.transcript.Transcript.{Transcript}
 use Rattle.btr_top.specs.declared.ending.Ending.{Ending}
 use Rattle.btr_top.specs.declared.ending.Ending.TheVariants.{OutOfMemory, Replied}
-use Rattle.btr_top.specs.Meaning.{question}
+use Rattle.btr_live.specs.Meaning.{question}
+use Rattle.btr_live.specs.Serving.{IsAnswerOrNoMemory}
 use Rattle.btr_top.specs.Script.{IsTranscript}
-use Rattle.btr_top.specs.Ask.{IsAnswerOrNoMemory, AnswersEach, AnswersAll, QuestionsCause}
-use Rattle.btr_top.specs.EngineScript.{AddsReply, HasAnswered}
-use Rattle.btr_top.proofs.OpenedStore.{held_before}
+use Rattle.btr_top.specs.Ask.{AnswersEach, AnswersAll, QuestionsCause}
+use Rattle.btr_bulk.proofs.WorkLemmas.{held_before}
+use Rattle.btr_top.specs.Saying.{AddsReply, HasAnswered}
 
 AnswersEach-push : (h : List Entry) (lines : List ScriptLine) (replies : List LineReply) (line : ScriptLine) (reply : LineReply) → AnswersEach h lines replies → IsAnswerOrNoMemory h (question h line.line) reply → AnswersEach h (lines ++ line ∷ []) (replies ++ reply ∷ [])
 AnswersEach-push h [] [] line reply answers one = (one, tt)

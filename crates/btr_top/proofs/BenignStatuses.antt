@@ -1,5 +1,5 @@
 -- If there is room and no device fails, each reply is the model's or says that memory ran out, and so is the status.
-use Rattle.std.specs.Prelude.{◌≡◌, ◌⊎◌, ℕ, ◌≤◌, nat_lt, Bool, true, false, List, [], ◌∷◌, ◌++◌, cond, ℤ, Option, Some, None}
+use Rattle.std.specs.Prelude.{◌≡◌, ℕ, ◌≤◌, nat_lt, Bool, true, false, List, [], ◌∷◌, ◌++◌, cond, ℤ, Option, Some, None}
 use Rattle.std.proofs.Common.{refl, sym, ◌∙◌, ap, subst, arith, inl, inr, ⊎_elim}
 use Rattle.btr_hist.specs.declared.entry.Entry.{Entry}
 use Rattle.btr_hist.specs.declared.entry.Entry.TheVariants as entries
@@ -23,7 +23,7 @@ use Rattle.btr_text.specs.declared.reply.LineReply.{LineReply}
 use Rattle.btr_text.specs.declared.reply.LineReply.TheVariants.{No}
 use Rattle.btr_text.specs.declared.reply.Reason.TheVariants as reasons
 use Rattle.btr_bulk.specs.declared.status.Status.{Status}
-use Rattle.btr_bulk.specs.declared.status.Status.TheVariants.{Done, Refused, OutOfMemory}
+use Rattle.btr_bulk.specs.declared.status.Status.TheVariants.{Done, OutOfMemory}
 use Rattle.btr_base.specs.declared.point.Point.{Point}
 use Rattle.btr_base.specs.Bag.{sort}
 use Rattle.btr_feed.specs.Feed.{held, insert_fault}
@@ -31,27 +31,22 @@ use Rattle.btr_feed.specs.declared.feed.Held.{Held}
 use Rattle.btr_feed.specs.declared.feed.Held.TheVariants.{Buffered, Due}
 use Rattle.btr_feed.specs.declared.feed.FeedFault.{FeedFault}
 use Rattle.btr_feed.specs.declared.feed.FeedFault.TheVariants.{OutOfDomain, TooMany, Want}
-use Rattle.btr_top.specs.Feeds.{Waiting, feed_of}
-use Rattle.btr_top.specs.Meaning.{Meaning, Commits, Asks, Holds, Current, Refuses, on_stream, delete, on_second, define, land, refresh, if_plain}
-use Rattle.btr_top.specs.Meaning.{insert, when_due, unless_fault, feed, flush, meaning, question}
+use Rattle.btr_live.specs.Feeds.{Waiting, feed_of}
+use Rattle.btr_live.specs.Meaning.{Meaning, Commits, Asks, Holds, Current, Refuses, on_stream, delete, on_second, define, land, refresh, if_plain}
+use Rattle.btr_live.specs.Meaning.{insert, when_due, unless_fault, feed, flush, meaning, question}
 use Rattle.btr_engine.specs.Body.{need_of}
-use Rattle.btr_top.specs.Replies.{Store, State, reply_of_answer, reply_of_commit, reply_to, IsNotDone, Replies, Means, RepliesToLine, RunsScript}
-use Rattle.btr_top.specs.Replies.{need_of_meaning, after_line, needs_of}
+use Rattle.btr_live.specs.Replies.{reply_of_answer, reply_of_commit, reply_to}
+use Rattle.btr_live.specs.Script.{Store, State, IsNotDone, Replies, RepliesToLine, RunsScript}
+use Rattle.btr_live.specs.Script.{need_of_meaning, after_line, needs_of}
+use Rattle.btr_live.specs.Serving.{IsAnswerOrNoMemory}
+use Rattle.btr_bulk.specs.Completes.{IsBenign}
 use Rattle.btr_bulk.specs.Status.{rank, code_of, greater}
 use Rattle.btr_top.specs.Status.{greatest, status_of_reply, status_of_replies}
-use Rattle.btr_top.specs.Ask.{IsAnswerOrNoMemory, AnswersEach}
-use Rattle.btr_top.proofs.StoppedStores.{ran_all}
-use Rattle.btr_top.proofs.ModelRuns.{left_after, line_is}
+use Rattle.btr_top.specs.Ask.{AnswersEach}
+use Rattle.btr_top.specs.Run.{IsPlainStatus}
+use Rattle.btr_live.proofs.ScriptLemmas.{ran_all, left_after, need_of_done, none_not_done, line_is}
 
--- the statuses that are left
-abbrev pub IsBenign : Status → Type 0
-IsBenign s = (s ≡ Done) ⊎ (s ≡ Refused) ⊎ (s ≡ OutOfMemory)
-
--- and their numbers
-abbrev pub IsBenignStatus : ℕ → Type 0
-IsBenignStatus n = (n ≡ 0) ⊎ (n ≡ 1) ⊎ (n ≡ 9)
-
-pub benign_code : (s : Status) → IsBenign s → IsBenignStatus (code_of s)
+pub benign_code : (s : Status) → IsBenign s → IsPlainStatus (code_of s)
 benign_code s benign =
     ⊎_elim
     (λ e. inl (ap (λ (x : Status). code_of x) e))
@@ -178,20 +173,6 @@ benign_means batch s line m reply t is =
 apart : (b : Bool) → b ≡ true → b ≡ false → ⊥
 apart b is is_not = absurd (cc)
 
-none_not_done : (s t : Store) (m : Meaning) (reply : LineReply) → need_of_meaning m ≤ s.left → t.stopped ≡ false → IsNotDone s m reply t → ⊥
-none_not_done s t (Commits e) reply room runs h =
-    ⊎_elim
-    (λ full. omega (arith, full.short))
-    (λ h. ⊎_elim
-    (λ fault. apart t.stopped (ap (λ (x : Store). x.stopped) fault.store) runs)
-    (λ stopped. apart t.stopped (ap (λ (x : Store). x.stopped) stopped.store ∙ stopped.stopped) runs)
-    h)
-    h
-none_not_done s t (Asks query) reply room runs h = h
-none_not_done s t (Holds count) reply room runs h = h
-none_not_done s t (Current version) reply room runs h = h
-none_not_done s t (Refuses reason) reply room runs h = h
-
 along : (reply other : LineReply) → reply ≡ other → IsBenign (status_of_reply other) → IsBenign (status_of_reply reply)
 along reply other e benign = subst (λ r. IsBenign (status_of_reply r)) (sym e) benign
 
@@ -211,7 +192,7 @@ one_of_two : (P : Status → Type 0) (t : Bool) (a b : Status) → P a → P b �
 one_of_two P true a b p q = q
 one_of_two P false a b p q = p
 
-benign_greater : (a b : Status) → IsBenign a → IsBenign b → IsBenign (greater a b)
+pub benign_greater : (a b : Status) → IsBenign a → IsBenign b → IsBenign (greater a b)
 benign_greater a b first second = one_of_two (λ s. IsBenign s) (nat_lt (rank a) (rank b)) a b first second
 
 -- once memory ran out, no later line changes the status
@@ -259,13 +240,6 @@ ran_out_from batch s t (line ∷ lines) (reply ∷ replies) script runs =
     let is : RepliesToLine batch s line.line m reply u = script.2 in
     let one : Within (status_of_reply reply) = within_one s.store u.store m reply is.replied (benign_means batch s line.line m reply u is) (ran_all batch u t lines replies script.3 runs) in
     ap (λ x. greatest x replies) one ∙ ran_out_from batch u t lines replies script.3 runs
-
-need_of_done : (batch : ℕ) (s : State) (line : Option Line) (m : Meaning) → Means batch s line m → need_of_meaning m ≤ need_of_meaning (meaning batch s.store.history s.waiting line)
-need_of_done batch s line m means =
-    ⊎_elim
-    (λ e. omega (arith, ap (λ x. need_of_meaning x) e))
-    (λ lacks. omega (arith, ap (λ x. need_of_meaning x) lacks.1))
-    means
 
 memory_next : (status : Status) → IsBenign status → greater status OutOfMemory ≡ OutOfMemory
 memory_next status benign =

@@ -1,25 +1,18 @@
 -- why a format ends so
 mod FormatCauses
--- the points that wait
-mod WaitingLemmas
--- what lines do to a store, and to an engine
-mod StoppedStores
-mod KeptOpening
+-- what is said of lines and of scripts
 mod ScriptLemmas
-mod Legality
-mod Refreshes
--- what a crash leaves
-mod Prefixes
-mod Crashes
+mod SayingLemmas
+mod LiveAllowing
+mod LiveLemmas
 -- why a command ends so
-mod OpenedStore
 mod AskedLines
 mod BulkCauses
 -- if nothing fails
-mod ModelRuns
 mod BenignStatuses
+mod PlainStatuses
+mod StoreCompletes
 mod LiveCompletes
+mod BulkCompletes
 mod AskCompletes
-mod Meanings
-mod FeedLines
-mod OutputLines
+mod RunCompletes

@@ -1,30 +1,22 @@
 -- The command `ask`: what each line is answered, and why the command ends as it does.
-use Rattle.std.specs.Prelude.{◌≡◌, ◌⊎◌, ◌≤◌, List, [], ◌∷◌, length}
+use Rattle.std.specs.Prelude.{◌≤◌, List, [], ◌∷◌, length}
 use Rattle.btr_io.specs.declared.source.Source.{Ghosts as SourceGhosts}
 use Rattle.btr_disk.specs.declared.disk.Disk.{Ghosts}
 use Rattle.btr_disk.specs.Bytes.{Image}
 use Rattle.btr_hist.specs.declared.entry.Entry.{Entry}
 use Rattle.btr_hist.specs.Legal.{Follows}
-use Rattle.btr_hist.specs.Answer.{answer}
 use Rattle.btr_text.specs.declared.script.ScriptLine.{ScriptLine}
 use Rattle.btr_text.specs.declared.reply.LineReply.{LineReply}
-use Rattle.btr_text.specs.declared.reply.LineReply.TheVariants.{No}
-use Rattle.btr_text.specs.declared.reply.Reason.TheVariants as reasons
 use Rattle.btr_engine.specs.Holds.{HoldsHistory}
 use Rattle.btr_top.specs.declared.script.TheConstants.{MAX_INPUT}
 use Rattle.btr_bulk.specs.declared.transcript.Transcript.{Transcript}
 use Rattle.btr_top.specs.declared.ending.Ending.{Ending}
 use Rattle.btr_top.specs.declared.ending.Ending.TheVariants.{Replied}
-use Rattle.btr_top.specs.Meaning.{Meaning, Asks, question}
-use Rattle.btr_top.specs.Replies.{reply_of_answer, reply_to}
+use Rattle.btr_live.specs.Meaning.{question}
+use Rattle.btr_live.specs.Serving.{IsAnswerOrNoMemory}
 use Rattle.btr_top.specs.Script.{IsKept, OpeningCause, IsTranscript, CommandCause}
 
--- The reply is that of the history. An answer may lack memory; what is refused is always refused.
-abbrev pub IsAnswerOrNoMemory : List Entry → Meaning → LineReply → Type 0
-IsAnswerOrNoMemory h (Asks query) reply = (reply ≡ reply_of_answer (answer h query)) ⊎ (reply ≡ No reasons.Memory)
-IsAnswerOrNoMemory h asked reply = reply ≡ reply_to h asked
-
--- One reply to each line, in order, all from the same history.
+-- One reply to each line, in order, all from the same history. The lanes of the lines mean nothing here.
 abbrev pub AnswersEach : List Entry → List ScriptLine → List LineReply → Type 0
 AnswersEach h [] [] = Unit {0}
 AnswersEach h [] (reply ∷ replies) = ⊥

@@ -1,17 +1,22 @@
 -- The commands `load`, `distil` and `sample`: what they did on the store, and why they end as they do.
-use Rattle.std.specs.Prelude.{◌≡◌, ◌⊎◌, ℕ, ◌≤◌, List, [], length, Result, Ok, Err}
+use Rattle.std.specs.Prelude.{◌≡◌, ◌⊎◌, ℕ, ◌≤◌, false, List, [], length, Result, Ok, Err}
 use Rattle.std.specs.declared.alloc.AllocError.{AllocError}
 use Rattle.btr_io.specs.declared.source.Source.{Ghosts as SourceGhosts}
 use Rattle.btr_disk.specs.declared.disk.Disk.{Ghosts}
+use Rattle.btr_log.specs.Extents.{left}
+use Rattle.btr_hist.specs.declared.entry.Entry.{Entry}
+use Rattle.btr_engine.specs.Holds.{HoldsHistoryTo}
 use Rattle.btr_rows.specs.Rows.{rows_of}
 use Rattle.btr_rows.specs.Streams.{RowListValue, list_of}
 use Rattle.btr_load.specs.There.{AreDistinct}
 use Rattle.btr_jobs.specs.Course.{Start, Course}
 use Rattle.btr_bulk.specs.declared.transcript.Transcript.{Transcript}
+use Rattle.btr_bulk.specs.Completes.{HasRoomForRows, HasRoomForOutputs}
 use Rattle.btr_bulk.specs.Work.{DoesRightly}
 use Rattle.btr_bulk.specs.Load.{LoadsStore}
 use Rattle.btr_bulk.specs.Distil.{DistilsStore}
-use Rattle.btr_bulk.specs.Sample.{Samples}
+use Rattle.btr_bulk.specs.SampleRoom.{HasRoomForSample}
+use Rattle.btr_bulk.specs.SampleLaw.{SamplesStore}
 use Rattle.btr_top.specs.declared.script.TheConstants.{MAX_INPUT}
 use Rattle.btr_top.specs.declared.ending.Ending.{Ending}
 use Rattle.btr_top.specs.declared.ending.Ending.TheVariants.{OutOfMemory, Replied}
@@ -42,12 +47,29 @@ module _ {D : Type 0} (disk : Ghosts D) where
   -- Why `sample` ends so.
   abbrev pub SampleCause : ℕ → ℕ → ℕ → D → D → Ending → Type 0
   SampleCause number streams points old new e =
-      WorkCause (λ said start course own. Samples number streams points start course start.history said own) old new e
+      WorkCause (λ said start course own. SamplesStore number streams points start course said own) old new e
 
   -- Why `load` ends so, after its rows were read.
   abbrev pub RowsCause : ℕ → RowListValue → D → D → Ending → Type 0
   RowsCause batch rows old new e =
       WorkCause (λ said start course own. LoadsStore start course rows batch said own) old new e
+
+module _ {D : Type 0} (disk : Ghosts D) where
+  -- The device holds a store with room for all that may be landed for its outputs.
+  pub record CanDistil (old : D) : Type 0 where
+    pub history : List Entry
+    pub blocks : ℕ
+    pub tail : ℕ
+    pub holds : HoldsHistoryTo (disk.size old) (disk.contents old) blocks tail history
+    pub room : HasRoomForOutputs (record { history = history; left = left blocks tail; stopped = false })
+
+  -- The device holds a store with room for a sample.
+  pub record CanSample (number streams points : ℕ) (old : D) : Type 0 where
+    pub history : List Entry
+    pub blocks : ℕ
+    pub tail : ℕ
+    pub holds : HoldsHistoryTo (disk.size old) (disk.contents old) blocks tail history
+    pub room : HasRoomForSample number streams points (record { history = history; left = left blocks tail; stopped = false })
 
 -- The source gave the rows of its whole input, which is within the limit.
 pub record HasReadRows {S : Type 0} (source : SourceGhosts S) (rows : RowListValue) (old new : S) : Type 0 where
@@ -64,3 +86,13 @@ abbrev pub LoadCause : {S D : Type 0} → SourceGhosts S → Ghosts D → ℕ �
 LoadCause source disk batch given rest old new e =
     (InputCause source given rest e × (new ≡ old))
     ⊎ ((rows : RowListValue) × HasReadRows source rows given rest × RowsCause disk batch rows old new e)
+
+-- The device holds a store with room for the rows of the input, and the input is within the limit.
+pub record CanLoad {S D : Type 0} (source : SourceGhosts S) (disk : Ghosts D) (batch : ℕ) (given : S) (old : D) : Type 0 where
+  pub history : List Entry
+  pub blocks : ℕ
+  pub tail : ℕ
+  pub holds : HoldsHistoryTo (disk.size old) (disk.contents old) blocks tail history
+  pub within : length (source.left given) ≤ MAX_INPUT
+  pub room : HasRoomForRows (record { history = history; left = left blocks tail; stopped = false })
+      (list_of (rows_of (source.left given))) batch

@@ -1,82 +1,130 @@
--- The command `live`: the store on which the script runs, and why the command ends as it does.
-use Rattle.std.specs.Prelude.{◌≡◌, ◌⊎◌, ℕ, ◌≤◌, true, false, List, length, take}
+-- The command `live`: what a script did on the store, what is written of it, and why the command ends as it does.
+use Rattle.std.specs.Prelude.{◌≡◌, ℕ, ◌≤◌, Bool, false, List, [], ◌∷◌, ◌++◌, length, flat_map, if◌then◌else◌}
+use Rattle.std.specs.Prelude.{Option, Some, None, Result, Ok, Err, IfSome}
+use Rattle.std.specs.Option.{is_some}
+use Rattle.std.specs.List.{AllByRecursion}
+use Rattle.std.specs.declared.alloc.AllocError.{AllocError}
 use Rattle.btr_io.specs.declared.source.Source.{Ghosts as SourceGhosts}
 use Rattle.btr_disk.specs.declared.disk.Disk.{Ghosts}
-use Rattle.btr_disk.specs.Images.{Only}
-use Rattle.btr_disk.specs.Causes.{Rose}
 use Rattle.btr_log.specs.Extents.{left}
 use Rattle.btr_hist.specs.declared.entry.Entry.{Entry}
 use Rattle.btr_text.specs.Input.{script_of}
 use Rattle.btr_text.specs.declared.script.ScriptLine.{ScriptLine}
-use Rattle.btr_text.specs.declared.reply.LineReply.{LineReply}
-use Rattle.btr_hist.specs.Legal.{Legal, Follows}
-use Rattle.btr_hist.specs.Laws.{Right}
-use Rattle.btr_engine.specs.Holds.{HoldsHistory, HoldsHistoryTo}
-use Rattle.btr_top.specs.declared.script.TheConstants.{MAX_INPUT}
+use Rattle.btr_engine.specs.Holds.{HoldsHistoryTo}
+use Rattle.btr_jobs.specs.Course.{Start, Course}
+use Rattle.btr_work.specs.declared.report.Brought.{Brought}
+use Rattle.btr_work.specs.declared.report.Brought.TheVariants as results
+use Rattle.btr_work.specs.declared.report.ReportLine as brought
+use Rattle.btr_work.specs.Laws.{IsCurrentIn}
+use Rattle.btr_report.specs.declared.line.ReportLine.{ReportLine}
+use Rattle.btr_report.specs.declared.line.ReportLine.TheVariants as lines
+use Rattle.btr_live.specs.declared.live.LiveReport.{LiveReport}
+use Rattle.btr_live.specs.Live.{RunsLive}
+use Rattle.btr_live.specs.OneHistory.{OneHistory}
+use Rattle.btr_live.specs.Script.{begun, needs_of, text_of_replies}
+use Rattle.btr_live.specs.OneLane.{AreInLane, RunsAlone}
+use Rattle.btr_bulk.specs.declared.status.Status.{Status}
+use Rattle.btr_bulk.specs.declared.status.Status.TheVariants.{Done, OutOfMemory, DeviceFault}
 use Rattle.btr_bulk.specs.declared.transcript.Transcript.{Transcript}
+use Rattle.btr_bulk.specs.Reasons.{reason_of_landing}
+use Rattle.btr_bulk.specs.Status.{greater, status_of_lines}
+use Rattle.btr_bulk.specs.Streams.{id_of}
+use Rattle.btr_bulk.specs.Transcript.{text_of_lines}
+use Rattle.btr_top.specs.declared.script.TheConstants.{MAX_INPUT}
 use Rattle.btr_top.specs.declared.ending.Ending.{Ending}
-use Rattle.btr_top.specs.declared.ending.Ending.TheVariants.{OutOfMemory, Replied}
-use Rattle.btr_top.specs.Replies.{Store, State, begun, RunsScript, needs_of}
-use Rattle.btr_top.specs.Crash.{CrashLeavesPrefix}
-use Rattle.btr_top.specs.Script.{IsKept, OpeningCause, IsTranscript, CommandCause}
+use Rattle.btr_top.specs.Status.{status_of_replies}
+use Rattle.btr_top.specs.Script.{CommandCause}
+use Rattle.btr_top.specs.Bulk.{WorkCause}
+
+-- ---- what is written
+
+-- The result of a last round, if there was one.
+abbrev pub LastRound : Type 0
+LastRound = Option (Result (List brought.ReportLine) AllocError)
+
+-- The line of an output with this id, of which this became in the last round: it has one if it was not brought up to date.
+abbrev pub round_line : ℕ → Brought → List ReportLine
+round_line id (results.Landed version) = []
+round_line id (results.Current version) = []
+round_line id (results.Refused fault) = lines.RoundRefused id (reason_of_landing fault) ∷ []
+
+-- The lines of the last round, after this history.
+abbrev pub round_lines : List Entry → LastRound → List ReportLine
+round_lines h None = []
+round_lines h (Some (Err error)) = []
+round_lines h (Some (Ok report)) = flat_map (λ line. round_line (id_of h line.output) line.result) report
+
+-- The status that a last round asks for which had no memory to begin.
+abbrev pub round_status : LastRound → Status
+round_status None = Done
+round_status (Some (Err error)) = OutOfMemory
+round_status (Some (Ok report)) = Done
+
+-- The status that a failure of the device asks for, which a round may have met.
+abbrev pub course_status : Course → Status
+course_status course = if is_some course.failed then DeviceFault else Done
+
+-- The transcript has the replies in the order of the script, and then the lines of the last round. Its status is the greatest.
+pub record SaysLive (course : Course) (report : LiveReport) (t : Transcript) : Type 0 where
+  pub same_text : t.text.items ≡ text_of_replies report.replies.items ++ text_of_lines (round_lines course.history report.last)
+  pub same_status : t.status ≡ greater (greater (status_of_replies report.replies.items)
+      (status_of_lines (round_lines course.history report.last))) (greater (round_status report.last) (course_status course))
+
+-- What is said of a script that ran. Memory may run out for it.
+abbrev pub SaysIf : Course → Option LiveReport → Result Transcript AllocError → Type 0
+SaysIf course report (Err error) = Unit {0}
+SaysIf course None (Ok transcript) = ⊥
+SaysIf course (Some report) (Ok transcript) = SaysLive course report transcript
+
+-- ---- what is done
+
+-- A script ran on a store that nobody else used; or memory ran out before any line.
+abbrev pub RunsIf : ℕ → Bool → Start → Course → List ScriptLine → Option LiveReport → List ℕ → Type 0
+RunsIf batch materialize start course script None own = own ≡ []
+RunsIf batch materialize start course script (Some report) own =
+    RunsLive batch materialize start course start.history script report own
+
+-- Each output that the last round did not refuse is up to date.
+abbrev pub IsLastCurrent : List Entry → LastRound → Type 0
+IsLastCurrent h None = Unit {0}
+IsLastCurrent h (Some (Err error)) = Unit {0}
+IsLastCurrent h (Some (Ok report)) = AllByRecursion (λ line. IsCurrentIn h line.output line.result) report
+
+-- A script ran on a store that nobody else used, and this was said of it. `own` are the numbers of what was added.
+pub record LivesStore (batch : ℕ) (materialize : Bool) (script : List ScriptLine) (start : Start) (course : Course)
+    (said : Result Transcript AllocError) (own : List ℕ) : Type 0 where
+  pub report : Option LiveReport
+  pub runs : RunsIf batch materialize start course script report own
+  -- all lanes and landings made one history, for every schedule of the threads
+  pub one_history : IfSome report (λ r. OneHistory batch start course script r.replies.items)
+  -- the lines of one lane alone have the model's replies, one after another
+  pub one_lane : materialize ≡ false → (lane : ℕ) → AreInLane lane script
+      → IfSome report (λ r. RunsAlone batch start course script r.replies.items)
+  -- after the last round each output that it did not refuse is up to date, if the device did not fail
+  pub current : course.failed ≡ None → IfSome report (λ r. IsLastCurrent course.history r.last)
+  pub says : SaysIf course report said
+
+-- ---- the command
 
 module _ {D : Type 0} (disk : Ghosts D) where
-  -- The device, as it reads, holds the store with its blocks that are left.
-  pub record HoldsStore (d : D) (s : Store) : Type 0 where
-    pub blocks : ℕ
-    pub tail : ℕ
-    pub holds : HoldsHistoryTo (disk.size d) (disk.contents d) blocks tail s.history
-    pub same_left : s.left ≡ left blocks tail
-
-  -- The device, as it reads, holds the store's history, and a crash leaves nothing else.
-  pub record HoldsSafely (d : D) (s : Store) : Type 0 where
-    pub holds : HoldsHistory (disk.size d) (disk.contents d) s.history
-    pub only : Only (disk.contents d) (disk.images_now d)
-
-  -- These lines ran, with these replies, from the store on the device `old` to that on the device `new`. Each entry of the former
-  -- may follow those before it, also if the device is not observable. If the latter is stopped, a call of the device failed. If the
-  -- first history is legal, each version of each output is right at the end.
-  pub record RunsOnDevice (batch : ℕ) (lines : List ScriptLine) (replies : List LineReply) (old new : D) : Type 0 where
-    pub first : Store
-    pub last : State
-    pub follows : Follows first.history
-    pub not_stopped : first.stopped ≡ false
-    pub script : RunsScript batch (begun first) lines replies last
-    pub right : Legal first.history → Right last.store.history
-    pub before : disk.is_observable → HoldsStore old first
-    pub after : disk.is_observable → last.store.stopped ≡ false → HoldsSafely new last.store
-    pub failed : last.store.stopped ≡ true → Rose (disk.faults old) (disk.faults new)
-    pub crash : disk.is_observable → CrashLeavesPrefix disk batch lines replies first last old new
-
-  -- A prefix of the lines ran.
-  pub record RunsPrefix (batch : ℕ) (lines : List ScriptLine) (old new : D) : Type 0 where
-    pub count : ℕ
-    pub replies : List LineReply
-    pub runs : RunsOnDevice batch (take count lines) replies old new
-
-  -- All lines ran, and this is the transcript.
-  pub record RunsAll (batch : ℕ) (lines : List ScriptLine) (old new : D) (transcript : Transcript) : Type 0 where
-    pub replies : List LineReply
-    pub runs : RunsOnDevice batch lines replies old new
-    pub is_transcript : IsTranscript replies transcript
-
   -- Why `live` ends so, after its lines were read.
-  abbrev pub ScriptCause : ℕ → List ScriptLine → D → D → Ending → Type 0
-  ScriptCause batch lines old new (Replied transcript) = RunsAll batch lines old new transcript
-  ScriptCause batch lines old new OutOfMemory = IsKept disk old new ⊎ RunsPrefix batch lines old new
-  ScriptCause batch lines old new e = OpeningCause disk old new e × IsKept disk old new
+  abbrev pub ScriptCause : ℕ → Bool → List ScriptLine → D → D → Ending → Type 0
+  ScriptCause batch materialize script old new e =
+      WorkCause disk (λ said start course own. LivesStore batch materialize script start course said own) old new e
 
 module _ {S D : Type 0} (source : SourceGhosts S) (disk : Ghosts D) where
   -- Why `live` ends so.
-  abbrev pub LiveCause : ℕ → S → S → D → D → Ending → Type 0
-  LiveCause batch given rest old new e = CommandCause source (ScriptCause disk batch) given rest old new e
+  abbrev pub LiveCause : ℕ → Bool → S → S → D → D → Ending → Type 0
+  LiveCause batch materialize given rest old new e = CommandCause source (ScriptCause disk batch materialize) given rest old new e
 
-  -- The device holds a store with room for what the lines of the input need, and the input is within the limit.
+  -- The device holds a store with room for what the lines of the input need, all of one lane, and the input is within the limit.
   pub record CanLive (batch : ℕ) (given : S) (old : D) : Type 0 where
     pub history : List Entry
     pub blocks : ℕ
     pub tail : ℕ
     pub holds : HoldsHistoryTo (disk.size old) (disk.contents old) blocks tail history
     pub within : length (source.left given) ≤ MAX_INPUT
+    pub lane : ℕ
+    pub one : AreInLane lane (script_of (source.left given))
     pub room : needs_of batch (begun (record { history = history; left = left blocks tail; stopped = false }))
         (script_of (source.left given)) ≤ left blocks tail

@@ -1,5 +1,5 @@
 -- Why a run ends as it does: by its words, its input, its device and its sink; and what is promised if nothing fails.
-use Rattle.std.specs.Prelude.{◌≡◌, ◌⊎◌, ℕ, ◌+◌, Option, Some, None}
+use Rattle.std.specs.Prelude.{◌≡◌, ◌⊎◌, ℕ, ◌+◌, false, Option, Some, None}
 use Rattle.btr_io.specs.declared.source.Source.{Ghosts as SourceGhosts}
 use Rattle.btr_io.specs.declared.sink.Sink.{Ghosts as SinkGhosts}
 use Rattle.btr_io.specs.Bytes.{Gives}
@@ -15,7 +15,7 @@ use Rattle.btr_top.specs.Script.{IsKept}
 use Rattle.btr_top.specs.Live.{LiveCause, CanLive}
 use Rattle.btr_top.specs.Ask.{AskCause, CanAsk}
 use Rattle.btr_top.specs.Format.{FormatCause, FormatLeaves, CanFormat}
-use Rattle.btr_top.specs.Bulk.{LoadCause, DistilCause, SampleCause}
+use Rattle.btr_top.specs.Bulk.{LoadCause, DistilCause, SampleCause, CanLoad, CanDistil, CanSample}
 use Rattle.btr_top.specs.Ending.{Shows}
 
 -- Why a run with this command ends so. `given` and `rest` are the source before and after it, `old` and `new` the device. What is
@@ -23,7 +23,7 @@ use Rattle.btr_top.specs.Ending.{Shows}
 abbrev pub Cause : {S D : Type 0} → SourceGhosts S → Ghosts D → Option Command → S → S → D → D → Ending → Type 0
 Cause source disk None given rest old new e = (e ≡ Usage) × (rest ≡ given) × (new ≡ old)
 Cause source disk (Some (Format blocks)) given rest old new e = (rest ≡ given) × FormatCause disk blocks old new e
-Cause source disk (Some (Live batch)) given rest old new e = LiveCause source disk batch given rest old new e
+Cause source disk (Some (Live batch materialize)) given rest old new e = LiveCause source disk batch materialize given rest old new e
 Cause source disk (Some Ask) given rest old new e = AskCause source disk given rest old new e
 Cause source disk (Some (Load workers batch)) given rest old new e = LoadCause source disk batch given rest old new e
 Cause source disk (Some (Distil workers)) given rest old new e = (rest ≡ given) × DistilCause disk old new e
@@ -38,6 +38,21 @@ WordsLackMemory given rest old new e = (e ≡ OutOfMemory) × (rest ≡ given) �
 abbrev pub RunCause : {S D : Type 0} → SourceGhosts S → Ghosts D → Option Command → S → S → D → D → Ending → Type 0
 RunCause source disk command given rest old new e =
     Cause source disk command given rest old new e ⊎ WordsLackMemory given rest old new e
+
+-- The device and the input are such that the command comes to its end if nothing fails: there is a store, with room for all that the
+-- command may add. Of `live` it is said for a script in one lane and without rounds, and of `format` by `CanFormat`.
+abbrev pub CanRun : {S D : Type 0} → SourceGhosts S → Ghosts D → Option Command → S → D → Type 0
+CanRun source disk None given old = ⊥
+CanRun source disk (Some (Format blocks)) given old = ⊥
+CanRun source disk (Some (Live batch materialize)) given old = (materialize ≡ false) × CanLive source disk batch given old
+CanRun source disk (Some Ask) given old = CanAsk source disk given old
+CanRun source disk (Some (Load workers batch)) given old = CanLoad source disk batch given old
+CanRun source disk (Some (Distil workers)) given old = CanDistil disk old
+CanRun source disk (Some (Sample number streams points)) given old = CanSample disk number streams points old
+
+-- The status is 0 if all was done, 1 if something was refused, and 9 if memory ran out.
+abbrev pub IsPlainStatus : ℕ → Type 0
+IsPlainStatus status = (status ≡ 0) ⊎ (status ≡ 1) ⊎ (status ≡ 9)
 
 -- No call of the device or the sink failed.
 pub record DeviceAndSinkWork {K D : Type 0} (sink : SinkGhosts K) (disk : Ghosts D) (before after : K) (old new : D) : Type 0 where
@@ -64,8 +79,6 @@ module _ {S K D : Type 0} (source : SourceGhosts S) (sink : SinkGhosts K) (disk 
     pub format_leaves : disk.is_observable → (blocks : ℕ) → command ≡ Some (Format blocks) → FormatLeaves disk blocks old new
     pub formats : disk.is_observable → (blocks : ℕ) → command ≡ Some (Format blocks) → CanFormat disk blocks old
         → DeviceAndSinkWork sink disk before after old new → (status ≡ 0) ⊎ (status ≡ 9)
-    pub lives : source.is_observable → disk.is_observable → (batch : ℕ) → command ≡ Some (Live batch) → CanLive source disk batch given old
-        → AllWork given rest before after old new → (status ≡ 0) ⊎ (status ≡ 1) ⊎ (status ≡ 9)
-    pub asks : source.is_observable → disk.is_observable → command ≡ Some Ask → CanAsk source disk given old
-        → AllWork given rest before after old new → (status ≡ 0) ⊎ (status ≡ 1) ⊎ (status ≡ 9)
+    pub completes : source.is_observable → disk.is_observable → CanRun source disk command given old
+        → AllWork given rest before after old new → IsPlainStatus status
     pub kept : command ≡ Some Ask → IsKept disk old new

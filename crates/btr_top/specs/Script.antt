@@ -15,7 +15,7 @@ use Rattle.btr_top.specs.declared.script.TheConstants.{MAX_INPUT}
 use Rattle.btr_bulk.specs.declared.transcript.Transcript.{Transcript}
 use Rattle.btr_top.specs.declared.ending.Ending.{Ending}
 use Rattle.btr_top.specs.declared.ending.Ending.TheVariants.{NoSource, TooLong, OutOfMemory, NoDevice, NoStore, Damaged}
-use Rattle.btr_top.specs.Replies.{text_of_replies}
+use Rattle.btr_live.specs.Script.{text_of_replies}
 use Rattle.btr_top.specs.Status.{status_of_replies}
 
 module _ {S : Type 0} (source : SourceGhosts S) where

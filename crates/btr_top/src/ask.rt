@@ -7,13 +7,14 @@ ghost use Rattle.btr_engine.specs.Engine.{IsEngineOf};
 ghost use Rattle.btr_engine.specs.Snapshot.{IsSnapshotOf};
 ghost use Rattle.btr_open.specs.Opening.{IsOpened};
 ghost use Rattle.btr_top.specs.declared.script.TheConstants.{MAX_INPUT};
-ghost use Rattle.btr_top.specs.Meaning.{question};
+ghost use Rattle.btr_live.specs.Meaning.{question};
 ghost use Rattle.btr_top.specs.Script.{IsKept};
-ghost use Rattle.btr_top.specs.Ask.{AskCause, IsAnswerOrNoMemory, QuestionsCause};
-ghost use Rattle.btr_top.specs.EngineScript.{AddsReply, HasAnswered};
+ghost use Rattle.btr_live.specs.Serving.{IsAnswerOrNoMemory};
+ghost use Rattle.btr_top.specs.Ask.{AskCause, QuestionsCause};
+ghost use Rattle.btr_top.specs.Saying.{AddsReply, HasAnswered};
 
 use crate::ending::Ending;
-use crate::line::answer_question;
+use crate::question::answer_question;
 use crate::script::{CommandResult, add_reply, no_replies, open_refusal, read_lines};
 use btr_bulk::Transcript;
 use btr_disk::Disk;

@@ -127,7 +127,7 @@ pub(crate) fn run_sample<R: Threads + Wait + Sync, D: Disk + Send, P: Pace + Syn
 }
 
 /// Returns how a command ends that did its work.
-fn work_result<D>(worked: Worked<D>) -> CommandResult<D>
+pub(crate) fn work_result<D>(worked: Worked<D>) -> CommandResult<D>
     ensures disk { result.disk ≡ worked.disk }
     ensures ending { result.ending ≡ ending_of worked.said }
 {

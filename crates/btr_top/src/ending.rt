@@ -23,8 +23,8 @@ pub enum Ending {
     /// The source gave more than may be read.
     TooLong,
 
-    /// There was no memory: for the words, for the input or what it says, for an opening, for a hall, for the snapshot of `ask`, or for
-    /// a text.
+    /// There was no memory: for the words, for the input or what it says, for an opening, for a hall, for the lines of a script and their
+    /// replies, for the snapshot of `ask`, or for a text.
     OutOfMemory,
 
     /// A call of the device failed.
@@ -45,7 +45,7 @@ pub enum Ending {
     /// An empty store of this many blocks was made.
     Formatted { blocks: u64 },
 
-    /// The command did its work, and says this of it: a reply to each line of the input, or lines of its own.
+    /// The command did its work, and says this of it: a reply to each line of the input, lines of its own, or both.
     Replied(Transcript),
 }
 

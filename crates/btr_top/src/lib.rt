@@ -9,23 +9,21 @@ mod ask;
 mod bulk;
 mod format_store;
 mod live;
-// the lines of feeds, and those of outputs
-mod distill_line;
-mod feed_line;
-mod feeds;
 // what the commands share
-mod line;
+mod question;
+mod saying;
 mod script;
 mod status;
 // how a run ends, and what it writes
 mod ending;
 // the whole
 mod run_command;
-// what holds of all scripts
+// the limits
 mod laws;
 
+pub use btr_live::{lines_keep_legal, refreshes_are_current};
 pub use ending::Ending;
-pub use laws::{lines_keep_legal, refreshes_are_current, run_limits_are_these};
+pub use laws::run_limits_are_these;
 pub use run_command::{Outcome, run, run_paced};
 pub use script::MAX_INPUT;
 

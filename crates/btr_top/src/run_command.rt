@@ -1,14 +1,12 @@
 //! The whole run of a command.
 ghost use Rattle.std.specs.Prelude.{◌≡◌, ◌⊎◌, ℕ, ◌+◌, ◌≤◌, ◌^◌, map, string_bytes, Some};
 ghost use Rattle.btr_io.specs.Bytes.{Gives};
-ghost use Rattle.btr_words.specs.declared.command.Command.TheVariants.{Ask, Format, Live};
+ghost use Rattle.btr_words.specs.declared.command.Command.TheVariants.{Ask, Format};
 ghost use Rattle.btr_top.specs.declared.script.TheConstants.{MAX_INPUT};
 ghost use Rattle.btr_words.specs.Words.{command_of};
 ghost use Rattle.btr_top.specs.Script.{IsKept};
-ghost use Rattle.btr_top.specs.Live.{CanLive};
-ghost use Rattle.btr_top.specs.Ask.{CanAsk};
 ghost use Rattle.btr_top.specs.Format.{CanFormat, FormatCause, FormatLeaves};
-ghost use Rattle.btr_top.specs.Run.{AllWork, DeviceAndSinkWork, Ends, RunCause, Runs};
+ghost use Rattle.btr_top.specs.Run.{AllWork, CanRun, DeviceAndSinkWork, Ends, IsPlainStatus, RunCause, Runs};
 
 use crate::ask::run_ask;
 use crate::bulk::{run_distil, run_load, run_sample};
@@ -36,8 +34,8 @@ pub struct Outcome<D> {
 }
 
 /// Runs the command that the words say: it works on the device, and writes the text of its ending to the sink. `load`, `live` and `ask`
-/// read the source to its end first. The others read nothing. `load`, `distil` and `sample` start threads by `rt`, and a session waits
-/// by it for its turns at the store.
+/// read the source to its end first. The others read nothing. `live`, `load`, `distil` and `sample` start threads by `rt`, and a session
+/// waits by it for its turns at the store.
 ///
 /// It is [`run_paced`] with a pace that does nothing.
 pub fn run<R: Threads + Wait + Sync, S: Source, K: Sink, D: Disk + Send>(
@@ -55,8 +53,8 @@ pub fn run<R: Threads + Wait + Sync, S: Source, K: Sink, D: Disk + Send>(
     run_paced(rt, alloc, words, source, sink, disk, &NoPace)
 }
 
-/// The same, where `pace` learns of the turns of the threads: the streams of a `load`, the outputs of a `distil`, and both of a
-/// `sample`.
+/// Runs the command that the words say, as [`run`] does. `pace` learns of the turns of the threads: the lanes of a `live`, 0 to 7, and 8
+/// for the rounds beside them; the streams of a `load`, the outputs of a `distil`, and both of a `sample`.
 pub fn run_paced<R: Threads + Wait + Sync, S: Source, K: Sink, D: Disk + Send, P: Pace + Sync>(
     rt: &R,
     alloc: Global,
@@ -79,16 +77,11 @@ pub fn run_paced<R: Threads + Wait + Sync, S: Source, K: Sink, D: Disk + Send, P
         → CanFormat ⟦<D as Disk>⟧ blocks disk
         → DeviceAndSinkWork ⟦<K as Sink>⟧ ⟦<D as Disk>⟧ sink.old sink.new disk result.disk
         → (result.status ≡ 0) ⊎ (result.status ≡ 9) }
-    // if a store has room and nothing fails, each line is done, or refused as the model refuses it
-    ensures lives { S.is_observable → D.is_observable → (batch : ℕ) → command_of (map string_bytes words.now) ≡ Some (Live batch)
-        → CanLive ⟦<S as Source>⟧ ⟦<D as Disk>⟧ batch source.old disk
+    // if there is a store with room for the command and nothing fails, the status is 0, or 1 for what was refused, or 9 without memory
+    ensures completes { S.is_observable → D.is_observable
+        → CanRun ⟦<S as Source>⟧ ⟦<D as Disk>⟧ (command_of (map string_bytes words.now)) source.old disk
         → AllWork ⟦<S as Source>⟧ ⟦<K as Sink>⟧ ⟦<D as Disk>⟧ source.old source.new sink.old sink.new disk result.disk
-        → (result.status ≡ 0) ⊎ (result.status ≡ 1) ⊎ (result.status ≡ 9) }
-    // if there is a store and nothing fails, each question is answered, or refused as the model refuses it
-    ensures asks { S.is_observable → D.is_observable → command_of (map string_bytes words.now) ≡ Some Ask
-        → CanAsk ⟦<S as Source>⟧ ⟦<D as Disk>⟧ source.old disk
-        → AllWork ⟦<S as Source>⟧ ⟦<K as Sink>⟧ ⟦<D as Disk>⟧ source.old source.new sink.old sink.new disk result.disk
-        → (result.status ≡ 0) ⊎ (result.status ≡ 1) ⊎ (result.status ≡ 9) }
+        → IsPlainStatus result.status }
     // however `ask` ends, nothing is written
     ensures kept { command_of (map string_bytes words.now) ≡ Some Ask → IsKept ⟦<D as Disk>⟧ disk result.disk }
 {
@@ -128,7 +121,9 @@ fn dispatch<R: Threads + Wait + Sync, S: Source, D: Disk + Send, P: Pace + Sync>
             disk,
         },
         Ok(Some(Command::Format { blocks })) => make_store(disk, blocks),
-        Ok(Some(Command::Live { batch })) => run_live(rt, alloc, batch, source, disk),
+        Ok(Some(Command::Live { batch, materialize })) => {
+            run_live(rt, alloc, batch, materialize, source, disk, pace)
+        }
         Ok(Some(Command::Ask)) => run_ask(alloc, source, disk),
         Ok(Some(Command::Load { workers, batch })) => {
             run_load(rt, alloc, workers, batch, source, disk, pace)

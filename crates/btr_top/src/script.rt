@@ -1,10 +1,10 @@
 //! What `live` and `ask` share: they read the input, open the store, and collect the replies.
 ghost use Rattle.std.specs.Prelude.{◌≡◌, ◌+◌, [], ◌++◌, IfOk, IfErr, OnOk};
 ghost use Rattle.btr_io.specs.Bytes.{Gives};
-ghost use Rattle.btr_text.specs.Input.{script_of};
+ghost use Rattle.btr_text.specs.Input.{HaveLanes, script_of};
 ghost use Rattle.btr_open.specs.Opening.{IsNotOpened};
 ghost use Rattle.btr_top.specs.Script.{HasRead, InputCause, IsKept, IsTranscript, OpeningCause};
-ghost use Rattle.btr_top.specs.EngineScript.{AddsReply};
+ghost use Rattle.btr_top.specs.Saying.{AddsReply};
 
 use crate::ending::Ending;
 use crate::status::status_of_reply;
@@ -35,6 +35,7 @@ pub(crate) fn read_lines<S: Source>(
 ) -> Result<Vec<ScriptLine>, Ending>
     ensures input { S.is_observable → Gives (MAX_INPUT + 1) (S.left source.old) (S.left source.new) }
     ensures read { IfOk result (λ lines. HasRead ⟦<S as Source>⟧ lines.items source.old source.new) }
+    ensures lanes { IfOk result (λ lines. HaveLanes lines.items) }
     ensures cause { IfErr result (λ e. InputCause ⟦<S as Source>⟧ source.old source.new e) }
 {
     match read_all(alloc, source, MAX_INPUT) {
@@ -48,6 +49,7 @@ pub(crate) fn read_lines<S: Source>(
 /// Returns the lines of an input that have a reply. An `Err` is that there is no memory for them.
 fn lines_of(alloc: Global, input: &[u8]) -> Result<Vec<ScriptLine>, Ending>
     ensures lines { IfOk result (λ lines. lines.items ≡ script_of input.now) }
+    ensures lanes { IfOk result (λ lines. HaveLanes lines.items) }
     ensures cause { IfErr result (λ e. e ≡ Ending.OutOfMemory) }
 {
     match read_script(alloc, input) {

@@ -3,6 +3,7 @@ mod bulk;
 mod crashes;
 mod device;
 mod fixture;
+mod lanes;
 mod outputs;
 mod streams;
 mod transcripts;

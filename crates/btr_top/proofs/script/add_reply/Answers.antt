@@ -4,8 +4,7 @@ use Rattle.std.proofs.Common.{◌∙◌, ap}
 use Rattle.btr_text.specs.Text.{text}
 use Rattle.btr_bulk.specs.declared.status.Status.{Status}
 use Rattle.btr_bulk.specs.Status.{greater}
-use Rattle.btr_top.proofs.ScriptLemmas.{transcript-push}
-use Rattle.btr_top.proofs.KeptOpening.{on_ok}
+use Rattle.btr_top.proofs.ScriptLemmas.{transcript-push, on_ok}
 use Rattle.btr_top.proofs.script.add_reply.Goals as goal
 
 pub returns : goal.returns

@@ -1,0 +1,39 @@
+-- If the device and the input suffice, and nothing fails, a run comes to its end.
+use Rattle.std.specs.Prelude.{Bool, Option, Some, None}
+use Rattle.std.proofs.Common.{refl, sym, subst, inr, ⊎_elim}
+use Rattle.btr_io.specs.declared.source.Source.{Ghosts as SourceGhosts}
+use Rattle.btr_io.specs.Faults.{Rose as StreamRose}
+use Rattle.btr_disk.specs.declared.disk.Disk.{Ghosts}
+use Rattle.btr_disk.specs.Causes.{Rose}
+use Rattle.btr_words.specs.declared.command.Command.{Command}
+use Rattle.btr_words.specs.declared.command.Command.TheVariants.{Format, Load, Ask, Distil, Live, Sample}
+use Rattle.btr_open.specs.Laws.{HeldIsSound, OneHistoryIsHeld}
+use Rattle.btr_top.specs.declared.ending.Ending.{Ending}
+use Rattle.btr_top.specs.Ending.{status_of}
+use Rattle.btr_top.specs.Live.{LiveCause}
+use Rattle.btr_top.specs.Run.{Cause, RunCause, CanRun, IsPlainStatus}
+use Rattle.btr_top.proofs.LiveCompletes.{benign_live}
+use Rattle.btr_top.proofs.AskCompletes.{benign_ask}
+use Rattle.btr_top.proofs.BulkCompletes.{benign_load, benign_distil, benign_sample}
+
+module _ {S D : Type 0} (source : SourceGhosts S) (disk : Ghosts D) (given rest : S) (old new : D) (sound : HeldIsSound) (one : OneHistoryIsHeld) (source_told : source.is_observable) (told : disk.is_observable) (source_works : StreamRose (source.faults given) (source.faults rest) → ⊥) (device_works : Rose (disk.faults old) (disk.faults new) → ⊥) where
+  plain_cause : (command : Option Command) → CanRun source disk command given old → (e : Ending) → Cause source disk command given rest old new e → IsPlainStatus (status_of e)
+  plain_cause None can e why = absurd can
+  plain_cause (Some (Format blocks)) can e why = absurd can
+  plain_cause (Some (Live batch materialize)) can e why =
+      benign_live source disk batch given rest old new sound one can.1 source_told told source_works device_works e
+      (subst (λ (m : Bool). LiveCause source disk batch m given rest old new e) can.0 why)
+  plain_cause (Some Ask) can e why =
+      benign_ask source disk given rest old new sound can source_told told source_works device_works e why
+  plain_cause (Some (Load workers batch)) can e why =
+      benign_load source disk batch given rest old new sound one can source_told told source_works device_works e why
+  plain_cause (Some (Distil workers)) can e why = benign_distil disk old new sound one can told device_works e why.1
+  plain_cause (Some (Sample number streams points)) can e why =
+      benign_sample disk number streams points old new sound one can told device_works e why.1
+
+  pub plain_run : (command : Option Command) → CanRun source disk command given old → (e : Ending) → RunCause source disk command given rest old new e → IsPlainStatus (status_of e)
+  plain_run command can e why =
+      ⊎_elim
+      (λ cause. plain_cause command can e cause)
+      (λ lacks. subst (λ (x : Ending). IsPlainStatus (status_of x)) (sym lacks.0) (inr (inr refl)))
+      why

@@ -1,0 +1,79 @@
+-- Work on a device that holds a store, if nothing fails: the store is opened, and no step fails.
+use Rattle.std.specs.Prelude.{◌≡◌, ℕ, Bool, true, false, List, Option, Some, None, Ok}
+use Rattle.std.specs.Option.{is_some}
+use Rattle.std.proofs.Common.{refl, sym, ◌∙◌, ap, inr}
+use Rattle.btr_disk.specs.declared.disk.Disk.{Ghosts}
+use Rattle.btr_disk.specs.Causes.{Rose}
+use Rattle.btr_super.specs.declared.superblock.Super.{Super}
+use Rattle.btr_super.proofs.ChoiceLemmas.{one_chosen}
+use Rattle.btr_log.specs.Extents.{left, first_gate}
+use Rattle.btr_log.proofs.ExtentLemmas.{Extents-one}
+use Rattle.btr_hist.specs.declared.entry.Entry.{Entry}
+use Rattle.btr_engine.specs.Body.{bodies}
+use Rattle.btr_engine.specs.Holds.{HoldsHistory, HoldsHistoryTo}
+use Rattle.btr_open.specs.Laws.{HeldIsSound, OneHistoryIsHeld}
+use Rattle.btr_jobs.specs.Course.{Start, Course}
+use Rattle.btr_bulk.specs.declared.transcript.Transcript.{Transcript}
+use Rattle.btr_bulk.specs.Completes.{IsBenign}
+use Rattle.btr_bulk.specs.Work.{HoldsStart, DoesRightly}
+use Rattle.btr_top.specs.declared.ending.Ending.{Ending}
+use Rattle.btr_top.specs.declared.ending.Ending.TheVariants.{Usage, NoSource, TooLong, OutOfMemory, NoDevice, NoStore, Damaged, Occupied, TooSmall, Formatted, Replied}
+use Rattle.btr_top.specs.Ending.{status_of}
+use Rattle.btr_top.specs.Bulk.{Doing, WorkCause}
+use Rattle.btr_top.specs.Run.{IsPlainStatus}
+use Rattle.btr_top.proofs.BenignStatuses.{benign_code}
+
+none_if : {A : Type 0} (o : Option A) → (is_some o ≡ true → ⊥) → o ≡ None
+none_if None not = refl
+none_if (Some x) not = absurd (not refl)
+
+module _ {D : Type 0} (disk : Ghosts D) (old new : D) (history : List Entry) (blocks tail : ℕ) (holds : HoldsHistoryTo (disk.size old) (disk.contents old) blocks tail history) (sound : HeldIsSound) (one : OneHistoryIsHeld) (told : disk.is_observable) (device_works : Rose (disk.faults old) (disk.faults new) → ⊥) where
+  held : HoldsHistory (disk.size old) (disk.contents old) history
+  held = record { blocks = blocks; tail = tail; holds = holds }
+
+  -- The device holds one store.
+  same_room : (first : Start) → HoldsStart disk old first → first.left ≡ left blocks tail
+  same_room first is =
+      let size = disk.size old in
+      let image = disk.contents old in
+      let supers : is.holds.super ≡ holds.super = one_chosen size image is.holds.super holds.super is.holds.chosen holds.chosen in
+      let sizes : is.blocks ≡ blocks = sym is.holds.same_blocks ∙ ap (λ (s : Super). s.blocks) supers ∙ holds.same_blocks in
+      let tails : is.tail ≡ tail = (Extents-one image first_gate (bodies first.history) (bodies history) is.tail tail is.holds.extents is.holds.closed holds.extents holds.closed).1 in
+      is.same_left ∙ ap (λ b. left b is.tail) sizes ∙ ap (λ t. left blocks t) tails
+
+  -- The store that the device holds.
+  abbrev pub opened : Start
+  opened = record { history = history; left = left blocks tail; stopped = false }
+
+  pub same_start : (first : Start) → first.stopped ≡ false → HoldsStart disk old first → first ≡ opened
+  same_start first not_stopped is =
+      let before : HoldsHistory (disk.size old) (disk.contents old) first.history = record { blocks = is.blocks; tail = is.tail; holds = is.holds } in
+      let histories : first.history ≡ history = one (disk.size old) (disk.contents old) first.history history before held in
+      ap (λ (h : List Entry). with_parts h first.left first.stopped) histories
+      ∙ ap (λ (n : ℕ). with_parts history n first.stopped) (same_room first is)
+      ∙ ap (λ (b : Bool). with_parts history (left blocks tail) b) not_stopped
+    where
+      with_parts : List Entry → ℕ → Bool → Start
+      with_parts h n b = record { history = h; left = n; stopped = b }
+
+  -- Work began with this store.
+  pub began : (What : Start → Course → List ℕ → Type 0) (does : DoesRightly disk What old new) → does.first ≡ opened
+  began What does = same_start does.first does.works.not_stopped (does.works.before told)
+
+  -- No step failed.
+  pub no_failure : (What : Start → Course → List ℕ → Type 0) (does : DoesRightly disk What old new) → does.course.failed ≡ None
+  no_failure What does = none_if does.course.failed (λ failed. device_works (does.works.failed failed))
+
+  -- A command that works on the store ends with the status of its lines, or without memory.
+  pub plain_work : (What : Doing) → ((transcript : Transcript) → DoesRightly disk (What (Ok transcript)) old new → IsBenign transcript.status) → (e : Ending) → WorkCause disk What old new e → IsPlainStatus (status_of e)
+  plain_work What benign Usage why = absurd why.0
+  plain_work What benign NoSource why = absurd why.0
+  plain_work What benign TooLong why = absurd why.0
+  plain_work What benign OutOfMemory why = inr (inr refl)
+  plain_work What benign NoDevice why = absurd (device_works why.0)
+  plain_work What benign NoStore why = absurd ((sound (disk.size old) 0 (disk.contents old) history held).0 (why.0 told))
+  plain_work What benign (Damaged block) why = absurd ((sound (disk.size old) block (disk.contents old) history held).1 (why.0 told))
+  plain_work What benign Occupied why = absurd why.0
+  plain_work What benign (TooSmall asked has) why = absurd why.0
+  plain_work What benign (Formatted made) why = absurd why.0
+  plain_work What benign (Replied transcript) why = benign_code transcript.status (benign transcript why)

@@ -1,6 +1,0 @@
--- The law is a lemma by induction over the lines.
-use Rattle.btr_top.proofs.Legality.{lines_legal}
-use Rattle.btr_top.proofs.laws.lines_keep_legal.Goals as goal
-
-pub returns : goal.returns
-returns c = lines_legal
