@@ -72,7 +72,8 @@ pub record Distils (start : Start) (course : Course) (low : List Entry) (said : 
 
 -- ---- the work on a store that nobody else uses
 
--- Each output of the report whose result is no refusal is up to date after this history.
+-- Each output of the report whose result is no refusal is up to date after this history, and none was refused because another version
+-- came first.
 abbrev pub AreCurrent : List Entry → List brought.ReportLine → Type 0
 AreCurrent h report = AllByRecursion (λ line. IsCurrentIn h line.output line.result) report
 
@@ -89,7 +90,7 @@ AreOfOneWorker h low report = (levels : List (List ℕ)) → AreLevels low level
 -- was added.
 pub record DistilsStore (start : Start) (course : Course) (said : Result Transcript AllocError) (own : List ℕ) : Type 0 where
   pub did : Distils start course start.history said own
-  -- each output whose result is no refusal is up to date in the end
+  -- each output whose result is no refusal is up to date in the end, and none is superseded
   pub current : IfSome did.report (AreCurrent course.history)
   -- any number of workers leaves what one worker leaves, if the memory and the device sufficed
   pub alike : Legal start.history

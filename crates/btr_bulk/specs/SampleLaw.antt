@@ -22,7 +22,7 @@ pub record FillsStore (number streams points : ℕ) (start : Start) (course : Co
   -- any number of workers loads as the plain load does, if the memory and the device sufficed
   pub loads_alike : did.work.load_end.failed ≡ None → IfSome did.loaded (λ loaded. ArePlain loaded
       → IsAlike did.work.load_end.history low (rows_of_sample number streams points).streams BATCH loaded.streams)
-  -- each output whose result is no refusal is up to date in the end
+  -- each output whose result is no refusal is up to date in the end, and none is superseded
   pub current : did.work.define_end.failed ≡ None → IfSome did.report (AreCurrent course.history)
   -- any number of workers leaves of the outputs what one worker leaves, if the memory and the device sufficed
   pub brings_alike : did.work.define_end.failed ≡ None

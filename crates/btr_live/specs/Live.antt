@@ -44,7 +44,8 @@ RunsAreOneHistory =
     → RunsLive batch materialize start course start.history script report own → AreAllSince start.history course own
     → OneHistory batch start course script report.replies.items
 
--- After a last round of a script that ran alone, if no device failed, each output that the round did not refuse is up to date.
+-- After a last round of a script that ran alone, if no device failed, each output that the round did not refuse is up to date, and it
+-- refused none because another version came first.
 abbrev pub LastIsCurrent : Type 0
 LastIsCurrent =
     (batch : ℕ) (start : Start) (course : Course) (script : List ScriptLine) (report : LiveReport) (own : List ℕ) (last : List ReportLine)

@@ -8,7 +8,8 @@ pub fn runs_are_one_history()
     ensures { RunsAreOneHistory }
 {}
 
-/// After a last round of a script that ran alone, if no device failed, each output that the round did not refuse is up to date.
+/// After a last round of a script that ran alone, if no device failed, each output that the round did not refuse is up to date, and it
+/// refused none because another version came first.
 pub fn last_is_current()
     ensures { LastIsCurrent }
 {}

@@ -84,7 +84,7 @@ RunsIf batch materialize start course script None own = own ≡ []
 RunsIf batch materialize start course script (Some report) own =
     RunsLive batch materialize start course start.history script report own
 
--- Each output that the last round did not refuse is up to date.
+-- Each output that the last round did not refuse is up to date, and it refused none because another version came first.
 abbrev pub IsLastCurrent : List Entry → LastRound → Type 0
 IsLastCurrent h None = Unit {0}
 IsLastCurrent h (Some (Err error)) = Unit {0}
@@ -100,7 +100,7 @@ pub record LivesStore (batch : ℕ) (materialize : Bool) (script : List ScriptLi
   -- the lines of one lane alone have the model's replies, one after another
   pub one_lane : materialize ≡ false → (lane : ℕ) → AreInLane lane script
       → IfSome report (λ r. RunsAlone batch start course script r.replies.items)
-  -- after the last round each output that it did not refuse is up to date, if the device did not fail
+  -- after the last round each output that it did not refuse is up to date, and none is superseded, if the device did not fail
   pub current : course.failed ≡ None → IfSome report (λ r. IsLastCurrent course.history r.last)
   pub says : SaysIf course report said
 

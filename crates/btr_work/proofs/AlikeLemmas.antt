@@ -38,7 +38,7 @@ use Rattle.btr_work.specs.Laws.{AreAllSince}
 use Rattle.btr_work.specs.Alike.{landed_next, landed_each, landed_levels, result_by, IsUndisturbed, IsAlike, BroughtIsAlike}
 use Rattle.btr_gate.proofs.NumberLemmas.{one_other, given_inside}
 use Rattle.btr_work.proofs.OwnLemmas.{same_some, AreAll, IsSplit, each-split, levels-owned, all-first, all-rest}
-use Rattle.btr_work.proofs.CurrentLemmas.{spec-stays, level-quiet, mine-quiet, levels-quiet, all-since}
+use Rattle.btr_work.proofs.CurrentLemmas.{spec-stays, level-quiet, mine-quiet, not-superseded, levels-quiet, all-since}
 use Rattle.btr_work.proofs.MemberLemmas.{IsIn, IsInAny, Distinct, Graded, groups-graded, groups-unique, graded-above, first-lower, second-below, level-output, output-level, output-in, output-spec}
 use Rattle.btr_work.proofs.QuietLemmas.{IsOther, Quiet, Same, same_refl, same_sym, same_trans, quiet-same, quiet-more, quiet-less, get-past, get-before, SameInputs, latest-same, latest_reads-same, reads-same, planned-same}
 
@@ -257,7 +257,7 @@ module _ (at p : List Entry) (output : ℕ) (spec : Spec) (plan : PlanValue) (fo
   last : latest p output ≡ latest at output
   last = latest-same at p output same
 
-  pub plan-current : IsCurrent p plan
+  plan-current : IsCurrent p plan
   plan-current =
       ap (latest p) is.same_stream ∙ last ∙ ap (λ (l : Landing). l.base) parts.1
 
@@ -414,12 +414,6 @@ module _ (low hist : List Entry) (output : ℕ) (spec : Spec) (is_spec : spec_of
           result-limit low hist output spec (spec-stays hist low output spec whole is_spec) same_hist (inputs-between low hist (starts_refl low) whole (starts_refl hist)) (landing_of plan) some,
         )
 
-    -- No other version has followed.
-    pub not-superseded : (version : ℕ) → plan.base < version → version ≡ latest p plan.stream → ⊥
-    not-superseded version above_base is_latest =
-        let current = plan-current at p output spec plan follows starts spec-at is same-at inputs-at in
-        absurd (omega (arith, above_base, is_latest, current))
-
 module _ (start : Start) (course : Course) (low : List Entry) (result : ℕ → Brought) (level own : List ℕ) (brings : BringsEach start course low result level own) (all : AreAll low course.history own) (output : ℕ) (split : IsSplit start course low result output level own) (legal : Legal course.history) (spec : Spec) (is_spec : spec_of low output ≡ Some spec) (whole : StartsWith course.history low) (first : Quiet spec.first low course.history) (second : (s : ℕ) → spec.second ≡ Some s → Quiet s low course.history) where
   abbrev pub hist : List Entry
   hist = course.history
@@ -459,10 +453,7 @@ module _ (start : Start) (course : Course) (low : List Entry) (result : ℕ → 
       end-limit low hist output spec is_spec whole first second is.at p is.plan (legal-follows p (follows-at p is.landed.2)) is.after is.landed.1 is.landed.2 is.planned (quiet-less output low p hist is.landed.2 quiet)
       is.landed.3.1 quiet
   level-end (brought.Refused (faults.Superseded version)) free is =
-      let p = is.landed.0 in
-      let quiet = quiet-idle is.landed.3.3.own in
-      absurd (not-superseded low hist output spec is_spec whole first second is.at p is.plan (legal-follows p (follows-at p is.landed.2)) is.after is.landed.1 is.landed.2 is.planned (quiet-less output low p hist is.landed.2 quiet)
-      version is.landed.3.1 is.landed.3.2)
+      absurd (not-superseded start course low result level own brings all output split spec version is_spec is)
   level-end (brought.Refused (faults.Crowded at)) free is = absurd (is.landed.3.2 (follows-at is.landed.0 is.landed.2))
   level-end (brought.Refused (faults.TooManyPoints count)) free is = absurd (is.landed.3.2 (follows-at is.landed.0 is.landed.2))
   level-end (brought.Refused (faults.Stopped entries)) free is = absurd free

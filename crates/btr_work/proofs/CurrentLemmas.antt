@@ -1,5 +1,5 @@
 -- Lemmas on outputs that were brought up to date while nobody else added anything: they are so in the end.
-use Rattle.std.specs.Prelude.{◌≡◌, ℕ, ◌+◌, ◌-◌, ◌<◌, ◌≤◌, Bool, true, false, List, [], ◌∷◌, ◌++◌, length, slice_get, slice_index_or, cond, Option, Some, None}
+use Rattle.std.specs.Prelude.{◌≡◌, ℕ, ◌+◌, ◌-◌, ◌<◌, ◌≤◌, Bool, true, false, List, [], ◌∷◌, ◌++◌, length, slice_get, slice_index_or, cond, Option, Some, None, Err}
 use Rattle.std.specs.List.{AllByRecursion}
 use Rattle.std.specs.Option.{is_some, unwrap_or}
 use Rattle.std.proofs.Common.{suc, sym, ap, ◌∙◌, subst, arith, inl, inr, length-append}
@@ -21,15 +21,17 @@ use Rattle.btr_gate.proofs.PrefixLemmas.{starts_refl, starts_trans, starts_lengt
 use Rattle.btr_plan.specs.Next.{IsUpToDate, IsNextPlan}
 use Rattle.btr_plan.specs.Plan.{landing_of}
 use Rattle.btr_plan.proofs.PlanLemmas.{planned-none}
+use Rattle.btr_hall.specs.declared.land.LandFault.{LandFault}
+use Rattle.btr_hall.specs.declared.land.LandFault.TheVariants as faults
 use Rattle.btr_jobs.specs.Course.{Start, Course}
 use Rattle.btr_work.specs.declared.report.Brought.{Brought}
 use Rattle.btr_work.specs.declared.report.Brought.TheVariants as brought
 use Rattle.btr_work.specs.declared.report.ReportLine.{ReportLine}
 use Rattle.btr_work.specs.Levels.{levels_of, outputs}
-use Rattle.btr_work.specs.Report.{IsBrought, BringsEach, BringsLevels}
-use Rattle.btr_work.specs.Laws.{AreAllSince, IsCurrentIn, BroughtIsCurrent}
+use Rattle.btr_work.specs.Report.{IsBrought, IsPlanLanded, BringsEach, BringsLevels}
+use Rattle.btr_work.specs.Laws.{AreAllSince, IsNotSuperseded, IsCurrentIn, BroughtIsCurrent}
 use Rattle.btr_work.proofs.MemberLemmas.{IsIn, IsInAny, Graded, groups-graded, graded-above, first-lower, second-below, output-level, output-spec, all-members}
-use Rattle.btr_work.proofs.QuietLemmas.{IsOther, Quiet, Same, SameInputs, quiet-same, quiet-more, get-past, latest-same, latest_reads-same, reads-same, up_to_date-same}
+use Rattle.btr_work.proofs.QuietLemmas.{IsOther, Quiet, Same, SameInputs, quiet-same, quiet-more, quiet-less, get-past, latest-same, latest_reads-same, reads-same, up_to_date-same}
 use Rattle.btr_work.proofs.OwnLemmas.{same_some, AreAll, IsSplit, each-owned, each-split, levels-owned, all-first, all-rest}
 
 -- ---- what stays
@@ -38,6 +40,14 @@ use Rattle.btr_work.proofs.OwnLemmas.{same_some, AreAll, IsSplit, each-owned, ea
 pub spec-stays : (h low : List Entry) (stream : ℕ) (spec : Spec) → StartsWith h low → spec_of low stream ≡ Some spec → spec_of h stream ≡ Some spec
 spec-stays h low stream spec starts output =
     subst (λ l. spec_of l stream ≡ Some spec) (sym starts.1) (spec_of-stays low starts.0 stream spec output)
+
+-- The base of what is planned for an output.
+plan-base : (at : List Entry) (output : ℕ) (spec : Spec) (landing : Landing) → planned at output spec ≡ Some landing → landing.base ≡ latest at output
+plan-base at output spec landing is = chosen (same_reads (reads at output spec (latest at output)) (latest_reads at spec)) is
+  where
+    chosen : (b : Bool) → cond {A = Option Landing} b None (Some (record { stream = output; base = latest at output; reads = latest_reads at spec })) ≡ Some landing → landing.base ≡ latest at output
+    chosen true none = absurd (cc)
+    chosen false some = let same : record { stream = output; base = latest at output; reads = latest_reads at spec } ≡ landing = cc in sym (ap (λ (l : Landing). l.base) same)
 
 -- ---- an output that was up to date when it was looked at, or has landed
 
@@ -100,6 +110,31 @@ module _ (start : Start) (course : Course) (low : List Entry) (result : ℕ → 
         let r = split.owned n (omega (arith, some, split.sum n, none)) in
         r.3.other e at output r.2
 
+    -- No other version came first.
+    pub not-superseded : (spec : Spec) (version : ℕ) → spec_of low output ≡ Some spec → IsPlanLanded start course low output (Err (faults.Superseded version)) split.mine → ⊥
+    not-superseded spec version spec_is is =
+        let p = is.landed.0 in
+        let quiet : Quiet output is.at course.history = λ n after x at.
+        mine-quiet n (omega (arith, after, starts_length is.at low is.after)) (ap (times n) is.landed.3.3.own) x at in
+        let last : latest p output ≡ latest is.at output =
+        latest-same is.at p output (quiet-same output is.at p is.landed.1 (quiet-less output is.at p course.history is.landed.2 quiet)) in
+        let planned_is : planned is.at output spec ≡ Some (landing_of is.plan) =
+        sym (ap (plan_of is.at output) (spec-stays is.at low output spec is.after spec_is)) ∙ is.planned.planned in
+        let base : is.plan.base ≡ latest is.at output =
+        plan-base is.at output spec (landing_of is.plan) planned_is in
+        let first : version ≡ latest p output = is.landed.3.2 ∙ ap (latest p) is.planned.same_stream in
+        absurd (omega (arith, is.landed.3.1, first, last, base))
+
+    level-refused : (spec : Spec) (fault : LandFault) → spec_of low output ≡ Some spec → IsBrought start course low output (brought.Refused fault) split.mine → IsNotSuperseded fault
+    level-refused spec (faults.Superseded version) spec_is is = not-superseded spec version spec_is is
+    level-refused spec faults.VersionLimit spec_is is = tt
+    level-refused spec (faults.Crowded at) spec_is is = tt
+    level-refused spec (faults.TooManyPoints count) spec_is is = tt
+    level-refused spec (faults.Stopped entries) spec_is is = tt
+    level-refused spec faults.Want spec_is is = tt
+    level-refused spec (faults.DeviceFull need left) spec_is is = tt
+    level-refused spec faults.DeviceFault spec_is is = tt
+
     -- An output that is no refusal is up to date at the end of the level, if its inputs are left alone.
     level-current : (spec : Spec) (r : Brought) → spec_of low output ≡ Some spec → ((at : List Entry) → StartsWith at low → StartsWith course.history at → SameInputs at course.history spec) → IsBrought start course low output r split.mine → IsCurrentIn course.history output r
     level-current spec (brought.Landed version) spec_is inputs is =
@@ -121,7 +156,7 @@ module _ (start : Start) (course : Course) (low : List Entry) (result : ℕ → 
         mine-quiet n (omega (arith, after, starts_length is.at low is.after)) (ap (times n) is.none) x at in
         current-still course.history is.at output spec is.seen (spec-stays is.at low output spec is.after spec_is) (inputs is.at is.after is.seen) version is.current
         (quiet-same output is.at course.history is.seen quiet)
-    level-current spec (brought.Refused fault) spec_is inputs is = tt
+    level-current spec (brought.Refused fault) spec_is inputs is = level-refused spec fault spec_is is
 
 -- ---- all levels
 
@@ -147,7 +182,7 @@ module _ (start : Start) (result : ℕ → Brought) (seen : List Entry) (follows
       current-still b a output spec starts (spec-stays a seen output spec begins spec_is) (inputs-same base a b output spec spec_is level (λ s lower. same s (omega (arith, lower)))) version is (same output (omega (arith, level)))
   still base a b output spec (brought.Current version) spec_is begins starts level same is =
       current-still b a output spec starts (spec-stays a seen output spec begins spec_is) (inputs-same base a b output spec spec_is level (λ s lower. same s (omega (arith, lower)))) version is (same output (omega (arith, level)))
-  still base a b output spec (brought.Refused fault) spec_is begins starts level same is = tt
+  still base a b output spec (brought.Refused fault) spec_is begins starts level same is = is
 
   -- Each output of the levels that is no refusal is up to date in the end.
   pub levels-current : (base : ℕ) (low : List Entry) (levels : List (List ℕ)) (late : Course) (own : List ℕ) → StartsWith low seen → Graded (levels_of seen) base levels → BringsLevels start low result levels late own → AreAll low late.history own → (output : ℕ) (spec : Spec) → IsInAny output levels → spec_of seen output ≡ Some spec → IsCurrentIn late.history output (result output)

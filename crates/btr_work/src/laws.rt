@@ -3,7 +3,7 @@ ghost use Rattle.btr_work.specs.Laws.{BroughtIsCurrent};
 ghost use Rattle.btr_work.specs.Alike.{BroughtIsAlike};
 
 /// If nobody else added anything since the call began, each output whose result is not a refusal has read the latest versions of its
-/// inputs in the end, and the version of its result is its latest one.
+/// inputs in the end, and the version of its result is its latest one. No output is refused because another version came first.
 pub fn brought_is_current()
     ensures { BroughtIsCurrent }
 {}
