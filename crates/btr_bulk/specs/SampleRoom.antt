@@ -24,7 +24,7 @@ AreOfRows batch rows streams = (map (λ s. s.rows) streams ≡ rows) × AllByRec
 abbrev pub IsLoadOf : ℕ → RowListValue → List Entry → Type 0
 IsLoadOf batch rows h = (loaded : LoadedValue) × AreOfRows batch rows.streams loaded.streams × AreThere h [] loaded
 
--- The history goes on from `low` by the definitions of outputs of a sample of so many streams alone. Each may follow the entries
+-- The history goes on from `low` by the definitions of outputs of a sample with this number of streams alone. Each may follow the entries
 -- before it.
 pub record DefinesSince (streams : ℕ) (low h : List Entry) : Type 0 where
   pub begins : StartsWith h low

@@ -30,7 +30,7 @@ use std::thread::Threads;
 
 /// Opens the store on a device, brings each output up to date once, its inputs first, and closes the store. It says one line for each
 /// output, in the order in which they were defined: its latest version and the versions of the inputs that this has read, or why it
-/// was not brought up to date. Outputs that do not depend on each other are shared among at most so many workers.
+/// was not brought up to date. Outputs that do not depend on each other are shared among at most `workers` workers.
 ///
 /// In the end each output is up to date whose line is no refusal. If the history was legal, and the memory and the device suffice, the
 /// commits, what they have read, and the lines are those of one worker, which lands the outputs one after another. If there is room

@@ -19,7 +19,7 @@ use std::alloc::{AllocError, Global};
 use std::sync::Wait;
 use std::thread::Threads;
 
-/// Opens the store on a device, loads rows with at most so many workers, in batches of this many points, and closes the store. It says
+/// Opens the store on a device, loads rows with at most `workers` workers, in batches of `batch` points, and closes the store. It says
 /// a line for each refused row, by its number; then for each stream, in the order of its first row, a line for each refused batch, and
 /// one with the stream's latest version and the points that were committed; and last the numbers of good and of refused rows.
 ///

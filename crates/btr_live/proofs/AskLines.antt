@@ -33,12 +33,12 @@ pub asks_question : (found : Option ℕ) (query : StreamQuery) → IsQuestion (o
 asks_question None query = tt
 asks_question (Some stream) query = tt
 
-question_answers : (start : Start) (course : Course) (told : Bool) (a : List Entry) (m : Meaning) (reply : LineReply) → IsQuestion m → IsAnswerOrNoMemory a m reply → Answers start course told a m reply [] a
-question_answers start course told a (Commits e) reply is answer = absurd is
-question_answers start course told a (Asks query) reply is answer = (answer, record { own = refl; next = refl })
-question_answers start course told a (Holds count) reply is answer = (answer, record { own = refl; next = refl })
-question_answers start course told a (Current version) reply is answer = (answer, record { own = refl; next = refl })
-question_answers start course told a (Refuses reason) reply is answer = (answer, record { own = refl; next = refl })
+question_answers : (start : Start) (course : Course) (saw_failure : Bool) (a : List Entry) (m : Meaning) (reply : LineReply) → IsQuestion m → IsAnswerOrNoMemory a m reply → Answers start course saw_failure a m reply [] a
+question_answers start course saw_failure a (Commits e) reply is answer = absurd is
+question_answers start course saw_failure a (Asks query) reply is answer = (answer, record { own = refl; next = refl })
+question_answers start course saw_failure a (Holds count) reply is answer = (answer, record { own = refl; next = refl })
+question_answers start course saw_failure a (Current version) reply is answer = (answer, record { own = refl; next = refl })
+question_answers start course saw_failure a (Refuses reason) reply is answer = (answer, record { own = refl; next = refl })
 
 module _ {D : Type 0} {disk : Ghosts D} (hall : Hall D disk) where
   -- A question is answered from what is seen in a look.

@@ -29,10 +29,10 @@ lines_push batch start course old (l ∷ ls) [] own mid line reply more new is r
 lines_push batch start course old (l ∷ ls) (r ∷ rs) own mid line reply more new is ran =
     (is.0, is.1 ++ more, is.2, ap (λ k. k ++ more) is.3 ∙ append_assoc is.0 is.1 more, is.4, lines_push batch start course is.2 ls rs is.1 mid line reply more new is.5 ran)
 
-module _ (batch : ℕ) (start : Start) (late early : Course) (low : List Entry) (lines : List (Option Line)) (replies : List LineReply) (line : Option Line) (reply : LineReply) (w after : Waiting) (a b : List ℕ) (told : Bool) (on : GoesOn start late early) (same : told ≡ has_failed start early) (first : RunsTo batch start early low lines replies a w) (second : Serves start late told early.history (LineAsks batch w line reply after) reply b) where
+module _ (batch : ℕ) (start : Start) (late early : Course) (low : List Entry) (lines : List (Option Line)) (replies : List LineReply) (line : Option Line) (reply : LineReply) (w after : Waiting) (a b : List ℕ) (saw_failure : Bool) (on : GoesOn start late early) (same : saw_failure ≡ has_failed start early) (first : RunsTo batch start early low lines replies a w) (second : Serves start late saw_failure early.history (LineAsks batch w line reply after) reply b) where
   -- The lane after one line more.
   abbrev state_after : LaneState
-  state_after = record { history = second.replies.next; told = first.last.told || tells_failure reply; waiting = after }
+  state_after = record { history = second.replies.next; saw_failure = first.last.saw_failure || tells_failure reply; waiting = after }
 
   one_more : RunsLine batch start late first.last line reply b state_after
   one_more = record {
@@ -41,9 +41,9 @@ module _ (batch : ℕ) (start : Start) (late early : Course) (low : List Entry) 
     begins = second.begins;
     asked = second.asked;
     means = subst (λ v. Means batch second.admitted v line second.asked) (sym first.waits) second.asks.0;
-    answers = answers_told start late told first.last.told (λ t. same ∙ first.failed t) second.admitted second.asked reply b second.replies.next second.replies.answers;
+    answers = answers_told start late saw_failure first.last.saw_failure (λ t. same ∙ first.failed t) second.admitted second.asked reply b second.replies.next second.replies.answers;
     waiting = second.asks.1 ∙ ap (λ v. waiting_after v (fed second.admitted v line) second.asked reply) (sym first.waits);
-    told = refl;
+    saw_failure = refl;
   }
 
   told_before : has_failed start early ≡ true → has_failed start late ≡ true
@@ -51,7 +51,7 @@ module _ (batch : ℕ) (start : Start) (late early : Course) (low : List Entry) 
 
   told_now : tells_failure reply ≡ true → has_failed start late ≡ true
   told_now tells =
-      answers_tell start late told second.admitted second.asked reply b second.replies.next (means_tells batch second.admitted w line second.asked second.asks.0) second.replies.answers tells
+      answers_tell start late saw_failure second.admitted second.asked reply b second.replies.next (means_tells batch second.admitted w line second.asked second.asks.0) second.replies.answers tells
 
   -- The lines up to one, and this one.
   pub runs_push : RunsTo batch start late low (lines ++ line ∷ []) (replies ++ reply ∷ []) (a ++ b) after
@@ -60,7 +60,7 @@ module _ (batch : ℕ) (start : Start) (late early : Course) (low : List Entry) 
     runs = lines_push batch start late (begun low) lines replies a first.last line reply b state_after (lines_last start late early on batch (begun low) lines replies a first.last first.runs) one_more;
     waits = refl;
     ends = second.replies.ends;
-    failed = either first.last.told (tells_failure reply) (has_failed start late ≡ true) (λ t. told_before (first.failed t)) told_now;
+    failed = either first.last.saw_failure (tells_failure reply) (has_failed start late ≡ true) (λ t. told_before (first.failed t)) told_now;
   }
 
 -- There is a reply to each line.

@@ -84,18 +84,18 @@ module _ (start : Start) (course : Course) (sound : course.failed ≡ None) (n :
   landed_after : (low : List Entry) (plan : PlanValue) (result : Result Receipt LandFault) (own : List ℕ) (next : List Entry) → LandedAfter start course low plan result own next → 1 ≤ times n own → IsWithin course low n
   landed_after low plan result own next is some = after is.0 low is.1 (landed is.0 plan result own next is.3 some)
 
-  offers_within : (told : Bool) (low : List Entry) (e : Entry) (reply : LineReply) (own : List ℕ) (next : List Entry) → Offers start course told low e reply own next → 1 ≤ times n own → IsWithin course low n
-  offers_within told low (entries.Create id) reply own next is some = committed_after low (entries.Create id) is.0 own next is.1 some
-  offers_within told low (entries.Define id spec) reply own next is some = committed_after low (entries.Define id spec) is.0 own next is.1 some
-  offers_within told low (entries.Commit stream cut more) reply own next is some = committed_after low (entries.Commit stream cut more) is.0 own next is.1 some
-  offers_within told low (entries.Distillate stream cut more reads) reply own next is some = landed_after low is.0 is.3 own next is.4 some
+  offers_within : (saw_failure : Bool) (low : List Entry) (e : Entry) (reply : LineReply) (own : List ℕ) (next : List Entry) → Offers start course saw_failure low e reply own next → 1 ≤ times n own → IsWithin course low n
+  offers_within saw_failure low (entries.Create id) reply own next is some = committed_after low (entries.Create id) is.0 own next is.1 some
+  offers_within saw_failure low (entries.Define id spec) reply own next is some = committed_after low (entries.Define id spec) is.0 own next is.1 some
+  offers_within saw_failure low (entries.Commit stream cut more) reply own next is some = committed_after low (entries.Commit stream cut more) is.0 own next is.1 some
+  offers_within saw_failure low (entries.Distillate stream cut more reads) reply own next is some = landed_after low is.0 is.3 own next is.4 some
 
-  answers_within : (told : Bool) (low : List Entry) (m : Meaning) (reply : LineReply) (own : List ℕ) (next : List Entry) → Answers start course told low m reply own next → 1 ≤ times n own → IsWithin course low n
-  answers_within told low (Commits e) reply own next is some = offers_within told low e reply own next is some
-  answers_within told low (Asks query) reply own next is some = idle low own next is.1 some
-  answers_within told low (Holds count) reply own next is some = idle low own next is.1 some
-  answers_within told low (Current version) reply own next is some = idle low own next is.1 some
-  answers_within told low (Refuses reason) reply own next is some = idle low own next is.1 some
+  answers_within : (saw_failure : Bool) (low : List Entry) (m : Meaning) (reply : LineReply) (own : List ℕ) (next : List Entry) → Answers start course saw_failure low m reply own next → 1 ≤ times n own → IsWithin course low n
+  answers_within saw_failure low (Commits e) reply own next is some = offers_within saw_failure low e reply own next is some
+  answers_within saw_failure low (Asks query) reply own next is some = idle low own next is.1 some
+  answers_within saw_failure low (Holds count) reply own next is some = idle low own next is.1 some
+  answers_within saw_failure low (Current version) reply own next is some = idle low own next is.1 some
+  answers_within saw_failure low (Refuses reason) reply own next is some = idle low own next is.1 some
 
   lines_inside : (batch : ℕ) (old : LaneState) (lines : List (Option Line)) (replies : List LineReply) (own : List ℕ) (new : LaneState) → RunsLines batch start course old lines replies own new → 1 ≤ times n own → n ≤ length course.history
   lines_inside batch old [] [] own new is some = nothing (n ≤ length course.history) n own is.0 some
@@ -103,7 +103,7 @@ module _ (start : Start) (course : Course) (sound : course.failed ≡ None) (n :
   lines_inside batch old (l ∷ ls) [] own new is some = absurd is
   lines_inside batch old (l ∷ ls) (r ∷ rs) own new is some =
       elim (cases_lt 0 (times n is.0)) [
-        | inl first ↦ (answers_within old.told is.4.admitted is.4.asked r is.0 is.2.history is.4.answers first).inside
+        | inl first ↦ (answers_within old.saw_failure is.4.admitted is.4.asked r is.0 is.2.history is.4.answers first).inside
         | inr none ↦ lines_inside batch is.2 ls rs is.1 new is.5
             (let all = ap (times n) is.3 in let both = times_append n is.0 is.1 in omega (arith, some, none, all, both))
       ]

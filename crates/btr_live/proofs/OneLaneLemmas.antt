@@ -87,23 +87,23 @@ not_failed false none = refl
 
 module _ (start : Start) (course : Course) (all : Follows course.history) where
   -- A line was answered in a turn, which may have seen more than it was admitted to.
-  record InTurn (told : Bool) (a : List Entry) (m : Meaning) (reply : LineReply) (own : List ℕ) (next : List Entry) : Type 0 where
+  record InTurn (saw_failure : Bool) (a : List Entry) (m : Meaning) (reply : LineReply) (own : List ℕ) (next : List Entry) : Type 0 where
     pub at : List Entry
     pub after : StartsWith at a
     pub begins : StartsWith course.history at
     pub adds : Adds at reply own next
-    pub stops : told ≡ true → own ≡ []
-    pub done : a ≡ at → IsDone start course told at m reply own next
+    pub stops : saw_failure ≡ true → own ≡ []
+    pub done : a ≡ at → IsDone start course saw_failure at m reply own next
 
   -- An entry was offered, but no distillate.
   abbrev OffersPlain : Bool → List Entry → Entry → LineReply → List ℕ → List Entry → Type 0
-  OffersPlain told a e reply own next =
+  OffersPlain saw_failure a e reply own next =
       (result : Result Receipt StepFault) × CommittedAfter start course a e result own next × (reply ≡ reply_of_step result)
-      × (told ≡ true → (count : ℕ) × (reply ≡ No (reasons.Stopped count)))
+      × (saw_failure ≡ true → (count : ℕ) × (reply ≡ No (reasons.Stopped count)))
 
   -- The turn of an entry that is no distillate.
-  plain_turn : (told : Bool) (a : List Entry) (e : Entry) (reply : LineReply) (own : List ℕ) (next : List Entry) → OffersPlain told a e reply own next → InTurn told a (Commits e) reply own next
-  plain_turn told a e reply own next is =
+  plain_turn : (saw_failure : Bool) (a : List Entry) (e : Entry) (reply : LineReply) (own : List ℕ) (next : List Entry) → OffersPlain saw_failure a e reply own next → InTurn saw_failure a (Commits e) reply own next
+  plain_turn saw_failure a e reply own next is =
       let adds : Adds is.1.0 reply own next = subst (λ r. Adds is.1.0 r own next) (sym is.2) (committed_adds start course is.1.0 e is.0 own next is.1.3) in record {
         at = is.1.0;
         after = is.1.1;
@@ -114,8 +114,8 @@ module _ (start : Start) (course : Course) (all : Follows course.history) where
       }
 
   -- The turn of a distillate: its plan is that of the history of the turn.
-  landing_turn : (told : Bool) (a : List Entry) (stream : ℕ) (cut : List RangeValue) (added : List Point) (reads : Reads) (reply : LineReply) (own : List ℕ) (next : List Entry) → Offers start course told a (entries.Distillate stream cut added reads) reply own next → InTurn told a (Commits (entries.Distillate stream cut added reads)) reply own next
-  landing_turn told a stream cut added reads reply own next is =
+  landing_turn : (saw_failure : Bool) (a : List Entry) (stream : ℕ) (cut : List RangeValue) (added : List Point) (reads : Reads) (reply : LineReply) (own : List ℕ) (next : List Entry) → Offers start course saw_failure a (entries.Distillate stream cut added reads) reply own next → InTurn saw_failure a (Commits (entries.Distillate stream cut added reads)) reply own next
+  landing_turn saw_failure a stream cut added reads reply own next is =
       let at : List Entry = is.4.0 in
       let adds : Adds at reply own next = subst (λ r. Adds at r own next) (sym is.5) (landed_adds start course at is.0 is.3 own next is.4.3) in record {
         at = at;
@@ -131,8 +131,8 @@ module _ (start : Start) (course : Course) (all : Follows course.history) where
       }
 
   -- What is no commit was answered at the history to which the line was admitted.
-  idle_turn : (told : Bool) (a : List Entry) (m : Meaning) (reply : LineReply) (own : List ℕ) (next : List Entry) → StartsWith course.history a → IsIdle a own next → IsDone start course told a m reply own next → InTurn told a m reply own next
-  idle_turn told a m reply own next begins idle done = record {
+  idle_turn : (saw_failure : Bool) (a : List Entry) (m : Meaning) (reply : LineReply) (own : List ℕ) (next : List Entry) → StartsWith course.history a → IsIdle a own next → IsDone start course saw_failure a m reply own next → InTurn saw_failure a m reply own next
+  idle_turn saw_failure a m reply own next begins idle done = record {
     at = a;
     after = starts_refl a;
     begins = begins;
@@ -142,23 +142,23 @@ module _ (start : Start) (course : Course) (all : Follows course.history) where
   }
 
   -- The turn of a line.
-  in_turn : (told : Bool) (a : List Entry) (m : Meaning) (reply : LineReply) (own : List ℕ) (next : List Entry) → StartsWith course.history a → Answers start course told a m reply own next → InTurn told a m reply own next
-  in_turn told a (Commits (entries.Create id)) reply own next begins is = plain_turn told a (entries.Create id) reply own next is
-  in_turn told a (Commits (entries.Define id spec)) reply own next begins is = plain_turn told a (entries.Define id spec) reply own next is
-  in_turn told a (Commits (entries.Commit stream cut added)) reply own next begins is = plain_turn told a (entries.Commit stream cut added) reply own next is
-  in_turn told a (Commits (entries.Distillate stream cut added reads)) reply own next begins is =
-      landing_turn told a stream cut added reads reply own next is
-  in_turn told a (Asks query) reply own next begins is = idle_turn told a (Asks query) reply own next begins is.1 is
-  in_turn told a (Holds count) reply own next begins is = idle_turn told a (Holds count) reply own next begins is.1 is
-  in_turn told a (Current version) reply own next begins is = idle_turn told a (Current version) reply own next begins is.1 is
-  in_turn told a (Refuses reason) reply own next begins is = idle_turn told a (Refuses reason) reply own next begins is.1 is
+  in_turn : (saw_failure : Bool) (a : List Entry) (m : Meaning) (reply : LineReply) (own : List ℕ) (next : List Entry) → StartsWith course.history a → Answers start course saw_failure a m reply own next → InTurn saw_failure a m reply own next
+  in_turn saw_failure a (Commits (entries.Create id)) reply own next begins is = plain_turn saw_failure a (entries.Create id) reply own next is
+  in_turn saw_failure a (Commits (entries.Define id spec)) reply own next begins is = plain_turn saw_failure a (entries.Define id spec) reply own next is
+  in_turn saw_failure a (Commits (entries.Commit stream cut added)) reply own next begins is = plain_turn saw_failure a (entries.Commit stream cut added) reply own next is
+  in_turn saw_failure a (Commits (entries.Distillate stream cut added reads)) reply own next begins is =
+      landing_turn saw_failure a stream cut added reads reply own next is
+  in_turn saw_failure a (Asks query) reply own next begins is = idle_turn saw_failure a (Asks query) reply own next begins is.1 is
+  in_turn saw_failure a (Holds count) reply own next begins is = idle_turn saw_failure a (Holds count) reply own next begins is.1 is
+  in_turn saw_failure a (Current version) reply own next begins is = idle_turn saw_failure a (Current version) reply own next begins is.1 is
+  in_turn saw_failure a (Refuses reason) reply own next begins is = idle_turn saw_failure a (Refuses reason) reply own next begins is.1 is
 
   -- ---- a lane that runs alone
 
   -- The lane knows all entries so far, and all that follow are its own.
   record Alone (s : LaneState) (stopped : Bool) (own : List ℕ) : Type 0 where
     pub begins : StartsWith course.history s.history
-    pub known : stopped ≡ true → IsLast course s.history s.told
+    pub known : stopped ≡ true → IsLast course s.history s.saw_failure
     pub numbers : (n : ℕ) → times n own ≡ given (length s.history + one stopped) (all_numbers course) n
 
   -- A history is no longer than the one that the lane knows, if it has no number more.
@@ -209,8 +209,8 @@ module _ (start : Start) (course : Course) (all : Follows course.history) where
 
   module _ (batch : ℕ) where
     -- The turn of a line that ran.
-    turn_of : (old : LaneState) (line : Option Line) (reply : LineReply) (own : List ℕ) (new : LaneState) → (is : RunsLine batch start course old line reply own new) → InTurn old.told is.admitted is.asked reply own new.history
-    turn_of old line reply own new is = in_turn old.told is.admitted is.asked reply own new.history is.begins is.answers
+    turn_of : (old : LaneState) (line : Option Line) (reply : LineReply) (own : List ℕ) (new : LaneState) → (is : RunsLine batch start course old line reply own new) → InTurn old.saw_failure is.admitted is.asked reply own new.history
+    turn_of old line reply own new is = in_turn old.saw_failure is.admitted is.asked reply own new.history is.begins is.answers
 
     -- Each number of lines is above the history that their lane knew.
     lines_above : (n : ℕ) (old : LaneState) (lines : List (Option Line)) (replies : List LineReply) (own : List ℕ) (new : LaneState) → RunsLines batch start course old lines replies own new → 1 ≤ times n own → length old.history < n
@@ -219,7 +219,7 @@ module _ (start : Start) (course : Course) (all : Follows course.history) where
     lines_above n old (line ∷ lines) [] own new is some = absurd is
     lines_above n old (line ∷ lines) (reply ∷ replies) own new is some =
         let ran : RunsLine batch start course old line reply is.0 is.2 = is.4 in
-        let turn : InTurn old.told ran.admitted ran.asked reply is.0 is.2.history = turn_of old line reply is.0 is.2 ran in
+        let turn : InTurn old.saw_failure ran.admitted ran.asked reply is.0 is.2.history = turn_of old line reply is.0 is.2 ran in
         let low = starts_length turn.at old.history (starts_trans turn.at ran.admitted old.history turn.after ran.after) in
         let high = starts_length is.2.history turn.at turn.adds.later in
         let sum = ap (times n) is.3 in
@@ -231,16 +231,16 @@ module _ (start : Start) (course : Course) (all : Follows course.history) where
               omega (arith, low, high, above)
         ]
 
-    -- Lines add nothing after a reply told that the device failed.
-    lines_told : (n : ℕ) (old : LaneState) (lines : List (Option Line)) (replies : List LineReply) (own : List ℕ) (new : LaneState) → RunsLines batch start course old lines replies own new → old.told ≡ true → times n own ≡ 0
+    -- Lines add nothing after a reply said that the device failed.
+    lines_told : (n : ℕ) (old : LaneState) (lines : List (Option Line)) (replies : List LineReply) (own : List ℕ) (new : LaneState) → RunsLines batch start course old lines replies own new → old.saw_failure ≡ true → times n own ≡ 0
     lines_told n old [] [] own new is heard = ap (times n) is.0
     lines_told n old [] (reply ∷ replies) own new is heard = absurd is
     lines_told n old (line ∷ lines) [] own new is heard = absurd is
     lines_told n old (line ∷ lines) (reply ∷ replies) own new is heard =
         let ran : RunsLine batch start course old line reply is.0 is.2 = is.4 in
-        let turn : InTurn old.told ran.admitted ran.asked reply is.0 is.2.history = turn_of old line reply is.0 is.2 ran in
+        let turn : InTurn old.saw_failure ran.admitted ran.asked reply is.0 is.2.history = turn_of old line reply is.0 is.2 ran in
         let none : times n is.0 ≡ 0 = ap (times n) (turn.stops heard) in
-        let still : is.2.told ≡ true = ran.told ∙ ap (λ t. t || tells_failure reply) heard in
+        let still : is.2.saw_failure ≡ true = ran.saw_failure ∙ ap (λ t. t || tells_failure reply) heard in
         let rest = lines_told n is.2 lines replies is.1 new is.5 still in
         let sum = ap (times n) is.3 in
         let both = times_append n is.0 is.1 in
@@ -260,7 +260,7 @@ module _ (start : Start) (course : Course) (all : Follows course.history) where
         pub history : last.store.history ≡ course.history
         pub stopped : last.store.stopped ≡ is_some course.failed
 
-      -- If the store was not stopped before, nobody was told that the device had failed before.
+      -- If the store was not stopped before, nobody had seen the device fail before.
       not_before : (s : LaneState) (stopped : Bool) (own first rest : List ℕ) → Alone s stopped own → own ≡ first ++ rest → stopped ≡ false → first ≡ [] → ((n : ℕ) → times n rest ≡ 0) → course.history ≡ s.history → is_some course.failed ≡ true → ⊥
       not_before s stopped own first rest alone split not none no_rest last failed =
           let n : ℕ = all_numbers course in
@@ -285,7 +285,7 @@ module _ (start : Start) (course : Course) (all : Follows course.history) where
       lines_alone s stopped (line ∷ script) (reply ∷ replies) own new alone is =
           let after : LaneState = is.2 in
           let ran : RunsLine batch start course s line.line reply is.0 after = is.4 in
-          let turn : InTurn s.told ran.admitted ran.asked reply is.0 after.history = turn_of s line.line reply is.0 after ran in
+          let turn : InTurn s.saw_failure ran.admitted ran.asked reply is.0 after.history = turn_of s line.line reply is.0 after ran in
           let later : (n : ℕ) → 1 ≤ times n is.1 → length turn.at < n = λ n some.
           let above = lines_above n after (map (λ (line : ScriptLine). line.line) script) replies is.1 new is.5 some in
           let high = starts_length after.history turn.at turn.adds.later in
@@ -297,21 +297,21 @@ module _ (start : Start) (course : Course) (all : Follows course.history) where
           (let less = starts_length turn.at ran.admitted turn.after in
           let same : length turn.at ≡ length s.history = ap (λ (x : List Entry). length x) at_is in
           omega (arith, less, same)) in
-          let done : IsDone start course s.told s.history ran.asked reply is.0 after.history =
-          subst (λ h. IsDone start course s.told h ran.asked reply is.0 after.history) at_is (turn.done (admitted_is ∙ sym at_is)) in
+          let done : IsDone start course s.saw_failure s.history ran.asked reply is.0 after.history =
+          subst (λ h. IsDone start course s.saw_failure h ran.asked reply is.0 after.history) at_is (turn.done (admitted_is ∙ sym at_is)) in
           let no_stop : stopped ≡ false → (count : ℕ) → reply ≡ No (reasons.Stopped count) → is.0 ≡ [] → course.history ≡ s.history → is_some course.failed ≡ true → ⊥ =
           λ not count refused none.
           not_before s stopped own is.0 is.1 alone is.3 not none
-          (λ n. lines_told n after (map (λ (line : ScriptLine). line.line) script) replies is.1 new is.5 (ran.told ∙ or_right s.told (tells_failure reply) (ap tells_failure refused))) in
-          let step : Stepped start course fits runs s.history stopped s.told ran.asked reply is.0 after.history =
-          stepped start course fits runs s.history stopped s.told ran.asked reply is.0 after.history alone.begins alone.known no_stop done in
-          let known : step.stops ≡ true → IsLast course after.history after.told = λ stops.
-          let l = step.known stops in record { last = l.last; failed = l.failed; told = ran.told ∙ l.told } in
+          (λ n. lines_told n after (map (λ (line : ScriptLine). line.line) script) replies is.1 new is.5 (ran.saw_failure ∙ or_right s.saw_failure (tells_failure reply) (ap tells_failure refused))) in
+          let step : Stepped start course fits runs s.history stopped s.saw_failure ran.asked reply is.0 after.history =
+          stepped start course fits runs s.history stopped s.saw_failure ran.asked reply is.0 after.history alone.begins alone.known no_stop done in
+          let known : step.stops ≡ true → IsLast course after.history after.saw_failure = λ stops.
+          let l = step.known stops in record { last = l.last; failed = l.failed; saw_failure = ran.saw_failure ∙ l.saw_failure } in
           let next : Alone after step.stops is.1 = record {
             begins = step.ends;
             known = known;
             numbers = given_rest (length s.history + one stopped) (length after.history + one step.stops) (all_numbers course) is.0 is.1 own is.3
-                (at_most course after.history step.stops after.told step.ends known) step.moves alone.numbers;
+                (at_most course after.history step.stops after.saw_failure step.ends known) step.moves alone.numbers;
           } in
           let replied : RepliesToLine batch (state_of s stopped) line.line ran.asked reply (state_of after step.stops) = record {
             means = subst (λ h. Means batch h s.waiting line.line ran.asked) admitted_is ran.means;
@@ -381,10 +381,10 @@ one_lane batch lane start course script report own runs all sound follows fits i
       known = λ stops. absurd (cc);
       numbers = mine_all batch lane start course script report own runs all in_lane;
     } in
-    let told : RanAlone start course follows batch fits sound (state_with start (room start start.history) false) script report.replies.items =
+    let by_itself : RanAlone start course follows batch fits sound (state_with start (room start start.history) false) script report.replies.items =
     lines_alone start course follows batch fits sound (lane_begun start.history) false script report.replies.items (slice_index_or runs.mine lane []) ran.0 alone ran.1 in record {
-      last = told.last;
-      runs = subst (λ s. RunsScript batch s script report.replies.items told.last) (begun_same start sound) told.replied;
-      history = told.history;
-      stopped = told.stopped;
+      last = by_itself.last;
+      runs = subst (λ s. RunsScript batch s script report.replies.items by_itself.last) (begun_same start sound) by_itself.replied;
+      history = by_itself.history;
+      stopped = by_itself.stopped;
     }

@@ -41,9 +41,9 @@ module _ {A : Type 0} (k : ℕ) where
 abbrev pub HasLeft : (ℕ → List LineReply) → List ℕ → Type 0
 HasLeft left rest = (k : ℕ) → length (left k) ≡ length (of_lane k rest rest)
 
--- The replies that were told, with those that are left, are all replies.
-abbrev pub HasTold : (ℕ → List LineReply) → (ℕ → List LineReply) → List ℕ → List LineReply → Type 0
-HasTold all left lanes told = (k : ℕ) → all k ≡ of_lane k lanes told ++ left k
+-- The replies that are in their places, with those that are left, are all replies.
+abbrev pub HasPlaced : (ℕ → List LineReply) → (ℕ → List LineReply) → List ℕ → List LineReply → Type 0
+HasPlaced all left lanes placed = (k : ℕ) → all k ≡ of_lane k lanes placed ++ left k
 
 pub left-first : (left : ℕ → List LineReply) (lane : ℕ) (rest : List ℕ) → HasLeft left (lane ∷ rest) → 1 ≤ length (left lane)
 left-first left lane rest has =
@@ -62,20 +62,20 @@ left-more left after lane reply rest has is = λ k.
     by true k same all = omega (arith, same, all)
     by false k same all = sym same ∙ all
 
-pub told-more : (all left after : ℕ → List LineReply) (lanes : List ℕ) (told : List LineReply) (lane : ℕ) (reply : LineReply) → length told ≡ length lanes → HasTold all left lanes told → ((k : ℕ) → left k ≡ of_lane k (lane ∷ []) (reply ∷ []) ++ after k) → HasTold all after (lanes ++ lane ∷ []) (told ++ reply ∷ [])
-told-more all left after lanes told lane reply each has is = λ k.
+pub placed-more : (all left after : ℕ → List LineReply) (lanes : List ℕ) (placed : List LineReply) (lane : ℕ) (reply : LineReply) → length placed ≡ length lanes → HasPlaced all left lanes placed → ((k : ℕ) → left k ≡ of_lane k (lane ∷ []) (reply ∷ []) ++ after k) → HasPlaced all after (lanes ++ lane ∷ []) (placed ++ reply ∷ [])
+placed-more all left after lanes placed lane reply each has is = λ k.
     has k
-    ∙ ap (λ l. of_lane k lanes told ++ l) (is k)
-    ∙ sym (append_assoc (of_lane k lanes told) (of_lane k (lane ∷ []) (reply ∷ [])) (after k))
-    ∙ ap (λ l. l ++ after k) (sym (of_lane-append k lanes (lane ∷ []) told (reply ∷ []) each))
+    ∙ ap (λ l. of_lane k lanes placed ++ l) (is k)
+    ∙ sym (append_assoc (of_lane k lanes placed) (of_lane k (lane ∷ []) (reply ∷ [])) (after k))
+    ∙ ap (λ l. l ++ after k) (sym (of_lane-append k lanes (lane ∷ []) placed (reply ∷ []) each))
 
 pub none-left : (items : List LineReply) → length items ≡ 0 → items ≡ []
 none-left [] is = refl
 none-left (x ∷ xs) is = absurd (omega (arith, is))
 
-pub told-all : (all left : ℕ → List LineReply) (lanes : List ℕ) (told : List LineReply) → HasLeft left [] → HasTold all left lanes told → (k : ℕ) → of_lane k lanes told ≡ all k
-told-all all left lanes told has is k =
-    sym (is k ∙ ap (λ l. of_lane k lanes told ++ l) (none-left (left k) (has k)) ∙ append-nil (of_lane k lanes told))
+pub placed-all : (all left : ℕ → List LineReply) (lanes : List ℕ) (placed : List LineReply) → HasLeft left [] → HasPlaced all left lanes placed → (k : ℕ) → of_lane k lanes placed ≡ all k
+placed-all all left lanes placed has is k =
+    sym (is k ∙ ap (λ l. of_lane k lanes placed ++ l) (none-left (left k) (has k)) ∙ append-nil (of_lane k lanes placed))
 
 -- ---- one more line of a script
 

@@ -128,7 +128,7 @@ replies-place [] k d low = absurd (omega (arith, low))
 replies-place (part ∷ all) zero d low = refl
 replies-place (part ∷ all) (suc k) d low = replies-place all k d (omega (arith, low))
 
--- One part has told a reply.
+-- One part has given a reply.
 pub replies-told : (all : List Part) (lane : ℕ) (now : Part) (reply : LineReply) → lane < length all → replies_at all lane ≡ reply ∷ replies_of now → (k : ℕ) → replies_at all k ≡ of_lane k (lane ∷ []) (reply ∷ []) ++ replies_at (set all lane now) k
 replies-told all lane now reply low is k =
     elim (lane == k) as (λ t. (lane == k) ≡ t → replies_at all k ≡ cond t (reply ∷ []) [] ++ replies_at (set all lane now) k) [

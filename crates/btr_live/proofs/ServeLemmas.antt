@@ -37,15 +37,15 @@ use Rattle.btr_live.proofs.ToldLemmas.{answers_told, stopped_longer}
 -- ---- entries
 
 -- A user's entry is offered in a turn.
-pub offers : (start : Start) (course : Course) (told : Bool) (a : List Entry) (e : Entry) (result : Result Receipt StepFault) (own : List ℕ) (next : List Entry) → is_distillate e ≡ false → CommittedAfter start course a e result own next → (told ≡ true → (count : ℕ) × (reply_of_step result ≡ No (reasons.Stopped count))) → Offers start course told a e (reply_of_step result) own next
-offers start course told a (entries.Create id) result own next user is again = (result, is, refl, again)
-offers start course told a (entries.Define id spec) result own next user is again = (result, is, refl, again)
-offers start course told a (entries.Commit stream cut added) result own next user is again = (result, is, refl, again)
-offers start course told a (entries.Distillate stream cut added reads) result own next user is again = absurd (cc)
+pub offers : (start : Start) (course : Course) (saw_failure : Bool) (a : List Entry) (e : Entry) (result : Result Receipt StepFault) (own : List ℕ) (next : List Entry) → is_distillate e ≡ false → CommittedAfter start course a e result own next → (saw_failure ≡ true → (count : ℕ) × (reply_of_step result ≡ No (reasons.Stopped count))) → Offers start course saw_failure a e (reply_of_step result) own next
+offers start course saw_failure a (entries.Create id) result own next user is again = (result, is, refl, again)
+offers start course saw_failure a (entries.Define id spec) result own next user is again = (result, is, refl, again)
+offers start course saw_failure a (entries.Commit stream cut added) result own next user is again = (result, is, refl, again)
+offers start course saw_failure a (entries.Distillate stream cut added reads) result own next user is again = absurd (cc)
 
 -- A plan is offered in a turn.
-pub landing_offers : (start : Start) (course : Course) (told : Bool) (a : List Entry) (plan : PlanValue) (result : Result Receipt LandFault) (own : List ℕ) (next : List Entry) → IsNextPlan a plan.stream plan → LandedAfter start course a plan result own next → (told ≡ true → (count : ℕ) × (reply_of_landing result ≡ No (reasons.Stopped count))) → Offers start course told a (entry_of plan) (reply_of_landing result) own next
-landing_offers start course told a plan result own next planned is again = (plan, planned, refl, result, is, refl, again)
+pub landing_offers : (start : Start) (course : Course) (saw_failure : Bool) (a : List Entry) (plan : PlanValue) (result : Result Receipt LandFault) (own : List ℕ) (next : List Entry) → IsNextPlan a plan.stream plan → LandedAfter start course a plan result own next → (saw_failure ≡ true → (count : ℕ) × (reply_of_landing result ≡ No (reasons.Stopped count))) → Offers start course saw_failure a (entry_of plan) (reply_of_landing result) own next
+landing_offers start course saw_failure a plan result own next planned is again = (plan, planned, refl, result, is, refl, again)
 
 module _ {D : Type 0} {disk : Ghosts D} (hall : Hall D disk) where
   -- ---- replies
@@ -80,7 +80,7 @@ module _ {D : Type 0} {disk : Ghosts D} (hall : Hall D disk) where
         does.1,
         λ h of.
             let said = does.2 h of in
-            record { next = said.0; answers = offers (start_of h hall) (course_of h new) (was_told hall old) (course_of h old).history e result does.0 said.0 user said.1 (λ told. (length (history_of h commits.before), ap reply_of_step (commits.stopped (stopped_longer (opening_of hall) commits.before (seen_of old) commits.grows told) h of))); ends = said.2 },
+            record { next = said.0; answers = offers (start_of h hall) (course_of h new) (was_told hall old) (course_of h old).history e result does.0 said.0 user said.1 (λ saw_failure. (length (history_of h commits.before), ap reply_of_step (commits.stopped (stopped_longer (opening_of hall) commits.before (seen_of old) commits.grows saw_failure) h of))); ends = said.2 },
       )
 
   -- The turn of a plan.
@@ -91,7 +91,7 @@ module _ {D : Type 0} {disk : Ghosts D} (hall : Hall D disk) where
         does.1,
         λ h of.
             let said = does.2 h of in
-            record { next = said.0; answers = landing_offers (start_of h hall) (course_of h new) (was_told hall old) (course_of h old).history plan result does.0 said.0 (planned h of) said.1 (λ told. (length (history_of h lands.before), ap reply_of_landing (lands.stopped (stopped_longer (opening_of hall) lands.before (seen_of old) lands.grows told) h of))); ends = said.2 },
+            record { next = said.0; answers = landing_offers (start_of h hall) (course_of h new) (was_told hall old) (course_of h old).history plan result does.0 said.0 (planned h of) said.1 (λ saw_failure. (length (history_of h lands.before), ap reply_of_landing (lands.stopped (stopped_longer (opening_of hall) lands.before (seen_of old) lands.grows saw_failure) h of))); ends = said.2 },
       )
 
   -- An entry of a user was refused after a look.
@@ -106,7 +106,7 @@ module _ {D : Type 0} {disk : Ghosts D} (hall : Hall D disk) where
               next = seen;
               answers = offers (start_of h hall) (course_of h new) (was_told hall old) (course_of h old).history e result does.0 seen user
                   (seen, history_goes_on h new old looks.grows, starts_refl seen, subst (λ own. Committed (start_of h hall) (course_of h new) seen e result own seen) none (says h of))
-                  (λ told. again h of (stopped_longer (opening_of hall) (seen_of new) (seen_of old) looks.grows told));
+                  (λ saw_failure. again h of (stopped_longer (opening_of hall) (seen_of new) (seen_of old) looks.grows saw_failure));
               ends = starts_refl seen;
             },
       )

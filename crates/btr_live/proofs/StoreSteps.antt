@@ -61,27 +61,27 @@ right_if : (a b : Bool) → a ≡ false → (a || b) ≡ true → b ≡ true
 right_if true b is_not is = absurd (cc)
 right_if false b is_not is = is
 
--- Who was told before a line was told.
+-- Who saw the device fail before a line has seen it after that line.
 told_still : (a b : Bool) → a ≡ true → (a || b) ≡ true
 told_still true b is = refl
 told_still false b is = absurd (cc)
 
--- What was done in a turn at the history to which the line was admitted. Who was told that the device failed is told so again.
+-- What was done in a turn at the history to which the line was admitted. Who saw the device fail gets a reply that says so again.
 abbrev pub IsDone : Start → Course → Bool → List Entry → Meaning → LineReply → List ℕ → List Entry → Type 0
-IsDone start course told h (Commits e) reply own next =
+IsDone start course saw_failure h (Commits e) reply own next =
     (result : Result Receipt StepFault) × Committed start course h e result own next × (reply ≡ reply_of_step result)
-    × (told ≡ true → (count : ℕ) × (reply ≡ No (reasons.Stopped count)))
-IsDone start course told h (Asks query) reply own next =
+    × (saw_failure ≡ true → (count : ℕ) × (reply ≡ No (reasons.Stopped count)))
+IsDone start course saw_failure h (Asks query) reply own next =
     ((reply ≡ reply_of_answer (answer h query)) ⊎ (reply ≡ No reasons.Memory)) × IsIdle h own next
-IsDone start course told h (Holds count) reply own next = (reply ≡ replies.Held count) × IsIdle h own next
-IsDone start course told h (Current version) reply own next = (reply ≡ Done version) × IsIdle h own next
-IsDone start course told h (Refuses reason) reply own next = (reply ≡ No reason) × IsIdle h own next
+IsDone start course saw_failure h (Holds count) reply own next = (reply ≡ replies.Held count) × IsIdle h own next
+IsDone start course saw_failure h (Current version) reply own next = (reply ≡ Done version) × IsIdle h own next
+IsDone start course saw_failure h (Refuses reason) reply own next = (reply ≡ No reason) × IsIdle h own next
 
--- The device failed in the step of the entry after this history, and a reply told so.
+-- The device failed in the step of the entry after this history, and a reply said so.
 pub record IsLast (course : Course) (h : List Entry) (heard : Bool) : Type 0 where
   pub last : course.history ≡ h
   pub failed : is_some course.failed ≡ true
-  pub told : heard ≡ true
+  pub saw_failure : heard ≡ true
 
 -- The number of all entries, with that in whose step the device failed.
 abbrev pub all_numbers : Course → ℕ
@@ -131,16 +131,16 @@ module _ (start : Start) (course : Course) (fits : Fits start course) (runs : st
       ap (λ left. store_with (h ++ e ∷ []) left false) same
 
   -- What was done is what the model does or its reason, and the store goes on to the next history.
-  pub record Stepped (h : List Entry) (stopped told : Bool) (m : Meaning) (reply : LineReply) (own : List ℕ) (next : List Entry) : Type 0 where
+  pub record Stepped (h : List Entry) (stopped saw_failure : Bool) (m : Meaning) (reply : LineReply) (own : List ℕ) (next : List Entry) : Type 0 where
     pub stops : Bool
     pub replied : Replies (store_of start h stopped) m reply (store_of start next stops)
     pub ends : StartsWith course.history next
-    pub known : stops ≡ true → IsLast course next (told || tells_failure reply)
+    pub known : stops ≡ true → IsLast course next (saw_failure || tells_failure reply)
     pub moves : Moves (length h + one stopped) own (length next + one stops)
 
   -- If nothing was added, the store is the same.
-  still : (h : List Entry) (stopped told : Bool) (m : Meaning) (reply : LineReply) (own : List ℕ) (next : List Entry) → StartsWith course.history h → (stopped ≡ true → IsLast course h told) → IsIdle h own next → Replies (store_of start h stopped) m reply (store_of start h stopped) → Stepped h stopped told m reply own next
-  still h stopped told m reply own next begins known idle replied = record {
+  still : (h : List Entry) (stopped saw_failure : Bool) (m : Meaning) (reply : LineReply) (own : List ℕ) (next : List Entry) → StartsWith course.history h → (stopped ≡ true → IsLast course h saw_failure) → IsIdle h own next → Replies (store_of start h stopped) m reply (store_of start h stopped) → Stepped h stopped saw_failure m reply own next
+  still h stopped saw_failure m reply own next begins known idle replied = record {
     stops = stopped;
     replied = subst (λ x. Replies (store_of start h stopped) m reply (store_of start x stopped)) (sym idle.next) replied;
     ends = subst (λ x. StartsWith course.history x) (sym idle.next) begins;
@@ -148,12 +148,12 @@ module _ (start : Start) (course : Course) (fits : Fits start course) (runs : st
         let l = known is in record {
           last = l.last ∙ sym idle.next;
           failed = l.failed;
-          told = told_still told (tells_failure reply) l.told;
+          saw_failure = told_still saw_failure (tells_failure reply) l.saw_failure;
         };
     moves = inl (idle.own, ap (λ x. length x + one stopped) idle.next);
   }
 
-  module _ (h : List Entry) (told : Bool) (e : Entry) (reply : LineReply) (own : List ℕ) (next : List Entry) (begins : StartsWith course.history h) where
+  module _ (h : List Entry) (saw_failure : Bool) (e : Entry) (reply : LineReply) (own : List ℕ) (next : List Entry) (begins : StartsWith course.history h) where
     -- The next number of a store that is not stopped.
     one_more : own ≡ (length h + 1) ∷ [] → own ≡ (length h + one false + 1) ∷ []
     one_more is =
@@ -161,7 +161,7 @@ module _ (start : Start) (course : Course) (fits : Fits start course) (runs : st
         is ∙ ap (λ k. k ∷ []) same
 
     -- If the entry was added, the store has it.
-    added : (version : ℕ) → IsAdded course h e own next → IsModel (store_of start h false) (Commits e) reply (store_of start (h ++ e ∷ []) false) → Stepped h false told (Commits e) reply own next
+    added : (version : ℕ) → IsAdded course h e own next → IsModel (store_of start h false) (Commits e) reply (store_of start (h ++ e ∷ []) false) → Stepped h false saw_failure (Commits e) reply own next
     added version is model =
         let long = length-append h (e ∷ []) in
         let its : length next ≡ length (h ++ e ∷ []) = ap (λ (x : List Entry). length x) is.next in record {
@@ -173,7 +173,7 @@ module _ (start : Start) (course : Course) (fits : Fits start course) (runs : st
         }
 
     -- If the device failed in the step of the entry, the store is stopped.
-    failed : IsFailed course h e own next → reply ≡ No reasons.Device → IsDeviceFault (store_of start h false) e reply (store_of start h true) → Stepped h false told (Commits e) reply own next
+    failed : IsFailed course h e own next → reply ≡ No reasons.Device → IsDeviceFault (store_of start h false) e reply (store_of start h true) → Stepped h false saw_failure (Commits e) reply own next
     failed is replied fault =
         let its : length next ≡ length h = ap (λ (x : List Entry). length x) is.next in record {
           stops = true;
@@ -182,13 +182,13 @@ module _ (start : Start) (course : Course) (fits : Fits start course) (runs : st
           known = λ stops. record {
             last = is.last ∙ sym is.next;
             failed = ap is_some is.failed;
-            told = or_right told (tells_failure reply) (ap tells_failure replied);
+            saw_failure = or_right saw_failure (tells_failure reply) (ap tells_failure replied);
           };
           moves = inr (one_more is.own, omega (arith, its));
         }
 
     -- A commit while the store runs.
-    running : ((count : ℕ) → reply ≡ No (reasons.Stopped count) → own ≡ [] → course.history ≡ h → is_some course.failed ≡ true → ⊥) → (result : Result Receipt StepFault) → Committed start course h e result own next → reply ≡ reply_of_step result → Stepped h false told (Commits e) reply own next
+    running : ((count : ℕ) → reply ≡ No (reasons.Stopped count) → own ≡ [] → course.history ≡ h → is_some course.failed ≡ true → ⊥) → (result : Result Receipt StepFault) → Committed start course h e result own next → reply ≡ reply_of_step result → Stepped h false saw_failure (Commits e) reply own next
     running no_stop (Ok receipt) is replied =
         added receipt.version is.2 (record {
           allowed = (refl, λ none. entry_fits h e (begins_fits (h ++ e ∷ []) is.2.follows));
@@ -199,13 +199,13 @@ module _ (start : Start) (course : Course) (fits : Fits start course) (runs : st
         absurd (no_stop count replied is.1.own is.0.last (right_if start.stopped (is_some course.failed) runs is.0.stopped))
     running no_stop (Err (steps.Rejected why)) is replied =
         let rejected : rejection h e ≡ Some why = is.0 in
-        still h false told (Commits e) reply own next begins (λ stops. absurd (cc)) is.1 (inl (record {
+        still h false saw_failure (Commits e) reply own next begins (λ stops. absurd (cc)) is.1 (inl (record {
           allowed = (refl, λ none. absurd (cc));
           replied = replied ∙ sym (ap (λ o. reply_of_commit h e o) rejected);
           store = sym (ap (λ o. after_commit (store_of start h false) e o) rejected);
         }))
     running no_stop (Err steps.Want) is replied =
-        still h false told (Commits e) reply own next begins (λ stops. absurd (cc)) is.1 (inr (inr (record {
+        still h false saw_failure (Commits e) reply own next begins (λ stops. absurd (cc)) is.1 (inr (inr (record {
           needs = (refl, is.0);
           replied = replied;
           store = refl;
@@ -216,7 +216,7 @@ module _ (start : Start) (course : Course) (fits : Fits start course) (runs : st
         let left_is = full.left in
         let short = full.short in
         let same : left ≡ room start h = omega (arith, left_is) in
-        still h false told (Commits e) reply own next begins (λ stops. absurd (cc)) is.2 (inr (inl (inl (record {
+        still h false saw_failure (Commits e) reply own next begins (λ stops. absurd (cc)) is.2 (inr (inl (inl (record {
           not_stopped = refl;
           allowed = is.0;
           short = omega (arith, need_is, same, short);
@@ -233,11 +233,11 @@ module _ (start : Start) (course : Course) (fits : Fits start course) (runs : st
         })
 
     -- A commit after the store was stopped.
-    stopped_so : IsLast course h told → (count : ℕ) → reply ≡ No (reasons.Stopped count) → (result : Result Receipt StepFault) → Committed start course h e result own next → reply ≡ reply_of_step result → Stepped h true told (Commits e) reply own next
+    stopped_so : IsLast course h saw_failure → (count : ℕ) → reply ≡ No (reasons.Stopped count) → (result : Result Receipt StepFault) → Committed start course h e result own next → reply ≡ reply_of_step result → Stepped h true saw_failure (Commits e) reply own next
     stopped_so last count refused (Ok receipt) is replied =
         not_both (tells_failure reply) (ap tells_failure replied) (ap tells_failure refused)
     stopped_so last count refused (Err (steps.Stopped entries)) is replied =
-        still h true told (Commits e) reply own next begins (λ stops. last) is.1 (inr (inl (inr (inr (record {
+        still h true saw_failure (Commits e) reply own next begins (λ stops. last) is.1 (inr (inl (inr (inr (record {
           stopped = refl;
           replied = replied ∙ ap (λ n. No (reasons.Stopped n)) is.0.entries;
           store = refl;
@@ -251,33 +251,33 @@ module _ (start : Start) (course : Course) (fits : Fits start course) (runs : st
     stopped_so last count refused (Err steps.DeviceFault) is replied = device_apart count (sym replied ∙ refused)
 
     -- A commit, while the store runs or after it was stopped.
-    committed : (stopped : Bool) → (stopped ≡ true → IsLast course h told) → (stopped ≡ false → (count : ℕ) → reply ≡ No (reasons.Stopped count) → own ≡ [] → course.history ≡ h → is_some course.failed ≡ true → ⊥) → IsDone start course told h (Commits e) reply own next → Stepped h stopped told (Commits e) reply own next
+    committed : (stopped : Bool) → (stopped ≡ true → IsLast course h saw_failure) → (stopped ≡ false → (count : ℕ) → reply ≡ No (reasons.Stopped count) → own ≡ [] → course.history ≡ h → is_some course.failed ≡ true → ⊥) → IsDone start course saw_failure h (Commits e) reply own next → Stepped h stopped saw_failure (Commits e) reply own next
     committed true known no_stop is =
         let last = known refl in
-        let refused = is.3 last.told in
+        let refused = is.3 last.saw_failure in
         stopped_so last refused.0 refused.1 is.0 is.1 is.2
     committed false known no_stop is = running (no_stop refl) is.0 is.1 is.2
 
   -- What was done in a turn at the history of the store, if the store was stopped only by a failure of the device in a step of before.
-  pub stepped : (h : List Entry) (stopped told : Bool) (m : Meaning) (reply : LineReply) (own : List ℕ) (next : List Entry) → StartsWith course.history h → (stopped ≡ true → IsLast course h told) → (stopped ≡ false → (count : ℕ) → reply ≡ No (reasons.Stopped count) → own ≡ [] → course.history ≡ h → is_some course.failed ≡ true → ⊥) → IsDone start course told h m reply own next → Stepped h stopped told m reply own next
-  stepped h stopped told (Commits e) reply own next begins known no_stop is = committed h told e reply own next begins stopped known no_stop is
-  stepped h stopped told (Asks query) reply own next begins known no_stop is =
+  pub stepped : (h : List Entry) (stopped saw_failure : Bool) (m : Meaning) (reply : LineReply) (own : List ℕ) (next : List Entry) → StartsWith course.history h → (stopped ≡ true → IsLast course h saw_failure) → (stopped ≡ false → (count : ℕ) → reply ≡ No (reasons.Stopped count) → own ≡ [] → course.history ≡ h → is_some course.failed ≡ true → ⊥) → IsDone start course saw_failure h m reply own next → Stepped h stopped saw_failure m reply own next
+  stepped h stopped saw_failure (Commits e) reply own next begins known no_stop is = committed h saw_failure e reply own next begins stopped known no_stop is
+  stepped h stopped saw_failure (Asks query) reply own next begins known no_stop is =
       elim (is.0) [
-        | inl answered ↦ still h stopped told (Asks query) reply own next begins known is.1 (inl (record { allowed = tt; replied = answered; store = refl }))
-        | inr lacks ↦ still h stopped told (Asks query) reply own next begins known is.1 (inr (inr (record { needs = tt; replied = lacks; store = refl })))
+        | inl answered ↦ still h stopped saw_failure (Asks query) reply own next begins known is.1 (inl (record { allowed = tt; replied = answered; store = refl }))
+        | inr lacks ↦ still h stopped saw_failure (Asks query) reply own next begins known is.1 (inr (inr (record { needs = tt; replied = lacks; store = refl })))
       ]
-  stepped h stopped told (Holds count) reply own next begins known no_stop is =
-      still h stopped told (Holds count) reply own next begins known is.1 (inl (record { allowed = tt; replied = is.0; store = refl }))
-  stepped h stopped told (Current version) reply own next begins known no_stop is =
-      still h stopped told (Current version) reply own next begins known is.1 (inl (record { allowed = tt; replied = is.0; store = refl }))
-  stepped h stopped told (Refuses reason) reply own next begins known no_stop is =
-      still h stopped told (Refuses reason) reply own next begins known is.1 (inl (record { allowed = tt; replied = is.0; store = refl }))
+  stepped h stopped saw_failure (Holds count) reply own next begins known no_stop is =
+      still h stopped saw_failure (Holds count) reply own next begins known is.1 (inl (record { allowed = tt; replied = is.0; store = refl }))
+  stepped h stopped saw_failure (Current version) reply own next begins known no_stop is =
+      still h stopped saw_failure (Current version) reply own next begins known is.1 (inl (record { allowed = tt; replied = is.0; store = refl }))
+  stepped h stopped saw_failure (Refuses reason) reply own next begins known no_stop is =
+      still h stopped saw_failure (Refuses reason) reply own next begins known is.1 (inl (record { allowed = tt; replied = is.0; store = refl }))
 
 -- No more entries are known than there are.
-pub at_most : (course : Course) (h : List Entry) (stopped told : Bool) → StartsWith course.history h → (stopped ≡ true → IsLast course h told) → length h + one stopped ≤ all_numbers course
-at_most course h true told begins known =
+pub at_most : (course : Course) (h : List Entry) (stopped saw_failure : Bool) → StartsWith course.history h → (stopped ≡ true → IsLast course h saw_failure) → length h + one stopped ≤ all_numbers course
+at_most course h true saw_failure begins known =
     let last = known refl in
     let same : length course.history ≡ length h = ap (λ (x : List Entry). length x) last.last in
     let one_failed : one (is_some course.failed) ≡ 1 = ap one last.failed in
     omega (arith, same, one_failed)
-at_most course h false told begins known = let long = starts_length course.history h begins in omega (arith, long)
+at_most course h false saw_failure begins known = let long = starts_length course.history h begins in omega (arith, long)

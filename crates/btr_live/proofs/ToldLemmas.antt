@@ -1,4 +1,4 @@
--- Lemmas on failures of the device: a reply tells of one only if there was one, and who was told of it is told so again.
+-- Lemmas on failures of the device: a reply tells of one only if there was one, and who saw it gets a reply that says so again.
 use Rattle.std.specs.Prelude.{◌≡◌, ℕ, ℤ, Bool, true, false, ◌||◌, cond, if◌then◌else◌, List, [], ◌∷◌, ◌++◌, Option, Some, None, Result, Ok, Err}
 use Rattle.std.specs.Option.{is_some}
 use Rattle.std.proofs.Common.{refl, sym, ap, ◌∙◌, subst, ⊎_elim}
@@ -191,42 +191,42 @@ module _ (start : Start) (course : Course) where
   landing_after : (a : List Entry) (plan : PlanValue) (result : Result Receipt LandFault) (reply : LineReply) (own : List ℕ) (next : List Entry) → LandedAfter start course a plan result own next → reply ≡ reply_of_landing result → tells_failure reply ≡ true → has_failed start course ≡ true
   landing_after a plan result reply own next is same tells = landing_tells is.0 plan result own next is.3 (ap tells_failure (sym same) ∙ tells)
 
-  offers_tells : (told : Bool) (a : List Entry) (e : Entry) (reply : LineReply) (own : List ℕ) (next : List Entry) → Offers start course told a e reply own next → tells_failure reply ≡ true → has_failed start course ≡ true
-  offers_tells told a (entries.Create id) reply own next is tells = step_after a (entries.Create id) is.0 reply own next is.1 is.2 tells
-  offers_tells told a (entries.Define id spec) reply own next is tells = step_after a (entries.Define id spec) is.0 reply own next is.1 is.2 tells
-  offers_tells told a (entries.Commit stream cut added) reply own next is tells =
+  offers_tells : (saw_failure : Bool) (a : List Entry) (e : Entry) (reply : LineReply) (own : List ℕ) (next : List Entry) → Offers start course saw_failure a e reply own next → tells_failure reply ≡ true → has_failed start course ≡ true
+  offers_tells saw_failure a (entries.Create id) reply own next is tells = step_after a (entries.Create id) is.0 reply own next is.1 is.2 tells
+  offers_tells saw_failure a (entries.Define id spec) reply own next is tells = step_after a (entries.Define id spec) is.0 reply own next is.1 is.2 tells
+  offers_tells saw_failure a (entries.Commit stream cut added) reply own next is tells =
       step_after a (entries.Commit stream cut added) is.0 reply own next is.1 is.2 tells
-  offers_tells told a (entries.Distillate stream cut added reads) reply own next is tells =
+  offers_tells saw_failure a (entries.Distillate stream cut added reads) reply own next is tells =
       landing_after a is.0 is.3 reply own next is.4 is.5 tells
 
   -- A reply to what a line asks for tells of a failure only if there was one.
-  pub answers_tell : (told : Bool) (a : List Entry) (m : Meaning) (reply : LineReply) (own : List ℕ) (next : List Entry) → TellsNone m → Answers start course told a m reply own next → tells_failure reply ≡ true → has_failed start course ≡ true
-  answers_tell told a (Commits e) reply own next none is tells = offers_tells told a e reply own next is tells
-  answers_tell told a (Asks query) reply own next none is tells =
+  pub answers_tell : (saw_failure : Bool) (a : List Entry) (m : Meaning) (reply : LineReply) (own : List ℕ) (next : List Entry) → TellsNone m → Answers start course saw_failure a m reply own next → tells_failure reply ≡ true → has_failed start course ≡ true
+  answers_tell saw_failure a (Commits e) reply own next none is tells = offers_tells saw_failure a e reply own next is tells
+  answers_tell saw_failure a (Asks query) reply own next none is tells =
       ⊎_elim
       (λ same. silent reply (reply_of_answer (answer a query)) same (answer_tells (answer a query)) tells)
       (λ same. silent reply (No reasons.Memory) same refl tells)
       is.0
-  answers_tell told a (Holds count) reply own next none is tells = silent reply _ is.0 refl tells
-  answers_tell told a (Current version) reply own next none is tells = silent reply _ is.0 refl tells
-  answers_tell told a (Refuses reason) reply own next none is tells = silent reply (No reason) is.0 none tells
+  answers_tell saw_failure a (Holds count) reply own next none is tells = silent reply _ is.0 refl tells
+  answers_tell saw_failure a (Current version) reply own next none is tells = silent reply _ is.0 refl tells
+  answers_tell saw_failure a (Refuses reason) reply own next none is tells = silent reply (No reason) is.0 none tells
 
-  -- ---- who was told
+  -- ---- who saw the device fail
 
-  offers_told : (more told : Bool) → (told ≡ true → more ≡ true) → (a : List Entry) (e : Entry) (reply : LineReply) (own : List ℕ) (next : List Entry) → Offers start course more a e reply own next → Offers start course told a e reply own next
-  offers_told more told implies a (entries.Create id) reply own next is = (is.0, is.1, is.2, λ t. is.3 (implies t))
-  offers_told more told implies a (entries.Define id spec) reply own next is = (is.0, is.1, is.2, λ t. is.3 (implies t))
-  offers_told more told implies a (entries.Commit stream cut added) reply own next is = (is.0, is.1, is.2, λ t. is.3 (implies t))
-  offers_told more told implies a (entries.Distillate stream cut added reads) reply own next is =
+  offers_told : (more saw_failure : Bool) → (saw_failure ≡ true → more ≡ true) → (a : List Entry) (e : Entry) (reply : LineReply) (own : List ℕ) (next : List Entry) → Offers start course more a e reply own next → Offers start course saw_failure a e reply own next
+  offers_told more saw_failure implies a (entries.Create id) reply own next is = (is.0, is.1, is.2, λ t. is.3 (implies t))
+  offers_told more saw_failure implies a (entries.Define id spec) reply own next is = (is.0, is.1, is.2, λ t. is.3 (implies t))
+  offers_told more saw_failure implies a (entries.Commit stream cut added) reply own next is = (is.0, is.1, is.2, λ t. is.3 (implies t))
+  offers_told more saw_failure implies a (entries.Distillate stream cut added reads) reply own next is =
       (is.0, is.1, is.2, is.3, is.4, is.5, λ t. is.6 (implies t))
 
-  -- What is replied to who was told is also replied to who was not.
-  pub answers_told : (more told : Bool) → (told ≡ true → more ≡ true) → (a : List Entry) (m : Meaning) (reply : LineReply) (own : List ℕ) (next : List Entry) → Answers start course more a m reply own next → Answers start course told a m reply own next
-  answers_told more told implies a (Commits e) reply own next is = offers_told more told implies a e reply own next is
-  answers_told more told implies a (Asks query) reply own next is = is
-  answers_told more told implies a (Holds count) reply own next is = is
-  answers_told more told implies a (Current version) reply own next is = is
-  answers_told more told implies a (Refuses reason) reply own next is = is
+  -- What is replied to who saw it is also replied to who did not.
+  pub answers_told : (more saw_failure : Bool) → (saw_failure ≡ true → more ≡ true) → (a : List Entry) (m : Meaning) (reply : LineReply) (own : List ℕ) (next : List Entry) → Answers start course more a m reply own next → Answers start course saw_failure a m reply own next
+  answers_told more saw_failure implies a (Commits e) reply own next is = offers_told more saw_failure implies a e reply own next is
+  answers_told more saw_failure implies a (Asks query) reply own next is = is
+  answers_told more saw_failure implies a (Holds count) reply own next is = is
+  answers_told more saw_failure implies a (Current version) reply own next is = is
+  answers_told more saw_failure implies a (Refuses reason) reply own next is = is
 
 -- ---- sessions
 
@@ -236,16 +236,16 @@ or_more false true c is = refl
 or_more false false c is = never _ is
 
 -- Whether a session sees that the store is stopped, and the number of entries if so.
-pub told_some : (told : Bool) (count entries : ℕ) → (if told then Some count else None) ≡ Some entries → (told ≡ true) × (entries ≡ count)
+pub told_some : (saw_failure : Bool) (count entries : ℕ) → (if saw_failure then Some count else None) ≡ Some entries → (saw_failure ≡ true) × (entries ≡ count)
 told_some true count entries is = (refl, cc)
 told_some false count entries is = absurd (cc)
 
-pub told_none : (told : Bool) (count : ℕ) → (if told then Some count else None) ≡ None → told ≡ false
+pub told_none : (saw_failure : Bool) (count : ℕ) → (if saw_failure then Some count else None) ≡ None → saw_failure ≡ false
 told_none true count is = absurd (cc)
 told_none false count is = refl
 
-pub told_not : (P : Type 0) (told : Bool) → told ≡ false → told ≡ true → P
-told_not P told not is = never P (sym not ∙ is)
+pub told_not : (P : Type 0) (saw_failure : Bool) → saw_failure ≡ false → saw_failure ≡ true → P
+told_not P saw_failure not is = never P (sym not ∙ is)
 
 module _ {D : Type 0} {disk : Ghosts D} where
   -- A list that begins with one that has a halt has it too.

@@ -14,24 +14,24 @@ use Rattle.btr_live.specs.Lanes.{Offers, Answers, LaneState, begun, RunsLine, Ru
 use Rattle.btr_live.specs.Landings.{IsLanding, Landings}
 
 module _ (start : Start) (late early : Course) (on : GoesOn start late early) where
-  offers_lasts : (told : Bool) (a : List Entry) (e : Entry) (reply : LineReply) (own : List ℕ) (next : List Entry)
-      → Offers start early told a e reply own next → Offers start late told a e reply own next
-  offers_lasts told a (entries.Create id) reply own next is =
+  offers_lasts : (saw_failure : Bool) (a : List Entry) (e : Entry) (reply : LineReply) (own : List ℕ) (next : List Entry)
+      → Offers start early saw_failure a e reply own next → Offers start late saw_failure a e reply own next
+  offers_lasts saw_failure a (entries.Create id) reply own next is =
       (is.0, committed_lasts start late early a (entries.Create id) is.0 own next on is.1, is.2, is.3)
-  offers_lasts told a (entries.Define id spec) reply own next is =
+  offers_lasts saw_failure a (entries.Define id spec) reply own next is =
       (is.0, committed_lasts start late early a (entries.Define id spec) is.0 own next on is.1, is.2, is.3)
-  offers_lasts told a (entries.Commit stream cut added) reply own next is =
+  offers_lasts saw_failure a (entries.Commit stream cut added) reply own next is =
       (is.0, committed_lasts start late early a (entries.Commit stream cut added) is.0 own next on is.1, is.2, is.3)
-  offers_lasts told a (entries.Distillate stream cut added reads) reply own next is =
+  offers_lasts saw_failure a (entries.Distillate stream cut added reads) reply own next is =
       (is.0, is.1, is.2, is.3, landed_lasts start late early a is.0 is.3 own next on is.4, is.5, is.6)
 
-  answers_lasts : (told : Bool) (a : List Entry) (m : Meaning) (reply : LineReply) (own : List ℕ) (next : List Entry)
-      → Answers start early told a m reply own next → Answers start late told a m reply own next
-  answers_lasts told a (Commits e) reply own next is = offers_lasts told a e reply own next is
-  answers_lasts told a (Asks query) reply own next is = is
-  answers_lasts told a (Holds count) reply own next is = is
-  answers_lasts told a (Current version) reply own next is = is
-  answers_lasts told a (Refuses reason) reply own next is = is
+  answers_lasts : (saw_failure : Bool) (a : List Entry) (m : Meaning) (reply : LineReply) (own : List ℕ) (next : List Entry)
+      → Answers start early saw_failure a m reply own next → Answers start late saw_failure a m reply own next
+  answers_lasts saw_failure a (Commits e) reply own next is = offers_lasts saw_failure a e reply own next is
+  answers_lasts saw_failure a (Asks query) reply own next is = is
+  answers_lasts saw_failure a (Holds count) reply own next is = is
+  answers_lasts saw_failure a (Current version) reply own next is = is
+  answers_lasts saw_failure a (Refuses reason) reply own next is = is
 
   -- What a line replied is true for ever.
   pub line_lasts : (batch : ℕ) (old : LaneState) (line : Option Line) (reply : LineReply) (own : List ℕ) (new : LaneState)
@@ -42,9 +42,9 @@ module _ (start : Start) (late early : Course) (on : GoesOn start late early) wh
     begins = history_later start late early is.admitted on is.begins;
     asked = is.asked;
     means = is.means;
-    answers = answers_lasts old.told is.admitted is.asked reply own new.history is.answers;
+    answers = answers_lasts old.saw_failure is.admitted is.asked reply own new.history is.answers;
     waiting = is.waiting;
-    told = is.told;
+    saw_failure = is.saw_failure;
   }
 
   -- So is what lines replied one after another.
@@ -76,7 +76,7 @@ module _ (start : Start) (late early : Course) (on : GoesOn start late early) wh
 
 -- A lane between two lines that knows another history.
 abbrev knowing : LaneState → List Entry → LaneState
-knowing s h = record { history = h; told = s.told; waiting = s.waiting }
+knowing s h = record { history = h; saw_failure = s.saw_failure; waiting = s.waiting }
 
 module _ (batch : ℕ) (start : Start) (course : Course) where
   -- What a line replied is true of a lane that had seen less.
@@ -91,7 +91,7 @@ module _ (batch : ℕ) (start : Start) (course : Course) where
     means = is.means;
     answers = is.answers;
     waiting = is.waiting;
-    told = is.told;
+    saw_failure = is.saw_failure;
   }
 
   -- So is what a lane did.

@@ -59,37 +59,37 @@ reply_of_landing (Err fault) = No (reason_of_landing fault)
 
 -- The entry was offered in a turn after `a`, and this is the reply. `own` are the numbers of what the turn added, and the history that
 -- is known after it begins with `next`. A distillate is that of a plan of `a`: it is refused if its output has another version since.
--- Who was told that the device failed is told so again.
+-- Who saw the device fail gets a reply that says so again.
 abbrev pub Offers : Start → Course → Bool → List Entry → Entry → LineReply → List ℕ → List Entry → Type 0
-Offers start course told a (entries.Distillate stream cut added reads) reply own next =
+Offers start course saw_failure a (entries.Distillate stream cut added reads) reply own next =
     (plan : PlanValue) × IsNextPlan a stream plan × (entry_of plan ≡ entries.Distillate stream cut added reads)
     × (result : Result Receipt LandFault) × LandedAfter start course a plan result own next × (reply ≡ reply_of_landing result)
-    × (told ≡ true → (count : ℕ) × (reply ≡ No (reasons.Stopped count)))
-Offers start course told a e reply own next =
+    × (saw_failure ≡ true → (count : ℕ) × (reply ≡ No (reasons.Stopped count)))
+Offers start course saw_failure a e reply own next =
     (result : Result Receipt StepFault) × CommittedAfter start course a e result own next × (reply ≡ reply_of_step result)
-    × (told ≡ true → (count : ℕ) × (reply ≡ No (reasons.Stopped count)))
+    × (saw_failure ≡ true → (count : ℕ) × (reply ≡ No (reasons.Stopped count)))
 
 -- What a line asked for that was admitted to `a` had this reply. Memory may run out in an answer.
 abbrev pub Answers : Start → Course → Bool → List Entry → Meaning → LineReply → List ℕ → List Entry → Type 0
-Answers start course told a (Commits e) reply own next = Offers start course told a e reply own next
-Answers start course told a (Asks query) reply own next =
+Answers start course saw_failure a (Commits e) reply own next = Offers start course saw_failure a e reply own next
+Answers start course saw_failure a (Asks query) reply own next =
     ((reply ≡ reply_of_answer (answer a query)) ⊎ (reply ≡ No reasons.Memory)) × IsIdle a own next
-Answers start course told a (Holds count) reply own next = (reply ≡ replies.Held count) × IsIdle a own next
-Answers start course told a (Current version) reply own next = (reply ≡ Done version) × IsIdle a own next
-Answers start course told a (Refuses reason) reply own next = (reply ≡ No reason) × IsIdle a own next
+Answers start course saw_failure a (Holds count) reply own next = (reply ≡ replies.Held count) × IsIdle a own next
+Answers start course saw_failure a (Current version) reply own next = (reply ≡ Done version) × IsIdle a own next
+Answers start course saw_failure a (Refuses reason) reply own next = (reply ≡ No reason) × IsIdle a own next
 
 -- ---- lines
 
--- Where a lane is between two lines: the history that it knows, whether a reply told it that the device failed, and the points that
+-- Where a lane is between two lines: the history that it knows, whether it saw the device fail, and the points that
 -- wait in its feeds.
 pub record LaneState : Type 0 where
   pub history : List Entry
-  pub told : Bool
+  pub saw_failure : Bool
   pub waiting : Waiting
 
 -- A lane that knows this history, before its first line.
 abbrev pub begun : List Entry → LaneState
-begun h = record { history = h; told = false; waiting = none_waiting }
+begun h = record { history = h; saw_failure = false; waiting = none_waiting }
 
 -- Whether a reply tells that the device failed, in this line or before it.
 abbrev pub tells_failure : LineReply → Bool
@@ -106,9 +106,9 @@ pub record RunsLine (batch : ℕ) (start : Start) (course : Course) (old : LaneS
   pub begins : StartsWith course.history admitted
   pub asked : Meaning
   pub means : Means batch admitted old.waiting line asked
-  pub answers : Answers start course old.told admitted asked reply own new.history
+  pub answers : Answers start course old.saw_failure admitted asked reply own new.history
   pub waiting : new.waiting ≡ waiting_after old.waiting (fed admitted old.waiting line) asked reply
-  pub told : new.told ≡ (old.told || tells_failure reply)
+  pub saw_failure : new.saw_failure ≡ (old.saw_failure || tells_failure reply)
 
 -- The lines of a lane ran in order, each with its reply. `own` are the numbers of the entries that they added, in order.
 abbrev pub RunsLines : ℕ → Start → Course → LaneState → List (Option Line) → List LineReply → List ℕ → LaneState → Type 0

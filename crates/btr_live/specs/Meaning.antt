@@ -29,7 +29,7 @@ pub data Meaning : Type 0 where
   Commits : Entry → Meaning
   -- To answer a question.
   Asks : Query → Meaning
-  -- To let points wait: so many then wait for the stream.
+  -- To let points wait: this is how many then wait for the stream.
   Holds : ℕ → Meaning
   -- Nothing, because the output is up to date: this is its version.
   Current : ℕ → Meaning

@@ -52,12 +52,12 @@ abbrev pub IsLane : Part → Type 0
 IsLane (parts.Lane lane) = Unit {0}
 IsLane (parts.Rounds rounds) = ⊥
 
--- If the part is a lane, its feeds are due with so many points.
+-- If the part is a lane, its feeds are due with `batch` points.
 abbrev pub HasBatch : ℕ → Part → Type 0
 HasBatch batch (parts.Lane lane) = lane.batch ≡ batch
 HasBatch batch (parts.Rounds rounds) = Unit {0}
 
--- The feeds of all lanes are due with so many points.
+-- The feeds of all lanes are due with `batch` points.
 abbrev pub HaveBatch : ℕ → List Part → Type 0
 HaveBatch batch all = AllByRecursion (HasBatch batch) all
 
@@ -89,5 +89,5 @@ pub record IsPrepared (batch : ℕ) (materialize : Bool) (script : List ScriptLi
   pub lines : (k : ℕ) → lines_at p.parts.items k ≡ lines_of k script
   pub batches : HaveBatch batch p.parts.items
   pub no_rounds : materialize ≡ false → AllByRecursion IsLane p.parts.items
-  pub empty : p.told.items ≡ []
-  pub room : length script ≤ vec_capacity p.told
+  pub empty : p.replies.items ≡ []
+  pub room : length script ≤ vec_capacity p.replies

@@ -19,7 +19,7 @@ pub record LaneValue : Type 0 where
 abbrev pub LaneDid : Start → Course → List Entry → LaneValue → LaneValue → List ℕ → Type 0
 LaneDid start course low was now own = RunsLane was.batch start course low was.lines now.replies own
 
--- Lines of a lane ran up to a history that is known; these points wait after them. If a reply told that the device failed, the course
+-- Lines of a lane ran up to a history that is known; these points wait after them. If a reply was that the device failed, the course
 -- says so.
 pub record RunsTo (batch : ℕ) (start : Start) (course : Course) (low : List Entry) (lines : List (Option Line))
     (replies : List LineReply) (own : List ℕ) (waiting : Waiting) : Type 0 where
@@ -27,4 +27,4 @@ pub record RunsTo (batch : ℕ) (start : Start) (course : Course) (low : List En
   pub runs : RunsLines batch start course (begun low) lines replies own last
   pub waits : last.waiting ≡ waiting
   pub ends : StartsWith course.history last.history
-  pub failed : last.told ≡ true → (start.stopped || is_some course.failed) ≡ true
+  pub failed : last.saw_failure ≡ true → (start.stopped || is_some course.failed) ≡ true

@@ -31,22 +31,22 @@ Asking = List Entry → Meaning → Type 0
 abbrev pub AsksFor : (List Entry → Meaning) → Asking
 AsksFor asked = λ a m. m ≡ asked a
 
--- What was asked for after `low` had this reply. `told` is whether the session had seen the device fail.
-pub record Replies (start : Start) (course : Course) (told : Bool) (low : List Entry) (m : Meaning) (reply : LineReply) (own : List ℕ)
-    : Type 0 where
+-- What was asked for after `low` had this reply. `saw_failure` is whether the session had seen the device fail.
+pub record Replies (start : Start) (course : Course) (saw_failure : Bool) (low : List Entry) (m : Meaning) (reply : LineReply)
+    (own : List ℕ) : Type 0 where
   pub next : List Entry
-  pub answers : Answers start course told low m reply own next
+  pub answers : Answers start course saw_failure low m reply own next
   pub ends : StartsWith course.history next
 
 -- What was asked for at a history that begins with `low` had this reply.
-pub record Serves (start : Start) (course : Course) (told : Bool) (low : List Entry) (asking : Asking) (reply : LineReply)
+pub record Serves (start : Start) (course : Course) (saw_failure : Bool) (low : List Entry) (asking : Asking) (reply : LineReply)
     (own : List ℕ) : Type 0 where
   pub admitted : List Entry
   pub after : StartsWith admitted low
   pub begins : StartsWith course.history admitted
   pub asked : Meaning
   pub asks : asking admitted asked
-  pub replies : Replies start course told admitted asked reply own
+  pub replies : Replies start course saw_failure admitted asked reply own
 
 -- What a line asks for, if these points wait before it, and those after it had this reply.
 abbrev pub LineAsks : ℕ → Waiting → Option Line → LineReply → Waiting → Asking

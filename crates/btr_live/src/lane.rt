@@ -18,7 +18,7 @@ use std::marker::Model;
 use std::mem;
 use std::sync::Wait;
 
-/// The lines of a lane, and their replies. There is room for a reply to each line, so that no lane stops for want of memory.
+/// The lines of a lane, and their replies. There is room for a reply to each line, so that no lane stops because memory runs out.
 #[derive(Drop)]
 pub(crate) struct Lane {
     batch: u32,

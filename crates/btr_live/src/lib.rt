@@ -13,6 +13,7 @@ mod distill_line;
 mod feed_line;
 mod line;
 // what runs beside each other
+mod counting;
 mod lane;
 mod part;
 mod rounds;

@@ -8,6 +8,7 @@ ghost use Rattle.btr_hall.specs.Session.{opening_of};
 ghost use Rattle.btr_jobs.specs.Jobs.{IsAt, Does};
 ghost use Rattle.btr_live.specs.Live.{LastRound, RunsLive};
 
+use crate::counting::Counting;
 use crate::order::in_order;
 use crate::prepare::{LANES, Prepared, prepare};
 use btr_disk::Disk;
@@ -17,7 +18,8 @@ use btr_text::{LineReply, ScriptLine};
 use btr_work::{Report, bring_current};
 use std::alloc::{AllocError, Global};
 use std::marker::{Send, Sync};
-use std::sync::Wait;
+use std::sync::atomic::AtomicU32;
+use std::sync::{Arc, Wait};
 use std::thread::Threads;
 
 /// What a run of a script leaves.
@@ -34,8 +36,8 @@ pub struct LiveReport {
 /// points; points that wait at the end are dropped. The lanes run beside each other. A line is admitted to the history of one turn, its
 /// entry is committed in another, and a question is answered after its turn.
 ///
-/// With `materialize` as many rounds as the script has lines run beside the lanes, in one more session, and one last round runs after
-/// all lanes have ended. A round brings each output up to date once.
+/// With `materialize` rounds run beside the lanes, one after another in one more session, at most as many as the script has lines. None
+/// begins after all lanes have ended, but then one last round runs. A round brings each output up to date once.
 ///
 /// The turns of `pace` are the lanes, 0 to 7, and 8 for the rounds. No thread is started if all lines are of one lane and no rounds are
 /// wanted.
@@ -63,21 +65,20 @@ pub fn lanes<R: Threads + Wait + Sync, D: Disk + Send, P: Pace + Sync>(
     ensures runs { IfOk result (λ report. Does hall.now session.old session.new
         (λ start course low own. RunsLive batch materialize start course low script.items report own)) }
 {
+    let running = Arc::new(alloc, AtomicU32::new(LANES as u32))?;
     let Prepared {
         lanes,
         mut parts,
-        mut told,
-    } = prepare(alloc, batch, script, materialize)?;
+        mut replies,
+    } = prepare(alloc, batch, script, materialize, &running)?;
     let lanes = lanes.as_slice();
     let all = parts.as_mut_slice();
     let workers = workers_for(lanes, materialize);
-    run_jobs(rt, alloc, hall, session, workers, 0, all, pace);
-    in_order(lanes, all, &mut told);
+    let pace = Counting { pace, running };
+    run_jobs(rt, alloc, hall, session, workers, 0, all, &pace);
+    in_order(lanes, all, &mut replies);
     let last = last_round(rt, alloc, hall, session, materialize);
-    Ok(LiveReport {
-        replies: told,
-        last,
-    })
+    Ok(LiveReport { replies, last })
 }
 
 /// The most parts that run beside each other: the lanes, and the rounds.

@@ -9,16 +9,16 @@ use btr_text::LineReply;
 
 /// Takes the replies out of the lanes, and puts them in the order of the script, whose lines have these lanes. There is room for
 /// them. It takes constant time for each.
-pub(crate) fn in_order(lanes: &[u8], parts: &mut [Part], told: &mut Vec<LineReply>)
+pub(crate) fn in_order(lanes: &[u8], parts: &mut [Part], replies: &mut Vec<LineReply>)
     requires each { (k : ℕ) → length (replies_at parts.old k) ≡ length (of_lane k lanes.now lanes.now) }
-    requires empty { told.old.items ≡ [] }
-    requires room { length lanes.now ≤ vec_capacity told.old }
-    ensures each { length told.new.items ≡ length lanes.now }
-    ensures in_lanes { (k : ℕ) → of_lane k lanes.now told.new.items ≡ replies_at parts.old k }
+    requires empty { replies.old.items ≡ [] }
+    requires room { length lanes.now ≤ vec_capacity replies.old }
+    ensures each { length replies.new.items ≡ length lanes.now }
+    ensures in_lanes { (k : ℕ) → of_lane k lanes.now replies.new.items ≡ replies_at parts.old k }
 {
     for lane in lanes.iter() {
         let reply = next_reply(parts, *lane);
-        told.push_reserved(reply);
+        replies.push_reserved(reply);
     }
 }
 

@@ -10,6 +10,8 @@ use crate::part::Part;
 use crate::rounds::Rounds;
 use btr_text::{Line, LineReply, ScriptLine};
 use std::alloc::{AllocError, Global};
+use std::sync::Arc;
+use std::sync::atomic::AtomicU32;
 
 /// The number of lanes.
 pub(crate) const LANES: usize = 8;
@@ -23,16 +25,17 @@ pub(crate) struct Prepared {
     pub(crate) parts: Vec<Part>,
 
     /// Room for a reply to each line.
-    pub(crate) told: Vec<LineReply>,
+    pub(crate) replies: Vec<LineReply>,
 }
 
-/// Prepares a run of a script, with rounds beside the lanes or without. It takes time linear in the script. An `Err` means out of
-/// memory.
+/// Prepares a run of a script, with rounds beside the lanes or without, which begin only while `running` is not 0. It takes time linear
+/// in the script. An `Err` means out of memory.
 pub(crate) fn prepare(
     alloc: Global,
     batch: u32,
     script: Vec<ScriptLine>,
     materialize: bool,
+    running: &Arc<AtomicU32>,
 ) -> Result<Prepared, AllocError>
     requires least { 1 ≤ batch }
     requires most { batch ≤ MAX_COMMIT_POINTS }
@@ -40,11 +43,15 @@ pub(crate) fn prepare(
     ensures { IfOk result (IsPrepared batch materialize script.items) }
 {
     let count = script.len();
-    let told = Vec::with_capacity(alloc, count)?;
+    let replies = Vec::with_capacity(alloc, count)?;
     let (lanes, lists) = split_lines(alloc, script)?;
     let mut parts = parts_of(alloc, batch, lists)?;
-    add_rounds(&mut parts, count, materialize)?;
-    Ok(Prepared { lanes, parts, told })
+    add_rounds(&mut parts, count, materialize, running)?;
+    Ok(Prepared {
+        lanes,
+        parts,
+        replies,
+    })
 }
 
 /// Puts the lines of each lane into a list of their own. Returns the lane of each line, and the lists.
@@ -104,8 +111,13 @@ fn parts_of(
     Ok(parts)
 }
 
-/// Adds rounds to the parts of a run, if they are wanted: at most so many.
-fn add_rounds(parts: &mut Vec<Part>, count: usize, materialize: bool) -> Result<(), AllocError>
+/// Adds rounds to the parts of a run, if they are wanted: at most `count`, while `running` is not 0.
+fn add_rounds(
+    parts: &mut Vec<Part>,
+    count: usize,
+    materialize: bool,
+    running: &Arc<AtomicU32>,
+) -> Result<(), AllocError>
     ensures lines { OnOk result ((k : ℕ) → lines_at parts.new.items k ≡ lines_at parts.old.items k) }
     ensures batch { (batch : ℕ) → HaveBatch batch parts.old.items → OnOk result (HaveBatch batch parts.new.items) }
     ensures none { materialize ≡ false → parts.new.items ≡ parts.old.items }
@@ -113,6 +125,7 @@ fn add_rounds(parts: &mut Vec<Part>, count: usize, materialize: bool) -> Result<
     if !materialize {
         return Ok(());
     }
-    parts.push(Part::Rounds(Rounds { count }))?;
+    let lanes = Arc::try_clone(running)?;
+    parts.push(Part::Rounds(Rounds { count, lanes }))?;
     Ok(())
 }

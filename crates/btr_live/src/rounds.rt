@@ -7,12 +7,17 @@ use btr_hall::{Hall, Session};
 use btr_jobs::Job;
 use btr_work::bring_current_here;
 use std::alloc::Global;
-use std::sync::Wait;
+use std::sync::atomic::{AtomicU32, Ordering};
+use std::sync::{Arc, Wait};
 
-/// Rounds: so many.
+/// The rounds beside the lanes of a run.
 #[derive(Drop)]
 pub(crate) struct Rounds {
+    /// The most rounds that are made.
     pub(crate) count: usize,
+
+    /// How many lanes have not ended. No round begins once it is 0.
+    pub(crate) lanes: Arc<AtomicU32>,
 }
 
 impl Job for Rounds {
@@ -29,7 +34,7 @@ impl Job for Rounds {
         hall: &Hall<D>,
         session: &mut Session<D>,
     ) {
-        make_rounds(rt, alloc, hall, session, self.count);
+        make_rounds(rt, alloc, hall, session, self.count, &self.lanes);
     }
 
     ghost lasts = { rounds_did_lasts };
@@ -37,28 +42,38 @@ impl Job for Rounds {
     ghost lowers = { rounds_did_lowers };
 }
 
-/// Makes so many rounds.
+/// Makes at most `count` rounds, one after another, while lanes run.
 fn make_rounds<R: Wait, D: Disk>(
     rt: &R,
     alloc: Global,
     hall: &Hall<D>,
     session: &mut Session<D>,
     count: usize,
+    lanes: &AtomicU32,
 )
     requires at { IsAt hall.now session.old }
     ensures at { IsAt hall.now session.new }
     ensures lands { Does hall.now session.old session.new (λ start course low own. Landings start course low own) }
 {
     for _ in 0..count {
-        make_round(rt, alloc, hall, session);
+        make_round(rt, alloc, hall, session, lanes);
     }
 }
 
-/// Brings each output up to date once. What is refused, also for want of memory, is left to a later round.
-fn make_round<R: Wait, D: Disk>(rt: &R, alloc: Global, hall: &Hall<D>, session: &mut Session<D>)
+/// Brings each output up to date once, unless all lanes have ended. What is refused, also when memory runs out, is left to a later
+/// round.
+fn make_round<R: Wait, D: Disk>(
+    rt: &R,
+    alloc: Global,
+    hall: &Hall<D>,
+    session: &mut Session<D>,
+    lanes: &AtomicU32,
+)
     requires at { IsAt hall.now session.old }
     ensures at { IsAt hall.now session.new }
     ensures lands { Does hall.now session.old session.new (λ start course low own. Landings start course low own) }
 {
-    let _report = bring_current_here(rt, alloc, hall, session);
+    if lanes.load(Ordering::SeqCst) > 0 {
+        let _report = bring_current_here(rt, alloc, hall, session);
+    }
 }

@@ -21,7 +21,7 @@ use std::sync::atomic::{AtomicU32, Ordering};
 use std::test::Fail;
 use std::thread::{Threads, yield_now};
 
-/// Adds a line to a text. Each letter U, V or W in it stands for an id.
+/// Adds a line to a text. In place of each letter U, V or W it gets an id.
 fn add_line(text: &mut Vec<u8>, line: &[u8]) -> Result<(), AllocError> {
     for byte in line {
         match byte {
@@ -219,10 +219,10 @@ fn a_full_device_leaves_points_in_the_feed_of_their_lane(rt: HostRuntime) -> Res
     Ok(())
 }
 
-/// Each entry takes four calls of the device. Of the third one, call 9 fails: its first sync. One lane is told so, and all later lines
-/// that commit are refused, but questions are answered.
+/// Each entry takes four calls of the device. Of the third one, call 9 fails: its first sync. One lane gets that as its reply, and all
+/// later lines that commit are refused, but questions are answered.
 #[test]
-fn one_lane_is_told_that_the_device_failed(rt: HostRuntime) -> Result<(), Fail> {
+fn one_lane_sees_the_device_fail(rt: HostRuntime) -> Result<(), Fail> {
     let alloc = rt.alloc();
     let first = script(alloc, &[b"create U", b"insert U 1 1"])?;
     let lines: [&[u8]; 3] = [b"insert U 2 2", b"insert U 3 3", b"range U 0 5 latest"];
@@ -234,16 +234,16 @@ fn one_lane_is_told_that_the_device_failed(rt: HostRuntime) -> Result<(), Fail> 
     let (report, entries) = ran(&rt, alloc, device, first, second, false, &NoPace)?;
     let failed = b"no device\nno stopped 2\nok 1 1\n1 1\n".as_slice();
     let stopped = b"no stopped 2\nno stopped 2\nok 1 1\n1 1\n".as_slice();
-    let mut told = 0u32;
+    let mut failures = 0u32;
     for replies in report.replies.chunks(3) {
         let text = text_of(alloc, replies)?;
         if text.as_slice() == failed {
-            told = told.saturating_add(1);
+            failures = failures.saturating_add(1);
         } else {
             assert_eq!(rt; text.as_slice(), stopped);
         }
     }
-    assert_eq!(rt; (told, report.replies.len()), (1, 24));
+    assert_eq!(rt; (failures, report.replies.len()), (1, 24));
     assert_eq!(rt; entries, 2);
     Ok(())
 }
@@ -290,25 +290,112 @@ impl Pace for Beside {
     }
 }
 
-/// Another lane, and the rounds, begin before the first lane has ended. A derived stream is then up to date, with one version.
+/// Another lane, and the rounds, begin before the first lane has ended. A derived stream is up to date after rounds, with one version.
 #[test]
 fn lanes_and_rounds_run_beside_each_other(rt: HostRuntime) -> Result<(), Fail> {
     let alloc = rt.alloc();
-    for other in [1, 8] {
-        let lines: [&[u8]; 3] = [
-            b"create V",
-            b"insert V 0 10 10 20 20 30",
-            b"distiller W sum 10 0 V",
-        ];
+    let lines: [&[u8]; 4] = [
+        b"create V",
+        b"insert V 0 10 10 20 20 30",
+        b"distiller W sum 10 0 V",
+        b"@1 create U",
+    ];
+    for (other, materialize, all) in [(1, false, 4), (1, true, 5), (8, true, 5)] {
         let none = script(alloc, &[])?;
         let outputs = script(alloc, &lines)?;
         let pace = Beside::new(other);
-        let (report, entries) = ran(&rt, alloc, SOUND, none, outputs, true, &pace)?;
+        let (report, entries) = ran(&rt, alloc, SOUND, none, outputs, materialize, &pace)?;
         let text = text_of(alloc, &report.replies)?;
-        assert_eq!(rt; text.as_slice(), b"ok 0 0\nok 1 0\nok 0 0\n".as_slice());
+        assert_eq!(rt;
+            text.as_slice(),
+            b"ok 0 0\nok 1 0\nok 0 0\nok 0 0\n".as_slice()
+        );
         assert_eq!(rt; pace.beside.load(Ordering::SeqCst), 1, "beside {other}");
+        assert_eq!(rt;
+            (entries, is_first_version(&report.last)),
+            (all, materialize)
+        );
+    }
+    Ok(())
+}
+
+/// Begins the lanes after the rounds have ended, or the rounds after all lanes have ended: it waits for at most a million tries.
+#[derive(Drop)]
+struct InOrder {
+    are_rounds_first: bool,
+    lanes: AtomicU32,
+    rounds: AtomicU32,
+}
+
+impl InOrder {
+    fn new(are_rounds_first: bool) -> InOrder {
+        InOrder {
+            are_rounds_first,
+            lanes: AtomicU32::new(0),
+            rounds: AtomicU32::new(0),
+        }
+    }
+}
+
+/// Waits until this many turns have ended.
+fn wait_for(ended: &AtomicU32, count: u32) {
+    for _ in 0..1_000_000u32 {
+        if ended.load(Ordering::SeqCst) >= count {
+            return;
+        }
+        yield_now();
+    }
+}
+
+impl Pace for InOrder {
+    fn begun(&self, turn: u32) {
+        if turn < 8 && self.are_rounds_first {
+            wait_for(&self.rounds, 1);
+        }
+        if turn == 8 && !self.are_rounds_first {
+            wait_for(&self.lanes, 8);
+        }
+    }
+
+    fn ended(&self, turn: u32) {
+        if turn == 8 {
+            self.rounds.fetch_add(1, Ordering::SeqCst);
+        } else {
+            self.lanes.fetch_add(1, Ordering::SeqCst);
+        }
+    }
+}
+
+/// A round that is made before a lane begins lands what the lane then reads. No round begins after all lanes have ended, so that the
+/// last round lands it.
+#[test]
+fn rounds_are_made_while_lanes_run(rt: HostRuntime) -> Result<(), Fail> {
+    let alloc = rt.alloc();
+    let lines: [&[u8]; 3] = [
+        b"create V",
+        b"insert V 0 10 10 20 20 30",
+        b"distiller W sum 0 0 V",
+    ];
+    for (are_rounds_first, reply, wanted) in [
+        (
+            true,
+            b"ok 1 3\n0 10\n10 20\n20 30\n".as_slice(),
+            Brought::Current { version: 1 },
+        ),
+        (
+            false,
+            b"ok 0 0\n".as_slice(),
+            Brought::Landed { version: 1 },
+        ),
+    ] {
+        let outputs = script(alloc, &lines)?;
+        let question = script(alloc, &[b"range W 0 40 latest"])?;
+        let pace = InOrder::new(are_rounds_first);
+        let (report, entries) = ran(&rt, alloc, SOUND, outputs, question, true, &pace)?;
+        let text = text_of(alloc, &report.replies)?;
+        assert_eq!(rt; text.as_slice(), reply);
+        assert!(rt; has_result(&report.last, wanted), "{:?}", report.last);
         assert_eq!(rt; entries, 4);
-        assert!(rt; is_first_version(&report.last));
     }
     Ok(())
 }
@@ -328,12 +415,15 @@ fn a_script_in_one_lane_runs_in_turn(rt: HostRuntime) -> Result<(), Fail> {
 
 /// Whether the last round left the one output, stream 1, at its first version.
 fn is_first_version(last: &Option<Result<Report, AllocError>>) -> bool {
+    has_result(last, Brought::Landed { version: 1 })
+        || has_result(last, Brought::Current { version: 1 })
+}
+
+/// Whether the last round had this result for the one output.
+fn has_result(last: &Option<Result<Report, AllocError>>, wanted: Brought) -> bool {
     match last {
         Some(Ok(report)) => match report.lines() {
-            [line] => {
-                line.result == Brought::Landed { version: 1 }
-                    || line.result == Brought::Current { version: 1 }
-            }
+            [line] => line.result == wanted,
             _ => false,
         },
         _ => false,

@@ -60,7 +60,7 @@ module _ (start : Start) (course : Course) where
   lines_allowed batch old (line ∷ lines) [] own new is = absurd is
   lines_allowed batch old (line ∷ lines) (reply ∷ replies) own new is =
       allows_both course own is.0 is.1 (λ n. ap (times n) is.3 ∙ times_append n is.0 is.1)
-      (answers_allowed old.told is.4.admitted is.4.asked reply is.0 is.2.history is.4.answers)
+      (answers_allowed old.saw_failure is.4.admitted is.4.asked reply is.0 is.2.history is.4.answers)
       (lines_allowed batch is.2 lines replies is.1 new is.5)
 
   lane_allowed : (batch : ℕ) (low : List Entry) (lines : List (Option Line)) (replies : List LineReply) (own : List ℕ) → RunsLane batch start course low lines replies own → AddsAllowed course own

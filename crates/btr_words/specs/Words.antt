@@ -72,7 +72,7 @@ is_end _ = false
 
 -- The options that the words write, in order: names with texts. A flag is the word `--NAME` alone, and has no text. Each other
 -- option is `--NAME=TEXT`, or the two words `--NAME` and TEXT.
--- Before the words stands the name of an option that has no text yet, if there is one.
+-- Before the words is the name of an option that has no text yet, if there is one.
 abbrev pub options_after : List Argument → Option Text → List Text → Option (List (Text × Option Text))
 options_after arguments (Some name) [] = None
 options_after arguments (Some name) (text ∷ words) = option_map (λ rest. (name, Some text) ∷ rest) (options_after arguments None words)

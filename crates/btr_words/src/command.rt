@@ -28,8 +28,8 @@ pub enum Command {
         materialize: bool,
     },
 
-    /// `sample NUMBER STREAMS POINTS`: write the rows of a sample with this number, from 0 to 2,147,483,647, of so many
-    /// streams, from 1 to 1000, each of so many points, from 1 to 1,000,000. There are at most 1,000,000 points in all.
+    /// `sample NUMBER STREAMS POINTS`: write the rows of a sample with this number, from 0 to 2,147,483,647, of
+    /// 1 to 1000 streams, each of 1 to 1,000,000 points. There are at most 1,000,000 points in all.
     Sample {
         number: u32,
         streams: u32,

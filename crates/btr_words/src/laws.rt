@@ -19,7 +19,7 @@ pub fn commands_are_these()
         ≡ option_map (λ n. Distil n) (number_of 1 16 k) }
 {}
 
-/// The words of `live` with its flag: the flag stands before or after the option, once, and has no text.
+/// The words of `live` with its flag: the flag is before or after the option, once, and has no text.
 pub fn commands_with_a_flag_are_these()
     ensures first { (b : Text) → command_of (codes "live" ∷ codes "--materialize" ∷ codes "--batch" ∷ b ∷ [])
         ≡ option_map (λ n. Live n true) (number_of 1 65536 b) }

@@ -20,7 +20,7 @@ use std::marker::{Send, Sync};
 use std::sync::Wait;
 use std::thread::Threads;
 
-/// Brings each output up to date once, with at most so many workers, each in a session of its own. The outputs are those of the
+/// Brings each output up to date once, with at most `workers` workers, each in a session of its own. The outputs are those of the
 /// history that the session sees first. A level is done after the one below it, so an output reads what was landed for its inputs.
 /// Each output is planned and landed once: if another user's landing comes between, it is refused as superseded.
 ///

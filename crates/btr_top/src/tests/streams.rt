@@ -74,7 +74,7 @@ fn lines_of_all_kinds_are_read(rt: HostRuntime) -> Result<(), Fail> {
     Ok(())
 }
 
-/// Writes the script that inserts so many points, each at its own time or all at time 0, with the values from 0 on.
+/// Writes the script that inserts a number of points, each at its own time or all at time 0, with the values from 0 on.
 fn script_of(alloc: Global, points: u64, step: u64, rest: &str) -> Result<String, AllocError> {
     let mut script = String::new(alloc);
     script.push_str("create U\ninsert U")?;

@@ -41,8 +41,8 @@ returns-clause-runs g c =
     let lines : (k : ℕ) → lines_at before k ≡ lines_of k script = λ k. ap (λ all. lines_at all k) value ∙ prepared.lines k in
     let same : c.as_slice-lanes.result.now ≡ lanes_of script = c.as_slice-lanes.ensures.value ∙ prepared.lanes in
     let none : c.args.materialize ≡ false → AllByRecursion IsLane before = λ is. subst (AllByRecursion IsLane) (sym value) (prepared.no_rounds is) in
-    let report : LiveReport = record { replies = c.in_order.new.told; last = c.last_round-last.result } in
-    let replies = c.in_order.new.told.items in
+    let report : LiveReport = record { replies = c.in_order.new.replies; last = c.last_round-last.result } in
+    let replies = c.in_order.new.replies.items in
     let each : length replies ≡ length script = c.in_order.ensures.each ∙ ap length same ∙ length-map script (λ (line : ScriptLine). line.lane) in
     let told : (k : ℕ) → of_lane k (lanes_of script) replies ≡ replies_at after k = λ k. subst (λ ls. of_lane k ls replies ≡ replies_at after k) same (c.in_order.ensures.in_lanes k) in
     does_then hall old mid new

@@ -1,14 +1,14 @@
 -- The loop over the lanes of the lines.
 use Rattle.std.proofs.Common.{◌≡◌, ◌≤◌, length, take, drop, vec_capacity}
 use Rattle.btr_live.specs.Parts.{replies_at}
-use Rattle.btr_live.proofs.OrderLemmas.{HasLeft, HasTold}
+use Rattle.btr_live.proofs.OrderLemmas.{HasLeft, HasPlaced}
 use Rattle.btr_live.proofs.order.in_order.Given as goal
 
 -- the replies up to here are in order, and the lanes have those that are left
 abbrev pub invariant-loop-lane : goal.invariant-loop-lane
 invariant-loop-lane l = record {
-  each : length l.told.items ≡ l.lane-index;
-  room : length l.lanes ≤ vec_capacity l.told;
+  each : length l.replies.items ≡ l.lane-index;
+  room : length l.lanes ≤ vec_capacity l.replies;
   left : HasLeft (replies_at l.parts) (drop l.lane-index l.lanes);
-  told : HasTold (replies_at l.fn.parts) (replies_at l.parts) (take l.lane-index l.lanes) l.told.items;
+  placed : HasPlaced (replies_at l.fn.parts) (replies_at l.parts) (take l.lane-index l.lanes) l.replies.items;
 }

@@ -1,1 +1,1 @@
--- The part at the place of the lane has told its first reply.
+-- The part at the place of the lane has given its first reply.

@@ -18,6 +18,6 @@ returns c =
       no_rounds = λ none.
           subst (AllByRecursion IsLane) (sym (c.in_ok-add_rounds.ensures.none none ∙ c.in_ok-parts.ensures)) (lane-each batch lists);
       batches = c.in_ok-add_rounds.ensures.batch batch (subst (HaveBatch batch) (sym c.in_ok-parts.ensures) (batch-lane batch lists));
-      empty = c.in_ok-told.ensures.items;
-      room = omega (arith, c.len-count.ensures, c.in_ok-told.ensures.exact, c.args.script.ok.0);
+      empty = c.in_ok-replies.ensures.items;
+      room = omega (arith, c.len-count.ensures, c.in_ok-replies.ensures.exact, c.args.script.ok.0);
     }
