@@ -35,7 +35,7 @@ use Rattle.btr_live.specs.Feeds.{Waiting, feed_of}
 use Rattle.btr_live.specs.Meaning.{Meaning, Commits, Asks, Holds, Current, Refuses, on_stream, delete, on_second, define, land, refresh, if_plain}
 use Rattle.btr_live.specs.Meaning.{insert, when_due, unless_fault, feed, flush, meaning, question}
 use Rattle.btr_engine.specs.Body.{need_of}
-use Rattle.btr_live.specs.Replies.{reply_of_answer, reply_of_commit, reply_to}
+use Rattle.btr_live.specs.Replies.{reply_of_answer, reply_of_commit, reply_to, Means}
 use Rattle.btr_live.specs.Script.{Store, State, IsNotDone, Replies, RepliesToLine, RunsScript}
 use Rattle.btr_live.specs.Script.{need_of_meaning, after_line, needs_of}
 use Rattle.btr_live.specs.Serving.{IsAnswerOrNoMemory}
@@ -55,7 +55,7 @@ benign_code s benign =
 
 -- ---- the model's replies
 
-benign_rejection : (h : List Entry) (e : Entry) (why : Rejection) → IsBenign (status_of_reply (reply_of_commit h e (Some why)))
+pub benign_rejection : (h : List Entry) (e : Entry) (why : Rejection) → IsBenign (status_of_reply (reply_of_commit h e (Some why)))
 benign_rejection h e rejections.NoStream = inr (inl refl)
 benign_rejection h e rejections.StreamExists = inr (inl refl)
 benign_rejection h e rejections.NotWritable = inr (inl refl)
@@ -160,20 +160,23 @@ benign_model batch h w (Some (lines.Refresh id)) =
 benign_model batch h w (Some (lines.Ask id query)) = benign_ask h id query
 benign_model batch h w (Some lines.Streams) = inl refl
 
-benign_means : (batch : ℕ) (s : State) (line : Option Line) (m : Meaning) (reply : LineReply) (t : State) → RepliesToLine batch s line m reply t → IsBenign (status_of_reply (reply_to s.store.history m))
-benign_means batch s line m reply t is =
-    let h : List Entry = s.store.history in
+-- The reply to what a line asks for.
+pub benign_meaning : (batch : ℕ) (h : List Entry) (w : Waiting) (line : Option Line) (m : Meaning) → Means batch h w line m → IsBenign (status_of_reply (reply_to h m))
+benign_meaning batch h w line m means =
     ⊎_elim
-    (λ e. subst (λ (x : Meaning). IsBenign (status_of_reply (reply_to h x))) (sym e) (benign_model batch h s.waiting line))
+    (λ e. subst (λ (x : Meaning). IsBenign (status_of_reply (reply_to h x))) (sym e) (benign_model batch h w line))
     (λ lacks. subst (λ (x : Meaning). IsBenign (status_of_reply (reply_to h x))) (sym lacks.1) (inr (inr refl)))
-    is.means
+    means
+
+benign_means : (batch : ℕ) (s : State) (line : Option Line) (m : Meaning) (reply : LineReply) (t : State) → RepliesToLine batch s line m reply t → IsBenign (status_of_reply (reply_to s.store.history m))
+benign_means batch s line m reply t is = benign_meaning batch s.store.history s.waiting line m is.means
 
 -- ---- nothing else keeps a store from it
 
 apart : (b : Bool) → b ≡ true → b ≡ false → ⊥
 apart b is is_not = absurd (cc)
 
-along : (reply other : LineReply) → reply ≡ other → IsBenign (status_of_reply other) → IsBenign (status_of_reply reply)
+pub along : (reply other : LineReply) → reply ≡ other → IsBenign (status_of_reply other) → IsBenign (status_of_reply reply)
 along reply other e benign = subst (λ r. IsBenign (status_of_reply r)) (sym e) benign
 
 benign_reply : (s t : Store) (m : Meaning) (reply : LineReply) → Replies s m reply t → IsBenign (status_of_reply (reply_to s.history m)) → need_of_meaning m ≤ s.left → t.stopped ≡ false → IsBenign (status_of_reply reply)

@@ -10,6 +10,8 @@ mod AskedLines
 mod BulkCauses
 -- if nothing fails
 mod BenignStatuses
+mod LineNeeds
+mod LanesFit
 mod PlainStatuses
 mod StoreCompletes
 mod LiveCompletes

@@ -1,5 +1,5 @@
--- If the device holds a store with room, and nothing fails, `live` runs the whole script of one lane.
-use Rattle.std.specs.Prelude.{◌≡◌, ℕ, ◌≤◌, false, List, Option, Some, None, Ok, IfSome}
+-- If the device holds a store with room, and nothing fails, `live` runs the whole script.
+use Rattle.std.specs.Prelude.{◌≡◌, ℕ, ◌+◌, ◌≤◌, false, List, [], length, slice_index_or, Option, Some, None, Ok, IfSome}
 use Rattle.std.specs.Option.{is_some}
 use Rattle.std.proofs.Common.{refl, sym, ◌∙◌, ap, subst, arith, inl, ⊎_elim}
 use Rattle.btr_io.specs.declared.source.Source.{Ghosts as SourceGhosts}
@@ -13,22 +13,28 @@ use Rattle.btr_open.specs.Laws.{HeldIsSound, OneHistoryIsHeld}
 use Rattle.btr_jobs.specs.Course.{Start, Course}
 use Rattle.btr_live.specs.declared.live.LiveReport.{LiveReport}
 use Rattle.btr_live.specs.Live as runs
-use Rattle.btr_live.specs.Script.{begun, needs_of}
+use Rattle.btr_live.specs.Script.{begun}
+use Rattle.btr_live.specs.OneHistory.{of_lane, lanes_of, lines_of}
+use Rattle.btr_live.specs.LaneLaws.{lane_lasts}
 use Rattle.btr_live.specs.OneLane.{AreInLane, RunsAlone, store_at}
 use Rattle.btr_bulk.specs.declared.status.Status.{Status}
 use Rattle.btr_bulk.specs.declared.status.Status.TheVariants.{Done}
 use Rattle.btr_bulk.specs.declared.transcript.Transcript.{Transcript}
 use Rattle.btr_bulk.specs.Completes.{IsBenign}
 use Rattle.btr_bulk.specs.Status.{greater, status_of_lines}
-use Rattle.btr_bulk.specs.Work.{DoesRightly}
+use Rattle.btr_bulk.specs.Work.{DoesRightly, last_number}
+use Rattle.btr_gate.specs.Numbers.{total, times}
+use Rattle.btr_gate.specs.Numbers as numbers
 use Rattle.btr_top.specs.declared.ending.Ending.{Ending}
 use Rattle.btr_top.specs.Ending.{status_of}
 use Rattle.btr_top.specs.Status.{status_of_replies}
 use Rattle.btr_top.specs.Script.{HasRead, ExceedsInputLimit}
 use Rattle.btr_top.specs.Live.{LastRound, round_lines, round_status, course_status, SaysLive, SaysIf, RunsIf, LivesStore, ScriptCause, LiveCause, CanLive}
+use Rattle.btr_top.specs.Room.{HasRoomInLane, HasRoomInLanes, HasRoomForScript}
 use Rattle.btr_top.specs.Run.{IsPlainStatus}
 use Rattle.btr_top.proofs.BenignStatuses.{benign_greater, benign_script}
 use Rattle.btr_top.proofs.PlainStatuses.{benign_input}
+use Rattle.btr_top.proofs.LanesFit.{lanes_benign}
 use Rattle.btr_top.proofs.StoreCompletes.{opened, began, no_failure, plain_work}
 
 -- ---- the status of a transcript
@@ -71,31 +77,57 @@ module _ {S D : Type 0} (source : SourceGhosts S) (disk : Ghosts D) (batch : ℕ
     sound_end : does.course.failed ≡ None
     sound_end = no_failure disk old new can.history can.blocks can.tail can.holds sound one told device_works What does
 
-    benign_alone : (report : LiveReport) → RunsAlone batch does.first does.course lines report.replies.items → IsBenign (status_of_replies report.replies.items)
-    benign_alone report alone =
+    -- The room of the store, as the run found it.
+    room_here : HasRoomForScript batch (store_at does.first) lines
+    room_here =
         let same : does.first ≡ store = began disk old new can.history can.blocks can.tail can.holds sound one told device_works What does in
-        let room : needs_of batch (begun (store_at does.first)) lines ≤ does.first.left =
-        subst (λ (s : Start). needs_of batch (begun (store_at s)) lines ≤ s.left) (sym same)
-        (subst (λ (ls : List ScriptLine). needs_of batch (begun (store_at store)) ls ≤ store.left) (sym all) can.room) in
-        let running : alone.last.store.stopped ≡ false = alone.stopped ∙ ap (λ (o : Option Entry). is_some o) sound_end in
-        benign_script batch (begun (store_at does.first)) alone.last lines report.replies.items alone.runs room running
+        subst (λ (s : Start). HasRoomForScript batch (store_at s) lines) (sym same)
+        (subst (λ (ls : List ScriptLine). HasRoomForScript batch (store_at store) ls) (sym all) can.room)
 
-    benign_says : (report : LiveReport) → RunsAlone batch does.first does.course lines report.replies.items → report.last ≡ None → SaysLive does.course report transcript → IsBenign transcript.status
-    benign_says report alone none says =
+    abbrev Ran : LiveReport → Type 0
+    Ran report = runs.RunsLive batch false does.first does.course does.first.history lines report does.own
+
+    benign_alone : (report : LiveReport) → HasRoomInLane batch (store_at does.first) lines → ((lane : ℕ) → AreInLane lane lines → RunsAlone batch does.first does.course lines report.replies.items) → IsBenign (status_of_replies report.replies.items)
+    benign_alone report room in_lane =
+        let alone = in_lane room.lane room.one in
+        let running : alone.last.store.stopped ≡ false = alone.stopped ∙ ap (λ (o : Option Entry). is_some o) sound_end in
+        benign_script batch (begun (store_at does.first)) alone.last lines report.replies.items alone.runs room.room running
+
+    -- All that was added is of the lanes.
+    of_lanes : (report : LiveReport) → (ran : Ran report) → (n : ℕ) → total (times n) ran.mine ≡ numbers.given (length does.first.history) (last_number does.course) n
+    of_lanes report ran n =
+        let none : times n ran.landed ≡ 0 = ap (times n) (ran.no_rounds refl) in
+        let lastly : times n ran.lastly ≡ 0 =
+        (subst (λ (l : LastRound). runs.LastRound does.first does.course ran.middle.history false l ran.lastly) (no_last batch does.first does.course lines report does.own ran) ran.last) n in
+        let numbers : times n does.own ≡ total (times n) ran.mine + times n ran.landed + times n ran.lastly = ran.numbers n in
+        omega (arith, none, lastly, numbers, does.works.each_once n)
+
+    benign_lanes : (report : LiveReport) → HasRoomInLanes (store_at does.first) lines → Ran report → IsBenign (status_of_replies report.replies.items)
+    benign_lanes report room ran =
+        lanes_benign batch does.first does.course does.works.not_stopped sound_end does.works.follows lines report.replies.items ran.mine
+        does.works.begins ran.lanes.each
+        (λ k. lane_lasts does.first does.course ran.middle ran.goes_on batch does.first.history (lines_of k lines) (of_lane k (lanes_of lines) report.replies.items) (slice_index_or ran.mine k []) (ran.lanes.lanes k))
+        (of_lanes report ran) room.no_refresh room.room
+
+    benign_replies : (report : LiveReport) → Ran report → ((lane : ℕ) → AreInLane lane lines → RunsAlone batch does.first does.course lines report.replies.items) → IsBenign (status_of_replies report.replies.items)
+    benign_replies report ran in_lane =
+        ⊎_elim (λ room. benign_alone report room in_lane) (λ room. benign_lanes report room ran) room_here
+
+    benign_says : (report : LiveReport) → IsBenign (status_of_replies report.replies.items) → report.last ≡ None → SaysLive does.course report transcript → IsBenign transcript.status
+    benign_says report benign none says =
         subst (λ (s : Status). IsBenign s) (sym says.same_status)
         (subst (λ (l : LastRound). IsBenign (live_status (status_of_replies report.replies.items) does.course.history l does.course)) (sym none)
-        (benign_live_status (status_of_replies report.replies.items) does.course (benign_alone report alone) sound_end))
+        (benign_live_status (status_of_replies report.replies.items) does.course benign sound_end))
 
-    benign_report : (report : Option LiveReport) → RunsIf batch false does.first does.course lines report does.own → IfSome report (λ r. RunsAlone batch does.first does.course lines r.replies.items) → SaysIf does.course report (Ok transcript) → IsBenign transcript.status
-    benign_report None ran alone says = absurd says
-    benign_report (Some report) ran alone says =
-        benign_says report alone (no_last batch does.first does.course lines report does.own ran) says
+    benign_report : (report : Option LiveReport) → RunsIf batch false does.first does.course lines report does.own → ((lane : ℕ) → AreInLane lane lines → IfSome report (λ r. RunsAlone batch does.first does.course lines r.replies.items)) → SaysIf does.course report (Ok transcript) → IsBenign transcript.status
+    benign_report None ran in_lane says = absurd says
+    benign_report (Some report) ran in_lane says =
+        benign_says report (benign_replies report ran in_lane) (no_last batch does.first does.course lines report does.own ran) says
 
     benign_transcript : IsBenign transcript.status
     benign_transcript =
         let lives = does.what in
-        let are : AreInLane can.lane lines = subst (λ (ls : List ScriptLine). AreInLane can.lane ls) (sym all) can.one in
-        benign_report lives.report lives.runs (lives.one_lane refl can.lane are) lives.says
+        benign_report lives.report lives.runs (lives.one_lane refl) lives.says
 
   benign_cause : (lines : List ScriptLine) → HasRead source lines given rest → (e : Ending) → ScriptCause disk batch false lines old new e → IsPlainStatus (status_of e)
   benign_cause lines read e why =

@@ -1,6 +1,7 @@
 -- the input that is read, and the status that replies ask for
 pub mod Status
 pub mod Script
+pub mod Room
 -- the commands
 pub mod Bulk
 pub mod Live

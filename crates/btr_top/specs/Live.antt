@@ -21,7 +21,7 @@ use Rattle.btr_report.specs.declared.line.ReportLine.TheVariants as lines
 use Rattle.btr_live.specs.declared.live.LiveReport.{LiveReport}
 use Rattle.btr_live.specs.Live.{RunsLive}
 use Rattle.btr_live.specs.OneHistory.{OneHistory}
-use Rattle.btr_live.specs.Script.{begun, needs_of, text_of_replies}
+use Rattle.btr_live.specs.Script.{text_of_replies}
 use Rattle.btr_live.specs.OneLane.{AreInLane, RunsAlone}
 use Rattle.btr_bulk.specs.declared.status.Status.{Status}
 use Rattle.btr_bulk.specs.declared.status.Status.TheVariants.{Done, OutOfMemory, DeviceFault}
@@ -34,6 +34,7 @@ use Rattle.btr_top.specs.declared.script.TheConstants.{MAX_INPUT}
 use Rattle.btr_top.specs.declared.ending.Ending.{Ending}
 use Rattle.btr_top.specs.Status.{status_of_replies}
 use Rattle.btr_top.specs.Script.{CommandCause}
+use Rattle.btr_top.specs.Room.{HasRoomForScript}
 use Rattle.btr_top.specs.Bulk.{WorkCause}
 
 -- ---- what is written
@@ -117,14 +118,12 @@ module _ {S D : Type 0} (source : SourceGhosts S) (disk : Ghosts D) where
   abbrev pub LiveCause : ℕ → Bool → S → S → D → D → Ending → Type 0
   LiveCause batch materialize given rest old new e = CommandCause source (ScriptCause disk batch materialize) given rest old new e
 
-  -- The device holds a store with room for what the lines of the input need, all of one lane, and the input is within the limit.
+  -- The device holds a store with room for what the lines of the input need, and the input is within the limit.
   pub record CanLive (batch : ℕ) (given : S) (old : D) : Type 0 where
     pub history : List Entry
     pub blocks : ℕ
     pub tail : ℕ
     pub holds : HoldsHistoryTo (disk.size old) (disk.contents old) blocks tail history
     pub within : length (source.left given) ≤ MAX_INPUT
-    pub lane : ℕ
-    pub one : AreInLane lane (script_of (source.left given))
-    pub room : needs_of batch (begun (record { history = history; left = left blocks tail; stopped = false }))
-        (script_of (source.left given)) ≤ left blocks tail
+    pub room : HasRoomForScript batch (record { history = history; left = left blocks tail; stopped = false })
+        (script_of (source.left given))

@@ -40,7 +40,7 @@ RunCause source disk command given rest old new e =
     Cause source disk command given rest old new e ⊎ WordsLackMemory given rest old new e
 
 -- The device and the input are such that the command comes to its end if nothing fails: there is a store, with room for all that the
--- command may add. Of `live` it is said for a script in one lane and without rounds, and of `format` by `CanFormat`.
+-- command may add. Of `live` it is said for a script without rounds, and of `format` by `CanFormat`.
 abbrev pub CanRun : {S D : Type 0} → SourceGhosts S → Ghosts D → Option Command → S → D → Type 0
 CanRun source disk None given old = ⊥
 CanRun source disk (Some (Format blocks)) given old = ⊥
