@@ -325,7 +325,7 @@ module _ (batch : ℕ) (start : Start) (course : Course) (running : start.stoppe
       let first = here.0 in (
         here.1 (λ p e need left starts full least. fits p e need left starts full (omega (arith, least, rest, sum))),
         lines_benign is.2 lines all is.1 new blocks needs.1
-        (λ p e need left starts full least. fits p e need left starts full (omega (arith, least, first, sum))) is.5,
+            (λ p e need left starts full least. fits p e need left starts full (omega (arith, least, first, sum))) is.5,
       )
 
   -- ---- all lanes

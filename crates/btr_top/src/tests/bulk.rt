@@ -1,5 +1,5 @@
 //! Runs of `load`, `distil` and `sample`, as transcripts in the form of the document on commands.
-use super::fixture::play;
+use super::fixture::{play, run_beside, run_on, store_of};
 use std::test::Fail;
 
 // rows, refused ones among them, and then more points of the same stream
@@ -232,5 +232,19 @@ fn outputs_are_brought_up_to_date(rt: HostRuntime) -> Result<(), Fail> {
 #[test]
 fn an_empty_store_is_filled_with_a_sample(rt: HostRuntime) -> Result<(), Fail> {
     play(&rt, &[], SAMPLE)?;
+    Ok(())
+}
+
+/// Of two streams, and of two outputs, the second is worked on while the first one waits for that.
+#[test]
+fn workers_run_beside_each_other(rt: HostRuntime) -> Result<(), Fail> {
+    let rows = b"U,0,1\nV,1,1\n".as_slice();
+    let (loaded, is_loaded) = run_beside(&rt, 1, "load --workers 2", rows, store_of(&rt, "64")?)?;
+    let outputs = b"distiller W sum 0 0 U\ndistiller X sum 0 0 V\n".as_slice();
+    let defined = run_on(&rt, "live", outputs, loaded.disk)?;
+    let (distilled, is_distilled) = run_beside(&rt, 1, "distil --workers 2", b"", defined.disk)?;
+    let (sample, is_sampled) = run_beside(&rt, 1, "sample 1 2 3", b"", store_of(&rt, "64")?)?;
+    assert_eq!(rt; (loaded.status, distilled.status, sample.status), (0, 0, 0));
+    assert_eq!(rt; (is_loaded, is_distilled, is_sampled), (true, true, true));
     Ok(())
 }

@@ -1,15 +1,17 @@
 //! Runs on a device in memory, and transcripts of such runs.
 ghost use Rattle.std.specs.Prelude.{◌≡◌, ◌%◌, length};
 
-use crate::{Outcome, run};
+use crate::{Outcome, run, run_paced};
 use btr_disk::{Capacity, MemDisk};
 use btr_io::{MemSink, MemSource};
+use btr_jobs::Pace;
 use btr_text::read_unsigned;
 use std::alloc::{AllocError, Global};
 use std::process::Abort;
 use std::sync::Wait;
+use std::sync::atomic::{AtomicU32, Ordering};
 use std::test::Fail;
-use std::thread::Threads;
+use std::thread::{Threads, yield_now};
 
 /// What the record of a device can hold.
 const CAPACITY: Capacity = Capacity {
@@ -72,12 +74,82 @@ pub(super) fn run_words(
     disk: MemDisk,
 ) -> Result<(u8, MemDisk), Fail> {
     let alloc = rt.alloc();
-    let mut given = Vec::new(alloc);
-    for word in words.split(' ') {
-        given.push(word.to_string(alloc)?)?;
-    }
+    let given = split_words(alloc, words)?;
     let Outcome { status, disk } = run(rt, alloc, &given, source, sink, disk);
     Ok((status, disk))
+}
+
+/// Returns the words of a text.
+fn split_words(alloc: Global, text: &str) -> Result<Vec<String>, AllocError> {
+    let mut words = Vec::new(alloc);
+    for word in text.split(' ') {
+        words.push(word.to_string(alloc)?)?;
+    }
+    Ok(words)
+}
+
+/// Waits when turn 0 begins, for at most a million tries, until another turn has begun.
+#[derive(Drop)]
+struct Beside {
+    other: u32,
+    begun: AtomicU32,
+    beside: AtomicU32,
+}
+
+impl Beside {
+    fn wait(&self) {
+        for _ in 0..1_000_000u32 {
+            if self.begun.load(Ordering::SeqCst) > 0 {
+                self.beside.store(1, Ordering::SeqCst);
+                return;
+            }
+            yield_now();
+        }
+    }
+}
+
+impl Pace for Beside {
+    fn begun(&self, turn: u32) {
+        if turn == self.other {
+            self.begun.store(1, Ordering::SeqCst);
+        }
+        if turn == 0 {
+            self.wait();
+        }
+    }
+
+    fn ended(&self, _turn: u32) {}
+}
+
+/// Runs these words on a device. Returns also whether another turn began while turn 0 waited for it.
+pub(super) fn run_beside(
+    rt: &(impl AllocGlobal + Threads + Wait + Sync),
+    other: u32,
+    words: &str,
+    input: &[u8],
+    disk: MemDisk,
+) -> Result<(Ran, bool), Fail> {
+    let alloc = rt.alloc();
+    let given = split_words(alloc, words)?;
+    let mut source = MemSource::new(with_ids(alloc, input)?, 7, Vec::new(alloc));
+    let mut sink = MemSink::new(alloc, 10000, 11, Vec::new(alloc))?;
+    let pace = Beside {
+        other,
+        begun: AtomicU32::new(0),
+        beside: AtomicU32::new(0),
+    };
+    let Outcome { status, disk } = run_paced(
+        rt,
+        alloc,
+        &given,
+        &mut source,
+        &mut sink,
+        disk,
+        &pace,
+    );
+    let text = String::from_utf8_lossy(alloc, sink.written())?.to_string(alloc)?;
+    let is_beside = pace.beside.load(Ordering::SeqCst) > 0;
+    Ok((Ran { text, status, disk }, is_beside))
 }
 
 /// Returns the text with an id for each `U`, `V`, `W` and `X`.

@@ -1,15 +1,11 @@
 //! Scripts in lanes beside each other, with rounds and without them.
-use super::fixture::{empty_device, play, run_on, store_of, with_ids};
-use crate::{Outcome, run_paced};
+use super::fixture::{empty_device, play, run_beside, run_on, store_of, with_ids};
 use btr_disk::MemDisk;
-use btr_io::{MemSink, MemSource};
-use btr_jobs::Pace;
 use btr_text::read_unsigned;
 use std::process::Abort;
 use std::sync::Wait;
-use std::sync::atomic::{AtomicU32, Ordering};
 use std::test::Fail;
-use std::thread::{Threads, yield_now};
+use std::thread::Threads;
 
 // lanes that do not touch what the others do; a lane is named by one of eight words; a lane has feeds of its own
 const LANES: &str = "\
@@ -161,72 +157,20 @@ fn eight_lanes_write_to_one_stream(rt: HostRuntime) -> Result<(), Fail> {
     Ok(())
 }
 
-/// Waits when the first lane begins, for at most a million tries, until another turn has begun.
-#[derive(Drop)]
-struct Beside {
-    other: u32,
-    begun: AtomicU32,
-    beside: AtomicU32,
-}
-
-impl Beside {
-    fn new(other: u32) -> Beside {
-        Beside {
-            other,
-            begun: AtomicU32::new(0),
-            beside: AtomicU32::new(0),
-        }
-    }
-
-    fn wait(&self) {
-        for _ in 0..1_000_000u32 {
-            if self.begun.load(Ordering::SeqCst) > 0 {
-                self.beside.store(1, Ordering::SeqCst);
-                return;
-            }
-            yield_now();
-        }
-    }
-}
-
-impl Pace for Beside {
-    fn begun(&self, turn: u32) {
-        if turn == self.other {
-            self.begun.store(1, Ordering::SeqCst);
-        }
-        if turn == 0 {
-            self.wait();
-        }
-    }
-
-    fn ended(&self, _turn: u32) {}
-}
-
 /// A second lane, and the rounds, begin before the first lane runs.
 #[test]
 fn lanes_and_rounds_run_beside_each_other(rt: HostRuntime) -> Result<(), Fail> {
-    let alloc = rt.alloc();
-    for other in [1, 8] {
-        let words = vec![in alloc; "live".to_string(alloc)?, "--materialize".to_string(alloc)?]?;
-        let input = with_ids(alloc, b"create U\n@1 create V\n")?;
-        let mut source = MemSource::new(input, 7, Vec::new(alloc));
-        let mut sink = MemSink::new(alloc, 100, 11, Vec::new(alloc))?;
-        let pace = Beside::new(other);
-        let disk = store_of(&rt, "64")?;
-        let Outcome { status, .. } = run_paced(
-            &rt,
-            alloc,
-            &words,
-            &mut source,
-            &mut sink,
-            disk,
-            &pace,
-        );
-        assert_eq!(rt; sink.written(), b"ok 0 0\nok 0 0\n".as_slice());
+    let script = b"create U\n@1 create V\n".as_slice();
+    for (words, other) in [
+        ("live", 1),
+        ("live --materialize", 1),
+        ("live --materialize", 8),
+    ] {
+        let (ran, is_beside) = run_beside(&rt, other, words, script, store_of(&rt, "64")?)?;
         assert_eq!(rt;
-            (status, pace.beside.load(Ordering::SeqCst)),
-            (0, 1),
-            "beside {other}"
+            (ran.text.as_str(), ran.status, is_beside),
+            ("ok 0 0\nok 0 0\n", 0, true),
+            "{words}: {other}"
         );
     }
     Ok(())
