@@ -29,7 +29,7 @@ use Rattle.btr_bulk.specs.declared.load_lines.RefusedNumber.{RefusedNumber}
 use Rattle.btr_bulk.specs.declared.status.Status.{Status}
 use Rattle.btr_bulk.specs.declared.status.Status.TheVariants.{Done}
 use Rattle.btr_bulk.specs.declared.transcript.Transcript.{Transcript}
-use Rattle.btr_bulk.specs.Reasons.{reason_of_step, reason_of_landing}
+use Rattle.btr_live.specs.Reasons.{reason_of_step, reason_of_landing}
 use Rattle.btr_bulk.specs.Status.{rank, greater, greatest, status_of_reason, status_of_line, status_of_lines}
 use Rattle.btr_bulk.specs.Transcript.{SaysLines}
 use Rattle.btr_bulk.specs.Completes.{IsBenign}

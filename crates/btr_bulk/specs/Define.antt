@@ -15,7 +15,7 @@ use Rattle.btr_engine.specs.declared.step.StepFault.{StepFault}
 use Rattle.btr_jobs.specs.Course.{Start, Course}
 use Rattle.btr_jobs.specs.Turns.{IsIdle, Committed}
 use Rattle.btr_bulk.specs.declared.define.DefinedOutput.{DefinedOutput}
-use Rattle.btr_bulk.specs.Reasons.{reason_of_step}
+use Rattle.btr_live.specs.Reasons.{reason_of_step}
 
 -- The id of the output of a stream of a sample. The streams count from 0, and the id of a stream is one more.
 abbrev pub output_id : ℕ → ℕ

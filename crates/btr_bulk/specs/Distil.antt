@@ -20,7 +20,7 @@ use Rattle.btr_work.specs.Alike.{IsAlike, IsUndisturbed, landed_levels}
 use Rattle.btr_report.specs.declared.line.ReportLine.{ReportLine}
 use Rattle.btr_report.specs.declared.line.ReportLine.TheVariants as lines
 use Rattle.btr_bulk.specs.declared.transcript.Transcript.{Transcript}
-use Rattle.btr_bulk.specs.Reasons.{reason_of_landing}
+use Rattle.btr_live.specs.Reasons.{reason_of_landing}
 use Rattle.btr_bulk.specs.Streams.{id_of, version_of}
 use Rattle.btr_bulk.specs.Transcript.{SaysLines}
 use Rattle.btr_bulk.specs.Completes.{SaysBenign, HasRoomForOutputs}

@@ -2,7 +2,6 @@
 pub mod Closing
 pub mod Work
 -- the lines that are written, and the status that they ask for
-pub mod Reasons
 pub mod Status
 pub mod Transcript
 pub mod Completes

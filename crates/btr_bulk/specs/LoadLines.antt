@@ -15,7 +15,7 @@ use Rattle.btr_report.specs.declared.line.ReportLine.TheVariants as lines
 use Rattle.btr_report.specs.declared.line.RowRefusal.TheVariants as refusals
 use Rattle.btr_bulk.specs.declared.load_lines.RefusedNumber.{RefusedNumber}
 use Rattle.btr_bulk.specs.declared.transcript.Transcript.{Transcript}
-use Rattle.btr_bulk.specs.Reasons.{reason_of_step}
+use Rattle.btr_live.specs.Reasons.{reason_of_step}
 use Rattle.btr_bulk.specs.Transcript.{SaysLines}
 
 -- ---- refused rows

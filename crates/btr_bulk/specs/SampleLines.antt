@@ -16,7 +16,7 @@ use Rattle.btr_bulk.specs.declared.define.DefinedOutput.{DefinedOutput}
 use Rattle.btr_bulk.specs.declared.load_lines.RefusedNumber.{RefusedNumber}
 use Rattle.btr_bulk.specs.declared.sample.Filled.{Filled}
 use Rattle.btr_bulk.specs.declared.transcript.Transcript.{Transcript}
-use Rattle.btr_bulk.specs.Reasons.{reason_of_landing}
+use Rattle.btr_live.specs.Reasons.{reason_of_landing}
 use Rattle.btr_bulk.specs.Streams.{id_of}
 use Rattle.btr_bulk.specs.Transcript.{SaysLines}
 use Rattle.btr_bulk.specs.LoadLines.{AreRefused, row_line, stream_spans}

@@ -5,11 +5,11 @@ ghost use Rattle.btr_jobs.specs.Jobs.{IsAt, Does};
 ghost use Rattle.btr_bulk.specs.declared.define.DefinedOutput.{DefinedOutput as OutputSpec};
 ghost use Rattle.btr_bulk.specs.Define.{Defines, DefinesAll, output_id, mean_of, refusal_of};
 
-use crate::reasons::reason_of_step;
 use btr_disk::Disk;
 use btr_engine::{Receipt, StepFault};
 use btr_hall::{Hall, Session};
 use btr_hist::{Entry, Kernel, Spec};
+use btr_live::reason_of_step;
 use btr_text::Reason;
 use std::alloc::{AllocError, Global};
 use std::sync::Wait;

@@ -12,7 +12,6 @@ ghost use Rattle.btr_bulk.specs.Transcript.{SaysLines};
 ghost use Rattle.btr_bulk.specs.Streams.{AreStreams, Stays};
 ghost use Rattle.btr_bulk.specs.Distil.{Distils, DistilsStore, output_line, current_line, nothing_of};
 
-use crate::reasons::reason_of_landing;
 use crate::streams::{all_streams, id_of};
 use crate::transcript::Transcript;
 use crate::work::{Worked, close_hall, open_hall};
@@ -21,6 +20,7 @@ use btr_engine::Snapshot;
 use btr_hall::{Hall, Session};
 use btr_hist::{Reads, Spec, StreamRow};
 use btr_jobs::Pace;
+use btr_live::reason_of_landing;
 use btr_open::OpenFault;
 use btr_report::ReportLine;
 use btr_work::{Brought, Report, ReportLine as BroughtLine, bring_current};

@@ -19,13 +19,11 @@ mod sample_lines;
 // the streams of a snapshot
 mod streams;
 // the lines that are written, and the status that they ask for
-mod reasons;
 mod status;
 mod transcript;
 
 pub use distil::distil_store;
 pub use load::load_store;
-pub use reasons::reason_of_landing;
 pub use sample::sample_store;
 pub use status::Status;
 pub use streams::{all_streams, id_of};

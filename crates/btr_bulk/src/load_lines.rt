@@ -6,9 +6,9 @@ ghost use Rattle.btr_bulk.specs.LoadLines.{first_number, last_number, rows_refus
 ghost use Rattle.btr_bulk.specs.LoadLines.{stream_lines, stream_spans, span_line, batch_span};
 ghost use Rattle.btr_bulk.specs.LoadLines.{batch_spans, points_in, points_of, good_in, total_line};
 
-use crate::reasons::reason_of_step;
 use crate::transcript::Transcript;
 use btr_engine::{Receipt, StepFault};
+use btr_live::reason_of_step;
 use btr_load::{Fate, Loaded, LoadedStream};
 use btr_report::{ReportLine, RowRefusal};
 use btr_rows::NumberedPoint;

@@ -11,12 +11,12 @@ ghost use Rattle.btr_bulk.specs.SampleLines.{define_line, landing_line, landing_
 
 use crate::define::DefinedOutput;
 use crate::load_lines::{add_spans, refused_lines};
-use crate::reasons::reason_of_landing;
 use crate::sample::Filled;
 use crate::streams::{all_streams, id_of};
 use crate::transcript::Transcript;
 use btr_engine::Snapshot;
 use btr_hist::{Answer, At, Query, Rows, StreamRow};
+use btr_live::reason_of_landing;
 use btr_load::LoadedStream;
 use btr_report::ReportLine;
 use btr_text::Reason;

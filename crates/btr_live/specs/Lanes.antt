@@ -9,41 +9,19 @@ use Rattle.btr_text.specs.declared.script.Line.{Line}
 use Rattle.btr_text.specs.declared.reply.LineReply.{LineReply}
 use Rattle.btr_text.specs.declared.reply.LineReply.TheVariants as replies
 use Rattle.btr_text.specs.declared.reply.LineReply.TheVariants.{Done, No}
-use Rattle.btr_text.specs.declared.reply.Reason.{Reason}
 use Rattle.btr_text.specs.declared.reply.Reason.TheVariants as reasons
-use Rattle.btr_text.specs.Reasons.{reason_of_rejection}
 use Rattle.btr_engine.specs.declared.board.Receipt.{Receipt}
 use Rattle.btr_engine.specs.declared.step.StepFault.{StepFault}
-use Rattle.btr_engine.specs.declared.step.StepFault.TheVariants as steps
 use Rattle.btr_gate.specs.Prefixes.{StartsWith}
 use Rattle.btr_hall.specs.declared.land.LandFault.{LandFault}
-use Rattle.btr_hall.specs.declared.land.LandFault.TheVariants as faults
 use Rattle.btr_jobs.specs.Course.{Start, Course}
 use Rattle.btr_jobs.specs.Turns.{IsIdle, CommittedAfter, LandedAfter}
 use Rattle.btr_live.specs.Feeds.{Waiting, none_waiting, fed}
 use Rattle.btr_live.specs.Meaning.{Meaning, Commits, Asks, Holds, Current, Refuses}
+use Rattle.btr_live.specs.Reasons.{reason_of_step, reason_of_landing}
 use Rattle.btr_live.specs.Replies.{reply_of_answer, waiting_after, Means}
 
 -- ---- replies to what was done in a turn
-
--- Why an entry was not added.
-abbrev pub reason_of_step : StepFault → Reason
-reason_of_step (steps.Stopped entries) = reasons.Stopped entries
-reason_of_step (steps.Rejected why) = reason_of_rejection why
-reason_of_step steps.Want = reasons.Memory
-reason_of_step (steps.DeviceFull need left) = reasons.Full need left
-reason_of_step steps.DeviceFault = reasons.Device
-
--- Why a plan was not landed.
-abbrev pub reason_of_landing : LandFault → Reason
-reason_of_landing (faults.Stopped entries) = reasons.Stopped entries
-reason_of_landing (faults.Superseded version) = reasons.Superseded version
-reason_of_landing faults.VersionLimit = reasons.Versions
-reason_of_landing (faults.Crowded start) = reasons.Crowded start
-reason_of_landing (faults.TooManyPoints count) = reasons.Points count
-reason_of_landing faults.Want = reasons.Memory
-reason_of_landing (faults.DeviceFull need left) = reasons.Full need left
-reason_of_landing faults.DeviceFault = reasons.Device
 
 -- The reply to an entry, by the result of its turn.
 abbrev pub reply_of_step : Result Receipt StepFault → LineReply

@@ -2,6 +2,7 @@
 pub mod Feeds
 pub mod Meaning
 pub mod Replies
+pub mod Reasons
 -- lanes
 pub mod Lanes
 pub mod Landings

@@ -10,13 +10,13 @@ ghost use Rattle.btr_jobs.specs.Jobs.{IsAt};
 ghost use Rattle.btr_live.specs.Feeds.{Waiting};
 ghost use Rattle.btr_live.specs.Meaning.{Commits, define, on_stream};
 ghost use Rattle.btr_live.specs.Replies.{Means};
-ghost use Rattle.btr_live.specs.Lanes.{reason_of_landing};
 ghost use Rattle.btr_live.specs.Serving.{AsksFor, Knows, RefreshAsks, RepliesIn, ServesIn};
 
 use crate::line::commit;
+use crate::reasons::reason_of_landing;
 use btr_disk::Disk;
 use btr_distil::Plan;
-use btr_hall::{Found, Hall, LandFault, Session};
+use btr_hall::{Found, Hall, Session};
 use btr_hist::{Entry, Kernel, Spec};
 use btr_plan::{Next, next_plan};
 use btr_text::{LineReply, Reason};
@@ -162,22 +162,6 @@ fn land<R: Wait, D: Disk>(
         Ok(receipt) => LineReply::Done {
             version: receipt.version,
         },
-        Err(fault) => LineReply::No(reason_of(fault)),
-    }
-}
-
-/// Returns the reason of a plan that was not landed.
-fn reason_of(fault: LandFault) -> Reason
-    ensures { result ≡ reason_of_landing fault }
-{
-    match fault {
-        LandFault::Stopped { entries } => Reason::Stopped { entries },
-        LandFault::Superseded { version } => Reason::Superseded { version },
-        LandFault::VersionLimit => Reason::Versions,
-        LandFault::Crowded { start } => Reason::Crowded { start },
-        LandFault::TooManyPoints { count } => Reason::Points { count },
-        LandFault::Want => Reason::Memory,
-        LandFault::DeviceFull { need, left } => Reason::Full { need, left },
-        LandFault::DeviceFault => Reason::Device,
+        Err(fault) => LineReply::No(reason_of_landing(fault)),
     }
 }

@@ -12,6 +12,7 @@ mod feeds;
 mod distill_line;
 mod feed_line;
 mod line;
+mod reasons;
 // what runs beside each other
 mod counting;
 mod lane;
@@ -29,6 +30,7 @@ pub use laws::{
     runs_are_one_history,
 };
 pub use live::{LiveReport, lanes};
+pub use reasons::{reason_of_landing, reason_of_step};
 
 #[cfg(test)]
 mod tests;

@@ -17,6 +17,7 @@ ghost use Rattle.btr_live.specs.Serving.{AsksFor, LineAsks, IsAnswerOrNoMemory, 
 use crate::distill_line::{define, refresh};
 use crate::feed_line::{discard, feed, flush};
 use crate::feeds::Feeds;
+use crate::reasons::reason_of_step;
 use btr_base::{Bag, Range, Ranges};
 use btr_disk::Disk;
 use btr_engine::{Receipt, Snapshot, StepFault};
@@ -211,11 +212,7 @@ fn reply_of(step: Result<Receipt, StepFault>) -> LineReply
         Ok(receipt) => LineReply::Done {
             version: receipt.version,
         },
-        Err(StepFault::Stopped { entries }) => LineReply::No(Reason::Stopped { entries }),
-        Err(StepFault::Rejected(why)) => LineReply::No(Reason::of_rejection(why)),
-        Err(StepFault::Want) => LineReply::No(Reason::Memory),
-        Err(StepFault::DeviceFull { need, left }) => LineReply::No(Reason::Full { need, left }),
-        Err(StepFault::DeviceFault) => LineReply::No(Reason::Device),
+        Err(fault) => LineReply::No(reason_of_step(fault)),
     }
 }
 

@@ -26,7 +26,7 @@ use Rattle.btr_live.specs.OneLane.{AreInLane, RunsAlone}
 use Rattle.btr_bulk.specs.declared.status.Status.{Status}
 use Rattle.btr_bulk.specs.declared.status.Status.TheVariants.{Done, OutOfMemory, DeviceFault}
 use Rattle.btr_bulk.specs.declared.transcript.Transcript.{Transcript}
-use Rattle.btr_bulk.specs.Reasons.{reason_of_landing}
+use Rattle.btr_live.specs.Reasons.{reason_of_landing}
 use Rattle.btr_bulk.specs.Status.{greater, status_of_lines}
 use Rattle.btr_bulk.specs.Streams.{id_of}
 use Rattle.btr_bulk.specs.Transcript.{text_of_lines}

@@ -15,12 +15,12 @@ ghost use Rattle.btr_top.specs.Live.{SaysLive, course_status, round_line, round_
 ghost use Rattle.btr_top.specs.Saying.{refused_line};
 
 use crate::script::{add_reply, no_replies};
-use btr_bulk::{Status, Transcript, all_streams, id_of, reason_of_landing};
+use btr_bulk::{Status, Transcript, all_streams, id_of};
 use btr_disk::Disk;
 use btr_engine::Snapshot;
 use btr_hall::{Hall, Session};
 use btr_hist::StreamRow;
-use btr_live::LiveReport;
+use btr_live::{LiveReport, reason_of_landing};
 use btr_report::ReportLine;
 use btr_text::LineReply;
 use btr_work::{Brought, Report, ReportLine as BroughtLine};

@@ -28,5 +28,5 @@ returns-in-Ok-clause-replies g c =
 pub returns-in-Err-clause-replies : goal.returns-in-Err-clause-replies
 returns-in-Err-clause-replies g c =
     subst (λ r. RepliesIn c.args.hall.now c.args.session.now c.land.new.self (Commits (entry_of c.args.plan.now)) r)
-    (ap reply_of_landing c.in-Err.is ∙ ap (λ r. No r) (sym c.reason_of.ensures))
+    (ap reply_of_landing c.in-Err.is ∙ ap (λ r. No r) (sym c.reason_of_landing.ensures))
     (land_replies c.args.hall.now c.args.session.now c.land.new.self c.args.plan.now c.land.result c.requires.planned c.land.ensures.same c.land.ensures.lands)

@@ -1,4 +1,4 @@
--- The reason that a line gives if an entry was not added, or a plan not landed.
+-- The reason that a reply gives, if an entry was not added or a plan not landed.
 use Rattle.btr_text.specs.declared.reply.Reason.{Reason}
 use Rattle.btr_text.specs.declared.reply.Reason.TheVariants as reasons
 use Rattle.btr_text.specs.Reasons.{reason_of_rejection}

@@ -1,13 +1,13 @@
-//! The reasons that lines give for entries that were not added.
+//! The reasons that replies give for entries that were not added.
 ghost use Rattle.std.specs.Prelude.{◌≡◌};
-ghost use Rattle.btr_bulk.specs.Reasons.{reason_of_step, reason_of_landing};
+ghost use Rattle.btr_live.specs.Reasons.{reason_of_step, reason_of_landing};
 
 use btr_engine::StepFault;
 use btr_hall::LandFault;
 use btr_text::Reason;
 
-/// Returns the reason of a line whose entry was not added.
-pub(crate) fn reason_of_step(fault: StepFault) -> Reason
+/// Returns the reason that a reply gives for an entry that was not added. It takes constant time.
+pub fn reason_of_step(fault: StepFault) -> Reason
     ensures { result ≡ reason_of_step fault }
 {
     match fault {
@@ -19,7 +19,7 @@ pub(crate) fn reason_of_step(fault: StepFault) -> Reason
     }
 }
 
-/// Returns the reason of a line whose plan was not landed.
+/// Returns the reason that a reply gives for a plan that was not landed. It takes constant time.
 pub fn reason_of_landing(fault: LandFault) -> Reason
     ensures { result ≡ reason_of_landing fault }
 {
