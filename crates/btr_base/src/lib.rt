@@ -39,6 +39,3 @@ pub use range::Range;
 pub use ranges::{Ranges, ranges_before, ranges_from};
 pub use span::Span;
 pub use toward::Toward;
-
-#[cfg(test)]
-mod tests;

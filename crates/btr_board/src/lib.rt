@@ -21,6 +21,3 @@ mod trail_node;
 
 pub use index::Index;
 pub use trail::Trail;
-
-#[cfg(test)]
-mod tests;

@@ -29,6 +29,3 @@ pub use status::Status;
 pub use streams::{all_streams, id_of};
 pub use transcript::Transcript;
 pub use work::{Worked, close_hall, open_hall};
-
-#[cfg(test)]
-mod tests;

@@ -20,6 +20,3 @@ mod running;
 pub use event::{Event, Reply, What};
 pub use machine::Machine;
 pub use running::run;
-
-#[cfg(test)]
-mod tests;

@@ -14,6 +14,3 @@ mod leaf_walk;
 mod tree_walk;
 
 pub use comparing::changes;
-
-#[cfg(test)]
-mod tests;

@@ -18,6 +18,3 @@ pub use disk::{BLOCK, Disk, Failed};
 pub use fuse::FuseDisk;
 pub use gate::{GATE_MARK, is_open_gate, open_gate, publish};
 pub use memory::{Capacity, MemDisk};
-
-#[cfg(test)]
-mod tests;

@@ -16,6 +16,3 @@ mod planning;
 pub use commit::Plan;
 pub use planning::plan;
 pub use sight::Sight;
-
-#[cfg(test)]
-mod tests;

@@ -19,6 +19,3 @@ pub use board::{Board, PushFault, Receipt, Staged};
 pub use engine::Engine;
 pub use snapshot::Snapshot;
 pub use step::StepFault;
-
-#[cfg(test)]
-mod tests;

@@ -38,6 +38,3 @@ mod laws;
 pub use decoding::decode;
 pub use encoding::{encode, spelling_length};
 pub use laws::one_spelling;
-
-#[cfg(test)]
-mod tests;

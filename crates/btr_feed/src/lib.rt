@@ -9,6 +9,3 @@ mod domain;
 mod feed;
 
 pub use feed::{Feed, FeedFault, Held};
-
-#[cfg(test)]
-mod tests;

@@ -21,8 +21,6 @@ mod gate;
 mod leave;
 mod plays;
 mod share;
-#[cfg(test)]
-mod tests;
 mod turn;
 mod view;
 

@@ -25,6 +25,3 @@ pub use look::Found;
 pub use session::{Hall, Session};
 pub use sole::Sole;
 pub use store::Store;
-
-#[cfg(test)]
-mod tests;

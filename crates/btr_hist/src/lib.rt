@@ -39,6 +39,3 @@ pub use rejecting::{
     MAX_DISTILLATE_RANGES, change_rejection, distillate_change_rejection, points_rejection,
 };
 pub use rejection::Rejection;
-
-#[cfg(test)]
-mod tests;

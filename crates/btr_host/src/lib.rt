@@ -20,6 +20,3 @@ pub use std_source::StdSource;
 
 /// Blocks of a device in a file: the greatest number that a store may have.
 const MAX_BLOCKS: u64 = 1 << 32;
-
-#[cfg(test)]
-mod tests;

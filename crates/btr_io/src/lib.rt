@@ -24,6 +24,3 @@ pub use reading::{ReadAllFault, read_all};
 pub use sink::Sink;
 pub use source::Source;
 pub use writing::write_all;
-
-#[cfg(test)]
-mod tests;

@@ -15,6 +15,3 @@ mod worker;
 pub use job::Job;
 pub use pace::{NoPace, Pace};
 pub use run::{run_in_turn, run_jobs};
-
-#[cfg(test)]
-mod tests;

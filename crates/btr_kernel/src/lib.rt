@@ -23,6 +23,3 @@ mod output;
 pub use eval_at::eval;
 pub use law::Eval;
 pub use output::run_over;
-
-#[cfg(test)]
-mod tests;

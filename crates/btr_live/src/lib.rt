@@ -31,6 +31,3 @@ pub use laws::{
 };
 pub use live::{LiveReport, lanes};
 pub use reasons::{reason_of_landing, reason_of_step};
-
-#[cfg(test)]
-mod tests;

@@ -24,6 +24,3 @@ pub use laws::{batches_are_there, loads_are_alike, loads_fit, rows_are_distinct}
 pub use loaded::Loaded;
 pub use loading::load;
 pub use stream::LoadedStream;
-
-#[cfg(test)]
-mod tests;

@@ -15,6 +15,3 @@ pub use append::AppendFault;
 pub use found::{ExtentFault, Found};
 pub use head::{HEAD_BYTES, HEAD_MARK, Head};
 pub use log::Log;
-
-#[cfg(test)]
-mod tests;

@@ -13,6 +13,3 @@ mod laws;
 
 pub use laws::{held_is_sound, one_history_is_held};
 pub use opening::{OpenCause, OpenFault, open_store};
-
-#[cfg(test)]
-mod tests;

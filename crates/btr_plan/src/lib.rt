@@ -13,6 +13,3 @@ mod planning;
 
 pub use planning::{Next, next_plan};
 pub use sighting::sight;
-
-#[cfg(test)]
-mod tests;

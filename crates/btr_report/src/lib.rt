@@ -9,6 +9,3 @@ mod write;
 
 pub use line::{ReportLine, RowRefusal};
 pub use write::write_line;
-
-#[cfg(test)]
-mod tests;

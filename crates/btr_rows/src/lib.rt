@@ -27,6 +27,3 @@ pub use list::{RowList, StreamRows};
 pub use read::read_rows;
 pub use row::{NumberedPoint, RefusedRow, Row, RowReason};
 pub use sample::sample_csv;
-
-#[cfg(test)]
-mod tests;

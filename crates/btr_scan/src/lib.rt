@@ -13,6 +13,3 @@ mod nearest_walk;
 
 pub use nearest_walk::nearest;
 pub use range_walk::range;
-
-#[cfg(test)]
-mod tests;

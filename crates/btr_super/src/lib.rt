@@ -14,6 +14,3 @@ mod superblock;
 pub use choosing::{ChooseFault, choose};
 pub use formatting::{FormatFault, format};
 pub use superblock::{FORMAT, LOG_START, MAX_BLOCKS, MIN_BLOCKS, SUPER_MARK, Super};
-
-#[cfg(test)]
-mod tests;

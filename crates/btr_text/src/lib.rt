@@ -23,6 +23,3 @@ pub use row::{append_agg, id_text};
 pub use script::{Line, Script, ScriptLine};
 pub use text::{append_line, append_reason, write_reply};
 pub use word::read_unsigned;
-
-#[cfg(test)]
-mod tests;

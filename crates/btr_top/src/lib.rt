@@ -26,6 +26,3 @@ pub use ending::Ending;
 pub use laws::run_limits_are_these;
 pub use run_command::{Outcome, run, run_paced};
 pub use script::MAX_INPUT;
-
-#[cfg(test)]
-mod tests;

@@ -40,6 +40,3 @@ pub use root::root_span;
 pub use slots::Slots;
 pub use steps::Steps;
 pub use tree::{Applied, Tree};
-
-#[cfg(test)]
-mod tests;

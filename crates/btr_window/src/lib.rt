@@ -16,6 +16,3 @@ mod window_walk;
 
 pub use range_aggregate::aggregate;
 pub use window_walk::{aligned, windows};
-
-#[cfg(test)]
-mod tests;

@@ -23,6 +23,3 @@ pub use here::bring_current_here;
 pub use laws::{brought_is_alike, brought_is_current};
 pub use leveling::levels;
 pub use report::{Brought, Report, ReportLine};
-
-#[cfg(test)]
-mod tests;

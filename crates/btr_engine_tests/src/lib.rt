@@ -1,0 +1,17 @@
+//! Tests of the log, of an opening, of the engine and of the machine and the gate over it.
+#![tactic(auto)]
+
+#[cfg(test)]
+mod log_tests;
+#[cfg(test)]
+mod super_tests;
+#[cfg(test)]
+mod engine_tests;
+#[cfg(test)]
+mod plan_tests;
+#[cfg(test)]
+mod open_tests;
+#[cfg(test)]
+mod core_tests;
+#[cfg(test)]
+mod gate_tests;

@@ -1,0 +1,21 @@
+use Rattle.std.proofs.Common.{ap, arith}
+use denote.Param.Send.{sendable}
+use Rattle.std.proofs.Crossing.{crosses}
+use Rattle.btr_gate.specs.Shares.{on_path}
+use Rattle.btr_hall.proofs.SessionLemmas.{split_paths, meet_paths}
+use Rattle.btr_hall.proofs.TestLemmas.{user_send, place_sync}
+use Rattle.btr_hall_tests.proofs.hall_tests.two_tell.Goals as goal
+
+pub join-user-requires-send-F : goal.join-user-requires-send-F
+join-user-requires-send-F g c κs within = let rt = c.type_bounds.sync-R in search (sendable, crosses, user_send, place_sync) depth 40
+
+pub join-user-requires-send-A : goal.join-user-requires-send-A
+join-user-requires-send-A g c κs within = search (sendable, crosses, user_send) depth 30
+
+pub returns-clause-share : goal.returns-clause-share
+returns-clause-share g c path =
+    let cut = split_paths path c.args.user c.split-other.new.self c.split-other.result c.split-other.ensures.splits in
+    let both = meet_paths path c.join-user.result.0.0 c.join-user.result.1.0 c.meet.new.self c.meet.ensures.meets in
+    let first = ap (on_path path) c.join-user.ensures.first.1 in
+    let second = ap (on_path path) c.join-user.ensures.second.1 in
+    omega (arith, cut, both, first, second)

@@ -1,0 +1,15 @@
+//! Tests of sessions, jobs, loads, lanes and refreshes, over a device in memory.
+#![tactic(auto)]
+
+#[cfg(test)]
+mod hall_tests;
+#[cfg(test)]
+mod jobs_tests;
+#[cfg(test)]
+mod work_tests;
+#[cfg(test)]
+mod load_tests;
+#[cfg(test)]
+mod live_tests;
+#[cfg(test)]
+mod bulk_tests;

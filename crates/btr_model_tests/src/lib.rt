@@ -1,0 +1,17 @@
+//! Tests of the model, of devices, sources and sinks in memory, and of the bytes of entries.
+#![tactic(auto)]
+
+#[cfg(test)]
+mod base_tests;
+#[cfg(test)]
+mod board_tests;
+#[cfg(test)]
+mod disk_tests;
+#[cfg(test)]
+mod io_tests;
+#[cfg(test)]
+mod feed_tests;
+#[cfg(test)]
+mod hist_tests;
+#[cfg(test)]
+mod entry_tests;

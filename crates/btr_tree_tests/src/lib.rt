@@ -1,0 +1,15 @@
+//! Tests of trees, of the walks over them, and of what a distiller computes.
+#![tactic(auto)]
+
+#[cfg(test)]
+mod tree_tests;
+#[cfg(test)]
+mod scan_tests;
+#[cfg(test)]
+mod window_tests;
+#[cfg(test)]
+mod diff_tests;
+#[cfg(test)]
+mod kernel_tests;
+#[cfg(test)]
+mod distil_tests;

@@ -1,0 +1,617 @@
+//! Commits of one stream. After each, the tree is compared with the nodes that a plain program derives from the definitions.
+//!
+//! The plain program keeps the commits, and the points before each, as lists. It shares no code with the tree. Its functions
+//! mirror the definitions in `specs/`: `is_inner`, `is_node`, `touches`, `node_version` and `slot_version` those of `Nodes`,
+//! `slots_of`, `node_of` and `derive_nodes` those of `NewNodes`, `is_as_derived` `IsTree` of `Root`, and `summary_in` the
+//! aggregate in btr_base's `Agg`.
+ghost use Rattle.std.specs.Prelude.{◌≡◌, ◌-◌};
+
+use btr_tree::TreeFault;
+use btr_tree::visit;
+use btr_tree::{NewNode, NewSlots};
+use btr_tree::{Child, Node, Slot};
+use btr_tree::Slots;
+use btr_tree::Steps;
+use btr_tree::{Applied, Tree};
+use btr_base::{Bag, END, FIRST, Point, Range, Ranges, are_in_domain};
+use std::alloc::{AllocError, Global};
+use std::test::Fail;
+use std::thread;
+
+/// The greatest number of points of a leaf.
+const MOST: usize = 252;
+
+/// The whole domain.
+const WHOLE: Part = Part {
+    start: FIRST,
+    height: 10,
+    width: 4611686018427387904,
+};
+
+/// The start of a slot of the root.
+const FAR: i64 = 1441151880758558720;
+
+/// The start of the slot after it.
+const NEXT: i64 = 1513209474796486656;
+
+/// One 256th of the width of a slot of the root.
+const STRIDE: i64 = 281474976710656;
+
+/// The times of a span.
+#[derive(Clone, Copy, Debug, PartialEq, Eq)]
+struct Part {
+    start: i64,
+    height: u8,
+    width: i64,
+}
+
+/// The aggregate of the points of a part.
+#[derive(Clone, Copy, Debug, PartialEq, Eq)]
+struct Summary {
+    count: u64,
+    sum: i128,
+    ends: Option<(i64, i64)>,
+}
+
+/// A slot of an inner node.
+#[derive(Clone, Copy, Debug, PartialEq, Eq)]
+struct PlainSlot {
+    summary: Summary,
+    version: u64,
+    child: u64,
+}
+
+/// A node with its span.
+#[derive(Debug, Drop, PartialEq, Eq)]
+struct PlainNode {
+    start: i64,
+    height: u8,
+    version: u64,
+    points: Vec<Point>,
+    slots: Vec<PlainSlot>,
+}
+
+/// The tree of a version, with its points and all its nodes by the plain program.
+#[derive(Drop)]
+struct Version {
+    tree: Tree,
+    points: Bag,
+    nodes: Vec<PlainNode>,
+}
+
+/// A commit, and the version that it found.
+#[derive(Drop)]
+struct Commit {
+    version: u64,
+    cut: Ranges,
+    added: Bag,
+    before: Version,
+}
+
+/// The `i`-th of the 64 slots of a part.
+fn slot_of(part: Part, i: i64) -> Part
+    ensures { result.height ≡ part.height - 1 }
+{
+    let width = part.width / 64;
+    Part {
+        start: part.start.wrapping_add(i.wrapping_mul(width)),
+        height: part.height.saturating_sub(1),
+        width,
+    }
+}
+
+fn is_in(part: Part, time: i64) -> bool {
+    part.start <= time && time.wrapping_sub(part.start) < part.width
+}
+
+/// The points of a part.
+fn points_in(alloc: Global, points: &[Point], part: Part) -> Result<Vec<Point>, AllocError> {
+    let mut inside = Vec::new(alloc);
+    for point in points {
+        if is_in(part, point.time) {
+            inside.push(*point)?;
+        }
+    }
+    Ok(inside)
+}
+
+/// How many points a part has.
+fn count_in(points: &[Point], part: Part) -> usize {
+    let mut count = 0_usize;
+    for point in points {
+        if is_in(part, point.time) {
+            count = count.saturating_add(1);
+        }
+    }
+    count
+}
+
+/// The aggregate of the points of a part.
+fn summary_in(points: &[Point], part: Part) -> Summary {
+    let mut summary = Summary {
+        count: 0,
+        sum: 0,
+        ends: None,
+    };
+    for point in points {
+        if is_in(part, point.time) {
+            summary = with_value(summary, point.value);
+        }
+    }
+    summary
+}
+
+/// An aggregate with one point more.
+fn with_value(summary: Summary, value: i64) -> Summary {
+    let ends = match summary.ends {
+        Some((least, greatest)) => (least.min(value), greatest.max(value)),
+        None => (value, value),
+    };
+    Summary {
+        count: summary.count.saturating_add(1),
+        sum: summary.sum.wrapping_add(i128::from(value)),
+        ends: Some(ends),
+    }
+}
+
+/// Whether a part has more points than a leaf.
+fn is_inner(points: &[Point], part: Part) -> bool {
+    count_in(points, part) > MOST
+}
+
+/// Whether a part is a node: it has a point, and it is the whole domain or the one above it is an inner node.
+fn is_node(points: &[Point], above: Option<Part>, part: Part) -> bool {
+    let is_part = match above {
+        Some(above) => is_inner(points, above),
+        None => true,
+    };
+    is_part && count_in(points, part) > 0
+}
+
+/// Whether a commit adds a point in a part, or its cut covers one that is there.
+fn touches(commit: &Commit, part: Part) -> bool {
+    let points = commit.before.points.as_slice();
+    count_in(commit.added.as_slice(), part) > 0
+        || points.iter().any(|point| is_in(part, point.time) && is_cut(&commit.cut, point.time))
+}
+
+fn is_cut(cut: &Ranges, time: i64) -> bool {
+    cut.as_slice()
+        .iter()
+        .any(|range| range.from <= time && time < range.to)
+}
+
+/// The version of the newest commit that touches a part, or before which the part was no node.
+fn node_version(commits: &[Commit], above: Option<Part>, part: Part) -> u64 {
+    for commit in commits.iter().rev() {
+        if touches(commit, part) || !is_node(commit.before.points.as_slice(), above, part) {
+            return commit.version;
+        }
+    }
+    0
+}
+
+/// The version of the newest commit that touches a part, or before which the one above it was no inner node.
+fn slot_version(commits: &[Commit], above: Part, part: Part) -> u64 {
+    for commit in commits.iter().rev() {
+        if touches(commit, part) || !is_inner(commit.before.points.as_slice(), above) {
+            return commit.version;
+        }
+    }
+    0
+}
+
+/// The 64 slots of a part.
+fn slots_of(
+    alloc: Global,
+    commits: &[Commit],
+    points: &[Point],
+    part: Part,
+) -> Result<Vec<PlainSlot>, AllocError> {
+    let mut slots = Vec::new(alloc);
+    for i in 0..64 {
+        let slot = slot_of(part, i);
+        slots.push(PlainSlot {
+            summary: summary_in(points, slot),
+            version: slot_version(commits, part, slot),
+            child: 0,
+        })?;
+    }
+    Ok(slots)
+}
+
+/// The node of a part: its points if they are few, else its slots.
+fn node_of(
+    alloc: Global,
+    commits: &[Commit],
+    points: &[Point],
+    above: Option<Part>,
+    part: Part,
+) -> Result<PlainNode, AllocError> {
+    let version = node_version(commits, above, part);
+    let (points, slots) = if is_inner(points, part) {
+        (Vec::new(alloc), slots_of(alloc, commits, points, part)?)
+    } else {
+        (points_in(alloc, points, part)?, Vec::new(alloc))
+    };
+    Ok(PlainNode {
+        start: part.start,
+        height: part.height,
+        version,
+        points,
+        slots,
+    })
+}
+
+/// Appends the nodes of a part, children before parents and in order of time.
+fn derive_nodes(
+    alloc: Global,
+    commits: &[Commit],
+    points: &[Point],
+    above: Option<Part>,
+    part: Part,
+    nodes: &mut Vec<PlainNode>,
+) -> Result<(), AllocError> {
+    if part.height > 0 && is_inner(points, part) {
+        for i in 0..64 {
+            derive_nodes(alloc, commits, points, Some(part), slot_of(part, i), nodes)?;
+        }
+    }
+    if is_node(points, above, part) {
+        nodes.push(node_of(alloc, commits, points, above, part)?)?;
+    }
+    Ok(())
+}
+
+fn plain_slot(slot: Slot) -> PlainSlot {
+    let agg = &slot.agg;
+    PlainSlot {
+        summary: Summary {
+            count: agg.count,
+            sum: agg.sum,
+            ends: agg.ends,
+        },
+        version: slot.version,
+        child: slot.child,
+    }
+}
+
+/// The slots of a node that was visited.
+fn plain_slots(alloc: Global, slots: &Slots) -> Result<Vec<PlainSlot>, AllocError> {
+    let mut all = Vec::new(alloc);
+    for i in 0..64 {
+        all.push(plain_slot(slots.slot(i)))?;
+    }
+    Ok(all)
+}
+
+/// The slots of a node that was written, of which there is none after the last.
+fn written_slots(alloc: Global, slots: &NewSlots) -> Result<Vec<PlainSlot>, AllocError> {
+    let mut all = Vec::new(alloc);
+    for i in 0..66 {
+        if let Some(slot) = slots.get(i) {
+            all.push(plain_slot(slot))?;
+        }
+    }
+    if all.len() != slots.len() {
+        all.clear();
+    }
+    Ok(all)
+}
+
+fn plain_node(alloc: Global, node: &NewNode) -> Result<PlainNode, AllocError> {
+    let span = &node.span;
+    Ok(PlainNode {
+        start: span.start,
+        height: span.height,
+        version: node.version,
+        points: Vec::from_slice(alloc, &node.points)?,
+        slots: written_slots(alloc, &node.slots)?,
+    })
+}
+
+/// Whether the nodes that were written are those of a version, in their order.
+fn are_those_of(
+    alloc: Global,
+    written: &[NewNode],
+    nodes: &[PlainNode],
+    version: u64,
+) -> Result<bool, AllocError> {
+    let mut i = 0_usize;
+    for node in nodes {
+        if node.version == version {
+            let Some(next) = written.get(i) else {
+                return Ok(false);
+            };
+            if plain_node(alloc, next)? != *node {
+                return Ok(false);
+            }
+            i = i.saturating_add(1);
+        }
+    }
+    Ok(i == written.len())
+}
+
+/// Appends the nodes of a link, children before parents and in order of time. It goes to each slot that both searches find.
+fn walk(
+    alloc: Global,
+    child: Child<'_>,
+    part: Part,
+    nodes: &mut Vec<PlainNode>,
+) -> Result<(), AllocError> {
+    let mut steps = Steps::new(alloc);
+    let Some(node) = visit(child, &mut steps) else {
+        return Ok(());
+    };
+    let (version, points, slots) = match node {
+        Node::Leaf { version, points } => (
+            version,
+            Vec::from_slice(alloc, points)?,
+            Vec::new(alloc),
+        ),
+        Node::Inner { version, slots } => {
+            for i in 0..64_u8 {
+                let is_found = slots.next_occupied(i) == Some(i)
+                    && slots.previous_occupied(i + 1) == Some(i);
+                if is_found && part.height > 0 {
+                    walk(alloc, slots.child(i), slot_of(part, i64::from(i)), nodes)?;
+                }
+            }
+            (version, Vec::new(alloc), plain_slots(alloc, slots)?)
+        }
+    };
+    nodes.push(PlainNode {
+        start: part.start,
+        height: part.height,
+        version,
+        points,
+        slots,
+    })?;
+    Ok(())
+}
+
+/// All nodes of a tree, in the order of a walk.
+fn nodes_in(alloc: Global, tree: &Tree) -> Result<Vec<PlainNode>, AllocError> {
+    let mut nodes = Vec::new(alloc);
+    walk(alloc, tree.root(), WHOLE, &mut nodes)?;
+    Ok(nodes)
+}
+
+/// Whether a tree has the totals and the nodes that the plain program derives.
+fn is_as_derived(alloc: Global, version: &Version) -> Result<bool, AllocError> {
+    let tree = &version.tree;
+    let points = version.points.as_slice();
+    let agg = tree.root_agg();
+    let total = Summary {
+        count: agg.count,
+        sum: agg.sum,
+        ends: agg.ends,
+    };
+    let nodes = nodes_in(alloc, tree)?;
+    Ok(
+        tree.count() == points.len() as u64
+            && total == summary_in(points, WHOLE)
+            && nodes == version.nodes,
+    )
+}
+
+/// Points for each triple of first time, step and number, with values from -100 on.
+fn points_of(alloc: Global, runs: &[(i64, i64, i64)]) -> Result<Bag, AllocError> {
+    let mut points = Vec::new(alloc);
+    for (first, step, count) in runs {
+        add_run(&mut points, *first, *step, *count)?;
+    }
+    Ok(Bag::from_points(points))
+}
+
+fn add_run(points: &mut Vec<Point>, first: i64, step: i64, count: i64) -> Result<(), AllocError> {
+    for i in 0..count {
+        points.push(Point {
+            time: first.wrapping_add(i.wrapping_mul(step)),
+            value: i.wrapping_sub(100),
+        })?;
+    }
+    Ok(())
+}
+
+fn cut_of(alloc: Global, bounds: &[(i64, i64)]) -> Result<Ranges, Fail> {
+    let mut cut = Ranges::none(alloc);
+    for (from, to) in bounds {
+        cut.add(Range::new(*from, *to).ok_or("no range")?)?;
+    }
+    Ok(cut)
+}
+
+/// The tree after a commit, with the nodes that it wrote, each of which it counted as one step.
+fn applied_to(
+    alloc: Global,
+    tree: &Tree,
+    cut: &Ranges,
+    added: &Bag,
+    version: u64,
+) -> Result<Result<Applied, TreeFault>, Fail> {
+    if !are_in_domain(added.as_slice()) {
+        return Err("a time outside the domain".into());
+    }
+    let mut steps = Steps::new(alloc);
+    let applied = tree.apply(alloc, cut, added, version, &mut steps);
+    if let Ok(applied) = &applied {
+        if steps.count() != applied.nodes.len() as u64 {
+            return Err("another number of steps".into());
+        }
+    }
+    Ok(applied)
+}
+
+/// The numbers of points and of written nodes after a commit, or the start of the crowded span.
+type Outcome = Result<(u64, usize), i64>;
+
+/// A commit of the table: its version, the points that it adds, the bounds of its cut, and its outcome, found by hand.
+#[derive(Clone, Copy)]
+struct Case<'a> {
+    version: u64,
+    added: &'a [(i64, i64, i64)],
+    cut: &'a [(i64, i64)],
+    outcome: Outcome,
+}
+
+fn row<'a>(
+    version: u64,
+    added: &'a [(i64, i64, i64)],
+    cut: &'a [(i64, i64)],
+    outcome: Outcome,
+) -> Case<'a> {
+    Case {
+        version,
+        added,
+        cut,
+        outcome,
+    }
+}
+
+fn outcome_of(applied: &Result<Applied, TreeFault>) -> Option<Outcome> {
+    match applied {
+        Ok(applied) => Some(Ok((applied.tree.count(), applied.nodes.len()))),
+        Err(TreeFault::Crowded { start }) => Some(Err(*start)),
+        Err(_) => None,
+    }
+}
+
+/// The version after the last of the commits, or `None` if it wrote other nodes than those of its version.
+fn next_version(
+    alloc: Global,
+    commits: &[Commit],
+    applied: Applied,
+) -> Result<Option<Version>, AllocError> {
+    let Some(commit) = commits.last() else {
+        return Ok(None);
+    };
+    let points = commit
+        .before
+        .points
+        .outside(alloc, &commit.cut)?
+        .merge(alloc, &commit.added)?;
+    let mut nodes = Vec::new(alloc);
+    derive_nodes(alloc, commits, points.as_slice(), None, WHOLE, &mut nodes)?;
+    let Applied {
+        tree,
+        nodes: written,
+    } = applied;
+    if !are_those_of(alloc, &written, &nodes, commit.version)? {
+        return Ok(None);
+    }
+    Ok(Some(Version {
+        tree,
+        points,
+        nodes,
+    }))
+}
+
+#[test]
+fn commits_of_one_stream(rt: HostRuntime) -> Result<(), Fail> {
+    let alloc = rt.alloc();
+    let mut commits = Vec::new(alloc);
+    let mut last = Version {
+        tree: Tree::empty(),
+        points: Bag::from_points(Vec::new(alloc)),
+        nodes: Vec::new(alloc),
+    };
+    for case in [
+        // one point, a full leaf, and one point more, in another slot: an inner node with two leaves
+        row(1, &[(0, 0, 1)], &[], Ok((1, 1))),
+        row(2, &[(4, 4, 251)], &[], Ok((252, 1))),
+        row(3, &[(FIRST, 0, 1)], &[], Ok((253, 3))),
+        // a cut that covers no point, and a commit of nothing
+        row(5, &[], &[(2000, 3000), (1, 4)], Ok((253, 0))),
+        row(6, &[], &[], Ok((253, 0))),
+        // 252 points are left, in a leaf again
+        row(7, &[], &[(FIRST, -1)], Ok((252, 1))),
+        // one crowded bottom span, and two
+        row(8, &[(1, 0, 252)], &[], Err(0)),
+        row(8, &[(1000, 0, 260), (-7, 0, 253)], &[], Err(-8)),
+        // 253 points within 16 ns, up to the last time of the domain: nodes of all heights, and two bottom spans
+        row(
+            8,
+            &[(END - 16, 0, 128), (END - 1, 0, 125)],
+            &[],
+            Ok((505, 13)),
+        ),
+        // 25 more bottom spans, of which one goes again and two lose a point: their node of 256 ns stays an inner one
+        row(9, &[(END - 200, 1, 100)], &[], Ok((605, 35))),
+        row(
+            10,
+            &[],
+            &[(END - 196, END - 192), (END - 189, END - 187)],
+            Ok((599, 12)),
+        ),
+        // points cut and put again
+        row(11, &[(0, 0, 1), (4, 0, 1)], &[(0, 8)], Ok((599, 2))),
+        // a point twice more: 254 in the slot, whose leaves are 256 ns wide; and 252 again
+        row(12, &[(0, 0, 1), (0, 0, 1)], &[], Ok((601, 13))),
+        row(13, &[], &[(1000, 1005)], Ok((599, 2))),
+        // the first times of the domain
+        row(14, &[(FIRST, 1, 3)], &[], Ok((602, 2))),
+        // three levels: 256 points in one slot of the root and 44 in the next; and then 10 and 41, in leaves
+        row(15, &[(FAR, STRIDE, 300)], &[], Ok((902, 67))),
+        row(
+            16,
+            &[],
+            &[(FAR + 10 * STRIDE, NEXT + 3 * STRIDE)],
+            Ok((653, 3)),
+        ),
+        // all cut; and once more, for 253 points within 256 ns
+        row(17, &[], &[(FIRST, END)], Ok((0, 0))),
+        row(18, &[(END - 1, 0, 1)], &[], Ok((1, 1))),
+        row(19, &[(0, 1, 253)], &[(FIRST, END)], Ok((253, 74))),
+        // other values at the same times
+        row(20, &[(8, 1, 4)], &[(8, 12)], Ok((253, 11))),
+        // nodes of all heights go for one leaf, beside a new one
+        row(21, &[(-1, 0, 1)], &[(0, 1)], Ok((253, 3))),
+        // a bottom span that the cut makes room in, and then one point too many
+        row(22, &[(1, 0, 252)], &[(0, 4)], Ok((502, 74))),
+        row(23, &[(2, 0, 1)], &[], Err(0)),
+        // the greatest version
+        row(u64::MAX, &[(2, 0, 1)], &[(1, 2)], Ok((251, 1))),
+    ] {
+        let version = case.version;
+        let cut = cut_of(alloc, case.cut)?;
+        let added = points_of(alloc, case.added)?;
+        let applied = applied_to(alloc, &last.tree, &cut, &added, version)?;
+        assert_eq!(rt; outcome_of(&applied), Some(case.outcome), "{version}");
+        if let Ok(applied) = applied {
+            commits.push(Commit {
+                version,
+                cut,
+                added,
+                before: last,
+            })?;
+            last = next_version(alloc, &commits, applied)?.ok_or("other nodes")?;
+        }
+        assert!(rt; is_as_derived(alloc, &last)?, "{version}");
+        for commit in &commits {
+            assert!(rt; is_as_derived(alloc, &commit.before)?, "{version}");
+        }
+    }
+    Ok(())
+}
+
+#[test]
+fn one_tree_in_two_threads(rt: HostRuntime) -> Result<(), Fail> {
+    let alloc = rt.alloc();
+    let none = Ranges::none(alloc);
+    let added = points_of(alloc, &[(0, 1, 253)])?;
+    let applied = applied_to(alloc, &Tree::empty(), &none, &added, 1)?
+        .ok()
+        .ok_or("applied")?;
+    let tree = applied.tree.share()?;
+    let (here, there) = thread::join(
+        &rt,
+        || (applied.tree.count(), nodes_in(alloc, &applied.tree)),
+        move || (tree.count(), nodes_in(alloc, &tree)),
+    );
+    assert_eq!(rt; (here.0, there.0), (253, 253));
+    let nodes = here.1?;
+    assert_eq!(rt; nodes.len(), 74);
+    assert!(rt; nodes == there.1?);
+    Ok(())
+}
