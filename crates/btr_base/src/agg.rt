@@ -10,7 +10,7 @@ use std::marker::Model;
 ///
 /// `ends` is `None` exactly if there is no point, and then the sum is 0. Otherwise the sum lies from the count times the least
 /// value to the count times the greatest.
-#[derive(Clone, Copy, Debug, PartialEq, Eq)]
+#[derive(Clone, Copy, PartialEq, Eq)]
 pub struct Agg {
     /// The number of points.
     pub count: u64,

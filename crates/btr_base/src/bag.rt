@@ -12,7 +12,7 @@ use std::marker::Model;
 
 /// Points by time and value, in which equal points each count: what a stream holds at one version (BTrDB, FAST 2016). A bag may
 /// hold any time, also outside the domain.
-#[derive(Debug, Drop)]
+#[derive(Drop)]
 pub struct Bag {
     points: Vec<Point>,
 }

@@ -8,7 +8,7 @@ use crate::limits::FIRST;
 use crate::range::Range;
 
 /// Windows of one width, side by side from a first time on.
-#[derive(Clone, Copy, Debug, PartialEq, Eq)]
+#[derive(Clone, Copy, PartialEq, Eq)]
 pub struct Grid {
     /// The start of the first window, in nanoseconds.
     pub first: i64,

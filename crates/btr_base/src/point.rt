@@ -6,7 +6,7 @@ use crate::limits::{END, FIRST};
 /// A measured value at a time (BTrDB, FAST 2016). The value is a whole number.
 ///
 /// Points are ordered by time, and points of one time by value: the derived order.
-#[derive(Clone, Copy, Debug, PartialEq, Eq, PartialOrd, Ord)]
+#[derive(Clone, Copy, PartialEq, Eq, PartialOrd, Ord)]
 pub struct Point {
     /// The time, in nanoseconds. Any `i64` is a point's time; a store holds those of its domain.
     pub time: i64,

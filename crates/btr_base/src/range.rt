@@ -5,7 +5,7 @@ use crate::limits::{END, FIRST};
 use std::marker::Model;
 
 /// The times from `from` up to, and without, `to`, in nanoseconds. A range is never empty, and lies in the domain.
-#[derive(Clone, Copy, Debug, PartialEq, Eq)]
+#[derive(Clone, Copy, PartialEq, Eq)]
 pub struct Range {
     pub from: i64,
     pub to: i64,

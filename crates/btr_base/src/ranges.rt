@@ -9,7 +9,7 @@ use std::marker::Model;
 
 /// A set of times, kept as its longest ranges: in order, disjoint and not touching. A commit has one: the times whose points it
 /// removes.
-#[derive(Debug, Drop)]
+#[derive(Drop)]
 pub struct Ranges {
     ranges: Vec<Range>,
 }

@@ -7,7 +7,7 @@ use std::marker::Model;
 
 /// A part of the domain with the width of a height, `2^(6 height + 2)` ns, aligned from the first time of the domain
 /// (BTrDB, FAST 2016). The span of height 10 is the whole domain, and a span of height 0 is 4 ns wide.
-#[derive(Clone, Copy, Debug, PartialEq, Eq)]
+#[derive(Clone, Copy, PartialEq, Eq)]
 pub struct Span {
     /// The first time of the span, in nanoseconds.
     pub start: i64,

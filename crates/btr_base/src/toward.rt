@@ -1,5 +1,5 @@
 /// The direction in which the nearest point is sought.
-#[derive(Clone, Copy, Debug, PartialEq, Eq)]
+#[derive(Clone, Copy, PartialEq, Eq)]
 pub enum Toward {
     /// The first point at or after a time.
     Forward,

@@ -15,7 +15,7 @@ use std::alloc::{AllocError, Global};
 use std::sync::Wait;
 
 /// An output of a sample, and why it was refused, if it was.
-#[derive(Clone, Copy, Debug)]
+#[derive(Clone, Copy)]
 pub(crate) struct DefinedOutput {
     pub(crate) id: u128,
     pub(crate) refused: Option<Reason>,

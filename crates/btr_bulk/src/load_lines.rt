@@ -15,7 +15,7 @@ use btr_rows::NumberedPoint;
 use std::alloc::{AllocError, Global};
 
 /// A refused row, by its number.
-#[derive(Clone, Copy, Debug)]
+#[derive(Clone, Copy)]
 pub(crate) struct RefusedNumber {
     number: u64,
     reason: RowRefusal,

@@ -6,7 +6,7 @@ use btr_report::ReportLine;
 use btr_text::Reason;
 
 /// The status of lines, from the least to the greatest. The status of many lines is the greatest of theirs.
-#[derive(Clone, Copy, Debug, PartialEq, Eq)]
+#[derive(Clone, Copy, PartialEq, Eq)]
 pub enum Status {
     /// All was done that the line speaks of.
     Done,

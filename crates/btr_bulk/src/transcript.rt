@@ -8,7 +8,7 @@ use btr_report::{ReportLine, write_line};
 use std::alloc::{AllocError, Global};
 
 /// The lines or replies of a command, as they are written at the end of the run.
-#[derive(Debug, Drop)]
+#[derive(Drop)]
 pub struct Transcript {
     /// The status that they ask for.
     pub status: Status,

@@ -12,7 +12,7 @@ use std::marker::Model;
 use std::mem;
 
 /// What a feed holds after an insert: the number of its points.
-#[derive(Clone, Copy, Debug, PartialEq, Eq)]
+#[derive(Clone, Copy, PartialEq, Eq)]
 pub enum Held {
     /// The points have not reached the threshold.
     Buffered(u32),
@@ -22,7 +22,7 @@ pub enum Held {
 }
 
 /// Why points are not accepted. If there are several causes, the first in this order. The feed is as before.
-#[derive(Clone, Copy, Debug, PartialEq, Eq)]
+#[derive(Clone, Copy, PartialEq, Eq)]
 pub enum FeedFault {
     /// A point lies outside the domain: the least such time, in nanoseconds.
     OutOfDomain { time: i64 },
@@ -44,7 +44,7 @@ impl From<AllocError> for FeedFault {
 
 /// Points of one stream in the order of insertion, each accepted point once. All lie in the domain, and they are at most
 /// 65,536, so that they can be one commit.
-#[derive(Debug, Drop)]
+#[derive(Drop)]
 pub struct Feed {
     stream: u32,
     threshold: u32,

@@ -21,7 +21,7 @@ use std::sync::Wait;
 
 /// Why a plan was not landed. If several causes hold, the first in this order is returned. Only `Crowded` and `TooManyPoints`, which
 /// are found last, may be hidden by `Want`.
-#[derive(Clone, Copy, Debug, PartialEq, Eq)]
+#[derive(Clone, Copy, PartialEq, Eq)]
 pub enum LandFault {
     /// The engine was stopped, with this number of entries.
     Stopped { entries: u64 },

@@ -8,7 +8,7 @@ use btr_disk::{Disk, Failed};
 
 /// A device of `2^32` blocks on which each read, write and sync fails: the device of a run without a path, or whose
 /// file cannot be opened. Its contents are not observable.
-#[derive(Debug, Drop)]
+#[derive(Drop)]
 pub struct NoDisk {
     calls: u64,
     faults: u64,

@@ -11,7 +11,7 @@ pub trait Pace {
 }
 
 /// A pace that does nothing.
-#[derive(Clone, Copy, Debug)]
+#[derive(Clone, Copy)]
 pub struct NoPace;
 
 impl Pace for NoPace {

@@ -12,7 +12,7 @@ use std::marker::Model;
 
 /// A feed for each stream from 0 on, up to the last one that points were added to. A feed is found in constant time by
 /// the number of its stream.
-#[derive(Debug, Drop)]
+#[derive(Drop)]
 pub struct Feeds {
     batch: u32,
     feeds: Vec<Feed>,

@@ -10,7 +10,7 @@ use crate::Log;
 use btr_disk::{BLOCK, Disk, open_gate, publish};
 
 /// Why a body was not appended.
-#[derive(Clone, Copy, Debug, PartialEq, Eq)]
+#[derive(Clone, Copy, PartialEq, Eq)]
 pub enum AppendFault {
     /// The body needs more blocks than are left. The log is as before.
     Full { need: u64, left: u64 },

@@ -4,7 +4,7 @@ use btr_disk::Failed;
 use std::alloc::AllocError;
 
 /// What is found at a gate.
-#[derive(Debug, Drop)]
+#[derive(Drop)]
 pub enum Found {
     /// The gate is closed: what follows it does not count.
     Closed,
@@ -18,7 +18,7 @@ pub enum Found {
 }
 
 /// Why no extent was read.
-#[derive(Clone, Copy, Debug, PartialEq, Eq)]
+#[derive(Clone, Copy, PartialEq, Eq)]
 pub enum ExtentFault {
     /// The gate is open, but this block breaks the format. It is the gate's own block if that is the last one
     /// of the log. Else it is the block after the gate, which begins with no head, or with a head whose

@@ -15,7 +15,7 @@ pub const HEAD_MARK: [u8; 8] = *b"BTR-BODY";
 /// Its 64 bytes are the mark, the fields in their order and width with the highest byte first, and 8 zero
 /// bytes. The grammar of a head: its format is 1, its kind is 1 or 2, and `n` is the number of blocks of
 /// head and content, the last one filled up, and of node blocks.
-#[derive(Clone, Copy, Debug, PartialEq, Eq)]
+#[derive(Clone, Copy, PartialEq, Eq)]
 pub struct Head {
     /// 1 for an entry, whose number is at least 1, or 2 for a checkpoint, which has no nodes and no root.
     pub kind: u32,

@@ -21,7 +21,7 @@ use std::alloc::{AllocError, Global};
 use std::snapshot::Snapshot;
 
 /// Why a device was not opened.
-#[derive(Clone, Copy, Debug, PartialEq, Eq)]
+#[derive(Clone, Copy, PartialEq, Eq)]
 pub enum OpenCause {
     /// Neither superblock has an open gate: the device holds no store.
     NotAStore,
@@ -37,7 +37,7 @@ pub enum OpenCause {
 }
 
 /// A device that was not opened, and why.
-#[derive(Debug, Drop)]
+#[derive(Drop)]
 pub struct OpenFault<D> {
     pub cause: OpenCause,
 

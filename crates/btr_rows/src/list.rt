@@ -5,7 +5,7 @@ use std::alloc::{AllocError, Global};
 use std::marker::Model;
 
 /// The rows of one stream: its id, and the points with the numbers of their rows, in order.
-#[derive(Debug, Drop)]
+#[derive(Drop)]
 pub struct StreamRows {
     id: u128,
     points: Vec<NumberedPoint>,
@@ -61,7 +61,7 @@ impl StreamRows {
 }
 
 /// What the rows of an input say: the rows by their streams, and the refused rows.
-#[derive(Debug, Drop)]
+#[derive(Drop)]
 pub struct RowList {
     streams: Vec<StreamRows>,
     refused: Vec<RefusedRow>,

@@ -1,7 +1,7 @@
 use btr_base::Point;
 
 /// What a row of a CSV input says: one point of one stream.
-#[derive(Clone, Copy, Debug, PartialEq, Eq)]
+#[derive(Clone, Copy, PartialEq, Eq)]
 pub struct Row {
     /// The id of the stream (RFC 9562), its first byte highest.
     pub id: u128,
@@ -11,7 +11,7 @@ pub struct Row {
 }
 
 /// Why a record is no row. Of several reasons, the first in this order counts.
-#[derive(Clone, Copy, Debug, PartialEq, Eq)]
+#[derive(Clone, Copy, PartialEq, Eq)]
 pub enum RowReason {
     /// It has not three fields.
     Fields,
@@ -30,7 +30,7 @@ pub enum RowReason {
 }
 
 /// A point of a row, with the number of the row.
-#[derive(Clone, Copy, Debug, PartialEq, Eq)]
+#[derive(Clone, Copy, PartialEq, Eq)]
 pub struct NumberedPoint {
     /// The number of the row: records count from 1.
     pub number: u64,
@@ -39,7 +39,7 @@ pub struct NumberedPoint {
 }
 
 /// A record that is no row.
-#[derive(Clone, Copy, Debug, PartialEq, Eq)]
+#[derive(Clone, Copy, PartialEq, Eq)]
 pub struct RefusedRow {
     /// The number of the row: records count from 1.
     pub number: u64,

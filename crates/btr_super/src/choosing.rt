@@ -15,7 +15,7 @@ use crate::superblock::Super;
 use btr_disk::{BLOCK, Disk, Failed, is_open_gate};
 
 /// Why no superblock was chosen.
-#[derive(Clone, Copy, Debug, PartialEq, Eq)]
+#[derive(Clone, Copy, PartialEq, Eq)]
 pub enum ChooseFault {
     /// Neither superblock has an open gate: there is no store on the device.
     NotAStore,

@@ -15,7 +15,7 @@ use crate::superblock::{FORMAT, LOG_START, Super};
 use btr_disk::{BLOCK, Disk, Failed, open_gate};
 
 /// Why a device was not formatted.
-#[derive(Clone, Copy, Debug, PartialEq, Eq)]
+#[derive(Clone, Copy, PartialEq, Eq)]
 pub enum FormatFault {
     /// A superblock's gate is open: there is a store on the device. Nothing was written.
     Occupied {

@@ -16,7 +16,7 @@ pub const MAX_BLOCKS: u64 = 1 << 32;
 pub const SUPER_MARK: [u8; 8] = *b"BTR-SUPR";
 
 /// A superblock: which blocks a store has, and from which gate its log is read.
-#[derive(Clone, Copy, Debug, PartialEq, Eq)]
+#[derive(Clone, Copy, PartialEq, Eq)]
 pub struct Super {
     /// Of two open superblocks the one with the greater number counts. At least 1.
     pub seq: u64,

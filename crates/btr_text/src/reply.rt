@@ -4,7 +4,7 @@ ghost use Rattle.btr_text.specs.Reasons.{reason_of_rejection, reason_of_refusal}
 use btr_hist::{Refusal, Rejection, Rows};
 
 /// The reason why a line is refused.
-#[derive(Clone, Copy, Debug, PartialEq, Eq)]
+#[derive(Clone, Copy, PartialEq, Eq)]
 pub enum Reason {
     /// The line fits no form.
     Line,
@@ -101,7 +101,7 @@ impl Reason {
 }
 
 /// The reply to a line.
-#[derive(Debug, Drop)]
+#[derive(Drop)]
 pub enum LineReply {
     /// The line was done. This is the version that it made, 0 for a new stream.
     Done { version: u64 },

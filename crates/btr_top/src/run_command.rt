@@ -24,7 +24,7 @@ use std::sync::Wait;
 use std::thread::Threads;
 
 /// What a run gives back.
-#[derive(Debug, Drop)]
+#[derive(Drop)]
 pub struct Outcome<D> {
     /// The status with which the program ends.
     pub status: u8,

@@ -19,7 +19,7 @@ use std::alloc::{AllocError, Global};
 pub const MAX_INPUT: u64 = 268435456;
 
 /// How a command ended.
-#[derive(Debug, Drop)]
+#[derive(Drop)]
 pub(crate) struct CommandResult<D> {
     pub(crate) ending: Ending,
 

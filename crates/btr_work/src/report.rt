@@ -3,7 +3,7 @@ use btr_hall::LandFault;
 use std::marker::Model;
 
 /// What became of an output.
-#[derive(Clone, Copy, Debug, PartialEq, Eq)]
+#[derive(Clone, Copy, PartialEq, Eq)]
 pub enum Brought {
     /// A commit was planned and landed, and made this version of the output. It has read the latest versions of the inputs, as they
     /// were when it was planned.
@@ -17,14 +17,14 @@ pub enum Brought {
 }
 
 /// An output, by its number, and what became of it.
-#[derive(Clone, Copy, Debug, PartialEq, Eq)]
+#[derive(Clone, Copy, PartialEq, Eq)]
 pub struct ReportLine {
     pub output: u32,
     pub result: Brought,
 }
 
 /// What became of each output, in the order in which the outputs were defined.
-#[derive(Debug, Drop)]
+#[derive(Drop)]
 pub struct Report {
     lines: Vec<ReportLine>,
 }
