@@ -4,7 +4,7 @@ use btr_engine::Receipt;
 use btr_hist::{Answer, Entry, Query, Rejection};
 
 /// Something that an actor does.
-#[derive(Debug, Drop)]
+#[derive(Drop)]
 pub struct Event {
     /// The actor. Each number is one: an actor that has done nothing yet is admitted to no entries, and has no plan.
     pub actor: u16,
@@ -13,7 +13,7 @@ pub struct Event {
 }
 
 /// What an actor does.
-#[derive(Debug, Drop)]
+#[derive(Drop)]
 pub enum What {
     /// It commits an entry. A distillate is refused: distillates are planned and landed.
     Commit(Entry),
@@ -32,7 +32,7 @@ pub enum What {
 }
 
 /// What an actor is replied.
-#[derive(Debug, Drop)]
+#[derive(Drop)]
 pub enum Reply {
     /// To a commit or a landing: the entry was accepted.
     Accepted(Receipt),

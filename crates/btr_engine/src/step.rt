@@ -17,7 +17,7 @@ use std::alloc::{AllocError, Global};
 
 /// Why an entry was not accepted. If several causes hold, the first in this order is returned. Only the rejections `Crowded` and
 /// `TooManyPoints`, which are found last, may be hidden by `Want`.
-#[derive(Clone, Copy, Debug, PartialEq, Eq)]
+#[derive(Clone, Copy, PartialEq, Eq)]
 pub enum StepFault {
     /// The engine was stopped, with this number of entries.
     Stopped { entries: u64 },

@@ -23,7 +23,7 @@ use std::sync::{Arc, Wait};
 use std::thread::Threads;
 
 /// What a run of a script leaves.
-#[derive(Debug, Drop)]
+#[derive(Drop)]
 pub struct LiveReport {
     /// A reply to each line, in the order of the script.
     pub replies: Vec<LineReply>,

@@ -7,7 +7,7 @@ use std::alloc::{AllocError, Global};
 use std::marker::Model;
 
 /// The results of batches, one of each, in order.
-#[derive(Debug, Drop)]
+#[derive(Drop)]
 pub struct BatchResults {
     pub(crate) list: Vec<Result<Receipt, StepFault>>,
 }
@@ -41,7 +41,7 @@ impl BatchResults {
 }
 
 /// What became of the rows of one stream.
-#[derive(Debug, Drop)]
+#[derive(Drop)]
 pub enum Fate {
     /// The id is that of an output, which takes no points. Nothing was committed.
     Output,

@@ -7,7 +7,7 @@ use std::marker::Model;
 
 /// What became of the rows of an input: each stream, in the order of their first rows, and the rows that were refused when the
 /// input was read.
-#[derive(Debug, Drop)]
+#[derive(Drop)]
 pub struct Loaded {
     streams: Vec<LoadedStream>,
     refused: Vec<RefusedRow>,

@@ -16,7 +16,7 @@ use std::alloc::{AllocError, Global};
 use std::sync::Wait;
 
 /// The rows of one stream, and what became of them.
-#[derive(Debug, Drop)]
+#[derive(Drop)]
 pub struct LoadedStream {
     /// The id, and the points with the numbers of their rows.
     pub rows: StreamRows,

@@ -10,7 +10,7 @@ use btr_engine::Snapshot;
 use std::alloc::{AllocError, Global};
 
 /// What is planned for a stream.
-#[derive(Debug, Drop)]
+#[derive(Drop)]
 pub enum Next {
     /// Nothing, since the stream is no output, or there is no such stream.
     NotOutput,

@@ -14,7 +14,7 @@ pub enum RowRefusal {
 }
 
 /// A line of a report. Rows and entries count from 1, and an id is that of a stream (RFC 9562), its first byte highest.
-#[derive(Clone, Copy, Debug, PartialEq, Eq)]
+#[derive(Clone, Copy, PartialEq, Eq)]
 pub enum ReportLine {
     /// `row NUMBER: no REASON`: the row was refused.
     RowRefused {

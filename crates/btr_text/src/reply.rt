@@ -101,7 +101,7 @@ impl Reason {
 }
 
 /// The reply to a line.
-#[derive(Debug, Drop)]
+#[derive(Drop)]
 pub enum LineReply {
     /// The line was done. This is the version that it made, 0 for a new stream.
     Done { version: u64 },

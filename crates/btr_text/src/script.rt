@@ -5,7 +5,7 @@ use btr_hist::{Kernel, StreamQuery};
 use std::marker::Model;
 
 /// A line that fits a form, with the values of its words. Times are in nanoseconds.
-#[derive(Debug, Drop)]
+#[derive(Drop)]
 pub enum Line {
     /// `create ID`: a new stream.
     Create {
@@ -69,7 +69,7 @@ pub enum Line {
 }
 
 /// A line that has a reply.
-#[derive(Debug, Drop)]
+#[derive(Drop)]
 pub struct ScriptLine {
     /// The lane of the line, from 0 to 7.
     pub lane: u8,
@@ -79,7 +79,7 @@ pub struct ScriptLine {
 }
 
 /// The lines of a script that have a reply, in order.
-#[derive(Debug, Drop)]
+#[derive(Drop)]
 pub struct Script {
     lines: Vec<ScriptLine>,
 }
