@@ -4,18 +4,16 @@ use Rattle.std.specs.List.{filter}
 use Rattle.std.proofs.Common.{sym, subst}
 use Rattle.btr_base.specs.declared.point.Point.{Point}
 use Rattle.btr_base.specs.Range.{RangeValue, covered}
+use Rattle.btr_base.specs.Point.{AreInDomain}
 use Rattle.btr_base.specs.Bag.{IsInOrder, sort}
 use Rattle.btr_tree.specs.History.{Past, bag}
 use Rattle.btr_tree.specs.Root.{TreeValue}
 use Rattle.btr_tree.proofs.VersionLemmas.{bag-in_order}
-use Rattle.btr_hist.specs.Distil.{Inputs, kernel_points}
+use Rattle.btr_hist.specs.Distil.{Inputs, AreBags, output_points}
 use Rattle.btr_kernel.specs.Sources.{IsSecond, second_points, AtEachInputs}
+use Rattle.btr_kernel.proofs.SourceLemmas.{second-in_domain}
 use Rattle.btr_distil.specs.Sight.{SightValue, IsInput, IsSecondInput, IsSightOf}
 use Rattle.btr_distil.proofs.PlanLemmas.{added-is}
-
--- The points of an input are in order.
-pub input-in_order : (version : ℕ) (old new : TreeValue) (before after : List Point) → IsInput version old new before after → IsInOrder after
-input-in_order version old new before after h = subst IsInOrder (sym h.is) (bag-in_order h.past)
 
 -- A second input has a past with these points, if there is a second input.
 record HasPast (new : Option TreeValue) (after : List Point) : Type 0 where
@@ -39,7 +37,29 @@ at-new_inputs P s old new h each =
     let same : record { first = bag first.past; second = second_points second.past } ≡ new = λ i. record { first = sym first.is i; second = sym second.is i } in
     subst P same (each first.past second.past first.newer second.tree)
 
+input-in_order : (version : ℕ) (old new : TreeValue) (before after : List Point) → IsInput version old new before after → IsInOrder after
+input-in_order version old new before after h = subst IsInOrder (sym h.is) (bag-in_order h.past)
+
+input-in_domain : (version : ℕ) (old new : TreeValue) (before after : List Point) → IsInput version old new before after → AreInDomain after
+input-in_domain version old new before after h = subst AreInDomain (sym h.is) h.newer.times
+
+second-in_order : (past : Option Past) → IsInOrder (second_points past)
+second-in_order None = tt
+second-in_order (Some past) = bag-in_order past
+
+-- The points of the new inputs are bags of the domain.
+pub sight-bags : (s : SightValue) (old new : Inputs) → IsSightOf s old new → AreBags new
+sight-bags s old new h =
+    let first = h.first in
+    let second = second-past s.old_reads.second s.old_second s.new_second old.second new.second h.second in
+    record {
+      first_in_order = input-in_order s.old_reads.first s.old_first s.new_first old.first new.first first;
+      first_in_domain = input-in_domain s.old_reads.first s.old_first s.new_first old.first new.first first;
+      second_in_order = subst IsInOrder (sym second.is) (second-in_order second.past);
+      second_in_domain = subst AreInDomain (sym second.is) (second-in_domain second.past s.new_second second.tree);
+    }
+
 -- The points over the new trees, sorted, are those of the output over the new inputs.
-pub computed-is : (s : SightValue) (cut : List RangeValue) (points : List Point) (old new : Inputs) → IsSightOf s old new → AtEachInputs s.new_first s.new_second (λ i. points ≡ filter (λ p. covered cut p.time) (kernel_points s.spec i)) → sort points ≡ filter (λ p. covered cut p.time) (kernel_points s.spec new)
+pub computed-is : (s : SightValue) (cut : List RangeValue) (points : List Point) (old new : Inputs) → IsSightOf s old new → AtEachInputs s.new_first s.new_second (λ i. points ≡ filter (λ p. covered cut p.time) (output_points s.spec i)) → sort points ≡ filter (λ p. covered cut p.time) (output_points s.spec new)
 computed-is s cut points old new h each =
-    added-is s.spec new cut points (input-in_order s.old_reads.first s.old_first s.new_first old.first new.first h.first) (at-new_inputs (λ i. points ≡ filter (λ p. covered cut p.time) (kernel_points s.spec i)) s old new h each)
+    added-is s.spec new cut points (sight-bags s old new h) (at-new_inputs (λ i. points ≡ filter (λ p. covered cut p.time) (output_points s.spec i)) s old new h each)

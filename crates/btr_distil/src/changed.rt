@@ -1,28 +1,39 @@
 //! The times at which an output may differ after its inputs have changed.
-ghost use Rattle.std.specs.Prelude.{◌≡◌, ◌≤◌, List, IfOk};
+ghost use Rattle.std.specs.Prelude.{◌≡◌, ◌≤◌, List, map, IfOk};
 ghost use Rattle.std.specs.Option.{option_map};
 ghost use Rattle.btr_base.specs.declared.point.Point.{Point};
 ghost use Rattle.btr_base.specs.Changes.{changes as changes_of};
-ghost use Rattle.btr_hist.specs.Distil.{Inputs, affected as affected_of};
+ghost use Rattle.btr_base.specs.Cut.{union};
+ghost use Rattle.btr_hist.specs.Distil.{Inputs, widened as widened_range, affected as affected_of};
 ghost use Rattle.btr_distil.specs.Sight.{IsInput, IsSecondInput, IsSightOf};
 
 use crate::sight::Sight;
 use btr_base::Ranges;
 use btr_diff::changes;
+use btr_hist::Spec;
 use btr_tree::{Steps, Tree};
 use std::alloc::{AllocError, Global};
 
-/// The times at which the output may differ: where an input differs, and after that for as long as the kernel looks back.
+/// The times at which the output may differ: where an input differs, widened.
 pub(crate) fn affected(alloc: Global, sight: &Sight<'_>) -> Result<Ranges, AllocError>
     ensures { IfOk result (λ r. (old new : Inputs) → IsSightOf sight.now old new → r ≡ affected_of sight.now.spec old new) }
 {
-    let lead = sight.spec.lead;
     let first = changed_first(alloc, sight)?;
     let second = changed_second(alloc, sight)?;
-    let after_first = first.with_lead(alloc, lead)?;
-    let after_second = second.with_lead(alloc, lead)?;
+    let after_first = widened(alloc, &sight.spec, &first)?;
+    let after_second = widened(alloc, &sight.spec, &second)?;
     let all = after_first.union(alloc, &after_second)?;
     Ok(all)
+}
+
+/// The times at which an output may differ if an input differs in these ranges: their times, and after them for as long as the
+/// kernel looks back.
+fn widened(alloc: Global, spec: &Spec, ranges: &Ranges) -> Result<Ranges, AllocError>
+    ensures { IfOk result (λ r. r ≡ union (map (widened_range spec.now) ranges.now)) }
+{
+    let lead = spec.lead;
+    let longer = ranges.with_lead(alloc, lead)?;
+    Ok(longer)
 }
 
 /// The slots in which the first input differs.

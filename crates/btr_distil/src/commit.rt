@@ -7,7 +7,7 @@ use std::marker::Model;
 
 /// The next commit of an output, before it is in the history: the times whose points it removes, the points that it then adds, and
 /// the versions of the inputs that it reads. It holds them as an entry, which is a distillate.
-#[derive(Debug, Drop)]
+#[derive(Drop)]
 pub struct Plan {
     pub(crate) base: u64,
     pub(crate) entry: Entry,

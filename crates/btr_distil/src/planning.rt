@@ -1,7 +1,7 @@
 //! The next commit of an output.
 ghost use Rattle.std.specs.Prelude.{◌≡◌, ◌↔◌, IsNone, IfOk, IfSome, filter};
 ghost use Rattle.btr_base.specs.Range.{covered};
-ghost use Rattle.btr_hist.specs.Distil.{Inputs, kernel_points};
+ghost use Rattle.btr_hist.specs.Distil.{Inputs, output_points};
 ghost use Rattle.btr_distil.specs.Sight.{IsSightOf};
 ghost use Rattle.btr_distil.specs.Plan.{IsPlanFor, IsDistillateOf};
 
@@ -14,7 +14,7 @@ use btr_kernel::run_over;
 use std::alloc::{AllocError, Global};
 
 /// The commit that brings an output up to date, or `None` if the versions to be read are those that it has read. It removes the
-/// output's points at the times at which the output may differ, and adds those that the kernel gives there over the new inputs.
+/// output's points at the times at which the output may differ, and adds those that it has there over the new inputs.
 ///
 /// The cost follows the change. It visits the nodes of the new trees that are newer than what was read, and the parts of the old
 /// trees in their spans. Then it reads the points of the new inputs at the times that may differ, and for as long before each of
@@ -41,10 +41,10 @@ pub fn plan(alloc: Global, sight: &Sight<'_>) -> Result<Option<Plan>, AllocError
     }))
 }
 
-/// The points that the kernel gives over the new inputs at the times of the ranges.
+/// The points of the output over the new inputs at the times of the ranges.
 fn computed(alloc: Global, sight: &Sight<'_>, ranges: &Ranges) -> Result<Bag, AllocError>
     ensures { IfOk result (λ b. (old new : Inputs) → IsSightOf sight.now old new
-        → b ≡ filter (λ p. covered ranges.now p.time) (kernel_points sight.now.spec new)) }
+        → b ≡ filter (λ p. covered ranges.now p.time) (output_points sight.now.spec new)) }
 {
     let points = run_over(
         alloc,

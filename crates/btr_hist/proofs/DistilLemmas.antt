@@ -1,9 +1,12 @@
--- The main lemmas on distillates: kernels are local, the cut, the added points, and that a distillate is right.
-use Rattle.std.specs.Prelude.{◌≡◌, ◌+◌, ◌^◌, ◌≤◌, ℤ, Bool, true, not, List, [], ◌∷◌, ◌++◌, length, map, cond, Option, Some, None}
+-- The main lemmas on distillates: the points of an output, the cut, the added points, and that a distillate is right.
+use Rattle.std.specs.Prelude.{◌≡◌, ℕ, ◌+◌, ◌^◌, ◌≤◌, nat_le, ℤ, pos, ◌+ℤ◌, ◌-ℤ◌, ◌≤ℤ◌, int_le, int_lt, Bool, true, not, ◌&&◌}
+use Rattle.std.specs.Prelude.{List, [], ◌∷◌, ◌++◌, length, map, cond, Option, Some, None}
 use Rattle.std.specs.List.{AllByRecursion}
-use Rattle.std.specs.Option.{option_map}
-use Rattle.std.proofs.Common.{refl, ap, ◌∙◌, arith}
+use Rattle.std.specs.Option.{option_map, is_some}
+use Rattle.std.specs.Ordering.{int_eq}
+use Rattle.std.proofs.Common.{refl, sym, ap, ◌∙◌, arith, subst}
 use Rattle.std.proofs.lemmas.Bool.{le-ltb}
+use Rattle.std.proofs.lemmas.Bool.Decides.{nat_tests}
 use Rattle.std.proofs.lemmas.Int.{ints}
 use Rattle.std.proofs.lemmas.List.{length-append, length-map}
 use Rattle.btr_base.specs.declared.limits.TheConstants.{MAX_POINTS}
@@ -11,21 +14,21 @@ use Rattle.btr_base.specs.declared.point.Point.{Point}
 use Rattle.btr_base.specs.Point.{in_domain, InDomain, AreInDomain}
 use Rattle.btr_base.specs.Range.{IsCut, covered}
 use Rattle.btr_base.specs.Bag.{IsInOrder}
-use Rattle.btr_base.specs.Changes.{changes}
+use Rattle.btr_base.specs.Changes.{points_at, changes}
 use Rattle.btr_base.specs.Commit.{after}
-use Rattle.btr_base.specs.Cut.{lengthened}
-use Rattle.btr_base.proofs.ListLemmas.{each-append, each-filter, filter-passes, length-filter}
+use Rattle.btr_base.proofs.ListLemmas.{each-weaker, each-append, each-filter, filter-passes, length-filter}
 use Rattle.btr_base.proofs.PointLemmas.{filter-in_order}
 use Rattle.btr_base.proofs.ChangesLemmas.{changes-cut, changes-length}
-use Rattle.btr_base.proofs.CutLemmas.{lengthened-each, union-cut, union-length}
+use Rattle.btr_base.proofs.CutLemmas.{lengthened-is_range, lengthened-contains, union-cut, union-length}
 use Rattle.btr_hist.specs.declared.kernel.Spec.{Spec}
-use Rattle.btr_hist.specs.Kernel.{window, value}
-use Rattle.btr_hist.specs.Distil.{Inputs, IsLocal, value_of, kernel_points, affected, distillate}
 use Rattle.btr_hist.specs.declared.rejection.Rejection.TheVariants.{OutOfDomain, TooMany}
+use Rattle.btr_hist.specs.Kernel.{anchors, window, value, has_second, divides_well, is_good}
+use Rattle.btr_hist.specs.Distil.{Inputs, AreBags, IsLocal, value_of, points_from, kernel_points, output_points, looks_at, widened}
+use Rattle.btr_hist.specs.Distil.{DependsOn, IsWidened, affected, distillate}
 use Rattle.btr_hist.specs.Legal.{when, first_out_of_domain, points_rejection, distillate_change_rejection}
-use Rattle.btr_hist.specs.Laws.{AreBags}
-use Rattle.btr_hist.proofs.KernelLemmas.{kernel-in_order, kernel-in_domain, kernel-length, kernel-accepted, none-first}
-use Rattle.btr_hist.proofs.LocalityLemmas.{local-right}
+use Rattle.btr_hist.proofs.KernelLemmas.{each-anchors, filter-anchors, filter-points_from, points_from-same, none-first}
+use Rattle.btr_hist.proofs.KernelLemmas.{kernel-in_order, kernel-in_domain, kernel-length, kernel-accepted}
+use Rattle.btr_hist.proofs.LocalityLemmas.{points_at-agree, widened-each, IsBag, local-right}
 
 -- ---- kernels are local
 
@@ -33,22 +36,95 @@ pub value_of-local : (spec : Spec) → IsLocal spec.lead (value_of spec)
 value_of-local spec t i j h k =
     ap (λ w. value spec.kernel t w (window spec.lead t i.second)) h ∙ ap (value spec.kernel t (window spec.lead t j.first)) k
 
+window-itself : (lead : ℕ) (t : ℤ) → (int_le (t -ℤ pos lead) t && int_lt t (t +ℤ pos 1)) ≡ true
+window-itself lead t = grind (arith, ints)
+
+time-is : (t u : ℤ) → int_eq u t ≡ true → t ≡ u
+time-is t u h = grind (arith, ints)
+
+kernel-at : (spec : Spec) (i : Inputs) (t : ℤ) → points_at t (kernel_points spec i) ≡ points_from (value_of spec i) (anchors (points_at t i.first))
+kernel-at spec i t =
+    filter-points_from (value_of spec i) (λ u. int_eq u t) (anchors i.first)
+    ∙ ap (points_from (value_of spec i)) (filter-anchors (λ u. int_eq u t) i.first)
+
+-- ---- what is used of a good spec
+
+pub record IsGood (spec : Spec) : Type 0 where
+  pub grain : spec.grain ≤ 62
+
+last-test : (a b c : Bool) (n : ℕ) → (a && (b && (c && nat_le n 62))) ≡ true → n ≤ 62
+last-test a b c n h = grind (arith, nat_tests)
+
+pub good-is : (spec : Spec) → is_good spec ≡ true → IsGood spec
+good-is spec h = record {
+  grain = last-test (cond (has_second spec.kernel) (is_some spec.second) (not (is_some spec.second))) (divides_well spec.kernel) (nat_le spec.lead (2 ^ 60)) spec.grain h;
+}
+
+-- ---- the points of an output
+
+-- The points of an output at a time depend on nothing but the times that it looks at.
+pub output-depends : (spec : Spec) → DependsOn (looks_at spec) (output_points spec)
+output-depends spec t i j h k first second =
+    let here = points_at-agree (looks_at spec t) t i.first j.first (window-itself spec.lead t) first in
+    let value : value_of spec i t ≡ value_of spec j t = value_of-local spec t i j first second in
+    let same = each-weaker (λ q. int_eq q.time t ≡ true) (λ q. value_of spec i q.time ≡ value_of spec j q.time) (λ q e. subst (λ u. value_of spec i u ≡ value_of spec j u) (time-is t q.time e) value) (points_at t j.first) (filter-passes (λ q. int_eq q.time t) j.first) in
+    kernel-at spec i t
+    ∙ ap (λ b. points_from (value_of spec i) (anchors b)) here
+    ∙ points_from-same (value_of spec i) (value_of spec j) (anchors (points_at t j.first)) (each-anchors (λ u. value_of spec i u ≡ value_of spec j u) (points_at t j.first) same)
+    ∙ sym (kernel-at spec j t)
+
+pub output-in_order : (spec : Spec) (i : Inputs) → AreBags i → IsInOrder (output_points spec i)
+output-in_order spec i h = kernel-in_order spec i h.first_in_order
+
+pub output-in_domain : (spec : Spec) (i : Inputs) → IsGood spec → AreBags i → AreInDomain (output_points spec i)
+output-in_domain spec i good h = kernel-in_domain spec i h.first_in_domain
+
+pub output-bag : (spec : Spec) (i : Inputs) → IsGood spec → AreBags i → IsBag (output_points spec i)
+output-bag spec i good h =
+    record { in_order = output-in_order spec i h; in_domain = output-in_domain spec i good h }
+
+-- An output has at most as many points as its first input.
+pub output-length : (spec : Spec) (i : Inputs) → length (output_points spec i) ≤ length i.first
+output-length spec i = kernel-length spec i
+
+-- An output has no points if its first input has none.
+pub output-none : (spec : Spec) (second : List Point) → output_points spec (record { first = []; second = second }) ≡ []
+output-none spec second = refl
+
+-- A version may hold the points of an output, if its first input has no more than a version may hold.
+pub output-accepted : (spec : Spec) (i : Inputs) → IsGood spec → AreBags i → length i.first ≤ MAX_POINTS → points_rejection (output_points spec i) ≡ None
+output-accepted spec i good h few = kernel-accepted spec i h.first_in_order h.first_in_domain few
+
 -- ---- the cut
 
-pub affected-cut : (spec : Spec) (old new : Inputs) → spec.grain ≤ 62 → IsCut (affected spec old new)
-affected-cut spec old new low =
+window-late : (lead : ℕ) (t u : ℤ) → (int_le (t -ℤ pos lead) u && int_lt u (t +ℤ pos 1)) ≡ true → u ≤ℤ t
+window-late lead t u h = grind (arith, ints)
+
+window-early : (lead : ℕ) (t u : ℤ) → (int_le (t -ℤ pos lead) u && int_lt u (t +ℤ pos 1)) ≡ true → t ≤ℤ (u +ℤ pos lead)
+window-early lead t u h = grind (arith, ints)
+
+-- A change is widened to each time that looks at it.
+pub widened-is : (spec : Spec) → IsGood spec → IsWidened (looks_at spec) (widened spec)
+widened-is spec good = record {
+  is_range = λ r is. lengthened-is_range spec.lead r is;
+  contained = λ r t u is inside seen domain.
+      lengthened-contains spec.lead r u t inside (window-late spec.lead t u seen) (window-early spec.lead t u seen) domain.1;
+}
+
+pub affected-cut : (spec : Spec) (old new : Inputs) → IsGood spec → IsCut (affected spec old new)
+affected-cut spec old new good =
     let first = changes spec.grain old.first new.first in
     let second = changes spec.grain old.second new.second in
-    let each = each-append _ first second (changes-cut spec.grain old.first new.first low).each (changes-cut spec.grain old.second new.second low).each in
-    union-cut (map (lengthened spec.lead) (first ++ second)) (lengthened-each spec.lead (first ++ second) each)
+    let each = each-append _ first second (changes-cut spec.grain old.first new.first good.grain).each (changes-cut spec.grain old.second new.second good.grain).each in
+    union-cut (map (widened spec) (first ++ second)) (widened-each (looks_at spec) (widened spec) (first ++ second) (widened-is spec good) each)
 
 -- The cut has at most as many ranges as the inputs have points, old and new.
 pub affected-length : (spec : Spec) (old new : Inputs) → length (affected spec old new) ≤ (length old.first + length new.first) + (length old.second + length new.second)
 affected-length spec old new =
     let first = changes spec.grain old.first new.first in
     let second = changes spec.grain old.second new.second in
-    let fewer = union-length (map (lengthened spec.lead) (first ++ second)) in
-    let longer = length-map (first ++ second) (lengthened spec.lead) in
+    let fewer = union-length (map (widened spec) (first ++ second)) in
+    let longer = length-map (first ++ second) (widened spec) in
     let both = length-append first second in
     let of_first = changes-length spec.grain old.first new.first in
     let of_second = changes-length spec.grain old.second new.second in
@@ -58,33 +134,28 @@ affected-length spec old new =
 
 pub added-length : (spec : Spec) (old new : Inputs) → length (distillate spec old new).added ≤ length new.first
 added-length spec old new =
-    let fewer = length-filter (λ p. covered (affected spec old new) p.time) (kernel_points spec new) in
-    let few = kernel-length spec new in
+    let fewer = length-filter (λ p. covered (affected spec old new) p.time) (output_points spec new) in
+    let few = output-length spec new in
     omega arith
 
-pub added-in_order : (spec : Spec) (old new : Inputs) → IsInOrder new.first → IsInOrder (distillate spec old new).added
+pub added-in_order : (spec : Spec) (old new : Inputs) → AreBags new → IsInOrder (distillate spec old new).added
 added-in_order spec old new h =
-    filter-in_order (λ p. covered (affected spec old new) p.time) (kernel_points spec new) (kernel-in_order spec new h)
+    filter-in_order (λ p. covered (affected spec old new) p.time) (output_points spec new) (output-in_order spec new h)
 
-pub added-in_domain : (spec : Spec) (old new : Inputs) → AreInDomain new.first → AreInDomain (distillate spec old new).added
-added-in_domain spec old new h =
-    each-filter (λ p. InDomain p.time) (λ p. covered (affected spec old new) p.time) (kernel_points spec new) (kernel-in_domain spec new h)
+pub added-in_domain : (spec : Spec) (old new : Inputs) → IsGood spec → AreBags new → AreInDomain (distillate spec old new).added
+added-in_domain spec old new good h =
+    each-filter (λ p. InDomain p.time) (λ p. covered (affected spec old new) p.time) (output_points spec new) (output-in_domain spec new good h)
 
 -- The cut covers the time of each added point.
 pub added-covered : (spec : Spec) (old new : Inputs) → AllByRecursion (λ p. covered (affected spec old new) p.time ≡ true) (distillate spec old new).added
-added-covered spec old new = filter-passes (λ p. covered (affected spec old new) p.time) (kernel_points spec new)
+added-covered spec old new = filter-passes (λ p. covered (affected spec old new) p.time) (output_points spec new)
 
 -- ---- the law
 
 -- The distillate brings the output from the old inputs to the new.
-pub distillate-right : (spec : Spec) (old new : Inputs) → spec.grain ≤ 62 → AreBags old → AreBags new → after (kernel_points spec old) (distillate spec old new) ≡ kernel_points spec new
-distillate-right spec old new low h k =
-    local-right (value_of spec) spec.lead spec.grain old new (value_of-local spec) low h k
-
--- A version may hold the points of the output after the distillate.
-pub distillate-accepted : (spec : Spec) (old new : Inputs) → spec.grain ≤ 62 → AreBags old → AreBags new → length new.first ≤ MAX_POINTS → points_rejection (after (kernel_points spec old) (distillate spec old new)) ≡ None
-distillate-accepted spec old new low h k few =
-    ap points_rejection (distillate-right spec old new low h k) ∙ kernel-accepted spec new k.first_in_order k.first_in_domain few
+pub distillate-right : (spec : Spec) (old new : Inputs) → IsGood spec → AreBags old → AreBags new → after (output_points spec old) (distillate spec old new) ≡ output_points spec new
+distillate-right spec old new good h k =
+    local-right (looks_at spec) (widened spec) (output_points spec) spec.grain old new (widened-is spec good) (output-depends spec) good.grain h k (output-bag spec old good h) (output-bag spec new good k)
 
 -- ---- a distillate is neither out of the domain nor too large
 
@@ -106,12 +177,12 @@ pub record HaveFew (i : Inputs) : Type 0 where
   pub second : length i.second ≤ MAX_POINTS
 
 -- Nothing in a distillate itself is rejected, if each version of the inputs has no more points than a version may have.
-pub distillate-change_accepted : (spec : Spec) (old new : Inputs) → AreInDomain new.first → HaveFew old → HaveFew new → distillate_change_rejection (distillate spec old new) ≡ None
-distillate-change_accepted spec old new inside h k =
+pub distillate-change_accepted : (spec : Spec) (old new : Inputs) → IsGood spec → AreBags new → HaveFew old → HaveFew new → distillate_change_rejection (distillate spec old new) ≡ None
+distillate-change_accepted spec old new good bags h k =
     let c = distillate spec old new in
     let few = affected-length spec old new in
     let old_first = h.first in
     let old_second = h.second in
     let new_first = k.first in
     let new_second = k.second in
-    none-first _ _ (ap (option_map (λ (p : Point). OutOfDomain p.time)) (no_first c.added (added-in_domain spec old new inside))) (ap (λ s. when s (TooMany (length c.cut))) (le-ltb (2 ^ 34) (length c.cut) (omega arith)))
+    none-first _ _ (ap (option_map (λ (p : Point). OutOfDomain p.time)) (no_first c.added (added-in_domain spec old new good bags))) (ap (λ s. when s (TooMany (length c.cut))) (le-ltb (2 ^ 34) (length c.cut) (omega arith)))

@@ -1,28 +1,24 @@
--- Lemmas on functions that look at nothing but the windows of their lead: at times that are not affected they give the same.
-use Rattle.std.specs.Prelude.{◌≡◌, ℕ, ◌+◌, ◌≤◌, ℤ, pos, ◌+ℤ◌, ◌-ℤ◌, ◌≤ℤ◌, ◌<ℤ◌, int_le, int_lt, Bool, true, false, not, ◌&&◌}
-use Rattle.std.specs.Prelude.{List, ◌++◌, map, cond, Option}
+-- Lemmas on functions of two inputs that depend on nothing but the times that they look at: at times that are not affected by a
+-- change they give the same.
+use Rattle.std.specs.Prelude.{◌≡◌, ℕ, ◌+◌, ◌≤◌, ℤ, Bool, true, false, not, ◌&&◌, ◌||◌, List, [], ◌∷◌, ◌++◌, map, cond}
 use Rattle.std.specs.List.{filter, AllByRecursion}
 use Rattle.std.specs.Ordering.{int_eq}
 use Rattle.std.proofs.Common.{refl, sym, ap, ◌∙◌, arith}
-use Rattle.std.proofs.lemmas.Bool.{both_ways, or_parts, not-true, false_from_ne_true}
-use Rattle.std.proofs.lemmas.Int.{ints, by_lt_z}
-use Rattle.btr_base.specs.declared.limits.TheConstants.{END}
+use Rattle.std.proofs.lemmas.Bool.{both_ways, or_parts, or_right, not-true, false_from_ne_true}
+use Rattle.std.proofs.lemmas.Int.{ints}
 use Rattle.btr_base.specs.declared.point.Point.{Point}
-use Rattle.btr_base.specs.Point.{InDomain}
-use Rattle.btr_base.specs.Range.{RangeValue, IsRange, IsCut, covered}
-use Rattle.btr_base.specs.Bag.{IsInOrder, sort, outside, copies}
+use Rattle.btr_base.specs.Point.{in_domain, InDomain, AreInDomain}
+use Rattle.btr_base.specs.Range.{RangeValue, IsRange, contains, covered}
+use Rattle.btr_base.specs.Bag.{IsInOrder, sort, copies}
 use Rattle.btr_base.specs.Changes.{points_at, changes}
 use Rattle.btr_base.specs.Commit.{after}
-use Rattle.btr_base.specs.Cut.{lengthened, union}
-use Rattle.btr_base.proofs.ListLemmas.{each-weaker, each-both, each-append, each-filter, filter-passes}
+use Rattle.btr_base.specs.Cut.{union}
+use Rattle.btr_base.proofs.ListLemmas.{each-append, filter-filter, filter-same}
 use Rattle.btr_base.proofs.PointLemmas.{filter-in_order, copies-append, copies-filter, copies-filter_kept, same_from-copies, sort-same, sort-of_order}
-use Rattle.btr_base.proofs.RangeLemmas.{covered-append, covered-after}
+use Rattle.btr_base.proofs.RangeLemmas.{covered-append}
 use Rattle.btr_base.proofs.ChangesLemmas.{changes-cut, changes-unchanged}
-use Rattle.btr_base.proofs.CutLemmas.{lengthened-each, lengthened-covered, union-cut, union-covered}
-use Rattle.btr_hist.specs.Kernel.{anchors, window}
-use Rattle.btr_hist.specs.Distil.{Inputs, IsLocal, points_from}
-use Rattle.btr_hist.specs.Laws.{AreBags}
-use Rattle.btr_hist.proofs.KernelLemmas.{filter-anchors, each-anchors, anchors-rising, filter-points_from, points_from-same, points_from-rise, rise-in_order}
+use Rattle.btr_base.proofs.CutLemmas.{union-covered}
+use Rattle.btr_hist.specs.Distil.{Inputs, AreBags, DependsOn, IsWidened}
 
 -- ---- two bags with the same points at some times
 
@@ -44,31 +40,69 @@ filter-agree f a b h k same =
     ] refl
     ∙ sym (copies-filter test p b))
 
--- ---- windows outside the lengthened changes
+same-time : (t u : ℤ) → int_eq u t ≡ true → u ≡ t
+same-time t u h = grind (arith, ints)
 
--- The times at which an input differs, and after that for so long.
-abbrev pub affected_by : ℕ → ℕ → Inputs → Inputs → List RangeValue
-affected_by lead p old new = union (map (lengthened lead) (changes p old.first new.first ++ changes p old.second new.second))
+fails-both : (s : Bool) → (s && false) ≡ false
+fails-both true = refl
+fails-both false = refl
 
-not_lengthened : (lead : ℕ) (rs : List RangeValue) (u t : ℤ) → covered (map (lengthened lead) rs) t ≡ false → u ≤ℤ t → t ≤ℤ (u +ℤ pos lead) → t <ℤ END → covered rs u ≡ false
-not_lengthened lead rs u t h early late inside =
-    false_from_ne_true (covered rs u) (λ e. both_ways (covered (map (lengthened lead) rs) t) h (lengthened-covered lead rs u t e early late inside))
+-- A test that holds at a time holds of each time that is this one.
+also-passes : (f : ℤ → Bool) (t u : ℤ) → f t ≡ true → (f u && int_eq u t) ≡ int_eq u t
+also-passes f t u here =
+    elim (int_eq u t) as (λ s. int_eq u t ≡ s → (f u && s) ≡ s) [
+      | true ↦ λ e. ap (λ s. s && true) (ap f (same-time t u e) ∙ here)
+      | false ↦ λ _. fails-both (f u)
+    ] refl
 
-window-late : (lead : ℕ) (t u : ℤ) → (int_le (t -ℤ pos lead) u && int_lt u (t +ℤ pos 1)) ≡ true → u ≤ℤ t
-window-late lead t u h = grind (arith, ints)
+-- Two bags that have the same points at some times have the same points at one of these.
+pub points_at-agree : (f : ℤ → Bool) (t : ℤ) (a b : List Point) → f t ≡ true → filter (λ p. f p.time) a ≡ filter (λ p. f p.time) b → points_at t a ≡ points_at t b
+points_at-agree f t a b here same =
+    let kept = λ (l : List Point). filter-filter (λ p. int_eq p.time t) (λ p. f p.time) l ∙ filter-same (λ p. f p.time && int_eq p.time t) (λ p. int_eq p.time t) l (λ p. also-passes f t p.time here) in
+    sym (kept a) ∙ ap (points_at t) same ∙ kept b
 
-window-early : (lead : ℕ) (t u : ℤ) → (int_le (t -ℤ pos lead) u && int_lt u (t +ℤ pos 1)) ≡ true → t ≤ℤ (u +ℤ pos lead)
-window-early lead t u h = grind (arith, ints)
+-- ---- times outside the domain
 
--- Two bags in order that have the same points at each time of a window have the same points in it.
-window-same : (lead : ℕ) (t : ℤ) (a b : List Point) → IsInOrder a → IsInOrder b → ((u : ℤ) → u ≤ℤ t → t ≤ℤ (u +ℤ pos lead) → points_at u a ≡ points_at u b) → window lead t a ≡ window lead t b
-window-same lead t a b h k same =
-    filter-agree (λ u. int_le (t -ℤ pos lead) u && int_lt u (t +ℤ pos 1)) a b h k (λ u e. same u (window-late lead t u e) (window-early lead t u e))
+other-outside : (q : Point) (t : ℤ) → InDomain q.time → in_domain t ≡ false → int_eq q.time t ≡ false
+other-outside q t h out =
+    let low = h.0 in
+    let high = h.1 in
+    grind (arith, ints)
 
--- The old and the new inputs, and the times that what looks back so far may see differ.
-module _ (lead p : ℕ) (old new : Inputs) (low : p ≤ 62) (h : AreBags old) (k : AreBags new) where
+-- A bag of the domain has no points at a time outside it.
+none-outside : (b : List Point) (t : ℤ) → AreInDomain b → in_domain t ≡ false → points_at t b ≡ []
+none-outside [] t h out = refl
+none-outside (p ∷ b) t h out =
+    ap (λ s. cond s (p ∷ points_at t b) (points_at t b)) (other-outside p t h.0 out) ∙ none-outside b t h.1 out
+
+inside-test : (t : ℤ) → in_domain t ≡ true → InDomain t
+inside-test t h = (grind (arith, ints), grind (arith, ints))
+
+-- ---- changes that are widened
+
+-- The times at which an input differs, widened.
+abbrev pub affected_by : (RangeValue → RangeValue) → ℕ → Inputs → Inputs → List RangeValue
+affected_by widen p old new = union (map widen (changes p old.first new.first ++ changes p old.second new.second))
+
+pub widened-each : (looks : ℤ → ℤ → Bool) (widen : RangeValue → RangeValue) (rs : List RangeValue) → IsWidened looks widen → AllByRecursion IsRange rs → AllByRecursion IsRange (map widen rs)
+widened-each looks widen [] is h = tt
+widened-each looks widen (r ∷ rs) is h = (is.is_range r h.0, widened-each looks widen rs is h.1)
+
+widened-covered : (looks : ℤ → ℤ → Bool) (widen : RangeValue → RangeValue) (rs : List RangeValue) (t u : ℤ) → IsWidened looks widen → AllByRecursion IsRange rs → covered rs u ≡ true → looks t u ≡ true → InDomain t → covered (map widen rs) t ≡ true
+widened-covered looks widen [] t u is h inside seen domain = absurd (both_ways false refl inside)
+widened-covered looks widen (r ∷ rs) t u is h inside seen domain =
+    let rest = covered (map widen rs) t in
+    elim (contains r u) as (λ s. contains r u ≡ s → covered (map widen (r ∷ rs)) t ≡ true) [
+      | true ↦ λ here. ap (λ s. s || rest) (is.contained r t u h.0 here seen domain)
+      | false ↦ λ other.
+          let later : covered rs u ≡ true = sym (ap (λ s. s || covered rs u) other) ∙ inside in
+          or_right (contains (widen r) t) rest (widened-covered looks widen rs t u is h.1 later seen domain)
+    ] refl
+
+-- The old and the new inputs, and the times at which what looks at these times may differ.
+module _ (looks : ℤ → ℤ → Bool) (widen : RangeValue → RangeValue) (p : ℕ) (old new : Inputs) (is : IsWidened looks widen) (low : p ≤ 62) (h : AreBags old) (k : AreBags new) where
   abbrev cut : List RangeValue
-  cut = affected_by lead p old new
+  cut = affected_by widen p old new
 
   abbrev first : List RangeValue
   first = changes p old.first new.first
@@ -76,53 +110,27 @@ module _ (lead p : ℕ) (old new : Inputs) (low : p ≤ 62) (h : AreBags old) (k
   abbrev second : List RangeValue
   second = changes p old.second new.second
 
-  longer-each : AllByRecursion IsRange (map (lengthened lead) (first ++ second))
-  longer-each =
-      lengthened-each lead (first ++ second) (each-append IsRange first second (changes-cut p old.first new.first low).each (changes-cut p old.second new.second low).each)
+  each-range : AllByRecursion IsRange (first ++ second)
+  each-range =
+      each-append IsRange first second (changes-cut p old.first new.first low).each (changes-cut p old.second new.second low).each
 
-  pub affected_by-cut : IsCut cut
-  affected_by-cut = union-cut (map (lengthened lead) (first ++ second)) longer-each
-
-  -- If a time is not affected, the inputs have the same points at it, and at each time before it by at most the lead.
-  unaffected : (t u : ℤ) → covered cut t ≡ false → u ≤ℤ t → t ≤ℤ (u +ℤ pos lead) → t <ℤ END → (points_at u old.first ≡ points_at u new.first) × (points_at u old.second ≡ points_at u new.second)
-  unaffected t u out early late inside =
-      let none = not_lengthened lead (first ++ second) u t (sym (union-covered (map (lengthened lead) (first ++ second)) t longer-each) ∙ out) early late inside in
+  -- If a time is not affected, the inputs have the same points at each time that it looks at.
+  unaffected : (t u : ℤ) → covered cut t ≡ false → looks t u ≡ true → InDomain t → (points_at u old.first ≡ points_at u new.first) × (points_at u old.second ≡ points_at u new.second)
+  unaffected t u out seen inside =
+      let all = union-covered (map widen (first ++ second)) t (widened-each looks widen (first ++ second) is each-range) in
+      let none = false_from_ne_true (covered (first ++ second) u) (λ e. both_ways (covered (map widen (first ++ second)) t) (sym all ∙ out) (widened-covered looks widen (first ++ second) t u is each-range e seen inside)) in
       let both = or_parts (covered first u) (covered second u) (sym (covered-append first second u) ∙ none) in
       (changes-unchanged p old.first new.first u low h.first_in_domain k.first_in_domain both.0, changes-unchanged p old.second new.second u low h.second_in_domain k.second_in_domain both.1)
 
-  -- A function that looks at nothing but its windows gives the same at a time that is not affected.
-  pub value-outside : (f : Inputs → ℤ → Option ℤ) → IsLocal lead f → (t : ℤ) → t <ℤ END → covered cut t ≡ false → f old t ≡ f new t
-  value-outside f local t inside out =
-      local t old new
-      (window-same lead t old.first new.first h.first_in_order k.first_in_order (λ u early late. (unaffected t u out early late inside).0))
-      (window-same lead t old.second new.second h.second_in_order k.second_in_order (λ u early late. (unaffected t u out early late inside).1))
-
-  first-same : (u : ℤ) → not (covered cut u) ≡ true → points_at u old.first ≡ points_at u new.first
-  first-same u out =
-      by_lt_z u END
-      (λ inside. (unaffected u u (not-true (covered cut u) out) (omega (arith, ints)) (omega (arith, ints)) inside).0)
-      (λ late.
-      let ended = each-weaker IsRange (λ r. r.to ≤ℤ u) (λ r is. let ends = is.ends in omega (arith, ints)) first (changes-cut p old.first new.first low).each in
-      changes-unchanged p old.first new.first u low h.first_in_domain k.first_in_domain (covered-after first u ended))
-
-  -- The points of the first input at times that are not affected are the same.
-  pub first-outside : outside old.first cut ≡ outside new.first cut
-  first-outside =
-      filter-agree (λ u. not (covered cut u)) old.first new.first h.first_in_order k.first_in_order first-same
-
-  -- The points that such a function gives, at the times of the first input that are not affected, are the same.
-  pub points-outside : (f : Inputs → ℤ → Option ℤ) → IsLocal lead f → outside (points_from (f old) (anchors old.first)) cut ≡ outside (points_from (f new) (anchors new.first)) cut
-  points-outside f local =
-      let out = λ (u : ℤ). not (covered cut u) in
-      let kept = outside old.first cut in
-      let inside = each-filter (λ q. InDomain q.time) (λ q. out q.time) old.first h.first_in_domain in
-      let same = each-weaker (λ q. InDomain q.time × (out q.time ≡ true)) (λ q. f old q.time ≡ f new q.time) (λ q j. value-outside f local q.time j.0.1 (not-true (covered cut q.time) j.1)) kept (each-both (λ q. InDomain q.time) (λ q. out q.time ≡ true) kept inside (filter-passes (λ q. out q.time) old.first)) in
-      filter-points_from (f old) out (anchors old.first)
-      ∙ ap (points_from (f old)) (filter-anchors out old.first)
-      ∙ points_from-same (f old) (f new) (anchors kept) (each-anchors (λ t. f old t ≡ f new t) kept same)
-      ∙ ap (λ b. points_from (f new) (anchors b)) first-outside
-      ∙ sym (ap (points_from (f new)) (filter-anchors out new.first))
-      ∙ sym (filter-points_from (f new) out (anchors new.first))
+  -- What depends on nothing but the times that it looks at has the same points at a time that is not affected.
+  pub point-outside : (f : Inputs → List Point) → DependsOn looks f → AreInDomain (f old) → AreInDomain (f new) → (t : ℤ) → covered cut t ≡ false → points_at t (f old) ≡ points_at t (f new)
+  point-outside f depends of_old of_new t out =
+      elim (in_domain t) as (λ s. in_domain t ≡ s → points_at t (f old) ≡ points_at t (f new)) [
+        | true ↦ λ e.
+            let inside = inside-test t e in
+            depends t old new h k (filter-agree (looks t) old.first new.first h.first_in_order k.first_in_order (λ u seen. (unaffected t u out seen inside).0)) (filter-agree (looks t) old.second new.second h.second_in_order k.second_in_order (λ u seen. (unaffected t u out seen inside).1))
+        | false ↦ λ e. none-outside (f old) t of_old e ∙ sym (none-outside (f new) t of_new e)
+      ] refl
 
 -- ---- the commit that replaces the points at the affected times
 
@@ -141,12 +149,16 @@ sort-both g b h =
     ∙ either-copies (g q) (copies q b))
     ∙ sort-of_order b h
 
--- A function that looks at nothing but the windows of its lead: the points that it gives of the new inputs are those that it gives of
--- the old ones after the commit that replaces the points at the affected times.
-pub local-right : (f : Inputs → ℤ → Option ℤ) (lead p : ℕ) (old new : Inputs) → IsLocal lead f → p ≤ 62 → AreBags old → AreBags new → after (points_from (f old) (anchors old.first)) (record { cut = affected_by lead p old new; added = filter (λ q. covered (affected_by lead p old new) q.time) (points_from (f new) (anchors new.first)) }) ≡ points_from (f new) (anchors new.first)
-local-right f lead p old new local low h k =
-    let cut = affected_by lead p old new in
-    let made = points_from (f new) (anchors new.first) in
-    let order = rise-in_order made (points_from-rise (f new) (anchors new.first) (anchors-rising new.first k.first_in_order)) in
-    ap (λ b. sort (b ++ filter (λ q. covered cut q.time) made)) (points-outside lead p old new low h k f local)
-    ∙ sort-both (λ q. covered cut q.time) made order
+-- The points are a bag of the domain.
+pub record IsBag (b : List Point) : Type 0 where
+  pub in_order : IsInOrder b
+  pub in_domain : AreInDomain b
+
+-- What depends on nothing but the times that it looks at: its points of the new inputs are those of the old ones after the commit
+-- that replaces the points at the affected times.
+pub local-right : (looks : ℤ → ℤ → Bool) (widen : RangeValue → RangeValue) (f : Inputs → List Point) (p : ℕ) (old new : Inputs) → IsWidened looks widen → DependsOn looks f → p ≤ 62 → AreBags old → AreBags new → IsBag (f old) → IsBag (f new) → after (f old) (record { cut = affected_by widen p old new; added = filter (λ q. covered (affected_by widen p old new) q.time) (f new) }) ≡ f new
+local-right looks widen f p old new is depends low h k of_old of_new =
+    let cut = affected_by widen p old new in
+    let same = filter-agree (λ u. not (covered cut u)) (f old) (f new) of_old.in_order of_new.in_order (λ u out. point-outside looks widen p old new is low h k f depends of_old.in_domain of_new.in_domain u (not-true (covered cut u) out)) in
+    ap (λ b. sort (b ++ filter (λ q. covered cut q.time) (f new))) same
+    ∙ sort-both (λ q. covered cut q.time) (f new) of_new.in_order

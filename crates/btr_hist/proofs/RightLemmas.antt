@@ -1,9 +1,8 @@
 -- Lemmas on what outputs hold in legal histories: each version is right, and the distillate of the definition is allowed.
-use Rattle.std.specs.Prelude.{◌≡◌, ℕ, ◌^◌, ◌<◌, ◌≤◌, nat_le, true, false, not, ◌&&◌, Bool, List, [], ◌∷◌, ◌++◌, length, take, cond, Option, Some, None}
+use Rattle.std.specs.Prelude.{◌≡◌, ℕ, ◌<◌, ◌≤◌, nat_le, true, false, not, Bool, List, [], ◌∷◌, ◌++◌, length, take, Option, Some, None}
 use Rattle.std.specs.List.{AllByRecursion}
-use Rattle.std.specs.Option.{is_some}
 use Rattle.std.proofs.Common.{suc, refl, sym, ap, ◌∙◌, arith, inl, inr, subst}
-use Rattle.std.proofs.lemmas.Bool.{and_parts, leb-true, lt-leb}
+use Rattle.std.proofs.lemmas.Bool.{lt-leb}
 use Rattle.btr_base.specs.declared.limits.TheConstants.{MAX_VERSIONS, MAX_POINTS}
 use Rattle.btr_base.specs.declared.point.Point.{Point}
 use Rattle.btr_base.specs.Point.{AreInDomain}
@@ -15,15 +14,13 @@ use Rattle.btr_hist.specs.declared.kernel.Spec.{Spec}
 use Rattle.btr_hist.specs.declared.kernel.Reads.{Reads}
 use Rattle.btr_hist.specs.declared.rejection.Rejection.{Rejection}
 use Rattle.btr_hist.specs.declared.rejection.Rejection.TheVariants.{NoStream, NotWritable, VersionLimit}
-use Rattle.btr_hist.specs.Kernel.{has_second, divides_well, is_good}
-use Rattle.btr_hist.specs.Distil.{kernel_points, distillate}
+use Rattle.btr_hist.specs.Distil.{AreBags, output_points, distillate}
 use Rattle.btr_hist.specs.History.{new_kind, ids, spec_of, latest, bag, reads, second_points, inputs_at}
 use Rattle.btr_hist.specs.Legal.{first_some, when, next_bag, points_rejection, takes_reads, distillate_change_rejection}
 use Rattle.btr_hist.specs.Legal.{IsComputed, IsDistillate, Allowed, Legal}
-use Rattle.btr_hist.specs.Laws.{AreBags, Right}
+use Rattle.btr_hist.specs.Laws.{Right}
 use Rattle.btr_hist.proofs.HistoryLemmas.{bag-append, bag-in_order}
-use Rattle.btr_hist.proofs.KernelLemmas.{kernel-accepted}
-use Rattle.btr_hist.proofs.DistilLemmas.{distillate-right, HaveFew, distillate-change_accepted}
+use Rattle.btr_hist.proofs.DistilLemmas.{good-is, output-none, output-accepted, distillate-right, HaveFew, distillate-change_accepted}
 use Rattle.btr_hist.proofs.VersionLemmas.{from_end, spec_of-known, reads-append, kind-push, latest-silent, bag-push, each_version-push}
 use Rattle.btr_hist.proofs.ReadsLemmas.{may_read-there, inputs_at-append}
 use Rattle.btr_hist.proofs.AcceptedLemmas.{distillate_causes, IsNext, output-next, new-silent}
@@ -61,28 +58,18 @@ pub inputs-few : (h : List Entry) (spec : Spec) (r : Reads) → IsSound h → Ha
 inputs-few h spec r sound =
     record { first = sound.bounded spec.first r.first; second = second-few h spec.second r.second sound }
 
-good-grain : (spec : Spec) → is_good spec ≡ true → spec.grain ≤ 62
-good-grain spec good =
-    let fits = cond (has_second spec.kernel) (is_some spec.second) (not (is_some spec.second)) in
-    let divides = divides_well spec.kernel in
-    let small = nat_le spec.lead (2 ^ 60) in
-    let grain = nat_le spec.grain 62 in
-    let a = (and_parts fits (divides && (small && grain)) good).1 in
-    let b = (and_parts divides (small && grain) a).1 in
-    leb-true spec.grain 62 (and_parts small grain b).1
-
 -- ---- one more entry
 
--- The points after the distillate of the definition are those of the kernel at the new inputs.
-pub next-right : (h : List Entry) (stream : ℕ) (spec : Spec) (c : Change) (new : Reads) → IsSound h → Right h → spec_of h stream ≡ Some spec → c ≡ distillate spec (inputs_at h spec (reads h stream spec (latest h stream))) (inputs_at h spec new) → next_bag h stream c ≡ kernel_points spec (inputs_at h spec new)
+-- The points after the distillate of the definition are those of the output at the new inputs.
+pub next-right : (h : List Entry) (stream : ℕ) (spec : Spec) (c : Change) (new : Reads) → IsSound h → Right h → spec_of h stream ≡ Some spec → c ≡ distillate spec (inputs_at h spec (reads h stream spec (latest h stream))) (inputs_at h spec new) → next_bag h stream c ≡ output_points spec (inputs_at h spec new)
 next-right h stream spec c new sound right output is =
     let old = inputs_at h spec (reads h stream spec (latest h stream)) in
     let now = inputs_at h spec new in
-    let grain = good-grain spec (sound.outputs stream spec output).defined.good in
+    let good = good-is spec (sound.outputs stream spec output).defined.good in
     let bags = inputs-bags h spec (reads h stream spec (latest h stream)) sound in
     ap (λ (d : Change). after (bag h stream (latest h stream)) d) is
     ∙ ap (λ (b : List Point). after b (distillate spec old now)) (right stream spec output (latest h stream) (omega arith))
-    ∙ distillate-right spec old now grain bags (inputs-bags h spec new sound)
+    ∙ distillate-right spec old now good bags (inputs-bags h spec new sound)
 
 -- The change of an allowed distillate is the definition's.
 next-computed : (h : List Entry) (e : Entry) (stream : ℕ) (spec : Spec) (c : Change) (n : IsNext h stream spec c e) → spec_of h stream ≡ Some spec → IsComputed h e → c ≡ distillate spec (inputs_at h spec (reads h stream spec (latest h stream))) (inputs_at h spec n.new)
@@ -91,31 +78,31 @@ next-computed h e stream spec c n output computed =
     let same : is.spec ≡ spec = cc (sym is.output, output) in
     subst (λ s. c ≡ distillate s (inputs_at h s (reads h stream s (latest h stream))) (inputs_at h s n.new)) same is.change
 
-right-stays : (h : List Entry) (e : Entry) (stream : ℕ) (spec : Spec) → IsSound h → Right h → Allowed h e → spec_of h stream ≡ Some spec → (version : ℕ) → version ≤ latest (h ++ e ∷ []) stream → bag (h ++ e ∷ []) stream version ≡ kernel_points spec (inputs_at (h ++ e ∷ []) spec (reads (h ++ e ∷ []) stream spec version))
+right-stays : (h : List Entry) (e : Entry) (stream : ℕ) (spec : Spec) → IsSound h → Right h → Allowed h e → spec_of h stream ≡ Some spec → (version : ℕ) → version ≤ latest (h ++ e ∷ []) stream → bag (h ++ e ∷ []) stream version ≡ output_points spec (inputs_at (h ++ e ∷ []) spec (reads (h ++ e ∷ []) stream spec version))
 right-stays h e stream spec sound right allowed output =
     let all = h ++ e ∷ [] in
     let is = sound.outputs stream spec output in
-    each_version-push (λ v. bag all stream v ≡ kernel_points spec (inputs_at all spec (reads all stream spec v))) h e stream (λ v old.
+    each_version-push (λ v. bag all stream v ≡ output_points spec (inputs_at all spec (reads all stream spec v))) h e stream (λ v old.
     let same = inputs_at-append h (e ∷ []) spec (reads h stream spec v) (is.there v old) in
     let read = reads-append h (e ∷ []) stream spec v old in
     bag-append h (e ∷ []) stream v old
     ∙ right stream spec output v old
-    ∙ sym (ap (kernel_points spec) (ap (inputs_at all spec) read ∙ same))) (λ c made.
+    ∙ sym (ap (output_points spec) (ap (inputs_at all spec) read ∙ same))) (λ c made.
     let n = output-next h e stream spec c allowed.accepted output made in
     let computed = next-computed h e stream spec c n output allowed.computed in
     let there = may_read-there h spec (reads h stream spec (latest h stream)) n.new n.may in
     let same = inputs_at-append h (e ∷ []) spec n.new there in
     bag-push h e stream (suc (latest h stream)) c made (omega arith)
     ∙ next-right h stream spec c n.new sound right output computed
-    ∙ sym (ap (kernel_points spec) (ap (inputs_at all spec) (next-reads h e stream spec c n) ∙ same)))
+    ∙ sym (ap (output_points spec) (ap (inputs_at all spec) (next-reads h e stream spec c n) ∙ same)))
 
-right-new : (h : List Entry) (e : Entry) (stream : ℕ) (spec : Spec) → IsSound h → length (ids h) ≤ stream → new_kind e ≡ Some (Some spec) → (version : ℕ) → version ≤ latest (h ++ e ∷ []) stream → bag (h ++ e ∷ []) stream version ≡ kernel_points spec (inputs_at (h ++ e ∷ []) spec (reads (h ++ e ∷ []) stream spec version))
+right-new : (h : List Entry) (e : Entry) (stream : ℕ) (spec : Spec) → IsSound h → length (ids h) ≤ stream → new_kind e ≡ Some (Some spec) → (version : ℕ) → version ≤ latest (h ++ e ∷ []) stream → bag (h ++ e ∷ []) stream version ≡ output_points spec (inputs_at (h ++ e ∷ []) spec (reads (h ++ e ∷ []) stream spec version))
 right-new h e stream spec sound far new version low =
     let all = h ++ e ∷ [] in
     let none : latest h stream ≡ 0 = ap (length {A = Change}) (sound.beyond stream far) in
     let silent = latest-silent h e stream (new-silent e stream (Some spec) new) in
     let first : 0 ≡ version = omega arith in
-    subst (λ v. bag all stream v ≡ kernel_points spec (inputs_at all spec (reads all stream spec v))) first refl
+    subst (λ v. bag all stream v ≡ output_points spec (inputs_at all spec (reads all stream spec v))) first (sym (output-none spec (inputs_at all spec (reads all stream spec 0)).second))
 
 pub right-push : (h : List Entry) (e : Entry) → IsSound h → Right h → Allowed h e → Right (h ++ e ∷ [])
 right-push h e sound right allowed stream spec output =
@@ -149,11 +136,12 @@ distillate-allowed h stream c new legal is takes room =
     let spec = is.spec in
     let old = reads h stream spec (latest h stream) in
     let known = spec_of-known h stream spec is.output in
+    let good = good-is spec (sound.outputs stream spec is.output).defined.good in
     let bags = inputs-bags h spec new sound in
-    let change = distillate-change_accepted spec (inputs_at h spec old) (inputs_at h spec new) bags.first_in_domain (inputs-few h spec old sound) (inputs-few h spec new sound) in
+    let change = distillate-change_accepted spec (inputs_at h spec old) (inputs_at h spec new) good bags (inputs-few h spec old sound) (inputs-few h spec new sound) in
     let fits = ap distillate_change_rejection is.change ∙ change in
     let made = next-right h stream spec c new sound (legal-right h legal) is.output is.change in
-    let holds = ap points_rejection made ∙ kernel-accepted spec (inputs_at h spec new) bags.first_in_order bags.first_in_domain (sound.bounded spec.first new.first) in
+    let holds = ap points_rejection made ∙ output-accepted spec (inputs_at h spec new) good bags (sound.bounded spec.first new.first) in
     record {
       accepted = causes-none (distillate_causes h stream c new) (
         passes (nat_le (length (ids h)) stream) NoStream (lt-leb (length (ids h)) stream known),

@@ -1,6 +1,6 @@
 -- Kernels: what a distiller computes at a time, from the points of its inputs.
 use Rattle.std.specs.Prelude.{ℕ, ◌^◌, nat_le, ℤ, pos, negsuc, ◌+ℤ◌, ◌-ℤ◌, ◌*ℤ◌, int_le, Bool, true, false, not, ◌&&◌}
-use Rattle.std.specs.Prelude.{List, [], ◌∷◌, Option, Some, None, if◌then◌else◌}
+use Rattle.std.specs.Prelude.{List, [], ◌∷◌, map, Option, Some, None, if◌then◌else◌}
 use Rattle.std.specs.Int.{int_div_euclid, int_rem_euclid}
 use Rattle.std.specs.Ordering.{int_eq}
 use Rattle.std.specs.List.{filter}
@@ -15,10 +15,14 @@ use Rattle.btr_hist.specs.declared.kernel.Kernel.{Kernel}
 use Rattle.btr_hist.specs.declared.kernel.Kernel.TheVariants.{Affine, Sum, Mean, Least, Greatest, Count, Delta, Minus, Angle, Hold}
 use Rattle.btr_hist.specs.declared.kernel.Spec.{Spec}
 
--- The distinct times of points in order, each once.
+-- The distinct times of a list, each once.
+abbrev pub distinct : List ℤ → List ℤ
+distinct [] = []
+distinct (t ∷ ts) = t ∷ filter (λ u. not (int_eq t u)) (distinct ts)
+
+-- The distinct times of points.
 abbrev pub anchors : List Point → List ℤ
-anchors [] = []
-anchors (p ∷ ps) = p.time ∷ filter (λ t. not (int_eq p.time t)) (anchors ps)
+anchors b = distinct (map (λ p. p.time) b)
 
 -- The points of the window that ends with a time: from `lead` nanoseconds before it up to it, both included.
 abbrev pub window : ℕ → ℤ → List Point → List Point

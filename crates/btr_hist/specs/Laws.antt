@@ -3,16 +3,17 @@ use Rattle.std.specs.Prelude.{◌≡◌, ℕ, ◌+◌, ◌<◌, ◌≤◌, true,
 use Rattle.std.specs.List.{AllByRecursion}
 use Rattle.btr_base.specs.declared.limits.TheConstants.{MAX_VERSIONS}
 use Rattle.btr_base.specs.declared.point.Point.{Point}
-use Rattle.btr_base.specs.Point.{InDomain, AreInDomain}
+use Rattle.btr_base.specs.Point.{InDomain}
 use Rattle.btr_base.specs.Range.{covered}
-use Rattle.btr_base.specs.Bag.{IsInOrder, copies}
+use Rattle.btr_base.specs.Bag.{copies}
 use Rattle.btr_base.specs.Commit.{Change, after}
 use Rattle.btr_hist.specs.declared.entry.Entry.{Entry}
 use Rattle.btr_hist.specs.declared.entry.Entry.TheVariants.{Distillate}
 use Rattle.btr_hist.specs.declared.kernel.Spec.{Spec}
 use Rattle.btr_hist.specs.declared.kernel.Reads.{Reads}
 use Rattle.btr_hist.specs.declared.query.Query.{Query}
-use Rattle.btr_hist.specs.Distil.{Inputs, IsLocal, value_of, kernel_points, distillate}
+use Rattle.btr_hist.specs.Kernel.{is_good}
+use Rattle.btr_hist.specs.Distil.{Inputs, AreBags, IsLocal, value_of, output_points, looks_at, widened, DependsOn, IsWidened, distillate}
 use Rattle.btr_hist.specs.History.{spec_of, commits, latest, bag, reads, inputs_at}
 use Rattle.btr_hist.specs.Legal.{Legal, Allowed, IsDistillate, takes_reads}
 use Rattle.btr_hist.specs.Query.{IsSettled}
@@ -39,25 +40,26 @@ HoldsWhatWasPutIn =
 abbrev pub KernelsAreLocal : Type 0
 KernelsAreLocal = (spec : Spec) → IsLocal spec.lead (value_of spec)
 
--- The points of the inputs are bags of the domain.
-pub record AreBags (i : Inputs) : Type 0 where
-  pub first_in_order : IsInOrder i.first
-  pub first_in_domain : AreInDomain i.first
-  pub second_in_order : IsInOrder i.second
-  pub second_in_domain : AreInDomain i.second
+-- The points of an output at a time depend on the points of its inputs at the times that it looks at alone.
+abbrev pub OutputsAreLocal : Type 0
+OutputsAreLocal = (spec : Spec) → DependsOn (looks_at spec) (output_points spec)
+
+-- A change is widened to each time that looks at it.
+abbrev pub ChangesAreWidened : Type 0
+ChangesAreWidened = (spec : Spec) → is_good spec ≡ true → IsWidened (looks_at spec) (widened spec)
 
 -- The distillate brings the output from the old inputs to the new ones, whatever changed in them.
 abbrev pub DistillatesAreRight : Type 0
 DistillatesAreRight =
     (spec : Spec) (old new : Inputs) → spec.grain ≤ 62 → AreBags old → AreBags new
-    → after (kernel_points spec old) (distillate spec old new) ≡ kernel_points spec new
+    → after (output_points spec old) (distillate spec old new) ≡ output_points spec new
 
--- Each version of each output is its kernel over all time, at the versions of its inputs that it has read. Version 0 of each is
--- empty.
+-- Each version of each output has the points of the output over all time, at the versions of its inputs that it has read. Version 0
+-- of each is empty.
 abbrev pub Right : List Entry → Type 0
 Right h =
     (stream : ℕ) (spec : Spec) → spec_of h stream ≡ Some spec → (version : ℕ) → version ≤ latest h stream
-    → bag h stream version ≡ kernel_points spec (inputs_at h spec (reads h stream spec version))
+    → bag h stream version ≡ output_points spec (inputs_at h spec (reads h stream spec version))
 
 -- Every legal history is right.
 abbrev pub LegalIsRight : Type 0

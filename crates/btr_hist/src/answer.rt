@@ -5,7 +5,7 @@ use btr_base::{Agg, Cell, Point, Ranges};
 use std::marker::Model;
 
 /// The points of an answer, as a list.
-#[derive(Debug, Drop)]
+#[derive(Drop)]
 pub struct PointList {
     points: Vec<Point>,
 }
@@ -44,7 +44,7 @@ impl PointList {
 }
 
 /// The windows of an answer, as a list.
-#[derive(Debug, Drop)]
+#[derive(Drop)]
 pub struct CellList {
     cells: Vec<Cell>,
 }
@@ -75,7 +75,7 @@ impl CellList {
 }
 
 /// A stream in the list of all streams.
-#[derive(Clone, Copy, Debug, PartialEq, Eq)]
+#[derive(Clone, Copy)]
 pub struct StreamRow {
     pub id: u128,
 
@@ -87,7 +87,7 @@ pub struct StreamRow {
 }
 
 /// The streams of an answer, as a list.
-#[derive(Debug, Drop)]
+#[derive(Drop)]
 pub struct StreamList {
     rows: Vec<StreamRow>,
 }
@@ -118,7 +118,7 @@ impl StreamList {
 }
 
 /// The rows of an answer.
-#[derive(Debug, Drop)]
+#[derive(Drop)]
 pub enum Rows {
     /// Points by time and value; at most one for the nearest point.
     Points(PointList),
@@ -142,7 +142,7 @@ pub enum Rows {
 }
 
 /// The reason why a question has no answer. If there are several, the first in this order.
-#[derive(Clone, Copy, Debug, PartialEq, Eq)]
+#[derive(Clone, Copy, PartialEq)]
 pub enum Refusal {
     /// The number is not that of a stream.
     NoStream,
@@ -156,7 +156,7 @@ pub enum Refusal {
 }
 
 /// The answer to a question.
-#[derive(Debug, Drop)]
+#[derive(Drop)]
 pub enum Answer {
     /// The version that was asked for (the second of two; for all streams the number of entries), and the rows.
     Found { version: u64, rows: Rows },

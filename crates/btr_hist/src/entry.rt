@@ -6,7 +6,7 @@ use crate::kernel::{Reads, Spec};
 use btr_base::{Bag, Ranges};
 
 /// One entry of a history. A stream's number is its index among the streams in order of creation, from 0.
-#[derive(Debug, Drop)]
+#[derive(Drop)]
 pub enum Entry {
     /// A new stream, with this id.
     Create {

@@ -6,7 +6,7 @@ ghost use Rattle.btr_hist.specs.History.{nothing_read};
 /// What a distiller computes at an anchor, which is a time t at which its first input has a point. It looks at the points of its
 /// inputs in the window from t - lead to t, both included. x is the greatest value of the first input at t. All is exact; a
 /// result that is no i64 gives no point. Floors round toward minus infinity.
-#[derive(Clone, Copy, Debug, PartialEq, Eq)]
+#[derive(Clone, Copy, PartialEq, Eq)]
 pub enum Kernel {
     /// `floor((a * x + b) / d)`, with d at least 1.
     Affine { a: i64, b: i64, d: i64 },
@@ -58,7 +58,7 @@ impl Kernel {
 }
 
 /// What defines an output: a kernel, and the streams that it reads.
-#[derive(Clone, Copy, Debug, PartialEq, Eq)]
+#[derive(Clone, Copy, PartialEq, Eq)]
 pub struct Spec {
     pub kernel: Kernel,
 
@@ -102,7 +102,7 @@ impl Spec {
 }
 
 /// The versions of its inputs that a version of an output was computed from.
-#[derive(Clone, Copy, Debug, PartialEq, Eq)]
+#[derive(Clone, Copy, PartialEq, Eq)]
 pub struct Reads {
     /// The version of the first input.
     pub first: u64,

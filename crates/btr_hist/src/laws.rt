@@ -1,7 +1,7 @@
 //! The laws of all histories. Each is a function with an empty body, and its contract is the law.
 
-ghost use Rattle.btr_hist.specs.Laws.{OldVersionsStay, HoldsWhatWasPutIn, KernelsAreLocal, DistillatesAreRight};
-ghost use Rattle.btr_hist.specs.Laws.{LegalIsRight, DistillatesAreAllowed, PrefixesAreLegal, PointsLieInTheDomain, MachineStaysLegal};
+ghost use Rattle.btr_hist.specs.Laws.{OldVersionsStay, HoldsWhatWasPutIn, KernelsAreLocal, OutputsAreLocal, ChangesAreWidened};
+ghost use Rattle.btr_hist.specs.Laws.{DistillatesAreRight, LegalIsRight, DistillatesAreAllowed, PrefixesAreLegal, PointsLieInTheDomain, MachineStaysLegal};
 
 /// The answer to a question about versions that exist, given by their numbers, never changes, whatever is committed later.
 pub fn old_versions_stay()
@@ -18,14 +18,24 @@ pub fn kernels_are_local()
     ensures { KernelsAreLocal }
 {}
 
+/// The points of an output at a time depend on nothing but the points of its inputs at the times that it looks at.
+pub fn outputs_are_local()
+    ensures { OutputsAreLocal }
+{}
+
+/// A range that an input differs in is widened to a range that contains each time that looks at a time of it. The spec is good.
+pub fn changes_are_widened()
+    ensures { ChangesAreWidened }
+{}
+
 /// The distillate brings the points of an output from those of the old inputs to those of the new ones, whatever changed in
 /// them. The inputs are bags of the domain, and slots are at most `2^62` ns wide.
 pub fn distillates_are_right()
     ensures { DistillatesAreRight }
 {}
 
-/// Every legal history is right: each version of each output is its kernel over all time, at the versions of its inputs that it
-/// has read.
+/// Every legal history is right: each version of each output has the points of the output over all time, at the versions of its
+/// inputs that it has read.
 pub fn legal_histories_are_right()
     ensures { LegalIsRight }
 {}

@@ -30,9 +30,9 @@ pub use entry::Entry;
 pub use history::History;
 pub use kernel::{Kernel, Reads, Spec};
 pub use laws::{
-    distillates_are_allowed, distillates_are_right, kernels_are_local, legal_histories_are_right,
-    old_versions_stay, points_lie_in_the_domain, prefixes_are_legal, the_machine_stays_legal,
-    versions_hold_what_was_put_in,
+    changes_are_widened, distillates_are_allowed, distillates_are_right, kernels_are_local,
+    legal_histories_are_right, old_versions_stay, outputs_are_local, points_lie_in_the_domain,
+    prefixes_are_legal, the_machine_stays_legal, versions_hold_what_was_put_in,
 };
 pub use query::{At, Query, StreamQuery};
 pub use rejecting::{

@@ -4,7 +4,7 @@ ghost use Rattle.btr_hist.specs.Query.{of_stream};
 use btr_base::Toward;
 
 /// The version of a stream that a question is about.
-#[derive(Clone, Copy, Debug, PartialEq, Eq)]
+#[derive(Clone, Copy, PartialEq)]
 pub enum At {
     /// The version after the first so many commits of the stream. Version 0 is empty.
     Number(u64),
@@ -14,7 +14,7 @@ pub enum At {
 }
 
 /// A question about a stream, by its number, or about all streams.
-#[derive(Clone, Copy, Debug, PartialEq, Eq)]
+#[derive(Clone, Copy, PartialEq)]
 pub enum Query {
     /// The points with `from <= time < to`, in nanoseconds (BTrDB's GetRange).
     Points {
@@ -70,7 +70,7 @@ pub enum Query {
 }
 
 /// A question about one stream, without the stream. Each variant asks what the variant of [`Query`] of the same name asks.
-#[derive(Clone, Copy, Debug, PartialEq, Eq)]
+#[derive(Clone, Copy)]
 pub enum StreamQuery {
     Points {
         from: i64,

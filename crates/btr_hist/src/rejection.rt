@@ -1,5 +1,5 @@
 /// The reason why an entry may not follow a history. If there are several, the first in this order.
-#[derive(Clone, Copy, Debug, PartialEq, Eq)]
+#[derive(Clone, Copy, PartialEq, Eq)]
 pub enum Rejection {
     /// The number of the stream, or of an input, is not that of a stream.
     NoStream,

@@ -21,7 +21,7 @@ use Rattle.btr_hist.specs.Machine.Reply.{Accepted, Rejected, Planned, NotOutput,
 use Rattle.btr_hist.proofs.VersionLemmas.{spec_of-known, spec_of-stays, latest-more, reads-append}
 use Rattle.btr_hist.proofs.ReadsLemmas.{AreThere, may_read-there, may_read-latest, may_read-more, inputs_at-append}
 use Rattle.btr_hist.proofs.OutputLemmas.{IsSound, follows-sound, follows-output}
-use Rattle.btr_hist.proofs.DistilLemmas.{distillate-change_accepted}
+use Rattle.btr_hist.proofs.DistilLemmas.{good-is, distillate-change_accepted}
 use Rattle.btr_hist.proofs.RightLemmas.{inputs-bags, inputs-few}
 use Rattle.btr_hist.proofs.HistoryLemmas.{legal-follows}
 use Rattle.btr_hist.proofs.RejectionLemmas.{first_none}
@@ -228,7 +228,7 @@ plan-rejection h p follows is current =
     let takes : takes_reads h s (spec_of h s) p.reads ≡ true = subst (λ (o : Option Spec). takes_reads h s o p.reads ≡ true) (sym is.output) may in
     let few : distillate_change_rejection c ≡ None =
     ap distillate_change_rejection is.change
-    ∙ distillate-change_accepted spec (inputs_at h spec old) (inputs_at h spec p.reads) (inputs-bags h spec p.reads sound).first_in_domain (inputs-few h spec old sound) (inputs-few h spec p.reads sound) in
+    ∙ distillate-change_accepted spec (inputs_at h spec old) (inputs_at h spec p.reads) (good-is spec (sound.outputs s spec is.output).defined.good) (inputs-bags h spec p.reads sound) (inputs-few h spec old sound) (inputs-few h spec p.reads sound) in
     ap (λ (t : Bool). first_some (when t NoStream ∷ when (not (takes_reads h s (spec_of h s) p.reads)) NotWritable ∷ distillate_change_rejection c ∷ when (nat_le MAX_VERSIONS (latest h s)) VersionLimit ∷ points_rejection (next_bag h s c) ∷ []))
     (lt-leb (length (ids h)) s (spec_of-known h s spec is.output))
     ∙ ap (λ (t : Bool). first_some (when (not t) NotWritable ∷ distillate_change_rejection c ∷ when (nat_le MAX_VERSIONS (latest h s)) VersionLimit ∷ points_rejection (next_bag h s c) ∷ [])) takes
