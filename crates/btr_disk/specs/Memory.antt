@@ -17,7 +17,9 @@ since_of disk = MayLeaveSince (contents_of disk.bytes.items) disk.made
 abbrev pub is_listed : MemDisk → Bool
 is_listed disk = list_any (λ call. call == length disk.made.calls.items) disk.failing.items
 
--- A call that is listed fails, and no other fails while the record has room for it and for the bytes that it replaces.
+-- A call that is listed fails, and so does a call for which the record has no room, or no room for the bytes that it replaces. No other
+-- call fails.
 pub record FailsAsListed (bytes : ℕ) (disk : MemDisk) (fails : Type 0) : Type 0 where
   pub listed : IsTrue (is_listed disk) → fails
+  pub full : (CanRecord disk.made bytes → ⊥) → fails
   pub alone : IsFalse (is_listed disk) → CanRecord disk.made bytes → fails → ⊥

@@ -57,7 +57,7 @@ impl CallRecord {
     /// If they do not fit, the record is full from then on, and the call is counted alone.
     pub(crate) fn note(&mut self, call: Call, bytes: &[u8]) -> bool
         ensures recorded { MatchBool result (Records call bytes.now self.old self.new) (IsLeftOut self.old self.new) }
-        ensures fits { CanRecord self.old (length bytes.now) → IsTrue result }
+        ensures fits { IsTrue result ↔ CanRecord self.old (length bytes.now) }
     {
         if !self.has_room(bytes.len()) {
             self.unrecorded = self.unrecorded.saturating_add(1);

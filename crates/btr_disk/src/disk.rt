@@ -9,7 +9,7 @@ ghost use Rattle.btr_disk.specs.Causes.{Counted, HasCause};
 pub const BLOCK: usize = 4096;
 
 /// A call of the device failed. The count of faults rose in that call, so the cause lies outside.
-#[derive(Clone, Copy, Debug, PartialEq, Eq)]
+#[derive(Clone, Copy)]
 pub struct Failed;
 
 /// A device of blocks of 4096 bytes.

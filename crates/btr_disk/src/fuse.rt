@@ -29,6 +29,7 @@ impl<D: Disk> FuseDisk<D> {
     pub fn new(alloc: Global, disk: D, calls: u64) -> Result<FuseDisk<D>, AllocError>
     where
         D: Drop,
+        ensures observable { D.is_observable → ⟦<FuseDisk<D> as Disk>⟧.is_observable }
         ensures disk { IfOk result (λ fuse. fuse.disk ≡ disk) }
         ensures left { IfOk result (λ fuse. fuse.left ≡ calls) }
         ensures refused { IfOk result (λ fuse. fuse.refused ≡ 0) }

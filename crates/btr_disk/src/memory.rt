@@ -51,6 +51,7 @@ impl MemDisk {
     ) -> Result<MemDisk, AllocError>
         requires blocks { blocks ≤ 2 ^ 32 }
         requires capacity { capacity.blocks ≤ 2 ^ 32 }
+        ensures observable { ⟦<MemDisk as Disk>⟧.is_observable }
         ensures size { IfOk result (λ disk. ⟦<MemDisk as Disk>⟧.size disk ≡ blocks) }
         ensures zeros { IfOk result (λ disk. (k : ℕ) → ⟦<MemDisk as Disk>⟧.contents disk k ≡ 0) }
         ensures settled { IfOk result (λ disk. Only (⟦<MemDisk as Disk>⟧.contents disk) (⟦<MemDisk as Disk>⟧.images_now disk)) }
@@ -73,6 +74,7 @@ impl MemDisk {
     ) -> Result<MemDisk, AllocError>
         requires whole { length bytes.items % 4096 ≡ 0 }
         requires capacity { capacity.blocks ≤ 2 ^ 32 }
+        ensures observable { ⟦<MemDisk as Disk>⟧.is_observable }
         ensures size { IfOk result (λ disk. 4096 * ⟦<MemDisk as Disk>⟧.size disk ≡ length bytes.items) }
         ensures contents { IfOk result (λ disk. (k : ℕ) → ⟦<MemDisk as Disk>⟧.contents disk k ≡ slice_index bytes.items k) }
         ensures settled { IfOk result (λ disk. Only (⟦<MemDisk as Disk>⟧.contents disk) (⟦<MemDisk as Disk>⟧.images_now disk)) }

@@ -40,6 +40,7 @@ impl MemSink {
         failing: Vec<u64>,
     ) -> Result<MemSink, AllocError>
         requires { 0 < piece }
+        ensures observable { ⟦<MemSink as Sink>⟧.is_observable }
         ensures written { IfOk result (λ sink. sink.written ≡ []) }
         ensures room { IfOk result (λ sink. sink.room ≡ room) }
         ensures piece { IfOk result (λ sink. sink.piece ≡ piece) }

@@ -31,6 +31,7 @@ impl MemSource {
     /// numbers, counted from 0, and at no other. Takes no memory.
     pub fn new(bytes: Vec<u8>, piece: usize, failing: Vec<u64>) -> MemSource
         requires { 0 < piece }
+        ensures observable { ⟦<MemSource as Source>⟧.is_observable }
         ensures left { result.left ≡ bytes.items }
         ensures piece { result.piece ≡ piece }
         ensures failing { result.calls.failing ≡ failing.items }

@@ -12,7 +12,7 @@ use thiserror::Error;
 const PIECE: usize = 1 << 16;
 
 /// Why a source was not read to its end.
-#[derive(Clone, Copy, Debug, PartialEq, Eq, Error)]
+#[derive(Clone, Copy, Debug, PartialEq, Error)]
 pub enum ReadAllFault {
     /// The source failed.
     #[error("the source failed")]
