@@ -16,6 +16,7 @@ pub mod NewNodes
 pub mod Root
 -- Nodes that are newer than a version.
 pub mod Newer
+pub mod Uncounted
 pub mod Agree
 -- What the private functions promise.
 pub mod Change

@@ -32,7 +32,7 @@ use std::alloc::{AllocError, Global};
 
 /// Applies a commit to a slot and its child. Returns them as they are if the commit does not touch them.
 #[cycle(apply)]
-pub(crate) fn apply_slot(
+pub(crate) fn apply_slot<L>(
     alloc: Global,
     span: Span,
     slot: Slot,
@@ -41,7 +41,7 @@ pub(crate) fn apply_slot(
     added: &[Point],
     version: u64,
     nodes: &mut Vec<NewNode>,
-    steps: &mut Steps,
+    steps: &mut Steps<L>,
 ) -> Result<(Slot, Link), TreeFault>
     requires some { IsSomeSlot span.height span.start slot (node_of child) (length added.now) }
     requires cut { IsCut cut.now }
@@ -98,7 +98,7 @@ fn is_untouched(
 
 /// Applies a commit that touches the span to its child. `cut` and `added` are the commit's part in the span.
 #[cycle(apply)]
-pub(crate) fn apply_child(
+pub(crate) fn apply_child<L>(
     alloc: Global,
     span: Span,
     child: Child<'_>,
@@ -106,7 +106,7 @@ pub(crate) fn apply_child(
     added: &[Point],
     version: u64,
     nodes: &mut Vec<NewNode>,
-    steps: &mut Steps,
+    steps: &mut Steps<L>,
 ) -> Result<Link, TreeFault>
     requires some { IsSomeChild span.height span.start (node_of child) (length added.now) }
     requires cut { IsCut cut.now }
@@ -153,7 +153,7 @@ fn changed(
 
 /// Applies a commit that touches the span to its inner node, which becomes a leaf, or none, if few points are left.
 #[cycle(apply)]
-pub(crate) fn apply_inner(
+pub(crate) fn apply_inner<L>(
     alloc: Global,
     span: Span,
     slots: &Slots,
@@ -161,7 +161,7 @@ pub(crate) fn apply_inner(
     added: &[Point],
     version: u64,
     nodes: &mut Vec<NewNode>,
-    steps: &mut Steps,
+    steps: &mut Steps<L>,
 ) -> Result<Link, TreeFault>
     requires some { (below : ℕ) × (span.height ≡ suc below) × AreSomeSlots below span.start slots.now (length added.now) }
     requires cut { IsCut cut.now }
@@ -229,7 +229,7 @@ fn gathered(
 
 /// Applies a commit to the slots of an inner node that stays one. Returns the new slots and their children.
 #[cycle(apply)]
-pub(crate) fn apply_slots(
+pub(crate) fn apply_slots<L>(
     alloc: Global,
     span: Span,
     slots: &Slots,
@@ -237,7 +237,7 @@ pub(crate) fn apply_slots(
     added: &[Point],
     version: u64,
     nodes: &mut Vec<NewNode>,
-    steps: &mut Steps,
+    steps: &mut Steps<L>,
 ) -> Result<Slots, TreeFault>
     requires some { (below : ℕ) × (span.height ≡ suc below) × AreSomeSlots below span.start slots.now (length added.now) }
     requires cut { IsCut cut.now }

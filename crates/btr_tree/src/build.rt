@@ -1,5 +1,6 @@
 //! New nodes of given points.
-ghost use Rattle.std.specs.Prelude.{◌≡◌, ◌<◌, ◌≤◌, ◌+◌, ◌++◌, ◌∷◌, [], ◌+ℤ◌, ℕ, ℤ, pos, suc, true, Bool, List, length, IfOk, IfErr, OnOk};
+ghost use Rattle.std.specs.Prelude.{◌≡◌, ◌<◌, ◌≤◌, ◌+◌, ◌++◌, ◌∷◌, [], ◌+ℤ◌, ℕ, ℤ, pos, suc, true, Bool, List, length, min};
+ghost use Rattle.std.specs.Prelude.{IfOk, IfErr, OnOk};
 ghost use Rattle.btr_base.specs.Agg.{agg};
 ghost use Rattle.btr_base.specs.Bag.{IsInOrder, within};
 ghost use Rattle.btr_tree.specs.History.{bag, ◌▷◌};
@@ -17,17 +18,16 @@ use crate::slots::Slots;
 use crate::steps::Steps;
 use btr_base::{Agg, FAN_OUT, LEAF_POINTS, Point, Span, parted};
 use std::alloc::{AllocError, Global};
-use std::sync::Arc;
 
 /// Builds the subtree for `points`, which all lie in `span`. Appends each new node to `nodes`, children before parents.
 #[cycle(build)]
-pub(crate) fn build(
+pub(crate) fn build<L>(
     alloc: Global,
     span: Span,
     points: &[Point],
     version: u64,
     nodes: &mut Vec<NewNode>,
-    steps: &mut Steps,
+    steps: &mut Steps<L>,
 ) -> Result<Link, TreeFault>
     requires order { IsInOrder points.now }
     requires inside { within span.start (end_of span) points.now ≡ points.now }
@@ -54,13 +54,13 @@ pub(crate) fn build(
 
 /// Builds the slots of an inner node for `points`, and the children of the slots.
 #[cycle(build)]
-pub(crate) fn build_slots(
+pub(crate) fn build_slots<L>(
     alloc: Global,
     span: Span,
     points: &[Point],
     version: u64,
     nodes: &mut Vec<NewNode>,
-    steps: &mut Steps,
+    steps: &mut Steps<L>,
 ) -> Result<Slots, TreeFault>
     requires height { 1 ≤ span.height }
     requires order { IsInOrder points.now }
@@ -87,13 +87,13 @@ pub(crate) fn build_slots(
 
 /// Builds the slot for `points`, which all lie in `span`, and its child.
 #[cycle(build)]
-pub(crate) fn build_slot(
+pub(crate) fn build_slot<L>(
     alloc: Global,
     span: Span,
     points: &[Point],
     version: u64,
     nodes: &mut Vec<NewNode>,
-    steps: &mut Steps,
+    steps: &mut Steps<L>,
 ) -> Result<(Slot, Link), TreeFault>
     requires order { IsInOrder points.now }
     requires inside { within span.start (end_of span) points.now ≡ points.now }
@@ -117,78 +117,64 @@ pub(crate) fn build_slot(
 }
 
 /// Makes a leaf, and appends it to `nodes`.
-fn push_leaf(
+fn push_leaf<L>(
     alloc: Global,
     span: Span,
     version: u64,
     points: &[Point],
     nodes: &mut Vec<NewNode>,
-    steps: &mut Steps,
+    steps: &mut Steps<L>,
 ) -> Result<Link, AllocError>
     ensures child { IfOk result (λ r. IsLeafOf version points.now (linked r)) }
     ensures nodes { OnOk result (nodes.new.items ≡ nodes.old.items
         ++ record { span = span; version = version; points = points.now; slots = [] } ∷ []) }
     ensures counted { OnOk result (CountsNodes steps.old steps.new nodes.old.items nodes.new.items) }
 {
-    let node = NewNode {
+    nodes.push(NewNode {
         span,
         version,
         points: Vec::from_slice(alloc, points)?,
         slots: NewSlots::none(),
-    };
-    let kept = Vec::from_slice(alloc, points)?;
-    let data = Arc::new(
-        alloc,
-        NodeData::Leaf {
-            version,
-            points: kept,
-        },
-    )?;
-    push_node(node, nodes, steps)?;
-    Ok(Link { node: Some(data) })
+    })?;
+    let points = Vec::from_slice(alloc, points)?;
+    Link::new(alloc, NodeData::Leaf { version, points }, steps)
 }
 
 /// Makes an inner node, and appends it to `nodes`.
-pub(crate) fn push_inner(
+pub(crate) fn push_inner<L>(
     alloc: Global,
     span: Span,
     version: u64,
     slots: Slots,
     nodes: &mut Vec<NewNode>,
-    steps: &mut Steps,
+    steps: &mut Steps<L>,
 ) -> Result<Link, AllocError>
     ensures child { IfOk result (λ r. IsInnerOf version slots (linked r)) }
     ensures nodes { OnOk result (nodes.new.items ≡ nodes.old.items
         ++ record { span = span; version = version; points = []; slots = first_slots 64 slots } ∷ []) }
     ensures counted { OnOk result (CountsNodes steps.old steps.new nodes.old.items nodes.new.items) }
 {
-    let link = inner_node(alloc, version, slots)?;
-    let node = NewNode {
+    let link = inner_node(alloc, version, slots, steps)?;
+    nodes.push(NewNode {
         span,
         version,
         points: Vec::new(alloc),
         slots: NewSlots::of(&link)?,
-    };
-    push_node(node, nodes, steps)?;
+    })?;
     Ok(link)
 }
 
 /// An inner node, which takes no more room than its slots need.
-fn inner_node(alloc: Global, version: u64, slots: Slots) -> Result<Link, AllocError>
-    ensures { IfOk result (λ r. IsInnerOf version slots (linked r)) }
+fn inner_node<L>(
+    alloc: Global,
+    version: u64,
+    slots: Slots,
+    steps: &mut Steps<L>,
+) -> Result<Link, AllocError>
+    ensures child { IfOk result (λ r. IsInnerOf version slots (linked r)) }
+    ensures counted { OnOk result (steps.new ≡ min (steps.old + 1) 18446744073709551615) }
 {
     let mut slots = slots;
     slots.fit();
-    let data = Arc::new(alloc, NodeData::Inner { version, slots })?;
-    Ok(Link { node: Some(data) })
-}
-
-/// Appends a node to `nodes`, which is one step.
-fn push_node(node: NewNode, nodes: &mut Vec<NewNode>, steps: &mut Steps) -> Result<(), AllocError>
-    ensures nodes { OnOk result (nodes.new.items ≡ nodes.old.items ++ node ∷ []) }
-    ensures counted { OnOk result (CountsNodes steps.old steps.new nodes.old.items nodes.new.items) }
-{
-    nodes.push(node)?;
-    steps.tick();
-    Ok(())
+    Link::new(alloc, NodeData::Inner { version, slots }, steps)
 }

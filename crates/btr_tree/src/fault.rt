@@ -1,7 +1,7 @@
 use std::alloc::AllocError;
 
 /// Why a commit was not applied. The tree is as it was.
-#[derive(Clone, Copy, Debug, PartialEq, Eq)]
+#[derive(Clone, Copy)]
 pub enum TreeFault {
     /// The bottom span of 4 ns that starts at `start`, in nanoseconds, would have more than 252 points. It is the first such.
     Crowded { start: i64 },

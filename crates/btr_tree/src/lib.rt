@@ -24,6 +24,7 @@ mod fault;
 mod aggregate;
 mod link;
 mod outside;
+mod uncounted;
 // what a commit writes
 mod apply;
 mod build;
@@ -38,5 +39,6 @@ pub use new_node::{NewNode, NewSlots};
 pub use node::{Child, Node, Slot};
 pub use root::root_span;
 pub use slots::Slots;
-pub use steps::Steps;
+pub use steps::{Label, Steps};
 pub use tree::{Applied, Tree};
+pub use uncounted::{Uncounted, UncountedNode, UncountedSlots, visit_uncounted};

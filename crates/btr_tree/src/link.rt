@@ -10,7 +10,7 @@ use crate::steps::Steps;
 
 /// Visits the node of a span, which is one step. Returns `None`, and counts none, if the span has no point. It takes constant
 /// time and no memory.
-pub fn visit<'a>(child: Child<'a>, steps: &mut Steps) -> Option<Node<'a>>
+pub fn visit<'a, L>(child: Child<'a>, steps: &mut Steps<L>) -> Option<Node<'a>>
     ensures { IsVisit (node_of child.entry) result steps.old steps.new }
 {
     match child.node {

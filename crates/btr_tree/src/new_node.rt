@@ -5,11 +5,10 @@ ghost use Rattle.btr_tree.specs.Slots.{linked};
 use crate::node::{Link, NodeData, Slot};
 use btr_base::{FAN_OUT, Point, Span};
 use std::alloc::AllocError;
-use std::fmt::{Debug, Error, Formatter, Write};
 use std::marker::Model;
 
 /// A node that a commit wrote. A leaf has no slots, and an inner node has no points.
-#[derive(Debug, Drop)]
+#[derive(Drop)]
 pub struct NewNode {
     /// The times that it is about.
     pub span: Span,
@@ -91,11 +90,5 @@ impl NewSlots {
                 NodeData::Inner { .. } => None,
             },
         }
-    }
-}
-
-impl Debug for NewSlots {
-    fn fmt<W: Write>(&self, f: &mut Formatter<W>) -> Result<(), Error> {
-        f.write_str("NewSlots")
     }
 }

@@ -1,14 +1,15 @@
 //! Nodes in memory, and what a walk sees of them.
-ghost use Rattle.std.specs.Prelude.{◌≡◌, IfOk, None};
+ghost use Rattle.std.specs.Prelude.{◌≡◌, ◌+◌, min, IfOk, OnOk, Some, None};
 ghost use Rattle.btr_tree.specs.Slots.{linked, node_of};
 
 use crate::slots::Slots;
+use crate::steps::Steps;
 use btr_base::{Agg, Point};
 use std::alloc::{AllocError, Global};
 use std::sync::Arc;
 
 /// What an inner node knows of a slot beside its child.
-#[derive(Clone, Copy, Debug, PartialEq, Eq)]
+#[derive(Clone, Copy)]
 pub struct Slot {
     /// The aggregate of the slot's points.
     pub agg: Agg,
@@ -61,6 +62,20 @@ impl Link {
         ensures { linked result ≡ None }
     {
         Link { node: None }
+    }
+
+    /// Makes a node, which is one step. No other call makes a node.
+    pub(crate) fn new<L>(
+        alloc: Global,
+        node: NodeData,
+        steps: &mut Steps<L>,
+    ) -> Result<Link, AllocError>
+        ensures node { IfOk result (λ l. linked l ≡ Some node) }
+        ensures counted { OnOk result (steps.new ≡ min (steps.old + 1) 18446744073709551615) }
+    {
+        let shared = Arc::new(alloc, node)?;
+        steps.tick();
+        Ok(Link { node: Some(shared) })
     }
 
     /// The link as a walk sees it.

@@ -1,17 +1,20 @@
 ghost use Rattle.std.specs.Prelude.{◌≡◌, ◌+◌, ◌≤◌, min};
 
-use std::alloc::Global;
-use std::marker::Model;
+use std::marker::{Model, PhantomData};
 
-/// A counter of the nodes that a call writes, or visits. It stops at the greatest `u64`.
+/// A label of counters. Only a type that has it can make a counter.
 ///
-/// Only a call with an allocator can make a counter. A call without one can visit nodes with its caller's counter alone.
-#[derive(Debug, Drop)]
-pub struct Steps {
+/// A call that is generic in its label knows no such type. So it counts with its caller's counter alone.
+pub trait Label {}
+
+/// A counter of the nodes that a call writes, or visits. It stops at the greatest `u64`. `L` is its label.
+#[derive(Drop)]
+pub struct Steps<L> {
     count: u64,
+    label: PhantomData<L>,
 }
 
-impl Model for Steps {
+impl<L> Model for Steps<L> {
     ghost use Rattle.std.specs.Prelude.{ℕ};
 
     ghost Value = { ℕ };
@@ -19,14 +22,19 @@ impl Model for Steps {
     ghost view = { λ s. s.count };
 }
 
-impl Steps {
-    /// A counter of no steps. It takes no memory: the allocator is the caller's right to count.
-    pub fn new(_alloc: Global) -> Steps
+impl<L: Label> Steps<L> {
+    /// A counter of no steps. It takes no memory.
+    pub fn new() -> Steps<L>
         ensures { result ≡ 0 }
     {
-        Steps { count: 0 }
+        Steps {
+            count: 0,
+            label: PhantomData,
+        }
     }
+}
 
+impl<L> Steps<L> {
     /// How many steps were counted.
     pub fn count(&self) -> u64
         ensures { result ≡ self.now }

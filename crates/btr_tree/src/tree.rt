@@ -107,13 +107,13 @@ impl Tree {
     /// Returns `Crowded`, with the first such start, exactly if a bottom span would have more than 252 points. Else returns
     /// `TooManyPoints`, with their number, exactly if there would be more than 2^32 points. `Want` is out of memory, which
     /// may come in place of any answer.
-    pub fn apply(
+    pub fn apply<L>(
         &self,
         alloc: Global,
         cut: &Ranges,
         added: &Bag,
         version: u64,
-        steps: &mut Steps,
+        steps: &mut Steps<L>,
     ) -> Result<Applied, TreeFault>
         requires { AreInDomain added.now }
         ensures tree { IfOk result (λ a. AfterCommit self.now version cut.now added.now (λ h c. IsTree (c ▷ h) a.tree)) }

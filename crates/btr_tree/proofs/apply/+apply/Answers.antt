@@ -51,12 +51,12 @@ left-many span below h x cut added each high slots children many =
 -- ---- an inner node
 
 pub apply_inner-build-requires-clause-order : goal.apply_inner-build-requires-clause-order
-apply_inner-build-requires-clause-order t c =
+apply_inner-build-requires-clause-order g t c =
     let st = c.requires.some in
     in-order (outside (points_of c.args.span.height c.args.span.start (bag st.2.commits)) c.args.cut.now ++ c.args.added.now) c.deref.result.now (c.deref.ensures.value ∙ c.in_ok-all.ensures st.0 st.2.commits st.1 st.2.holds st.2.each)
 
 pub apply_inner-build-requires-clause-inside : goal.apply_inner-build-requires-clause-inside
-apply_inner-build-requires-clause-inside t c =
+apply_inner-build-requires-clause-inside g t c =
     let st = c.requires.some in
     let span = c.args.span in
     let change = own-change span.height span.start c.args.version c.args.cut.now c.args.added.now c.requires.inside in
@@ -64,7 +64,7 @@ apply_inner-build-requires-clause-inside t c =
     parted-inside span.start (end_of span) (bag (mine ▷ st.2.commits)) c.deref.result.now (c.deref.ensures.value ∙ c.in_ok-all.ensures st.0 st.2.commits st.1 st.2.holds st.2.each ∙ sym (change-after span.height span.start st.2.commits mine c.args.cut.now c.args.added.now c.args.version change))
 
 pub apply_inner-returns-then-branch-clause-child : goal.apply_inner-returns-then-branch-clause-child
-apply_inner-returns-then-branch-clause-child t c =
+apply_inner-returns-then-branch-clause-child g t c =
     let span = c.args.span in
     IfOk-weaker c.build.result _ _ (λ p made below h commit applied above touched.
     let change = applied-change below span commit h c.args.cut.now c.args.added.now c.args.version c.args.slots.now applied in
@@ -75,7 +75,7 @@ apply_inner-returns-then-branch-clause-child t c =
     made above h commit (touched-fresh span.height span.start above h commit c.args.version c.deref.result.now change.number same touched (λ many. absurd (omega arith)))) c.build.ensures.child
 
 pub apply_inner-returns-then-branch-clause-fault : goal.apply_inner-returns-then-branch-clause-fault
-apply_inner-returns-then-branch-clause-fault t c =
+apply_inner-returns-then-branch-clause-fault g t c =
     let span = c.args.span in
     err-weaker c.build.result _ _ (λ e fault below h commit applied.
     let change = applied-change below span commit h c.args.cut.now c.args.added.now c.args.version c.args.slots.now applied in
@@ -83,7 +83,7 @@ apply_inner-returns-then-branch-clause-fault t c =
     subst (λ x. IsCrowdedFault span.start (end_of span) x e) same fault) c.build.ensures.fault
 
 pub apply_inner-returns-clause-child : goal.apply_inner-returns-clause-child
-apply_inner-returns-clause-child t c below h commit applied above touched =
+apply_inner-returns-clause-child g t c below h commit applied above touched =
     let span = c.args.span in
     let change = applied-change below span commit h c.args.cut.now c.args.added.now c.args.version c.args.slots.now applied in
     let count = change-count span.height span.start h commit c.args.cut.now c.args.added.now c.args.version _ change refl in
@@ -94,18 +94,18 @@ apply_inner-returns-clause-child t c below h commit applied above touched =
 -- ---- a child
 
 pub apply_child-changed-requires-clause-points : goal.apply_child-changed-requires-clause-points
-apply_child-changed-requires-clause-points t c =
+apply_child-changed-requires-clause-points g t c =
     let st = c.requires.some in
     let node = child-is c.args.span.height c.args.span.start st.above st.commits c.args.child c.in-Some.node c.in-Some.is st.holds in
     let leaf = leaf_data-is c.args.span.height c.args.span.start st.above st.commits c.in-Some.node.now.value c.in-Leaf.version c.in-Leaf.points (sym c.deref.ensures ∙ c.in-Leaf.is) node in
     subst IsInOrder (sym (c.deref-in-Leaf.ensures.value ∙ leaf.same)) (points-in_order c.args.span.height c.args.span.start st.commits)
 
 pub apply_child-build-requires-in-Leaf-clause-order : goal.apply_child-build-requires-in-Leaf-clause-order
-apply_child-build-requires-in-Leaf-clause-order t c =
+apply_child-build-requires-in-Leaf-clause-order g t c =
     in-order (outside c.deref-in-Leaf.result.now c.args.cut.now ++ c.args.added.now) c.deref-in-Leaf-2.result.now (c.deref-in-Leaf-2.ensures.value ∙ c.in_ok-all-in-Leaf.ensures)
 
 pub apply_child-build-requires-in-Leaf-clause-inside : goal.apply_child-build-requires-in-Leaf-clause-inside
-apply_child-build-requires-in-Leaf-clause-inside t c =
+apply_child-build-requires-in-Leaf-clause-inside g t c =
     let st = c.requires.some in
     let span = c.args.span in
     let node = child-is span.height span.start st.above st.commits c.args.child c.in-Some.node c.in-Some.is st.holds in
@@ -115,7 +115,7 @@ apply_child-build-requires-in-Leaf-clause-inside t c =
     parted-inside span.start (end_of span) (bag (mine ▷ st.commits)) c.deref-in-Leaf-2.result.now (c.deref-in-Leaf-2.ensures.value ∙ c.in_ok-all-in-Leaf.ensures ∙ ap (λ x. sort (outside x c.args.cut.now ++ c.args.added.now)) (c.deref-in-Leaf.ensures.value ∙ leaf.same) ∙ sym (change-after span.height span.start st.commits mine c.args.cut.now c.args.added.now c.args.version change))
 
 pub apply_child-apply_inner-requires : goal.apply_child-apply_inner-requires
-apply_child-apply_inner-requires t c =
+apply_child-apply_inner-requires g t c κs outlives =
     let st = c.requires.some in
     let span = c.args.span in
     let node = child-is span.height span.start st.above st.commits c.args.child c.in-Some.node c.in-Some.is st.holds in
@@ -124,22 +124,25 @@ apply_child-apply_inner-requires t c =
     let high = body.height in (
       omega arith,
       (
+        outlives,
         (
-          body.below,
-          high,
-          record {
-            commits = st.commits;
-            holds = body.inner.all;
-            each = body.each;
-            few = subst (λ k. length (points_of k span.start (bag st.commits)) + length c.args.added.now < 2 ^ 64) high st.few;
-          },
+          (
+            body.below,
+            high,
+            record {
+              commits = st.commits;
+              holds = body.inner.all;
+              each = body.each;
+              few = subst (λ k. length (points_of k span.start (bag st.commits)) + length c.args.added.now < 2 ^ 64) high st.few;
+            },
+          ),
+          (c.requires.cut, (c.requires.order, c.requires.inside)),
         ),
-        (c.requires.cut, (c.requires.order, c.requires.inside)),
       ),
     )
 
 pub apply_child-returns-in-None-clause-child : goal.apply_child-returns-in-None-clause-child
-apply_child-returns-in-None-clause-child t c =
+apply_child-returns-in-None-clause-child g t c =
     let span = c.args.span in
     IfOk-weaker c.build.result _ _ (λ p made above h commit holds change touched.
     let none = none-is span.height span.start above h c.args.child c.in-None.is holds in
@@ -148,7 +151,7 @@ apply_child-returns-in-None-clause-child t c =
     made above h commit (touched-fresh span.height span.start above h commit c.args.version c.args.added.now change.number same touched (λ _. omega arith))) c.build.ensures.child
 
 pub apply_child-returns-in-None-clause-fault : goal.apply_child-returns-in-None-clause-fault
-apply_child-returns-in-None-clause-fault t c =
+apply_child-returns-in-None-clause-fault g t c =
     let span = c.args.span in
     err-weaker c.build.result _ _ (λ e fault above h commit holds change.
     let none = none-is span.height span.start above h c.args.child c.in-None.is holds in
@@ -156,7 +159,7 @@ apply_child-returns-in-None-clause-fault t c =
     subst (λ x. IsCrowdedFault span.start (end_of span) x e) same fault) c.build.ensures.fault
 
 pub apply_child-returns-in_ok-all-in-Leaf-clause-child : goal.apply_child-returns-in_ok-all-in-Leaf-clause-child
-apply_child-returns-in_ok-all-in-Leaf-clause-child t c =
+apply_child-returns-in_ok-all-in-Leaf-clause-child g t c =
     let span = c.args.span in
     IfOk-weaker c.build-in-Leaf.result _ _ (λ p made above h commit holds change touched.
     let node = child-is span.height span.start above h c.args.child c.in-Some.node c.in-Some.is holds in
@@ -165,7 +168,7 @@ apply_child-returns-in_ok-all-in-Leaf-clause-child t c =
     made above h commit (touched-fresh span.height span.start above h commit c.args.version c.deref-in-Leaf-2.result.now change.number same touched (λ _. subst (λ x. length x ≤ LEAF_POINTS) leaf.same leaf.few))) c.build-in-Leaf.ensures.child
 
 pub apply_child-returns-in_ok-all-in-Leaf-clause-fault : goal.apply_child-returns-in_ok-all-in-Leaf-clause-fault
-apply_child-returns-in_ok-all-in-Leaf-clause-fault t c =
+apply_child-returns-in_ok-all-in-Leaf-clause-fault g t c =
     let span = c.args.span in
     err-weaker c.build-in-Leaf.result _ _ (λ e fault above h commit holds change.
     let node = child-is span.height span.start above h c.args.child c.in-Some.node c.in-Some.is holds in
@@ -184,7 +187,7 @@ body-applied span above h commit cut added v w x body change =
     }
 
 pub apply_child-returns-in-Inner-clause-child : goal.apply_child-returns-in-Inner-clause-child
-apply_child-returns-in-Inner-clause-child t c =
+apply_child-returns-in-Inner-clause-child g t c =
     let span = c.args.span in
     IfOk-weaker c.apply_inner.result _ _ (λ p made above h commit holds change touched.
     let node = child-is span.height span.start above h c.args.child c.in-Some.node c.in-Some.is holds in
@@ -192,7 +195,7 @@ apply_child-returns-in-Inner-clause-child t c =
     made body.below h commit (body-applied span above h commit c.args.cut.now c.args.added.now c.args.version c.in-Inner.version _ body change) above touched) c.apply_inner.ensures.child
 
 pub apply_child-returns-in-Inner-clause-fault : goal.apply_child-returns-in-Inner-clause-fault
-apply_child-returns-in-Inner-clause-fault t c =
+apply_child-returns-in-Inner-clause-fault g t c =
     let span = c.args.span in
     err-weaker c.apply_inner.result _ _ (λ e fault above h commit holds change.
     let node = child-is span.height span.start above h c.args.child c.in-Some.node c.in-Some.is holds in
@@ -202,7 +205,7 @@ apply_child-returns-in-Inner-clause-fault t c =
 -- ---- a slot
 
 pub apply_slot-returns-then-branch-clause-child : goal.apply_slot-returns-then-branch-clause-child
-apply_slot-returns-then-branch-clause-child t c was h commit w holds counted change =
+apply_slot-returns-then-branch-clause-child g t c was h commit w holds counted change =
     let span = c.args.span in
     let begin = ap (λ p. p.start) c.span.view_is in
     let end = c.end.ensures.end in
@@ -212,7 +215,7 @@ apply_slot-returns-then-branch-clause-child t c was h commit w holds counted cha
     child-same span.height span.start was (commit ▷ h) (node_of c.args.child) (linked c.in_ok-share.field-0) c.in_ok-share.ensures (child-kept span.height span.start was h commit (node_of c.args.child) w same holds)
 
 pub apply_slot-returns-then-branch-clause-agg : goal.apply_slot-returns-then-branch-clause-agg
-apply_slot-returns-then-branch-clause-agg t c was h commit w holds counted change =
+apply_slot-returns-then-branch-clause-agg g t c was h commit w holds counted change =
     let span = c.args.span in
     let begin = ap (λ p. p.start) c.span.view_is in
     let end = c.end.ensures.end in
@@ -222,7 +225,7 @@ apply_slot-returns-then-branch-clause-agg t c was h commit w holds counted chang
     counted ∙ ap agg (sym (points-untouched span.height span.start commit h same))
 
 pub apply_slot-returns-then-branch-clause-slot : goal.apply_slot-returns-then-branch-clause-slot
-apply_slot-returns-then-branch-clause-slot t c was h commit w holds counted change is =
+apply_slot-returns-then-branch-clause-slot g t c was h commit w holds counted change is =
     let span = c.args.span in
     let begin = ap (λ p. p.start) c.span.view_is in
     let end = c.end.ensures.end in
@@ -232,7 +235,7 @@ apply_slot-returns-then-branch-clause-slot t c was h commit w holds counted chan
     is ∙ slot-same _ _ _ _ (ap agg (sym (points-untouched span.height span.start commit h same))) (sym (last_change-kept was span.height span.start h commit same w))
 
 pub apply_slot-returns-in_err-new_child-clause-fault : goal.apply_slot-returns-in_err-new_child-clause-fault
-apply_slot-returns-in_err-new_child-clause-fault t c =
+apply_slot-returns-in_err-new_child-clause-fault g t c =
     let span = c.args.span in
     let begin = ap (λ p. p.start) c.span.view_is in
     let end = c.end.ensures.end in
@@ -241,7 +244,7 @@ apply_slot-returns-in_err-new_child-clause-fault t c =
     rw (p.1, p.2) (λ was h commit w holds counted change. c.in_err-new_child.ensures.fault was h commit holds (change-here span.height span.start commit c.args.cut.now c.ranges_before-here.result.now c.args.added.now c.args.version change alike))
 
 pub apply_slot-agg_of_child-agg-requires : goal.apply_slot-agg_of_child-agg-requires
-apply_slot-agg_of_child-agg-requires t c =
+apply_slot-agg_of_child-agg-requires g t c =
     let st = c.requires.some in
     let span = c.args.span in
     let mine = own c.args.version c.ranges_before-here.result.now c.args.added.now in
@@ -253,7 +256,7 @@ apply_slot-agg_of_child-agg-requires t c =
     subst IsCounted (sym c.seen.ensures) (child-counted span.height span.start st.above (mine ▷ st.commits) (linked c.in_ok-new_child.new_child) (omega arith) (c.in_ok-new_child.ensures.child st.above st.commits mine st.holds change touched))
 
 pub apply_slot-returns-clause-child : goal.apply_slot-returns-clause-child
-apply_slot-returns-clause-child t c was h commit w holds counted change =
+apply_slot-returns-clause-child g t c was h commit w holds counted change =
     let span = c.args.span in
     let begin = ap (λ p. p.start) c.span.view_is in
     let end = c.end.ensures.end in
@@ -263,23 +266,23 @@ apply_slot-returns-clause-child t c was h commit w holds counted change =
     c.in_ok-new_child.ensures.child was h commit holds here touched
 
 pub apply_slot-returns-clause-agg : goal.apply_slot-returns-clause-agg
-apply_slot-returns-clause-agg t c was h commit w holds counted change =
-    c.agg_of_child-agg.ensures c.args.span.height c.args.span.start was (commit ▷ h) (child-same c.args.span.height c.args.span.start was (commit ▷ h) (linked c.in_ok-new_child.new_child) (node_of c.seen.result) c.seen.ensures (apply_slot-returns-clause-child t c was h commit w holds counted change))
+apply_slot-returns-clause-agg g t c was h commit w holds counted change =
+    c.agg_of_child-agg.ensures c.args.span.height c.args.span.start was (commit ▷ h) (child-same c.args.span.height c.args.span.start was (commit ▷ h) (linked c.in_ok-new_child.new_child) (node_of c.seen.result) c.seen.ensures (apply_slot-returns-clause-child g t c was h commit w holds counted change))
 
 pub apply_slot-returns-clause-slot : goal.apply_slot-returns-clause-slot
-apply_slot-returns-clause-slot t c was h commit w holds counted change is =
+apply_slot-returns-clause-slot g t c was h commit w holds counted change is =
     let span = c.args.span in
     let begin = ap (λ p. p.start) c.span.view_is in
     let end = c.end.ensures.end in
     let alike = here-alike span.start (end_of span) c.args.cut.now c.ranges_from.result.now c.ranges_before-here.result.now (λ u low. c.ranges_from.ensures.times u (omega (arith, ints))) (λ u high. c.ranges_before-here.ensures.times u (omega (arith, ints))) in
     let here = change-here span.height span.start commit c.args.cut.now c.ranges_before-here.result.now c.args.added.now c.args.version change alike in
     let touched = is-touched c.in_ok-is_untouched.field-0 (touches commit span.height span.start (bag h)) c.if-branch.false (c.in_ok-is_untouched.ensures c.args.version was h commit holds here counted) in
-    slot-same _ _ _ _ (apply_slot-returns-clause-agg t c was h commit w holds counted change) (last_change-touched was span.height span.start h commit c.args.version change.number touched)
+    slot-same _ _ _ _ (apply_slot-returns-clause-agg g t c was h commit w holds counted change) (last_change-touched was span.height span.start h commit c.args.version change.number touched)
 
 -- ---- the slots
 
 pub apply_slots-apply_slot-requires : goal.apply_slots-apply_slot-requires
-apply_slots-apply_slot-requires t c =
+apply_slots-apply_slot-requires g t c κs outlives =
     let st = c.requires.some in
     let below = st.0 in
     let high = st.1 in
@@ -294,10 +297,10 @@ apply_slots-apply_slot-requires t c =
     let few = st.2.few in
     let down : part.height ≡ below = ap (λ u. u.height) at.is in
     let d = c.decreases in
-    (omega arith, (record { above = is_inner (suc below) span.start; commits = st.2.commits; holds = known.holds; counted = known.counted; few = omega arith }, (c.requires.cut, (subst IsInOrder (sym c.parted.ensures.before) (filter-in_order _ c.loop-i.rest.now c.loop-i.invariant.order), parted-inside part.start (end_of part) c.args.added.now c.parted.result.0.now at.has))))
+    (omega arith, (outlives, (record { above = is_inner (suc below) span.start; commits = st.2.commits; holds = known.holds; counted = known.counted; few = omega arith }, (c.requires.cut, (subst IsInOrder (sym c.parted.ensures.before) (filter-in_order _ c.loop-i.rest.now c.loop-i.invariant.order), parted-inside part.start (end_of part) c.args.added.now c.parted.result.0.now at.has)))))
 
 pub apply_slots-returns-in_err-slot-clause-fault : goal.apply_slots-returns-in_err-slot-clause-fault
-apply_slots-returns-in_err-slot-clause-fault t c =
+apply_slots-returns-in_err-slot-clause-fault g t c =
     let span = c.args.span in
     let i = c.loop-i.i in
     let part = c.slot-part.result in
@@ -312,7 +315,7 @@ apply_slots-returns-in_err-slot-clause-fault t c =
     subst (λ k. IsCrowdedFault span.start (end_of span) (points_of k span.start (bag (commit ▷ h))) c.in_err-slot.field-0.0) (sym applied.height) (crowding-part span part below i (points_of (suc below) span.start (bag (commit ▷ h))) (points_of part.height part.start (bag (commit ▷ h))) _ c.in_err-slot.field-0.0 after (c.loop-i.invariant.room below h commit applied) fault))
 
 pub apply_slots-loop-i-preserved : goal.apply_slots-loop-i-preserved
-apply_slots-loop-i-preserved t c =
+apply_slots-loop-i-preserved g t c =
     let span = c.args.span in
     let i = c.loop-i.i in
     let part = c.slot-part.result in
@@ -355,7 +358,7 @@ empty-is (x ∷ xs) e = absurd (grind (arith, nat_tests))
 
 -- A slot that the commit does not touch is put as it was.
 pub apply_slots-loop-i-preserved-then-is_empty-2 : goal.apply_slots-loop-i-preserved-then-is_empty-2
-apply_slots-loop-i-preserved-then-is_empty-2 t c =
+apply_slots-loop-i-preserved-then-is_empty-2 g t c =
     let span = c.args.span in
     let i = c.loop-i.i in
     let part = c.slot-part.result in
@@ -397,13 +400,13 @@ apply_slots-loop-i-preserved-then-is_empty-2 t c =
     }
 
 pub apply_slots-returns-clause-slots : goal.apply_slots-returns-clause-slots
-apply_slots-returns-clause-slots t c below h commit applied =
+apply_slots-returns-clause-slots g t c below h commit applied =
     first-all below c.args.span.start (commit ▷ h) c.loop-i.i c.loop-i.new_slots (omega arith) (c.loop-i.invariant.slots below h commit applied)
 
 -- ---- the nodes that are written
 
 pub apply_slot-returns-then-branch-clause-nodes : goal.apply_slot-returns-then-branch-clause-nodes
-apply_slot-returns-then-branch-clause-nodes t c was h commit w holds counted change now some before =
+apply_slot-returns-then-branch-clause-nodes g t c was h commit w holds counted change now some before =
     let span = c.args.span in
     let begin = ap (λ p. p.start) c.span.view_is in
     let end = c.end.ensures.end in
@@ -413,7 +416,7 @@ apply_slot-returns-then-branch-clause-nodes t c was h commit w holds counted cha
     sym (ap (λ x. c.args.nodes.now.items ++ x) (new_nodes-kept span.height span.start was h commit c.args.version w same some before) ∙ append-nil c.args.nodes.now.items)
 
 pub apply_slot-returns-clause-nodes : goal.apply_slot-returns-clause-nodes
-apply_slot-returns-clause-nodes t c was h commit w holds counted change now some before =
+apply_slot-returns-clause-nodes g t c was h commit w holds counted change now some before =
     let span = c.args.span in
     let begin = ap (λ p. p.start) c.span.view_is in
     let end = c.end.ensures.end in
@@ -423,7 +426,7 @@ apply_slot-returns-clause-nodes t c was h commit w holds counted change now some
     c.in_ok-new_child.ensures.nodes was h commit holds here touched now some before
 
 pub apply_inner-returns-then-branch-clause-nodes : goal.apply_inner-returns-then-branch-clause-nodes
-apply_inner-returns-then-branch-clause-nodes t c =
+apply_inner-returns-then-branch-clause-nodes g t c =
     let span = c.args.span in
     on_ok_weaker c.build.result (λ told below h commit applied above touched w some before.
     let change = applied-change below span commit h c.args.cut.now c.args.added.now c.args.version c.args.slots.now applied in
@@ -434,7 +437,7 @@ apply_inner-returns-then-branch-clause-nodes t c =
     told above h commit (touched-fresh span.height span.start above h commit c.args.version c.deref.result.now change.number same touched (λ many. absurd (omega arith))) w) c.build.ensures.nodes
 
 pub apply_inner-returns-clause-nodes : goal.apply_inner-returns-clause-nodes
-apply_inner-returns-clause-nodes t c below h commit applied above touched w some before =
+apply_inner-returns-clause-nodes g t c below h commit applied above touched w some before =
     let span = c.args.span in
     let change = applied-change below span commit h c.args.cut.now c.args.added.now c.args.version c.args.slots.now applied in
     let count = change-count span.height span.start h commit c.args.cut.now c.args.added.now c.args.version _ change refl in
@@ -445,7 +448,7 @@ apply_inner-returns-clause-nodes t c below h commit applied above touched w some
     told-more c.args.nodes.now.items c.apply_slots.new.nodes.items c.push_inner.new.nodes.items _ _ (new_nodes span.height span.start above (commit ▷ h) c.args.version) told c.in_ok-push_inner.ensures.nodes (new_nodes-inner_at span.height below span.start above (commit ▷ h) c.args.version c.in_ok-new_slots.new_slots applied.height w (last_change-touched (is_node above span.height span.start) span.height span.start h commit c.args.version change.number touched) many made.0)
 
 pub apply_child-returns-in-None-clause-nodes : goal.apply_child-returns-in-None-clause-nodes
-apply_child-returns-in-None-clause-nodes t c =
+apply_child-returns-in-None-clause-nodes g t c =
     let span = c.args.span in
     on_ok_weaker c.build.result (λ told above h commit holds change touched w some before.
     let none = none-is span.height span.start above h c.args.child c.in-None.is holds in
@@ -454,7 +457,7 @@ apply_child-returns-in-None-clause-nodes t c =
     told above h commit (touched-fresh span.height span.start above h commit c.args.version c.args.added.now change.number same touched (λ _. omega arith)) w) c.build.ensures.nodes
 
 pub apply_child-returns-in_ok-all-in-Leaf-clause-nodes : goal.apply_child-returns-in_ok-all-in-Leaf-clause-nodes
-apply_child-returns-in_ok-all-in-Leaf-clause-nodes t c =
+apply_child-returns-in_ok-all-in-Leaf-clause-nodes g t c =
     let span = c.args.span in
     on_ok_weaker c.build-in-Leaf.result (λ told above h commit holds change touched w some before.
     let node = child-is span.height span.start above h c.args.child c.in-Some.node c.in-Some.is holds in
@@ -463,7 +466,7 @@ apply_child-returns-in_ok-all-in-Leaf-clause-nodes t c =
     told above h commit (touched-fresh span.height span.start above h commit c.args.version c.deref-in-Leaf-2.result.now change.number same touched (λ _. subst (λ x. length x ≤ LEAF_POINTS) leaf.same leaf.few)) w) c.build-in-Leaf.ensures.nodes
 
 pub apply_child-returns-in-Inner-clause-nodes : goal.apply_child-returns-in-Inner-clause-nodes
-apply_child-returns-in-Inner-clause-nodes t c =
+apply_child-returns-in-Inner-clause-nodes g t c =
     let span = c.args.span in
     on_ok_weaker c.apply_inner.result (λ told above h commit holds change touched w some before.
     let node = child-is span.height span.start above h c.args.child c.in-Some.node c.in-Some.is holds in
@@ -471,7 +474,7 @@ apply_child-returns-in-Inner-clause-nodes t c =
     told body.below h commit (body-applied span above h commit c.args.cut.now c.args.added.now c.args.version c.in-Inner.version _ body change) above touched w some before) c.apply_inner.ensures.nodes
 
 pub apply_slots-returns-clause-nodes : goal.apply_slots-returns-clause-nodes
-apply_slots-returns-clause-nodes t c below h commit applied many some before =
+apply_slots-returns-clause-nodes g t c below h commit applied many some before =
     let done : c.loop-i.i ≡ 64 = omega arith in
     c.loop-i.invariant.nodes below h commit applied many some before
     ∙ ap (λ n. c.args.nodes.now.items ++ concat_first n (λ j. new_nodes below (slot_start below c.args.span.start j) (is_inner (suc below) c.args.span.start) (commit ▷ h) c.args.version)) done
@@ -479,4 +482,4 @@ apply_slots-returns-clause-nodes t c below h commit applied many some before =
 -- ---- how many nodes there are
 
 pub apply_slots-returns-clause-counted : goal.apply_slots-returns-clause-counted
-apply_slots-returns-clause-counted t c = c.loop-i.invariant.counted
+apply_slots-returns-clause-counted g t c = c.loop-i.invariant.counted

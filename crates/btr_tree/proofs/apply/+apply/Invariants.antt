@@ -13,7 +13,7 @@ use Rattle.btr_tree.proofs.apply.+apply.Given as goal
 
 -- The slots so far are those after the commit, and no bottom span of theirs is crowded.
 abbrev pub invariant-apply_slots-loop-i : goal.invariant-apply_slots-loop-i
-invariant-apply_slots-loop-i l = record {
+invariant-apply_slots-loop-i g l = record {
   rest : (below : ℕ) → l.span.height ≡ suc below → l.rest ≡ within (slot_start below l.span.start l.i) (end_of l.span) l.added;
   order : IsInOrder l.rest;
   slots : (below : ℕ) (h : Past) (c : Commit) → IsApplied below l.span h c l.cut l.added l.version l.slots → HasFirst below l.span.start (c ▷ h) l.i l.new_slots;
@@ -25,13 +25,13 @@ invariant-apply_slots-loop-i l = record {
 }
 
 abbrev pub decreases-apply_slot : goal.decreases-apply_slot
-decreases-apply_slot l = 4 * l.span.height + 3
+decreases-apply_slot g l = 4 * l.span.height + 3
 
 abbrev pub decreases-apply_child : goal.decreases-apply_child
-decreases-apply_child l = 4 * l.span.height + 2
+decreases-apply_child g l = 4 * l.span.height + 2
 
 abbrev pub decreases-apply_inner : goal.decreases-apply_inner
-decreases-apply_inner l = 4 * l.span.height + 1
+decreases-apply_inner g l = 4 * l.span.height + 1
 
 abbrev pub decreases-apply_slots : goal.decreases-apply_slots
-decreases-apply_slots l = 4 * l.span.height
+decreases-apply_slots g l = 4 * l.span.height

@@ -27,15 +27,15 @@ some-points [] e = cc
 some-points (x ∷ xs) e = omega arith
 
 pub build-returns-then-points-le-LEAF_POINTS-clause-child : goal.build-returns-then-points-le-LEAF_POINTS-clause-child
-build-returns-then-points-le-LEAF_POINTS-clause-child t c above h commit fresh =
+build-returns-then-points-le-LEAF_POINTS-clause-child g t c above h commit fresh =
     leaf-child c.args.span.height c.args.span.start above h commit c.args.version c.args.points.now (linked c.in_ok-push_leaf.field-0) fresh (some-points c.args.points.now (sym c.is_empty.ensures ∙ c.if-is_empty.false)) c.if-points-le-LEAF_POINTS.true c.in_ok-push_leaf.ensures.child
 
 pub build-returns-then-points-le-LEAF_POINTS-clause-room : goal.build-returns-then-points-le-LEAF_POINTS-clause-room
-build-returns-then-points-le-LEAF_POINTS-clause-room t c =
+build-returns-then-points-le-LEAF_POINTS-clause-room g t c =
     room-few c.args.span.start (end_of c.args.span) c.args.points.now c.if-points-le-LEAF_POINTS.true
 
 pub build-returns-then-span-eq0-clause-fault : goal.build-returns-then-span-eq0-clause-fault
-build-returns-then-span-eq0-clause-fault t c =
+build-returns-then-span-eq0-clause-fault g t c =
     let span : IsSpan c.args.span = subst IsSpan c.span.view_is c.span.invariant in
     let low : c.args.span.height ≡ 0 = sym (ap (λ p. p.height) c.span.view_is) ∙ c.if-span-eq0.true in
     let begin = ap (λ p. p.start) c.span.view_is in
@@ -55,24 +55,24 @@ build-returns-then-span-eq0-clause-fault t c =
     )
 
 pub build-returns-clause-child : goal.build-returns-clause-child
-build-returns-clause-child t c above h commit fresh =
+build-returns-clause-child g t c above h commit fresh =
     let below = c.args.span.height - 1 in
     let high : c.args.span.height ≡ suc below = omega (arith, ap (λ p. p.height) c.span.view_is, c.if-span-eq0.false) in
     let made = c.in_ok-slots.ensures.slots below h commit (record { height = high; number = fresh.number; same = fresh.same ∙ ap (λ k. points_of k c.args.span.start (bag (commit ▷ h))) high; few = subst (λ k. length (points_of k c.args.span.start (bag h)) ≤ LEAF_POINTS) high (fresh.small c.if-points-le-LEAF_POINTS.false) }) in
     inner-child_at c.args.span.height below c.args.span.start above h commit c.args.version c.args.points.now c.in_ok-slots.slots (linked c.in_ok-push_inner.field-0) high fresh c.if-points-le-LEAF_POINTS.false made.0 made.1 c.in_ok-push_inner.ensures.child
 
 pub build_slots-build_slot-requires : goal.build_slots-build_slot-requires
-build_slots-build_slot-requires t c =
+build_slots-build_slot-requires g t c κs outlives =
     let below = c.args.span.height - 1 in
     let high : c.args.span.height ≡ suc below = let low = c.requires.height in omega arith in
     let end = c.end.ensures.end in
     let at = parted-at c.args.span c.slot-part.result below c.loop-i.i c.args.points.now c.loop-i.rest.now c.parted.result.0.now c.parted.result.1.now _ high c.loop-i-test.true c.slot-part.ensures c.end.ensures.span (omega (arith, ints)) (c.loop-i.invariant.rest below high) c.parted.ensures.before c.parted.ensures.from in
     let down : c.slot-part.result.height ≡ below = ap (λ u. u.height) at.is in
     let d = c.decreases in
-    (omega arith, (subst IsInOrder (sym c.parted.ensures.before) (filter-in_order _ c.loop-i.rest.now c.loop-i.invariant.order), parted-inside c.slot-part.result.start (end_of c.slot-part.result) c.args.points.now c.parted.result.0.now at.has))
+    (omega arith, (outlives, (subst IsInOrder (sym c.parted.ensures.before) (filter-in_order _ c.loop-i.rest.now c.loop-i.invariant.order), parted-inside c.slot-part.result.start (end_of c.slot-part.result) c.args.points.now c.parted.result.0.now at.has)))
 
 pub build_slots-returns-in_err-slot-clause-fault : goal.build_slots-returns-in_err-slot-clause-fault
-build_slots-returns-in_err-slot-clause-fault t c =
+build_slots-returns-in_err-slot-clause-fault g t c =
     let below = c.args.span.height - 1 in
     let high : c.args.span.height ≡ suc below = let low = c.requires.height in omega arith in
     let end = c.end.ensures.end in
@@ -81,7 +81,7 @@ build_slots-returns-in_err-slot-clause-fault t c =
     rw (p.1, p.2) (crowding-part c.args.span c.slot-part.result below c.loop-i.i c.args.points.now c.parted.result.0.now c.parted.result.1.now c.in_err-slot.field-0.0 at (c.loop-i.invariant.room below high) c.in_err-slot.ensures.fault)
 
 pub build_slots-loop-i-preserved : goal.build_slots-loop-i-preserved
-build_slots-loop-i-preserved t c =
+build_slots-loop-i-preserved g t c =
     let i = c.loop-i.i in
     let span = c.args.span in
     let part = c.slot-part.result in
@@ -114,7 +114,7 @@ build_slots-loop-i-preserved t c =
     }
 
 pub build_slots-returns-clause-room : goal.build_slots-returns-clause-room
-build_slots-returns-clause-room t c =
+build_slots-returns-clause-room g t c =
     let below = c.args.span.height - 1 in
     let high : c.args.span.height ≡ suc below = let low = c.requires.height in omega arith in
     let done : c.loop-i.i ≡ 64 = omega arith in
@@ -125,19 +125,19 @@ empty-is [] e = refl
 empty-is (x ∷ xs) e = absurd (grind (arith, nat_tests))
 
 pub build-returns-then-is_empty-clause-nodes : goal.build-returns-then-is_empty-clause-nodes
-build-returns-then-is_empty-clause-nodes t c above h commit fresh w =
+build-returns-then-is_empty-clause-nodes g t c above h commit fresh w =
     let none = empty-is c.args.points.now (sym c.is_empty.ensures ∙ c.if-is_empty.true) in
     sym (ap (λ x. c.args.nodes.now.items ++ x) (new_nodes-none c.args.span.height c.args.span.start above (commit ▷ h) c.args.version (sym fresh.same ∙ none)) ∙ append-nil c.args.nodes.now.items)
 
 pub build-returns-then-points-le-LEAF_POINTS-clause-nodes : goal.build-returns-then-points-le-LEAF_POINTS-clause-nodes
-build-returns-then-points-le-LEAF_POINTS-clause-nodes t c above h commit fresh w =
+build-returns-then-points-le-LEAF_POINTS-clause-nodes g t c above h commit fresh w =
     let k = c.args.span.height in
     let s = c.args.span.start in
     c.in_ok-push_leaf.ensures.nodes
     ∙ ap (λ x. c.args.nodes.now.items ++ x) (sym (new_nodes-leaf k s above (commit ▷ h) c.args.version c.args.points.now w (version-fresh k s above h commit c.args.version fresh.number fresh.fresh) fresh.same (some-points c.args.points.now (sym c.is_empty.ensures ∙ c.if-is_empty.false)) c.if-points-le-LEAF_POINTS.true))
 
 pub build-returns-clause-nodes : goal.build-returns-clause-nodes
-build-returns-clause-nodes t c above h commit fresh w =
+build-returns-clause-nodes g t c above h commit fresh w =
     let k = c.args.span.height in
     let s = c.args.span.start in
     let below = c.args.span.height - 1 in
@@ -148,7 +148,7 @@ build-returns-clause-nodes t c above h commit fresh w =
     told-more c.args.nodes.now.items c.build_slots.new.nodes.items c.push_inner.new.nodes.items _ _ (new_nodes k s above (commit ▷ h) c.args.version) told c.in_ok-push_inner.ensures.nodes (new_nodes-inner_at k below s above (commit ▷ h) c.args.version c.in_ok-slots.slots high w (version-fresh k s above h commit c.args.version fresh.number fresh.fresh) (subst (λ x. LEAF_POINTS < length x) fresh.same c.if-points-le-LEAF_POINTS.false) made.0)
 
 pub build_slots-returns-clause-nodes : goal.build_slots-returns-clause-nodes
-build_slots-returns-clause-nodes t c below h commit split many =
+build_slots-returns-clause-nodes g t c below h commit split many =
     let done : c.loop-i.i ≡ 64 = omega arith in
     c.loop-i.invariant.nodes below h commit split many
     ∙ ap (λ n. c.args.nodes.now.items ++ concat_first n (λ j. new_nodes below (slot_start below c.args.span.start j) (is_inner (suc below) c.args.span.start) (commit ▷ h) c.args.version)) done
@@ -156,4 +156,4 @@ build_slots-returns-clause-nodes t c below h commit split many =
 -- ---- how many nodes there are
 
 pub build_slots-returns-clause-counted : goal.build_slots-returns-clause-counted
-build_slots-returns-clause-counted t c = c.loop-i.invariant.counted
+build_slots-returns-clause-counted g t c = c.loop-i.invariant.counted

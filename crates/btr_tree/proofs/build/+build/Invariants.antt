@@ -13,7 +13,7 @@ use Rattle.btr_tree.proofs.build.+build.Given as goal
 
 -- The slots that were made are those of the points before the next one.
 abbrev pub invariant-build_slots-loop-i : goal.invariant-build_slots-loop-i
-invariant-build_slots-loop-i l = record {
+invariant-build_slots-loop-i g l = record {
   rest : (below : ℕ) → l.span.height ≡ suc below → l.rest ≡ within (slot_start below l.span.start l.i) (end_of l.span) l.points;
   order : IsInOrder l.rest;
   slots : (below : ℕ) (h : Past) (c : Commit) → IsSplit below l.span h c l.version l.points → HasFirst below l.span.start (c ▷ h) l.i l.slots;
@@ -24,10 +24,10 @@ invariant-build_slots-loop-i l = record {
 }
 
 abbrev pub decreases-build : goal.decreases-build
-decreases-build l = 3 * l.span.height + 1
+decreases-build g l = 3 * l.span.height + 1
 
 abbrev pub decreases-build_slots : goal.decreases-build_slots
-decreases-build_slots l = 3 * l.span.height
+decreases-build_slots g l = 3 * l.span.height
 
 abbrev pub decreases-build_slot : goal.decreases-build_slot
-decreases-build_slot l = 3 * l.span.height + 2
+decreases-build_slot g l = 3 * l.span.height + 2

@@ -19,7 +19,7 @@ use Rattle.btr_tree.proofs.NewNodeCountLemmas.{new_nodes-bound}
 use Rattle.btr_tree.proofs.tree.Tree.apply.Goals as goal
 
 pub apply_slot-requires-clause-some : goal.apply_slot-requires-clause-some
-apply_slot-requires-clause-some c =
+apply_slot-requires-clause-some g c =
     let h = c.self.invariant.0 in
     let mine : Commit = record { version = c.args.version; cut = c.args.cut.now; added = c.args.added.now } in
     let step = root-step c.root_span.result h mine (linked c.self.inside.root) (node_of c.seen.result) c.self.inside.agg c.as_slice.result.now c.as_slice-2.result.now c.root_span.ensures c.as_slice.ensures.ranges c.as_slice-2.ensures.points c.seen.ensures c.self.invariant.1 c.requires in
@@ -28,13 +28,13 @@ apply_slot-requires-clause-some c =
     record { above = above_root; commits = h; holds = step.holds; counted = step.counted; few = omega arith }
 
 pub apply_slot-requires-clause-inside : goal.apply_slot-requires-clause-inside
-apply_slot-requires-clause-inside c =
+apply_slot-requires-clause-inside g c =
     let h = c.self.invariant.0 in
     let mine : Commit = record { version = c.args.version; cut = c.args.cut.now; added = c.args.added.now } in
     (root-step c.root_span.result h mine (linked c.self.inside.root) (node_of c.seen.result) c.self.inside.agg c.as_slice.result.now c.as_slice-2.result.now c.root_span.ensures c.as_slice.ensures.ranges c.as_slice-2.ensures.points c.seen.ensures c.self.invariant.1 c.requires).inside
 
 pub returns-in_err-slot-clause-fault : goal.returns-in_err-slot-clause-fault
-returns-in_err-slot-clause-fault c =
+returns-in_err-slot-clause-fault g c =
     let mine : Commit = record { version = c.args.version; cut = c.args.cut.now; added = c.args.added.now } in
     let p = err_from_is_err_and c.from_residual.result c.from_residual.ensures.1 in
     rw (p.1, p.2) (λ h tree.
@@ -42,7 +42,7 @@ returns-in_err-slot-clause-fault c =
     root-fault (mine ▷ h) c.in_err-slot.field-0.0 step.times (subst (λ (u : SpanValue). IsCrowdedFault u.start (end_of u) (points_of u.height u.start (bag (mine ▷ h))) c.in_err-slot.field-0.0) c.root_span.ensures (c.in_err-slot.ensures.fault above_root h mine refl step.holds step.counted step.change)))
 
 pub returns-then-agg-gt-MAX_POINTS-clause-fault : goal.returns-then-agg-gt-MAX_POINTS-clause-fault
-returns-then-agg-gt-MAX_POINTS-clause-fault c h tree =
+returns-then-agg-gt-MAX_POINTS-clause-fault g c h tree =
     let mine : Commit = record { version = c.args.version; cut = c.args.cut.now; added = c.args.added.now } in
     let step = root-step c.root_span.result h mine (linked c.self.inside.root) (node_of c.seen.result) c.self.inside.agg c.as_slice.result.now c.as_slice-2.result.now c.root_span.ensures c.as_slice.ensures.ranges c.as_slice-2.ensures.points c.seen.ensures (subst (IsTree h) (sym c.self.view_is) tree) c.requires in
     let holds = subst (λ (u : SpanValue). IsChild u.height u.start above_root (mine ▷ h) (linked c.in_ok-slot.root)) c.root_span.ensures (c.in_ok-slot.ensures.child above_root h mine refl step.holds step.counted step.change) in
@@ -51,7 +51,7 @@ returns-then-agg-gt-MAX_POINTS-clause-fault c h tree =
     (count, c.if-agg-gt-MAX_POINTS.true, tree-room (mine ▷ h) (linked c.in_ok-slot.root) step.times holds)
 
 pub returns-clause-tree : goal.returns-clause-tree
-returns-clause-tree c h tree =
+returns-clause-tree g c h tree =
     let mine : Commit = record { version = c.args.version; cut = c.args.cut.now; added = c.args.added.now } in
     let step = root-step c.root_span.result h mine (linked c.self.inside.root) (node_of c.seen.result) c.self.inside.agg c.as_slice.result.now c.as_slice-2.result.now c.root_span.ensures c.as_slice.ensures.ranges c.as_slice-2.ensures.points c.seen.ensures (subst (IsTree h) (sym c.self.view_is) tree) c.requires in
     let holds = subst (λ (u : SpanValue). IsChild u.height u.start above_root (mine ▷ h) (linked c.in_ok-slot.root)) c.root_span.ensures (c.in_ok-slot.ensures.child above_root h mine refl step.holds step.counted step.change) in
@@ -60,20 +60,20 @@ returns-clause-tree c h tree =
     tree-of (mine ▷ h) (linked c.in_ok-slot.root) c.in_ok-slot.slot.agg step.times holds counted (omega (arith, ap (λ u. u.count) c.agg.view_is))
 
 pub invariant_of-result : goal.invariant_of-result
-invariant_of-result c =
+invariant_of-result g c =
     let h = c.self.invariant.0 in
     let mine : Commit = record { version = c.args.version; cut = c.args.cut.now; added = c.args.added.now } in
-    (mine ▷ h, returns-clause-tree c h (subst (IsTree h) c.self.view_is c.self.invariant.1))
+    (mine ▷ h, returns-clause-tree g c h (subst (IsTree h) c.self.view_is c.self.invariant.1))
 
 pub returns-clause-room : goal.returns-clause-room
-returns-clause-room c h tree =
+returns-clause-room g c h tree =
     let mine : Commit = record { version = c.args.version; cut = c.args.cut.now; added = c.args.added.now } in
     let step = root-step c.root_span.result h mine (linked c.self.inside.root) (node_of c.seen.result) c.self.inside.agg c.as_slice.result.now c.as_slice-2.result.now c.root_span.ensures c.as_slice.ensures.ranges c.as_slice-2.ensures.points c.seen.ensures (subst (IsTree h) (sym c.self.view_is) tree) c.requires in
     let holds = subst (λ (u : SpanValue). IsChild u.height u.start above_root (mine ▷ h) (linked c.in_ok-slot.root)) c.root_span.ensures (c.in_ok-slot.ensures.child above_root h mine refl step.holds step.counted step.change) in
     tree-room (mine ▷ h) (linked c.in_ok-slot.root) step.times holds
 
 pub returns-clause-nodes : goal.returns-clause-nodes
-returns-clause-nodes c h tree some before =
+returns-clause-nodes g c h tree some before =
     let mine : Commit = record { version = c.args.version; cut = c.args.cut.now; added = c.args.added.now } in
     let step = root-step c.root_span.result h mine (linked c.self.inside.root) (node_of c.seen.result) c.self.inside.agg c.as_slice.result.now c.as_slice-2.result.now c.root_span.ensures c.as_slice.ensures.ranges c.as_slice-2.ensures.points c.seen.ensures (subst (IsTree h) (sym c.self.view_is) tree) c.requires in
     c.in_ok-slot.ensures.nodes above_root h mine refl step.holds step.counted step.change refl some before
@@ -81,13 +81,13 @@ returns-clause-nodes c h tree some before =
     ∙ ap (λ (x : List NewNodeValue). x ++ new_nodes 10 FIRST above_root (mine ▷ h) c.args.version) c.new-nodes.ensures.items
 
 pub returns-clause-few : goal.returns-clause-few
-returns-clause-few c h tree some before =
+returns-clause-few g c h tree some before =
     let mine : Commit = record { version = c.args.version; cut = c.args.cut.now; added = c.args.added.now } in
-    let nodes = ap (length {A = NewNodeValue}) (returns-clause-nodes c h tree some before) in
+    let nodes = ap (length {A = NewNodeValue}) (returns-clause-nodes g c h tree some before) in
     omega (arith, nodes, new_nodes-bound FIRST above_root h mine c.args.version refl some before)
 
 pub returns-clause-steps : goal.returns-clause-steps
-returns-clause-steps c =
+returns-clause-steps g c =
     let none = ap (length {A = NewNodeValue}) c.new-nodes.ensures.items in
     let counted = c.in_ok-slot.ensures.counted in
     elim (eq-or-lt_of_le counted.grows) [
