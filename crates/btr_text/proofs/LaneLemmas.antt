@@ -7,7 +7,7 @@ use Rattle.std.specs.Prelude.{codes, nat_eq}
 use Rattle.std.specs.Str.Parse.{digits_value}
 use Rattle.std.proofs.lemmas.Bool.Decides.{nat_tests}
 use Rattle.btr_text.specs.Word.{lane_of, number_up_to, words_of}
-use Rattle.btr_text.specs.Input.{HaveLanes, in_lane, lines_of, said, script_line, script_of}
+use Rattle.btr_text.specs.Input.{HaveLanes, asked, in_lane, input_line, said}
 
 at_most_7 : (a : Bool) (n : ℕ) → IfSome (cond (a && leb n 7) (Some n) None) (λ lane. lane < 8)
 at_most_7 false n = tt
@@ -33,11 +33,19 @@ said-below (w ∷ ws) =
       | Some lane ↦ λ h. h
     ] (lane_of-below w)
 
-script_line-below : (line : List ℕ) → IfSome (script_line line) (λ said. said.lane < 8)
-script_line-below line =
-    elim (starts_with nat_eq line (codes "#")) as (λ t. IfSome (cond t None (said (words_of line))) (λ said. said.lane < 8)) [
+asked-below : (ws : List (List ℕ)) → IfSome (asked ws) (λ line. line.lane < 8)
+asked-below [] = tt
+asked-below (w ∷ ws) = omega arith
+
+words-below : (names_lanes : Bool) (ws : List (List ℕ)) → IfSome (cond names_lanes (said ws) (asked ws)) (λ line. line.lane < 8)
+words-below true ws = said-below ws
+words-below false ws = asked-below ws
+
+input_line-below : (names_lanes : Bool) (line : List ℕ) → IfSome (input_line names_lanes line) (λ said. said.lane < 8)
+input_line-below names_lanes line =
+    elim (starts_with nat_eq line (codes "#")) as (λ t. IfSome (cond t None (cond names_lanes (said (words_of line)) (asked (words_of line)))) (λ said. said.lane < 8)) [
       | true ↦ tt
-      | false ↦ said-below (words_of line)
+      | false ↦ words-below names_lanes (words_of line)
     ]
 
 -- What holds of each value of a function holds of each element that it leaves of a list.
@@ -49,6 +57,6 @@ all_left h P f (x ∷ xs) =
       | Some y ↦ λ k. (k, all_left h P f xs)
     ] (f x)
 
--- Each line of a script that is read has a lane from 0 to 7.
-pub script_of-lanes : (input : List ℕ) → HaveLanes (script_of input)
-script_of-lanes input = all_left script_line (λ line. line.lane < 8) script_line-below (lines_of input)
+-- Each line that is read has a lane from 0 to 7.
+pub input_lanes : (names_lanes : Bool) (lines : List (List ℕ)) → HaveLanes (filter_map (input_line names_lanes) lines)
+input_lanes names_lanes lines = all_left (input_line names_lanes) (λ line. line.lane < 8) (input_line-below names_lanes) lines

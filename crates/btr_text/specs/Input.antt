@@ -1,5 +1,5 @@
 -- The lines of an input, which of them have a reply, and the lane of each.
-use Rattle.std.specs.Prelude.{ℕ, ◌<◌, ◌==◌, List, [], ◌∷◌, map, filter_map, if◌then◌else◌, codes, Option, Some, None}
+use Rattle.std.specs.Prelude.{ℕ, Bool, true, false, ◌<◌, ◌==◌, List, [], ◌∷◌, map, filter_map, if◌then◌else◌, codes, Option, Some, None}
 use Rattle.std.specs.List.{AllByRecursion, slice_split, starts_with}
 use Rattle.std.specs.Option.{option_map_or}
 use Rattle.std.specs.Prelude.{nat_eq}
@@ -22,13 +22,24 @@ abbrev pub said : List (List ℕ) → Option ScriptLine
 said [] = None
 said (w ∷ ws) = Some (option_map_or (λ lane. in_lane lane ws) (lane_of w) (in_lane 0 (w ∷ ws)))
 
--- What a line says, if it has a reply. A line that begins with `#`, or has no word, has no reply.
-abbrev pub script_line : List ℕ → Option ScriptLine
-script_line line = if starts_with nat_eq line (codes "#") then None else said (words_of line)
+-- What words say where no word names a lane, if there is a word: the form begins with the first word.
+abbrev pub asked : List (List ℕ) → Option ScriptLine
+asked [] = None
+asked (w ∷ ws) = Some (in_lane 0 (w ∷ ws))
 
--- The lines of an input that have a reply, in order.
+-- What a line says, if it has a reply. If lanes can be named, its first word may name one. A line that begins with `#`, or has no word,
+-- has no reply.
+abbrev pub input_line : Bool → List ℕ → Option ScriptLine
+input_line names_lanes line =
+    if starts_with nat_eq line (codes "#") then None else (if names_lanes then said (words_of line) else asked (words_of line))
+
+-- The lines of a script that have a reply, in order.
 abbrev pub script_of : List ℕ → List ScriptLine
-script_of input = filter_map script_line (lines_of input)
+script_of input = filter_map (input_line true) (lines_of input)
+
+-- The lines of an input of questions that have a reply, in order. No word names a lane here, and `@0` is no first word of a form.
+abbrev pub questions_of : List ℕ → List ScriptLine
+questions_of input = filter_map (input_line false) (lines_of input)
 
 -- Each line has a lane from 0 to 7.
 abbrev pub HaveLanes : List ScriptLine → Type 0

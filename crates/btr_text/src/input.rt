@@ -1,6 +1,7 @@
 ghost use Rattle.std.specs.Prelude.{◌≡◌, ◌++◌, IfOk, OnOk, option_to_list};
+ghost use Rattle.std.specs.List.{filter_map};
 ghost use Rattle.std.specs.Str.Lines.{strip_carriage_return};
-ghost use Rattle.btr_text.specs.Input.{HaveLanes, script_line, script_of};
+ghost use Rattle.btr_text.specs.Input.{HaveLanes, input_line, lines_of, questions_of, script_of};
 
 use crate::form::read_form;
 use crate::script::{Script, ScriptLine};
@@ -26,9 +27,27 @@ pub fn read_script(alloc: Global, bytes: &[u8]) -> Result<Script, AllocError>
     ensures script { IfOk result (λ s. s ≡ script_of bytes.now) }
     ensures lanes { IfOk result (λ s. HaveLanes s) }
 {
+    read_lines(alloc, bytes, true)
+}
+
+/// Reads the lines of an input of questions that have a reply, in order. It is [`read_script`] where no word names a lane: a line whose
+/// first word is `@0` to `@7` fits no form. All lines are in lane 0. An `Err` means out of memory.
+pub fn read_questions(alloc: Global, bytes: &[u8]) -> Result<Script, AllocError>
+    ensures script { IfOk result (λ s. s ≡ questions_of bytes.now) }
+    ensures lanes { IfOk result (λ s. HaveLanes s) }
+{
+    read_lines(alloc, bytes, false)
+}
+
+/// Reads the lines of an input that have a reply, in order.
+fn read_lines(alloc: Global, bytes: &[u8], names_lanes: bool) -> Result<Script, AllocError>
+    ensures script { IfOk result (λ s. s ≡ filter_map (input_line names_lanes) (lines_of bytes.now)) }
+    ensures lanes { IfOk result (λ s. HaveLanes s) }
+{
     let mut lines = Vec::new(alloc);
     for line in bytes.split(|b| *b == LINE_FEED) {
-        add_line(alloc, &mut lines, without_carriage_return(line))?;
+        let line = without_carriage_return(line);
+        add_line(alloc, &mut lines, line, names_lanes)?;
     }
     Ok(Script::from_lines(lines))
 }
@@ -44,18 +63,27 @@ fn without_carriage_return(line: &[u8]) -> &[u8]
 }
 
 /// Adds what a line says to `lines`, if the line has a reply.
-fn add_line(alloc: Global, lines: &mut Vec<ScriptLine>, line: &[u8]) -> Result<(), AllocError>
-    ensures { OnOk result (lines.new.items ≡ lines.old.items ++ option_to_list (script_line line.now)) }
+fn add_line(
+    alloc: Global,
+    lines: &mut Vec<ScriptLine>,
+    line: &[u8],
+    names_lanes: bool,
+) -> Result<(), AllocError>
+    ensures { OnOk result (lines.new.items ≡ lines.old.items ++ option_to_list (input_line names_lanes line.now)) }
 {
-    if let Some(said) = read_line(alloc, line)? {
+    if let Some(said) = read_line(alloc, line, names_lanes)? {
         lines.push(said)?;
     }
     Ok(())
 }
 
 /// Reads what a line says. Returns `None` if it has no reply.
-fn read_line(alloc: Global, line: &[u8]) -> Result<Option<ScriptLine>, AllocError>
-    ensures { IfOk result (λ l. l ≡ script_line line.now) }
+fn read_line(
+    alloc: Global,
+    line: &[u8],
+    names_lanes: bool,
+) -> Result<Option<ScriptLine>, AllocError>
+    ensures { IfOk result (λ l. l ≡ input_line names_lanes line.now) }
 {
     if line.starts_with(b"#") {
         return Ok(None);
@@ -64,8 +92,8 @@ fn read_line(alloc: Global, line: &[u8]) -> Result<Option<ScriptLine>, AllocErro
         return Ok(None);
     };
     let (lane, words) = match read_lane(first) {
-        Some(lane) => (lane, rest),
-        None => (0, line),
+        Some(lane) if names_lanes => (lane, rest),
+        _ => (0, line),
     };
     let line = read_form(alloc, words)?;
     Ok(Some(ScriptLine { lane, line }))

@@ -17,7 +17,7 @@ mod reply;
 mod row;
 mod text;
 
-pub use input::read_script;
+pub use input::{read_questions, read_script};
 pub use reply::{LineReply, Reason};
 pub use row::{append_agg, id_text};
 pub use script::{Line, Script, ScriptLine};

@@ -1,10 +1,11 @@
 -- If the device holds a store, and nothing fails, each line of `ask` has its reply.
-use Rattle.std.specs.Prelude.{List}
+use Rattle.std.specs.Prelude.{ℕ, List}
 use Rattle.std.proofs.Common.{refl, sym, subst, arith, inr, ⊎_elim}
 use Rattle.btr_io.specs.declared.source.Source.{Ghosts as SourceGhosts}
 use Rattle.btr_io.specs.Faults.{Rose as StreamRose}
 use Rattle.btr_disk.specs.declared.disk.Disk.{Ghosts}
 use Rattle.btr_disk.specs.Causes.{Rose}
+use Rattle.btr_text.specs.Input.{questions_of}
 use Rattle.btr_text.specs.declared.script.ScriptLine.{ScriptLine}
 use Rattle.btr_open.specs.Laws.{HeldIsSound}
 use Rattle.btr_top.specs.declared.ending.Ending.{Ending}
@@ -42,5 +43,5 @@ module _ {S D : Type 0} (source : SourceGhosts S) (disk : Ghosts D) (given rest 
   benign_ask e why =
       ⊎_elim
       (λ unread. benign_input source given rest source_works not_too_long e unread.0)
-      (λ (read : (lines : List ScriptLine) × HasRead source lines given rest × QuestionsCause disk lines old new e). benign_cause read.0 e read.2)
+      (λ (read : (input : List ℕ) × HasRead source input given rest × QuestionsCause disk (questions_of input) old new e). benign_cause (questions_of read.0) e read.2)
       why

@@ -7,6 +7,7 @@ use Rattle.btr_disk.specs.declared.disk.Disk.{Ghosts}
 use Rattle.btr_disk.specs.Causes.{Rose}
 use Rattle.btr_rows.specs.Rows.{rows_of}
 use Rattle.btr_rows.specs.Streams.{RowListValue, list_of}
+use Rattle.btr_load.specs.There.{AreDistinct}
 use Rattle.btr_open.specs.Laws.{HeldIsSound, OneHistoryIsHeld}
 use Rattle.btr_jobs.specs.Course.{Start, Course}
 use Rattle.btr_bulk.specs.declared.transcript.Transcript.{Transcript}
@@ -18,8 +19,8 @@ use Rattle.btr_bulk.specs.SampleRoom.{HasRoomForSample}
 use Rattle.btr_bulk.specs.SampleLaw.{SamplesStore}
 use Rattle.btr_top.specs.declared.ending.Ending.{Ending}
 use Rattle.btr_top.specs.Ending.{status_of}
-use Rattle.btr_top.specs.Script.{ExceedsInputLimit}
-use Rattle.btr_top.specs.Bulk.{HasReadRows, RowsCause, LoadCause, DistilCause, SampleCause, CanLoad, CanDistil, CanSample}
+use Rattle.btr_top.specs.Script.{HasRead, ExceedsInputLimit}
+use Rattle.btr_top.specs.Bulk.{RowsCause, LoadCause, DistilCause, SampleCause, CanLoad, CanDistil, CanSample}
 use Rattle.btr_top.specs.Run.{IsPlainStatus}
 use Rattle.btr_top.proofs.PlainStatuses.{benign_input}
 use Rattle.btr_top.proofs.StoreCompletes.{opened, began, no_failure, plain_work}
@@ -64,9 +65,10 @@ module _ {S D : Type 0} (source : SourceGhosts S) (disk : Ghosts D) (batch : ℕ
       (subst (λ (rs : RowListValue). HasRoomForRows store rs batch) (sym all) can.room) in
       does.what.completes room (no_failure disk old new can.history can.blocks can.tail can.holds sound one told device_works What does)
 
-  benign_rows : (rows : RowListValue) → HasReadRows source rows given rest → (e : Ending) → RowsCause disk batch rows old new e → IsPlainStatus (status_of e)
-  benign_rows rows read e why =
-      let all : rows ≡ list_of (rows_of (source.left given)) = read.same_rows ∙ ap (λ (i : List ℕ). list_of (rows_of i)) (read.all source_told) in
+  benign_rows : (input : List ℕ) → HasRead source input given rest → (e : Ending) → RowsCause disk batch (list_of (rows_of input)) old new e → IsPlainStatus (status_of e)
+  benign_rows input read e why =
+      let rows : RowListValue = list_of (rows_of input) in
+      let all : rows ≡ list_of (rows_of (source.left given)) = ap (λ (i : List ℕ). list_of (rows_of i)) (read.all source_told) in
       plain_work disk old new can.history can.blocks can.tail can.holds sound one told device_works
       (λ said start course own. LoadsStore start course rows batch said own) (benign_loaded rows all) e why
 
@@ -74,5 +76,5 @@ module _ {S D : Type 0} (source : SourceGhosts S) (disk : Ghosts D) (batch : ℕ
   benign_load e why =
       ⊎_elim
       (λ unread. benign_input source given rest source_works (λ exceeds. not_too_long exceeds) e unread.0)
-      (λ (read : (rows : RowListValue) × HasReadRows source rows given rest × RowsCause disk batch rows old new e). benign_rows read.0 read.1 e read.2)
+      (λ (read : (input : List ℕ) × HasRead source input given rest × AreDistinct (list_of (rows_of input)).streams × RowsCause disk batch (list_of (rows_of input)) old new e). benign_rows read.0 read.1 e read.3)
       why

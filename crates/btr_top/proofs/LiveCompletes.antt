@@ -129,9 +129,10 @@ module _ {S D : Type 0} (source : SourceGhosts S) (disk : Ghosts D) (batch : ℕ
         let lives = does.what in
         benign_report lives.report lives.runs (lives.one_lane refl) lives.says
 
-  benign_cause : (lines : List ScriptLine) → HasRead source lines given rest → (e : Ending) → ScriptCause disk batch false lines old new e → IsPlainStatus (status_of e)
-  benign_cause lines read e why =
-      let all : lines ≡ script_of (source.left given) = read.same_lines ∙ ap (λ (i : List ℕ). script_of i) (read.all source_told) in
+  benign_cause : (input : List ℕ) → HasRead source input given rest → (e : Ending) → ScriptCause disk batch false (script_of input) old new e → IsPlainStatus (status_of e)
+  benign_cause input read e why =
+      let lines : List ScriptLine = script_of input in
+      let all : lines ≡ script_of (source.left given) = ap (λ (i : List ℕ). script_of i) (read.all source_told) in
       plain_work disk old new can.history can.blocks can.tail can.holds sound one told device_works
       (λ said start course own. LivesStore batch false lines start course said own)
       (λ transcript does. benign_transcript lines all transcript does)
@@ -141,5 +142,5 @@ module _ {S D : Type 0} (source : SourceGhosts S) (disk : Ghosts D) (batch : ℕ
   benign_live e why =
       ⊎_elim
       (λ unread. benign_input source given rest source_works (λ exceeds. not_too_long exceeds) e unread.0)
-      (λ (read : (lines : List ScriptLine) × HasRead source lines given rest × ScriptCause disk batch false lines old new e). benign_cause read.0 read.1 e read.2)
+      (λ (read : (input : List ℕ) × HasRead source input given rest × ScriptCause disk batch false (script_of input) old new e). benign_cause read.0 read.1 e read.2)
       why

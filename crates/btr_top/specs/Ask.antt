@@ -5,6 +5,7 @@ use Rattle.btr_disk.specs.declared.disk.Disk.{Ghosts}
 use Rattle.btr_disk.specs.Bytes.{Image}
 use Rattle.btr_hist.specs.declared.entry.Entry.{Entry}
 use Rattle.btr_hist.specs.Legal.{Follows}
+use Rattle.btr_text.specs.Input.{questions_of}
 use Rattle.btr_text.specs.declared.script.ScriptLine.{ScriptLine}
 use Rattle.btr_text.specs.declared.reply.LineReply.{LineReply}
 use Rattle.btr_engine.specs.Holds.{HoldsHistory}
@@ -16,7 +17,7 @@ use Rattle.btr_live.specs.Meaning.{question}
 use Rattle.btr_live.specs.Serving.{IsAnswerOrNoMemory}
 use Rattle.btr_top.specs.Script.{IsKept, OpeningCause, IsTranscript, CommandCause}
 
--- One reply to each line, in order, all from the same history. The lanes of the lines mean nothing here.
+-- One reply to each line, in order, all from the same history.
 abbrev pub AnswersEach : List Entry → List ScriptLine → List LineReply → Type 0
 AnswersEach h [] [] = Unit {0}
 AnswersEach h [] (reply ∷ replies) = ⊥
@@ -44,7 +45,7 @@ module _ {D : Type 0} (disk : Ghosts D) where
 module _ {S D : Type 0} (source : SourceGhosts S) (disk : Ghosts D) where
   -- Why `ask` ends so.
   abbrev pub AskCause : S → S → D → D → Ending → Type 0
-  AskCause given rest old new e = CommandCause source (QuestionsCause disk) given rest old new e
+  AskCause given rest old new e = CommandCause source (λ input. QuestionsCause disk (questions_of input)) given rest old new e
 
   -- The device holds a store, and the input is within the limit.
   pub record CanAsk (given : S) (old : D) : Type 0 where

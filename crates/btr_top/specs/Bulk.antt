@@ -1,5 +1,5 @@
 -- The commands `load`, `distil` and `sample`: what they did on the store, and why they end as they do.
-use Rattle.std.specs.Prelude.{◌≡◌, ◌⊎◌, ℕ, ◌≤◌, false, List, [], length, Result, Ok, Err}
+use Rattle.std.specs.Prelude.{◌⊎◌, ℕ, ◌≤◌, false, List, length, Result, Ok, Err}
 use Rattle.std.specs.declared.alloc.AllocError.{AllocError}
 use Rattle.btr_io.specs.declared.source.Source.{Ghosts as SourceGhosts}
 use Rattle.btr_disk.specs.declared.disk.Disk.{Ghosts}
@@ -20,7 +20,7 @@ use Rattle.btr_bulk.specs.SampleLaw.{SamplesStore}
 use Rattle.btr_top.specs.declared.script.TheConstants.{MAX_INPUT}
 use Rattle.btr_top.specs.declared.ending.Ending.{Ending}
 use Rattle.btr_top.specs.declared.ending.Ending.TheVariants.{OutOfMemory, Replied}
-use Rattle.btr_top.specs.Script.{IsKept, InputCause, OpeningCause}
+use Rattle.btr_top.specs.Script.{IsKept, OpeningCause, CommandCause}
 
 -- How a command ends that did its work and says this of it.
 abbrev pub ending_of : Result Transcript AllocError → Ending
@@ -71,21 +71,11 @@ module _ {D : Type 0} (disk : Ghosts D) where
     pub holds : HoldsHistoryTo (disk.size old) (disk.contents old) blocks tail history
     pub room : HasRoomForSample number streams points (record { history = history; left = left blocks tail; stopped = false })
 
--- The source gave the rows of its whole input, which is within the limit.
-pub record HasReadRows {S : Type 0} (source : SourceGhosts S) (rows : RowListValue) (old new : S) : Type 0 where
-  pub input : List ℕ
-  pub within : length input ≤ MAX_INPUT
-  pub all : source.is_observable → input ≡ source.left old
-  pub at_end : source.is_observable → source.left new ≡ []
-  pub same_rows : rows ≡ list_of (rows_of input)
-  -- each id has its rows once
-  pub distinct : AreDistinct rows.streams
-
--- Why `load` ends so. The device is not called before all rows are read.
+-- Why `load` ends so. Each id has its rows once.
 abbrev pub LoadCause : {S D : Type 0} → SourceGhosts S → Ghosts D → ℕ → S → S → D → D → Ending → Type 0
 LoadCause source disk batch given rest old new e =
-    (InputCause source given rest e × (new ≡ old))
-    ⊎ ((rows : RowListValue) × HasReadRows source rows given rest × RowsCause disk batch rows old new e)
+    CommandCause source (λ input was now end. AreDistinct (list_of (rows_of input)).streams × RowsCause disk batch (list_of (rows_of input)) was now end)
+    given rest old new e
 
 -- The device holds a store with room for the rows of the input, and the input is within the limit.
 pub record CanLoad {S D : Type 0} (source : SourceGhosts S) (disk : Ghosts D) (batch : ℕ) (given : S) (old : D) : Type 0 where

@@ -116,7 +116,8 @@ module _ {D : Type 0} (disk : Ghosts D) where
 module _ {S D : Type 0} (source : SourceGhosts S) (disk : Ghosts D) where
   -- Why `live` ends so.
   abbrev pub LiveCause : ℕ → Bool → S → S → D → D → Ending → Type 0
-  LiveCause batch materialize given rest old new e = CommandCause source (ScriptCause disk batch materialize) given rest old new e
+  LiveCause batch materialize given rest old new e =
+      CommandCause source (λ input. ScriptCause disk batch materialize (script_of input)) given rest old new e
 
   -- The device holds a store with room for what the lines of the input need, and the input is within the limit.
   pub record CanLive (batch : ℕ) (given : S) (old : D) : Type 0 where

@@ -1,4 +1,4 @@
--- What `live` and `ask` share: the input that is read, and why no store was opened.
+-- What commands that read an input share: how it is read, why no store was opened, and the transcript of replies.
 use Rattle.std.specs.Prelude.{◌≡◌, ◌⊎◌, ℕ, ◌≤◌, ◌<◌, List, [], length}
 use Rattle.btr_io.specs.declared.source.Source.{Ghosts as SourceGhosts}
 use Rattle.btr_io.specs.Bytes.{gave}
@@ -7,8 +7,6 @@ use Rattle.btr_disk.specs.declared.disk.Disk.{Ghosts}
 use Rattle.btr_disk.specs.Causes.{Rose}
 use Rattle.btr_disk.specs.Moments.{IsUnwritten}
 use Rattle.btr_super.specs.Choose.{HasNoSuper}
-use Rattle.btr_text.specs.Input.{script_of}
-use Rattle.btr_text.specs.declared.script.ScriptLine.{ScriptLine}
 use Rattle.btr_text.specs.declared.reply.LineReply.{LineReply}
 use Rattle.btr_open.specs.Damage.{IsDamaged}
 use Rattle.btr_top.specs.declared.script.TheConstants.{MAX_INPUT}
@@ -19,19 +17,17 @@ use Rattle.btr_live.specs.Script.{text_of_replies}
 use Rattle.btr_top.specs.Status.{status_of_replies}
 
 module _ {S : Type 0} (source : SourceGhosts S) where
-  -- The source gave the lines of its whole input, which is within the limit.
-  pub record HasRead (lines : List ScriptLine) (old new : S) : Type 0 where
-    pub input : List ℕ
+  -- The source gave its whole input, which is within the limit.
+  pub record HasRead (input : List ℕ) (old new : S) : Type 0 where
     pub within : length input ≤ MAX_INPUT
     pub all : source.is_observable → input ≡ source.left old
     pub at_end : source.is_observable → source.left new ≡ []
-    pub same_lines : lines ≡ script_of input
 
   -- The source gave more than may be read.
   abbrev pub ExceedsInputLimit : S → S → Type 0
   ExceedsInputLimit old new = source.is_observable → MAX_INPUT < gave (source.left old) (source.left new)
 
-  -- Why the lines of the input were not read.
+  -- Why the input was not read.
   abbrev pub InputCause : S → S → Ending → Type 0
   InputCause old new NoSource = SourceRose (source.faults old) (source.faults new)
   InputCause old new TooLong = ExceedsInputLimit old new
@@ -51,11 +47,11 @@ module _ {D : Type 0} (disk : Ghosts D) where
   OpeningCause old new OutOfMemory = Unit {0}
   OpeningCause old new _ = ⊥
 
--- Why a command ends so that reads lines and then does something with them. `cause` says why the latter ends so. The device is not
--- called before all lines are read.
-abbrev pub CommandCause : {S D : Type 0} → SourceGhosts S → (List ScriptLine → D → D → Ending → Type 0) → S → S → D → D → Ending → Type 0
+-- Why a command ends so that reads its whole input and then does something with it, for which `cause` says why it ends so. The device
+-- is not called before all of the input is read.
+abbrev pub CommandCause : {S D : Type 0} → SourceGhosts S → (List ℕ → D → D → Ending → Type 0) → S → S → D → D → Ending → Type 0
 CommandCause source cause given rest old new e =
-    (InputCause source given rest e × (new ≡ old)) ⊎ ((lines : List ScriptLine) × HasRead source lines given rest × cause lines old new e)
+    (InputCause source given rest e × (new ≡ old)) ⊎ ((input : List ℕ) × HasRead source input given rest × cause input old new e)
 
 -- The transcript has the text and the status of these replies.
 pub record IsTranscript (replies : List LineReply) (t : Transcript) : Type 0 where

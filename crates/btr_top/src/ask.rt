@@ -2,6 +2,7 @@
 ghost use Rattle.std.specs.Prelude.{◌≡◌, ◌+◌, List, IfOk, OnOk};
 ghost use Rattle.btr_io.specs.Bytes.{Gives};
 ghost use Rattle.btr_hist.specs.declared.entry.Entry.{Entry as EntrySpec};
+ghost use Rattle.btr_text.specs.Input.{questions_of};
 ghost use Rattle.btr_text.specs.declared.reply.LineReply.{LineReply as ReplySpec};
 ghost use Rattle.btr_engine.specs.Engine.{IsEngineOf};
 ghost use Rattle.btr_engine.specs.Snapshot.{IsSnapshotOf};
@@ -15,13 +16,13 @@ ghost use Rattle.btr_top.specs.Saying.{AddsReply, HasAnswered};
 
 use crate::ending::Ending;
 use crate::question::answer_question;
-use crate::script::{CommandResult, add_reply, no_replies, open_refusal, read_lines};
+use crate::script::{CommandResult, add_reply, no_replies, open_refusal, read_input};
 use btr_bulk::Transcript;
 use btr_disk::Disk;
 use btr_engine::{Engine, Snapshot};
 use btr_io::Source;
 use btr_open::open_store;
-use btr_text::{Line, ScriptLine};
+use btr_text::{Line, ScriptLine, read_questions};
 use std::alloc::{AllocError, Global};
 
 /// `ask`: reads the source to its end, opens the store, and answers the lines that were read, of which only questions
@@ -36,9 +37,24 @@ pub(crate) fn run_ask<S: Source, D: Disk>(
     ensures cause { AskCause ⟦<S as Source>⟧ ⟦<D as Disk>⟧ source.old source.new disk result.disk result.ending }
     ensures kept { IsKept ⟦<D as Disk>⟧ disk result.disk }
 {
-    match read_lines(alloc, source) {
-        Ok(lines) => ask_lines(alloc, lines, disk),
+    match read_input(alloc, source) {
+        Ok(input) => ask_input(alloc, &input, disk),
         Err(ending) => CommandResult { ending, disk },
+    }
+}
+
+/// Reads the lines of an input, in which no word names a lane, and answers them from the store of a device.
+fn ask_input<D: Disk>(alloc: Global, input: &[u8], disk: D) -> CommandResult<D>
+    ensures size { D.size result.disk ≡ D.size disk }
+    ensures cause { QuestionsCause ⟦<D as Disk>⟧ (questions_of input.now) disk result.disk result.ending }
+    ensures kept { IsKept ⟦<D as Disk>⟧ disk result.disk }
+{
+    match read_questions(alloc, input) {
+        Ok(script) => ask_lines(alloc, script.into_lines(), disk),
+        Err(_) => CommandResult {
+            ending: Ending::OutOfMemory,
+            disk,
+        },
     }
 }
 

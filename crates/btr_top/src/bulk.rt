@@ -1,18 +1,17 @@
 //! The commands `load`, `distil` and `sample`, which work on the whole store with many threads.
-ghost use Rattle.std.specs.Prelude.{◌≡◌, ◌+◌, ◌≤◌, IfErr, IfOk};
+ghost use Rattle.std.specs.Prelude.{◌≡◌, ◌+◌, ◌≤◌};
 ghost use Rattle.btr_io.specs.Bytes.{Gives};
 ghost use Rattle.btr_rows.specs.Rows.{rows_of};
 ghost use Rattle.btr_rows.specs.Streams.{list_of};
 ghost use Rattle.btr_load.specs.There.{AreDistinct};
 ghost use Rattle.btr_top.specs.declared.script.TheConstants.{MAX_INPUT};
-ghost use Rattle.btr_top.specs.Script.{InputCause};
-ghost use Rattle.btr_top.specs.Bulk.{DistilCause, HasReadRows, LoadCause, RowsCause, SampleCause, ending_of};
+ghost use Rattle.btr_top.specs.Bulk.{DistilCause, LoadCause, RowsCause, SampleCause, ending_of};
 
 use crate::ending::Ending;
-use crate::script::{CommandResult, MAX_INPUT, open_refusal};
+use crate::script::{CommandResult, open_refusal, read_input};
 use btr_bulk::{Worked, distil_store, load_store, sample_store};
 use btr_disk::Disk;
-use btr_io::{ReadAllFault, Source, read_all};
+use btr_io::Source;
 use btr_jobs::Pace;
 use btr_load::rows_are_distinct;
 use btr_rows::{RowList, read_rows};
@@ -36,37 +35,35 @@ pub(crate) fn run_load<R: Threads + Wait + Sync, S: Source, D: Disk + Send, P: P
     ensures input { S.is_observable → Gives (MAX_INPUT + 1) (S.left source.old) (S.left source.new) }
     ensures cause { LoadCause ⟦<S as Source>⟧ ⟦<D as Disk>⟧ batch source.old source.new disk result.disk result.ending }
 {
-    match read_input_rows(alloc, source) {
-        Ok(rows) => load_rows(rt, alloc, workers, batch, rows, disk, pace),
+    match read_input(alloc, source) {
+        Ok(input) => load_input(rt, alloc, workers, batch, &input, disk, pace),
         Err(ending) => CommandResult { ending, disk },
     }
 }
 
-/// Reads the source to its end, and returns the rows of the input. An `Err` is how the command ends then.
-fn read_input_rows<S: Source>(alloc: Global, source: &mut S) -> Result<RowList, Ending>
-    ensures input { S.is_observable → Gives (MAX_INPUT + 1) (S.left source.old) (S.left source.new) }
-    ensures read { IfOk result (λ rows. HasReadRows ⟦<S as Source>⟧ rows source.old source.new) }
-    ensures cause { IfErr result (λ e. InputCause ⟦<S as Source>⟧ source.old source.new e) }
-{
-    match read_all(alloc, source, MAX_INPUT) {
-        Ok(input) => rows_in(alloc, &input),
-        Err(ReadAllFault::Fault) => Err(Ending::NoSource),
-        Err(ReadAllFault::TooLong) => Err(Ending::TooLong),
-        Err(ReadAllFault::Want) => Err(Ending::OutOfMemory),
-    }
-}
-
-/// Returns the rows of an input. An `Err` is that there is no memory for them.
-fn rows_in(alloc: Global, input: &[u8]) -> Result<RowList, Ending>
-    ensures rows { IfOk result (λ rows. rows ≡ list_of (rows_of input.now)) }
-    ensures distinct { IfOk result (λ rows. AreDistinct rows.streams) }
-    ensures cause { IfErr result (λ e. e ≡ Ending.OutOfMemory) }
+/// Reads the rows of an input, and loads them into the store of a device.
+fn load_input<R: Threads + Wait + Sync, D: Disk + Send, P: Pace + Sync>(
+    rt: &R,
+    alloc: Global,
+    workers: u8,
+    batch: u32,
+    input: &[u8],
+    disk: D,
+    pace: &P,
+) -> CommandResult<D>
+    requires { 1 ≤ batch }
+    ensures size { D.size result.disk ≡ D.size disk }
+    ensures distinct { AreDistinct (list_of (rows_of input.now)).streams }
+    ensures cause { RowsCause ⟦<D as Disk>⟧ batch (list_of (rows_of input.now)) disk result.disk result.ending }
 {
     // the rows of an input have each id once
     rows_are_distinct();
     match read_rows(alloc, input) {
-        Ok(rows) => Ok(rows),
-        Err(_) => Err(Ending::OutOfMemory),
+        Ok(rows) => load_rows(rt, alloc, workers, batch, rows, disk, pace),
+        Err(_) => CommandResult {
+            ending: Ending::OutOfMemory,
+            disk,
+        },
     }
 }
 

@@ -4,7 +4,7 @@ ghost use Rattle.btr_base.specs.declared.limits.TheConstants.{MAX_COMMIT_POINTS}
 ghost use Rattle.btr_io.specs.Bytes.{Gives};
 ghost use Rattle.btr_hist.specs.declared.entry.Entry.{Entry as EntrySpec};
 ghost use Rattle.btr_engine.specs.Engine.{is_stopped, IsEngineOf};
-ghost use Rattle.btr_text.specs.Input.{HaveLanes};
+ghost use Rattle.btr_text.specs.Input.{HaveLanes, script_of};
 ghost use Rattle.btr_open.specs.Opening.{IsNotOpened};
 ghost use Rattle.btr_hall.specs.Session.{IsAlone, opening_of};
 ghost use Rattle.btr_jobs.specs.Jobs.{IsAt, Does};
@@ -14,8 +14,9 @@ ghost use Rattle.btr_top.specs.Live.{LiveCause, LivesStore, ScriptCause};
 ghost use Rattle.btr_top.specs.Saying.{Lives};
 
 use crate::bulk::work_result;
+use crate::ending::Ending;
 use crate::saying::say_live;
-use crate::script::{CommandResult, open_refusal, read_lines};
+use crate::script::{CommandResult, open_refusal, read_input};
 use btr_bulk::{Transcript, Worked, close_hall, open_hall};
 use btr_disk::Disk;
 use btr_hall::{Hall, Session};
@@ -23,7 +24,7 @@ use btr_io::Source;
 use btr_jobs::Pace;
 use btr_live::{lanes, last_is_current, one_lane_is_the_model, runs_are_one_history};
 use btr_open::OpenFault;
-use btr_text::ScriptLine;
+use btr_text::{ScriptLine, read_script};
 use std::alloc::{AllocError, Global};
 use std::sync::Wait;
 use std::thread::Threads;
@@ -47,9 +48,40 @@ pub(crate) fn run_live<R: Threads + Wait + Sync, S: Source, D: Disk + Send, P: P
     ensures input { S.is_observable → Gives (MAX_INPUT + 1) (S.left source.old) (S.left source.new) }
     ensures cause { LiveCause ⟦<S as Source>⟧ ⟦<D as Disk>⟧ batch materialize source.old source.new disk result.disk result.ending }
 {
-    match read_lines(alloc, source) {
-        Ok(lines) => run_lines(rt, alloc, batch, materialize, lines, disk, pace),
+    match read_input(alloc, source) {
+        Ok(input) => run_script(rt, alloc, batch, materialize, &input, disk, pace),
         Err(ending) => CommandResult { ending, disk },
+    }
+}
+
+/// Reads the lines of an input, and runs them on the store of a device.
+fn run_script<R: Threads + Wait + Sync, D: Disk + Send, P: Pace + Sync>(
+    rt: &R,
+    alloc: Global,
+    batch: u32,
+    materialize: bool,
+    input: &[u8],
+    disk: D,
+    pace: &P,
+) -> CommandResult<D>
+    requires batch { (1 ≤ batch) × (batch ≤ MAX_COMMIT_POINTS) }
+    ensures size { D.size result.disk ≡ D.size disk }
+    ensures cause { ScriptCause ⟦<D as Disk>⟧ batch materialize (script_of input.now) disk result.disk result.ending }
+{
+    match read_script(alloc, input) {
+        Ok(script) => run_lines(
+            rt,
+            alloc,
+            batch,
+            materialize,
+            script.into_lines(),
+            disk,
+            pace,
+        ),
+        Err(_) => CommandResult {
+            ending: Ending::OutOfMemory,
+            disk,
+        },
     }
 }
 

@@ -1,7 +1,6 @@
-//! What `live` and `ask` share: they read the input, open the store, and collect the replies.
+//! What commands share: they read the input, open the store, and collect replies.
 ghost use Rattle.std.specs.Prelude.{◌≡◌, ◌+◌, [], ◌++◌, IfOk, IfErr, OnOk};
 ghost use Rattle.btr_io.specs.Bytes.{Gives};
-ghost use Rattle.btr_text.specs.Input.{HaveLanes, script_of};
 ghost use Rattle.btr_open.specs.Opening.{IsNotOpened};
 ghost use Rattle.btr_top.specs.Script.{HasRead, InputCause, IsKept, IsTranscript, OpeningCause};
 ghost use Rattle.btr_top.specs.Saying.{AddsReply};
@@ -12,7 +11,7 @@ use btr_bulk::Transcript;
 use btr_disk::Disk;
 use btr_io::{ReadAllFault, Source, read_all};
 use btr_open::{OpenCause, OpenFault};
-use btr_text::{LineReply, ScriptLine, read_script, write_reply};
+use btr_text::{LineReply, write_reply};
 use std::alloc::{AllocError, Global};
 
 /// The most bytes of input that are taken: `2^28`.
@@ -27,34 +26,18 @@ pub(crate) struct CommandResult<D> {
     pub(crate) disk: D,
 }
 
-/// Reads the source to its end, and returns the lines of the input that have a reply. It reads at most one byte more
-/// than [`MAX_INPUT`]. An `Err` is how the command ends then.
-pub(crate) fn read_lines<S: Source>(
-    alloc: Global,
-    source: &mut S,
-) -> Result<Vec<ScriptLine>, Ending>
+/// Reads the source to its end, and returns its bytes. It reads at most one byte more than [`MAX_INPUT`]. An `Err` is how the command
+/// ends then.
+pub(crate) fn read_input<S: Source>(alloc: Global, source: &mut S) -> Result<Vec<u8>, Ending>
     ensures input { S.is_observable → Gives (MAX_INPUT + 1) (S.left source.old) (S.left source.new) }
-    ensures read { IfOk result (λ lines. HasRead ⟦<S as Source>⟧ lines.items source.old source.new) }
-    ensures lanes { IfOk result (λ lines. HaveLanes lines.items) }
+    ensures read { IfOk result (λ bytes. HasRead ⟦<S as Source>⟧ bytes.items source.old source.new) }
     ensures cause { IfErr result (λ e. InputCause ⟦<S as Source>⟧ source.old source.new e) }
 {
     match read_all(alloc, source, MAX_INPUT) {
-        Ok(input) => lines_of(alloc, &input),
+        Ok(input) => Ok(input),
         Err(ReadAllFault::Fault) => Err(Ending::NoSource),
         Err(ReadAllFault::TooLong) => Err(Ending::TooLong),
         Err(ReadAllFault::Want) => Err(Ending::OutOfMemory),
-    }
-}
-
-/// Returns the lines of an input that have a reply. An `Err` is that there is no memory for them.
-fn lines_of(alloc: Global, input: &[u8]) -> Result<Vec<ScriptLine>, Ending>
-    ensures lines { IfOk result (λ lines. lines.items ≡ script_of input.now) }
-    ensures lanes { IfOk result (λ lines. HaveLanes lines.items) }
-    ensures cause { IfErr result (λ e. e ≡ Ending.OutOfMemory) }
-{
-    match read_script(alloc, input) {
-        Ok(script) => Ok(script.into_lines()),
-        Err(_) => Err(Ending::OutOfMemory),
     }
 }
 

@@ -1,8 +1,0 @@
-use Rattle.std.proofs.Common.{◌≡◌, map}
-use Rattle.std.specs.List.{filter_map}
-use Rattle.std.specs.Str.Lines.{strip_carriage_return}
-use Rattle.btr_text.specs.Input.{script_line}
-use Rattle.btr_text.proofs.input.read_script.Given as goal
-
-abbrev pub invariant-loop-line : goal.invariant-loop-line
-invariant-loop-line l = l.lines.items ≡ filter_map script_line (map (λ x. strip_carriage_return x.now) l.yielded)
