@@ -1,0 +1,58 @@
+#!/usr/bin/env bash
+# What the documents name exists: files, clauses, calls, definitions and crates. The map of crates agrees with crates.txt.
+# shellcheck source=checks/common.sh
+. "$(dirname "$0")/common.sh"
+
+# All words of the code, the definitions and the proofs.
+find "$top/crates" -name out -prune -o \( -name '*.rt' -o -name '*.antt' \) -print0 | xargs -0 cat | tr -c "A-Za-z0-9_'-" '\n' | sort -u >words
+find "$top" \( -name out -o -name .git \) -prune -o -type f -print | sed "s|^$top/|/|" | sort >files
+
+# Each named clause of a function, as `FUNCTION.CLAUSE`. What `run_paced` promises `run` promises too.
+find "$top"/crates/*/src -name '*.rt' -print0 | xargs -0 awk '
+    match($0, /(^| )fn [a-z_0-9]+/) { name = substr($0, RSTART, RLENGTH); sub(/.*fn /, "", name) }
+    match($0, /(ensures|requires) [a-z_0-9]+ \{/) { clause = substr($0, RSTART, RLENGTH); split(clause, part, " "); print name "." part[2] }' |
+    sed 's/^run_paced\.\(.*\)/&\nrun.\1/' | sort -u >clauses
+
+# Prints the code spans of a document, without its blocks of commands and output.
+spans() {
+    awk '/^```/ { block = !block; next } !block && !/^    / {
+        for (n = split($0, piece, "`"); n > 1; n--) if (n % 2 == 0) print piece[n] }' "$1"
+}
+
+# Prints those of the names on standard input that do not exist.
+missing() {
+    while IFS= read -r name; do
+        case $name in
+        *[!A-Za-z0-9_.:/-]* | .* | *..* | *NAME*) ;;
+        crates/*) [ -e "$top/$name" ] || [ "${name#*/out/}" != "$name" ] || echo "$name" ;;
+        *.rt | *.antt | *.sh | *.edit | *.md) grep -q "/$name\$" files || echo "$name" ;;
+        [a-z]*.[a-z]*) grep -qxF "$name" clauses || echo "$name" ;;
+        [A-Z]*::* | [A-Z]*.* | [A-Z]*[a-z]*) printf '%s\n' "$name" | tr -s ':.' '\n' | grep -vxF -f words >/dev/null && echo "$name" ;;
+        btr_*) [ -d "$top/crates/$name" ] || grep -qxF "$name" words || echo "$name" ;;
+        [a-z]*_[a-z]*) grep -qxF "$name" words || echo "$name" ;;
+        esac
+    done
+}
+
+# What is written for the reader and is no name of the repository: a pattern, and a call of the standard library.
+known='crates.txt Function.clause for_each_mut turn.added expected.txt'
+for document in "$top"/README.md "$top"/docs/*.md; do
+    found=$(spans "$document" | sort -u | missing | while IFS= read -r name; do
+        case " $known " in *" $name "*) ;; *) echo "$name" ;; esac
+    done)
+    expect "$(basename "$document"): what it names exists" "$found" ''
+done
+
+# The crates of crates.txt, but those of tests, and those of the map, with the number of their layer, the highest first.
+sed -n 's/^\(btr_[a-z]*\)\( [^:]*\)*:.*/\1/p' "$top/crates.txt" | sort >listed
+awk '/^## The map/ { map = 1 } /^\| crate/ { map = 0 }
+    map && /^    / { if (match($0, /^    [a-z]/)) layer++; planned = /\(planned\)/
+        for (n = split($0, word, " "); n > 0; n--) if (word[n] ~ /^btr_[a-z]+$/ && !planned) print word[n], layer }' \
+    "$top/docs/ARCHITECTURE.md" | sort >layers
+expect 'the map has the crates of crates.txt' "$(cut -d ' ' -f 1 layers)" "$(cat listed)"
+expect 'the table has the crates of crates.txt' \
+    "$(sed -n 's/^| \(btr_[a-z]*\) | .*/\1/p' "$top/docs/ARCHITECTURE.md" | sort)" "$(cat listed)"
+expect 'no crate of the map stands on a layer above its own' "$(awk '
+    FILENAME == "layers" { layer[$1] = $2; next }
+    /^btr_/ { name = $1; sub(":", "", name); if (name in layer) for (n = 2; n <= NF; n++) if ($n in layer && layer[$n] < layer[name]) print name, $n }
+    ' layers "$top/crates.txt")" ''
