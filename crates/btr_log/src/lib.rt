@@ -15,3 +15,4 @@ pub use append::AppendFault;
 pub use found::{ExtentFault, Found};
 pub use head::{HEAD_BYTES, HEAD_MARK, Head};
 pub use log::Log;
+pub use read::find_extent;

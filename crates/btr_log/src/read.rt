@@ -18,11 +18,12 @@ impl<D: Disk> Log<D> {
     /// and `Damaged` only if it is open and the named block breaks the format. Nothing is written, and the
     /// log stays as it is.
     ///
-    /// It makes two calls of the device if the body has more than one block, else one.
+    /// It makes at most two calls of the device.
     pub fn read_extent(&mut self, alloc: Global, gate: u64) -> Result<Found, ExtentFault>
         requires { gate < blocks_of self.old }
         ensures kept { KeepsLog self.old self.new }
         ensures device { KeepsDevice self.old self.new }
+        ensures calls { D.calls (device self.new) ≤ D.calls (device self.old) + 2 }
         ensures unwritten { D.is_observable → LogWroteNothing self.old self.new }
         ensures whole { IfOk result (IsWhole (blocks_of self.old) gate) }
         ensures matches { D.is_observable → IfOk result (MatchesDevice (D.contents (device self.old)) gate) }
@@ -32,8 +33,9 @@ impl<D: Disk> Log<D> {
     }
 }
 
-/// Reads what is at the gate, in a log of `blocks` blocks.
-fn find_extent<D: Disk>(
+/// Reads what is at the gate, which is below `blocks`, in a log of so many blocks on the device. It is [`Log::read_extent`] without a log:
+/// what it returns, and when, is the same. It writes nothing, and makes at most two calls of the device.
+pub fn find_extent<D: Disk>(
     alloc: Global,
     disk: &mut D,
     blocks: u64,
@@ -43,6 +45,7 @@ fn find_extent<D: Disk>(
     requires blocks { blocks ≤ D.size disk.old }
     requires addressable { blocks ≤ 2 ^ 32 }
     ensures counts { KeepsCounts D.size D.calls D.faults disk.old disk.new }
+    ensures calls { D.calls disk.new ≤ D.calls disk.old + 2 }
     ensures unwritten { D.is_observable → WroteNothing D.calls D.contents D.images_now D.images_since disk.old disk.new }
     ensures whole { IfOk result (IsWhole blocks gate) }
     ensures matches { D.is_observable → IfOk result (MatchesDevice (D.contents disk.old) gate) }
@@ -75,6 +78,7 @@ fn find_at_end<D: Disk>(alloc: Global, disk: &mut D, gate: u64) -> Result<Found,
     requires gate { gate < D.size disk.old }
     requires addressable { gate < 2 ^ 32 }
     ensures counts { KeepsCounts D.size D.calls D.faults disk.old disk.new }
+    ensures call { D.calls disk.new ≤ D.calls disk.old + 1 }
     ensures unwritten { D.is_observable → WroteNothing D.calls D.contents D.images_now D.images_since disk.old disk.new }
     ensures whole { IfOk result (IsWhole (gate + 1) gate) }
     ensures matches { D.is_observable → IfOk result (MatchesDevice (D.contents disk.old) gate) }
@@ -109,6 +113,7 @@ fn read_blocks<D: Disk>(
     requires run { IsBlockRange (D.size disk.old) first (4096 * count) }
     requires addressable { count ≤ 2 ^ 32 }
     ensures counts { KeepsCounts D.size D.calls D.faults disk.old disk.new }
+    ensures call { D.calls disk.new ≤ D.calls disk.old + 1 }
     ensures unwritten { D.is_observable → WroteNothing D.calls D.contents D.images_now D.images_since disk.old disk.new }
     ensures length { IfOk result (λ bytes. length bytes.items ≡ 4096 * count) }
     ensures stored { D.is_observable → IfOk result (λ bytes. Has (D.contents disk.old) (4096 * first) bytes.items) }
@@ -140,6 +145,7 @@ fn read_body<D: Disk>(
     requires inside { first + n ≤ D.size disk.old }
     requires addressable { first + n ≤ 2 ^ 32 }
     ensures counts { KeepsCounts D.size D.calls D.faults disk.old disk.new }
+    ensures call { D.calls disk.new ≤ D.calls disk.old + 1 }
     ensures unwritten { D.is_observable → WroteNothing D.calls D.contents D.images_now D.images_since disk.old disk.new }
     ensures length { IfOk result (λ body. length body.items ≡ 4096 * n) }
     ensures prefix { IfOk result (λ body. take 4096 body.items ≡ prefix.now) }
@@ -179,6 +185,7 @@ fn read_rest<D: Disk>(disk: &mut D, first: u64, body: &mut [u8]) -> Result<(), E
     requires run { IsBlockRange (D.size disk.old) first (length body.old) }
     requires addressable { first < 2 ^ 32 }
     ensures counts { KeepsCounts D.size D.calls D.faults disk.old disk.new }
+    ensures call { D.calls disk.new ≤ D.calls disk.old + 1 }
     ensures unwritten { D.is_observable → WroteNothing D.calls D.contents D.images_now D.images_since disk.old disk.new }
     ensures prefix { take 4096 body.new ≡ take 4096 body.old }
     ensures stored { D.is_observable → Has (D.contents disk.old) (4096 * first) (take 4096 body.old)

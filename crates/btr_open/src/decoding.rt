@@ -14,7 +14,7 @@ use std::alloc::{AllocError, Global};
 /// begin with the head and are as many blocks as it says: this is the caller's condition.
 ///
 /// The bytes of an entry are its body only if all bytes after the content, up to the end of the last block, are zeros.
-pub(crate) fn decode_extent(
+pub fn decode_extent(
     alloc: Global,
     body: &[u8],
     head: &Head,

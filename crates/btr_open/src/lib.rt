@@ -11,5 +11,6 @@ mod opening;
 // what holds of all devices
 mod laws;
 
+pub use decoding::decode_extent;
 pub use laws::{held_is_sound, one_history_is_held};
 pub use opening::{OpenCause, OpenFault, open_store};
