@@ -1,80 +1,65 @@
 //! A device that fails after a number of calls, for tests.
-ghost use Rattle.std.specs.Prelude.{◌≡◌, ◌+◌, OnOk, OnErr, IfOk, ℕ, length};
-ghost use Rattle.btr_disk.specs.Torn.{IsUntorn};
+ghost use Rattle.std.specs.Prelude.{◌≡◌, ◌+◌, ◌<◌, ℕ, length};
 
-use crate::torn::TornBlocks;
-use crate::{BLOCK, Disk, Failed};
-use std::alloc::{AllocError, Global};
+use crate::memory::fault;
+use crate::{Disk, Failed};
 
-/// A device that passes a number of calls on to another device, and then refuses each call.
+/// A device that passes a number of calls on to another device, and then fails each call, as at a stop.
 ///
-/// A call that it refuses fails, is counted with its fault, and leaves the other device as it is. The
-/// blocks of a refused write are unsynced. A call that it passes on has the result and the effect that it
-/// has on the other device.
+/// A read or a sync after these calls fails and does not reach the other device. A write after them reaches
+/// the other device and fails all the same, so its blocks are unsynced: it is a write that was under way at
+/// the stop. Each call and each fault is counted. A call that is not made to fail has the result and the
+/// effect that it has on the other device.
 #[derive(Drop)]
 pub struct FuseDisk<D: Disk> {
     disk: D,
+    /// The number of calls that the fuse will not fail.
     left: u64,
-    refused: u64,
-    /// The blocks of refused writes.
-    torn: TornBlocks,
-    ghost blocks: { length torn.flags.items ≡ D.size disk },
-    ghost untorn: { refused ≡ 0 → IsUntorn torn.flags.items },
+    /// The number of calls that the fuse failed.
+    failed: u64,
+    /// The number of those that did not reach the other device.
+    withheld: u64,
+    ghost spent: { 0 < left → withheld ≡ 0 },
 }
 
 impl<D: Disk> FuseDisk<D> {
-    ghost use Rattle.btr_disk.specs.Fuse.{IsPassed, IsRefused, IsBlown};
+    ghost use Rattle.std.specs.Prelude.{◌≡◌};
+    ghost use Rattle.btr_disk.specs.Images.{SameImages};
 
-    /// Passes the first `calls` calls on to `disk`. The error means out of memory.
-    pub fn new(alloc: Global, disk: D, calls: u64) -> Result<FuseDisk<D>, AllocError>
-    where
-        D: Drop,
+    /// Passes the first `calls` calls on to `disk`. Takes no memory.
+    pub fn new(disk: D, calls: u64) -> FuseDisk<D>
         ensures observable { D.is_observable → ⟦<FuseDisk<D> as Disk>⟧.is_observable }
-        ensures disk { IfOk result (λ fuse. fuse.disk ≡ disk) }
-        ensures left { IfOk result (λ fuse. fuse.left ≡ calls) }
-        ensures refused { IfOk result (λ fuse. fuse.refused ≡ 0) }
+        ensures disk { result.disk ≡ disk }
+        ensures left { result.left ≡ calls }
+        ensures failed { result.failed ≡ 0 }
+        ensures withheld { result.withheld ≡ 0 }
     {
-        let torn = TornBlocks::new(alloc, disk.blocks() as usize)?;
-        Ok(FuseDisk {
+        FuseDisk {
             disk,
             left: calls,
-            refused: 0,
-            torn,
-        })
+            failed: 0,
+            withheld: 0,
+        }
     }
 
-    /// The other device.
+    /// The other device. What a crash may leave of it is what it may leave of the fuse.
     pub fn into_disk(self) -> D
-        ensures { result ≡ self.disk }
+        ensures disk { result ≡ self.disk }
+        ensures contents { D.contents result ≡ ⟦<FuseDisk<D> as Disk>⟧.contents self }
+        ensures images { SameImages (⟦<FuseDisk<D> as Disk>⟧.images_now self) (D.images_now result) }
     {
         self.disk
-    }
-
-    /// Counts the next call. `Ok` means that it is to be passed on.
-    fn pass(&mut self) -> Result<(), Failed>
-        ensures disk { self.new.disk ≡ self.old.disk }
-        ensures torn { self.new.torn ≡ self.old.torn }
-        ensures passed { OnOk result (IsPassed self.old self.new) }
-        ensures refused { OnErr result (IsRefused self.old self.new) }
-        ensures blown { OnErr result (IsBlown self.old) }
-    {
-        if self.left == 0 || self.refused > 0 {
-            self.refused = self.refused.saturating_add(1);
-            return Err(Failed);
-        }
-        self.left -= 1;
-        Ok(())
     }
 }
 
 impl<D: Disk> Disk for FuseDisk<D> {
-    ghost use Rattle.std.specs.Prelude.{◌*◌, IsErr};
+    ghost use Rattle.std.specs.Prelude.{◌*◌, IsErr, OnOk, OnErr};
     ghost use Rattle.btr_disk.specs.Bytes.{Has, IsBlockRange, Same, SameBut};
     ghost use Rattle.btr_disk.specs.Images.{Only, SameImages, Tears};
     ghost use Rattle.btr_disk.specs.Moments.{Elapses};
     ghost use Rattle.btr_disk.specs.Causes.{Counted, HasCause};
-    ghost use Rattle.btr_disk.specs.Fuse.{RefusesIfBlown, FuseMayLeave, FuseMayHaveLeft, fuse_calls, fuse_faults};
-    ghost use Rattle.btr_disk.specs.FuseLaws.{fuse_reads, fuse_counts_now, fuse_only_now, fuse_fewer_later};
+    ghost use Rattle.btr_disk.specs.Fuse.{WithholdsIfSpent, CutsOffIfSpent, fuse_calls, fuse_faults, fuse_since};
+    ghost use Rattle.btr_disk.specs.FuseLaws.{fuse_counts_now, fuse_only_now, fuse_fewer_later};
 
     ghost is_observable = { D.is_observable };
 
@@ -82,24 +67,22 @@ impl<D: Disk> Disk for FuseDisk<D> {
 
     ghost contents = { λ fuse. D.contents fuse.disk };
 
-    ghost images_now = { λ fuse. FuseMayLeave fuse };
+    ghost images_now = { λ fuse. D.images_now fuse.disk };
 
-    ghost images_since = { λ fuse. FuseMayHaveLeft fuse };
+    ghost images_since = { λ fuse. fuse_since fuse };
 
     ghost calls = { λ fuse. fuse_calls fuse };
 
     ghost faults = { λ fuse. fuse_faults fuse };
 
-    ghost image_bytes = { λ is_observable fuse c left. left.bytes };
+    ghost image_bytes = { λ is_observable fuse. D.image_bytes is_observable fuse.disk };
 
-    ghost reads_as_image = { λ is_observable fuse. fuse_reads fuse
-        (D.image_bytes is_observable fuse.disk (D.contents fuse.disk) (D.reads_as_image is_observable fuse.disk))
-        (D.reads_as_image is_observable fuse.disk) };
+    ghost reads_as_image = { λ is_observable fuse. D.reads_as_image is_observable fuse.disk };
 
-    ghost counts_now = { λ is_observable fuse t c le left. fuse_counts_now fuse t c left };
+    ghost counts_now = { λ is_observable fuse t c le left.
+        fuse_counts_now fuse t c (λ a. D.counts_now is_observable fuse.disk a c) left };
 
-    ghost only_now = { λ is_observable fuse c left.
-        fuse_only_now fuse c (D.image_bytes is_observable fuse.disk) (D.only_now is_observable fuse.disk c) left };
+    ghost only_now = { λ is_observable fuse c left. fuse_only_now fuse c (D.only_now is_observable fuse.disk c) left };
 
     ghost fewer_later = { λ is_observable fuse s t c le _ left.
         fuse_fewer_later fuse s t c le (λ a b. D.fewer_later is_observable fuse.disk a b c) left };
@@ -108,7 +91,7 @@ impl<D: Disk> Disk for FuseDisk<D> {
         self.disk.blocks()
     }
 
-    /// The clauses of the trait, and one more: which calls are refused.
+    /// The clauses of the trait, and one more: which calls are withheld.
     fn read(&mut self, first: u64, buf: &mut [u8]) -> Result<(), Failed>
         requires { IsBlockRange (D.size self.old.disk) first (length buf.old) }
         ensures size { D.size self.new.disk ≡ D.size self.old.disk }
@@ -116,18 +99,20 @@ impl<D: Disk> Disk for FuseDisk<D> {
         ensures cause { HasCause (fuse_faults self.old) (fuse_faults self.new) result }
         ensures bytes { D.is_observable → OnOk result (Has (D.contents self.old.disk) (4096 * first) buf.new) }
         ensures contents { D.is_observable → Same (D.contents self.old.disk) (D.contents self.new.disk) }
-        ensures images { D.is_observable → SameImages (FuseMayLeave self.old) (FuseMayLeave self.new) }
+        ensures images { D.is_observable → SameImages (D.images_now self.old.disk) (D.images_now self.new.disk) }
         ensures time { D.is_observable
-            → Elapses (fuse_calls self.old) (FuseMayHaveLeft self.old) (FuseMayHaveLeft self.new) (FuseMayLeave self.new) }
-        ensures refused { RefusesIfBlown self.old self.new (IsErr result × (buf.new ≡ buf.old)) }
+            → Elapses (fuse_calls self.old) (fuse_since self.old) (fuse_since self.new) (D.images_now self.new.disk) }
+        ensures withheld { WithholdsIfSpent self.old self.new (IsErr result × (buf.new ≡ buf.old)) }
     {
-        match self.pass() {
-            Ok(()) => self.disk.read(first, buf),
-            Err(failed) => Err(failed),
+        if self.left == 0 {
+            self.withheld = self.withheld.saturating_add(1);
+            return Err(fault(&mut self.failed));
         }
+        self.left -= 1;
+        self.disk.read(first, buf)
     }
 
-    /// The clauses of the trait, and one more: which calls are refused.
+    /// The clauses of the trait, and one more: which calls reach the other device and fail.
     fn write(&mut self, first: u64, bytes: &[u8]) -> Result<(), Failed>
         requires { IsBlockRange (D.size self.old.disk) first (length bytes.now) }
         ensures size { D.size self.new.disk ≡ D.size self.old.disk }
@@ -136,35 +121,37 @@ impl<D: Disk> Disk for FuseDisk<D> {
         ensures written { D.is_observable → OnOk result (Has (D.contents self.new.disk) (4096 * first) bytes.now) }
         ensures elsewhere { D.is_observable
             → SameBut (4096 * first) (length bytes.now) (D.contents self.old.disk) (D.contents self.new.disk) }
-        ensures images { D.is_observable → Tears (4096 * first) (length bytes.now) (FuseMayLeave self.old) (FuseMayLeave self.new) }
+        ensures images { D.is_observable
+            → Tears (4096 * first) (length bytes.now) (D.images_now self.old.disk) (D.images_now self.new.disk) }
         ensures time { D.is_observable
-            → Elapses (fuse_calls self.old) (FuseMayHaveLeft self.old) (FuseMayHaveLeft self.new) (FuseMayLeave self.new) }
-        ensures refused { RefusesIfBlown self.old self.new (IsErr result) }
+            → Elapses (fuse_calls self.old) (fuse_since self.old) (fuse_since self.new) (D.images_now self.new.disk) }
+        ensures cut_off { CutsOffIfSpent self.old self.new (IsErr result) }
     {
-        match self.pass() {
-            Ok(()) => self.disk.write(first, bytes),
-            Err(failed) => {
-                self.torn.tear(first as usize, bytes.len() / BLOCK);
-                Err(failed)
-            }
+        if self.left == 0 {
+            let _ = self.disk.write(first, bytes);
+            return Err(fault(&mut self.failed));
         }
+        self.left -= 1;
+        self.disk.write(first, bytes)
     }
 
-    /// The clauses of the trait, and one more: which calls are refused.
+    /// The clauses of the trait, and one more: which calls are withheld.
     fn sync(&mut self) -> Result<(), Failed>
         ensures size { D.size self.new.disk ≡ D.size self.old.disk }
         ensures calls { Counted (fuse_calls self.old) (fuse_calls self.new) }
         ensures cause { HasCause (fuse_faults self.old) (fuse_faults self.new) result }
         ensures contents { D.is_observable → Same (D.contents self.old.disk) (D.contents self.new.disk) }
-        ensures synced { D.is_observable → OnOk result (Only (D.contents self.new.disk) (FuseMayLeave self.new)) }
-        ensures unsynced { D.is_observable → OnErr result (SameImages (FuseMayLeave self.old) (FuseMayLeave self.new)) }
+        ensures synced { D.is_observable → OnOk result (Only (D.contents self.new.disk) (D.images_now self.new.disk)) }
+        ensures unsynced { D.is_observable → OnErr result (SameImages (D.images_now self.old.disk) (D.images_now self.new.disk)) }
         ensures time { D.is_observable
-            → Elapses (fuse_calls self.old) (FuseMayHaveLeft self.old) (FuseMayHaveLeft self.new) (FuseMayLeave self.new) }
-        ensures refused { RefusesIfBlown self.old self.new (IsErr result) }
+            → Elapses (fuse_calls self.old) (fuse_since self.old) (fuse_since self.new) (D.images_now self.new.disk) }
+        ensures withheld { WithholdsIfSpent self.old self.new (IsErr result) }
     {
-        match self.pass() {
-            Ok(()) => self.disk.sync(),
-            Err(failed) => Err(failed),
+        if self.left == 0 {
+            self.withheld = self.withheld.saturating_add(1);
+            return Err(fault(&mut self.failed));
         }
+        self.left -= 1;
+        self.disk.sync()
     }
 }

@@ -124,7 +124,7 @@ impl MemDisk {
 }
 
 /// Counts a fault.
-fn fault(faults: &mut u64) -> Failed
+pub(crate) fn fault(faults: &mut u64) -> Failed
     ensures { Counted faults.old faults.new }
 {
     *faults = faults.saturating_add(1);

@@ -1,8 +1,7 @@
 //! The calls of the device in memory and of the fuse, and each generic function over them.
 ghost use Rattle.std.specs.Prelude.{◌≡◌, IfOk, length};
 
-use btr_disk::*;
-use btr_disk::{sync_and_write, write_elsewhere, write_sync_read, write_two, write_unsynced};
+use btr_disk::{sync_and_write, write_elsewhere, write_sync_read, write_two, write_unsynced, *};
 use std::alloc::{AllocError, Global};
 use std::process::Abort;
 use std::test::Fail;
@@ -145,20 +144,37 @@ fn a_body_is_published_before_its_gate(rt: HostRuntime) -> Result<(), Fail> {
     Ok(())
 }
 
-#[test]
-fn a_fuse_passes_its_calls_and_then_none(rt: HostRuntime) -> Result<(), Fail> {
-    let alloc = rt.alloc();
-    let mut fuse = FuseDisk::new(alloc, disk(alloc, Vec::new(alloc))?, 2)?;
+/// A fuse that passes two calls on, over a device of eight blocks of zeros.
+fn fuse(alloc: Global) -> Result<FuseDisk<MemDisk>, AllocError>
+    ensures { IfOk result (λ fuse. ⟦<FuseDisk<MemDisk> as Disk>⟧.size fuse ≡ 8) }
+{
+    Ok(FuseDisk::new(disk(alloc, Vec::new(alloc))?, 2))
+}
+
+/// The first byte of block 1, and the number of calls and of faults of the other device, after a write, a sync
+/// and then a failing read and sync, and a write of `last` that fails if `writes`.
+fn after_the_fuse(
+    alloc: Global,
+    last: u8,
+    writes: bool,
+) -> Result<(bool, u8, u64, u64), AllocError> {
+    let mut fuse = fuse(alloc)?;
     let mut buf = block(alloc, 9)?;
-    assert_eq!(rt; fuse.blocks(), 8);
-    assert!(rt; fuse.write(1, &block(alloc, 7)?).is_ok());
-    assert!(rt; fuse.sync().is_ok());
-    assert!(rt; fuse.read(1, &mut buf).is_err());
-    assert!(rt; fuse.sync().is_err());
-    assert_eq!(rt; buf[0], 9);
-    let mut disk = fuse.into_disk();
-    assert_eq!(rt; disk.calls(), 2);
-    assert!(rt; disk.read(1, &mut buf).is_ok());
-    assert_eq!(rt; buf[0], 7);
+    let passed = fuse.write(1, &block(alloc, 7)?).is_ok() && fuse.sync().is_ok();
+    let withheld = fuse.read(1, &mut buf).is_err() && fuse.sync().is_err() && buf[0] == 9;
+    let cut_off = !writes || fuse.write(1, &block(alloc, last)?).is_err();
+    let disk = fuse.into_disk();
+    let calls = disk.calls();
+    let faults = disk.faults();
+    let bytes = disk.into_bytes();
+    Ok((passed && withheld && cut_off, bytes[4096], calls, faults))
+}
+
+#[test]
+fn a_fuse_passes_its_calls_and_then_fails(rt: HostRuntime) -> Result<(), Fail> {
+    let alloc = rt.alloc();
+    assert!(rt; after_the_fuse(alloc, 5, false)? == (true, 7, 2, 0));
+    // A write that fails reaches the other device.
+    assert!(rt; after_the_fuse(alloc, 5, true)? == (true, 5, 3, 0));
     Ok(())
 }
