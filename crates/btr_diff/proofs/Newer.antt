@@ -1,6 +1,7 @@
 -- Lemmas on how many nodes carry a version above another one.
 use Rattle.std.specs.Prelude.{◌≡◌, ℕ, zero, suc, ◌+◌, ◌<◌, ◌≤◌, ℤ, Bool, true, false, not, ◌&&◌, ◌||◌, nat_lt, List, Option, cond}
-use Rattle.std.proofs.Common.{refl, sym, ap, ◌∙◌, arith, add-one, add-zero}
+use Rattle.std.proofs.Math.Nat.{eq-or-lt_of_le}
+use Rattle.std.proofs.Common.{inl, inr, refl, sym, ap, ◌∙◌, arith, add-one, add-zero}
 use Rattle.std.proofs.lemmas.Bool.Decides.{nat_tests}
 use Rattle.btr_base.specs.declared.point.Point.{Point}
 use Rattle.btr_base.specs.Span.{SpanValue}
@@ -84,4 +85,22 @@ bounded-slot below start i part k since first mid last is before here =
     let f : ℕ → ℕ = λ j. newer_nodes below (slot_start below start j) (is_inner (suc below) start) k since in
     let same : newer_nodes part.height part.start (is_inner (suc below) start) k since ≡ f i = ap (λ (u : SpanValue). newer_nodes u.height u.start (is_inner (suc below) start) k since) is in
     let next : sum_of (i + 1) f ≡ sum_of i f + f i = sum-next i f in
+    omega arith
+
+sum-within : (i n : ℕ) (f : ℕ → ℕ) → i ≤ n → sum_of i f ≤ sum_of n f
+sum-within i zero f low =
+    let same : i ≡ 0 = omega arith in
+    omega (arith, ap (λ m. sum_of m f) same)
+sum-within i (suc n) f low =
+    elim (eq-or-lt_of_le low) [
+      | inl same ↦ omega (arith, ap (λ m. sum_of m f) same)
+      | inr less ↦ let before = sum-within i n f (omega arith) in omega arith
+    ]
+
+-- The newer nodes of some slots are at most those below the inner node.
+pub bounded-exit : (height below : ℕ) (start : ℤ) (i : ℕ) (k : Past) (since first last : ℕ) → height ≡ suc below → is_inner height start (bag k) ≡ true → i < 64 → last ≤ first + sum_of (i + 1) (λ j. newer_nodes below (slot_start below start j) (is_inner (suc below) start) k since) → last ≤ first + newer_below height start k since
+bounded-exit height below start i k since first last e inner low few =
+    let f : ℕ → ℕ = λ j. newer_nodes below (slot_start below start j) (is_inner (suc below) start) k since in
+    let all = below-sum height below start k since 64 e inner refl in
+    let more = sum-within (i + 1) 64 f (omega arith) in
     omega arith

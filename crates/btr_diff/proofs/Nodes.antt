@@ -16,6 +16,8 @@ use Rattle.btr_tree.specs.declared.node.Node.{Node}
 use Rattle.btr_tree.specs.declared.node.Node.TheVariants.{Leaf, Inner}
 use Rattle.btr_tree.specs.declared.slots.Slots.{Slots}
 use Rattle.btr_tree.specs.Slots.{child_in}
+use Rattle.btr_tree.specs.Uncounted.{as_counted, IsUncountedVisit}
+use Rattle.btr_tree.specs.declared.uncounted.UncountedNode.{UncountedNode}
 use Rattle.btr_tree.specs.History.{Past, bag}
 use Rattle.btr_tree.specs.Nodes.{points_of, has_points, is_inner, node_version}
 use Rattle.btr_tree.specs.Shape.{slot_start, IsNode, IsLeaf, IsVisit}
@@ -35,6 +37,12 @@ found-none span child before after visit h is = visit.none refl span.height span
 
 pub found-node : (span : SpanValue) (child : Option NodeData) (n : Node) (before after : ℕ) → IsVisit child (Some n) before after → (h : Past) → IsChildOf span child h → IsNodeOf span n h
 found-node span child n before after visit h is = (is.0, visit.node span.height span.start is.0 h is.1)
+
+pub found-none_uncounted : (span : SpanValue) (child : Option NodeData) → IsUncountedVisit child None → (h : Past) → IsChildOf span child h → points_of span.height span.start (bag h) ≡ []
+found-none_uncounted span child visit h is = visit.none refl span.height span.start is.0 h is.1
+
+pub found-uncounted : (span : SpanValue) (child : Option NodeData) (n : UncountedNode) → IsUncountedVisit child (Some n) → (h : Past) → IsChildOf span child h → IsNodeOf span (as_counted n) h
+found-uncounted span child n visit h is = (is.0, visit.node span.height span.start is.0 h is.1)
 
 -- ---- Points.
 

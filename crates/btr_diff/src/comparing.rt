@@ -7,34 +7,36 @@ ghost use Rattle.btr_base.specs.Span.{SpanValue};
 ghost use Rattle.btr_tree.specs.Nodes.{above_root, node_version, up_to};
 ghost use Rattle.btr_tree.specs.Root.{IsTree};
 ghost use Rattle.btr_tree.specs.Slots.{node_of};
+ghost use Rattle.btr_tree.specs.Uncounted.{uncounted_child, uncounted_tree};
 ghost use Rattle.btr_tree.specs.Newer.{newer_nodes};
 ghost use Rattle.btr_diff.specs.Comparison.{BelongsTo, IsChildOf, IsNodeOf, Compares, VisitsBelow};
 
 use crate::comparison::Comparison;
 use crate::tree_walk::{compare_node, compare_with_points};
 use btr_base::{Ranges, Span};
-use btr_tree::{Child, Node, Steps, Tree, root_span, visit};
+use btr_tree::{Child, Node, Steps, Tree, Uncounted, UncountedChild, root_span, visit};
 use std::alloc::{AllocError, Global};
 
 /// Returns the longest runs of aligned slots of `2^p` ns in which some time has other points in the newer tree than in
 /// the older one (BTrDB's ComputeDiff). Equal points count each. `p` is 0 to 62, the caller's condition.
 ///
 /// The answer is exact if `old` is version `since` of the same stream as `new`. Of the newer tree the call visits the
-/// root, and else only nodes with a version above `since`; each is one step. Of the older tree it visits the nodes in
-/// the spans of those, which are not counted. An `Err` is out of memory.
-pub fn changes(
+/// root, and else only nodes with a version above `since`; each is one step. This holds after an `Err` too, which is out
+/// of memory. Of the older tree it visits the nodes in the spans of those, without a counter: `old` is what
+/// `Tree::uncounted` gives. The call is generic in the label `L`, so it cannot walk the newer tree without `steps`.
+pub fn changes<L>(
     alloc: Global,
-    old: &Tree,
+    old: Uncounted<'_>,
     new: &Tree,
     since: u64,
     p: u8,
-    steps: &mut Steps,
+    steps: &mut Steps<L>,
 ) -> Result<Ranges, AllocError>
     requires { p ≤ 62 }
-    ensures runs { IfOk result (λ r. (h k : Past) → IsTree h old.now → IsTree k new.now → h ≡ up_to since k
+    ensures runs { IfOk result (λ r. (h k : Past) → IsTree h (uncounted_tree old.entry) → IsTree k new.now → h ≡ up_to since k
         → r ≡ changes_of p (bag h) (bag k)) }
-    ensures bounded { OnOk result ((k : Past) → IsTree k new.now
-        → steps.new ≤ steps.old + 1 + newer_nodes 10 FIRST_TIME above_root k since) }
+    ensures bounded { (k : Past) → IsTree k new.now
+        → steps.new ≤ steps.old + 1 + newer_nodes 10 FIRST_TIME above_root k since }
     ensures never_falls { steps.old ≤ steps.new }
 {
     let mut out = Ranges::none(alloc);
@@ -52,20 +54,20 @@ pub fn changes(
 
 /// Adds to `out` the slots in which the trees differ in a span. Visits the newer node, and continues if its version is
 /// above `since`.
-fn compare_roots(
+fn compare_roots<L>(
     span: Span,
-    old: Child<'_>,
+    old: UncountedChild<'_>,
     new: Child<'_>,
     comparison: Comparison,
     out: &mut Ranges,
-    steps: &mut Steps,
+    steps: &mut Steps<L>,
 ) -> Result<(), AllocError>
     requires p { comparison.p ≤ 62 }
-    requires old { BelongsTo span (IsChildOf span (node_of old)) }
+    requires old { BelongsTo span (IsChildOf span (uncounted_child old)) }
     requires new { BelongsTo span (IsChildOf span (node_of new)) }
-    ensures adds { OnOk result (Compares comparison span (IsChildOf span (node_of old.entry)) (IsChildOf span (node_of new.entry))
+    ensures adds { OnOk result (Compares comparison span (IsChildOf span (uncounted_child old.entry)) (IsChildOf span (node_of new.entry))
         out.old out.new) }
-    ensures bounded { OnOk result (VisitsBelow comparison.since span (IsChildOf span (node_of new.entry)) (steps.old + 1) steps.new) }
+    ensures bounded { VisitsBelow comparison.since span (IsChildOf span (node_of new.entry)) (steps.old + 1) steps.new }
     ensures never_falls { steps.old ≤ steps.new }
 {
     match visit(new, steps) {

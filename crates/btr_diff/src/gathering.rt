@@ -2,11 +2,11 @@
 ghost use Rattle.std.specs.Prelude.{◌≡◌, ◌++◌, OnOk};
 ghost use Rattle.btr_tree.specs.History.{Past, bag};
 ghost use Rattle.btr_tree.specs.EachHistory.{points_in};
-ghost use Rattle.btr_tree.specs.Slots.{node_of};
+ghost use Rattle.btr_tree.specs.Uncounted.{uncounted_child, uncounted_slots};
 ghost use Rattle.btr_diff.specs.Comparison.{BelongsTo, IsChildOf, AreSlotsOf};
 
 use btr_base::{Point, Span};
-use btr_tree::{Child, Node, Slots, Steps, visit};
+use btr_tree::{UncountedChild, UncountedNode, UncountedSlots, visit_uncounted};
 use std::alloc::{AllocError, Global};
 
 /// Appends the points of a span to `out`, in order. It costs the nodes and points of the span.
@@ -14,18 +14,18 @@ use std::alloc::{AllocError, Global};
 fn gather_child(
     alloc: Global,
     span: Span,
-    child: Child<'_>,
+    child: UncountedChild<'_>,
     out: &mut Vec<Point>,
 ) -> Result<(), AllocError>
-    requires { BelongsTo span (IsChildOf span (node_of child)) }
-    ensures { OnOk result ((h : Past) → IsChildOf span (node_of child.entry) h
+    requires { BelongsTo span (IsChildOf span (uncounted_child child)) }
+    ensures { OnOk result ((h : Past) → IsChildOf span (uncounted_child child.entry) h
         → out.new.items ≡ out.old.items ++ points_in span (bag h)) }
 {
-    match visit(child, &mut Steps::new(alloc)) {
+    match visit_uncounted(child) {
         None => Ok(()),
         Some(node) => match node {
-            Node::Leaf { points, .. } => out.extend_from_slice(points),
-            Node::Inner { slots, .. } => gather_slots(alloc, span, slots, out),
+            UncountedNode::Leaf { points, .. } => out.extend_from_slice(points),
+            UncountedNode::Inner { slots, .. } => gather_slots(alloc, span, slots, out),
         },
     }
 }
@@ -35,11 +35,11 @@ fn gather_child(
 pub(crate) fn gather_slots(
     alloc: Global,
     span: Span,
-    slots: &Slots,
+    slots: UncountedSlots<'_>,
     out: &mut Vec<Point>,
 ) -> Result<(), AllocError>
-    requires { BelongsTo span (AreSlotsOf span slots.now) }
-    ensures { OnOk result ((h : Past) → AreSlotsOf span slots.now h
+    requires { BelongsTo span (AreSlotsOf span (uncounted_slots slots)) }
+    ensures { OnOk result ((h : Past) → AreSlotsOf span (uncounted_slots slots.entry) h
         → out.new.items ≡ out.old.items ++ points_in span (bag h)) }
 {
     let mut from = 0;

@@ -14,21 +14,21 @@ use std::alloc::AllocError;
 
 /// Adds to `out` the slots in which the points of the older tree in a span differ from those of the newer tree.
 #[cycle(leaf_walk)]
-fn compare_points_with_child(
+fn compare_points_with_child<L>(
     span: Span,
     old: &[Point],
     new: Child<'_>,
     comparison: Comparison,
     out: &mut Ranges,
-    steps: &mut Steps,
+    steps: &mut Steps<L>,
 ) -> Result<(), AllocError>
     requires p { comparison.p ≤ 62 }
     requires order { IsInOrder old.now }
     requires domain { AreInDomain old.now }
     requires new { BelongsTo span (IsChildOf span (node_of new)) }
     ensures adds { OnOk result (Compares comparison span (ArePointsOf span old.now) (IsChildOf span (node_of new.entry)) out.old out.new) }
-    ensures bounded { OnOk result ((v : ℕ) → comparison.since < v
-        → VisitsSlot comparison.since span v (node_of new.entry) steps.old steps.new) }
+    ensures bounded { (v : ℕ) → comparison.since < v
+        → VisitsSlot comparison.since span v (node_of new.entry) steps.old steps.new }
     ensures never_falls { steps.old ≤ steps.new }
 {
     match visit(new, steps) {
@@ -44,20 +44,20 @@ fn compare_points_with_child(
 
 /// Compares the points of the older tree with an inner node of the newer one, slot by slot.
 #[cycle(leaf_walk)]
-pub(crate) fn compare_points_with_slots(
+pub(crate) fn compare_points_with_slots<L>(
     span: Span,
     old: &[Point],
     new: &Slots,
     comparison: Comparison,
     out: &mut Ranges,
-    steps: &mut Steps,
+    steps: &mut Steps<L>,
 ) -> Result<(), AllocError>
     requires p { comparison.p ≤ 62 }
     requires order { IsInOrder old.now }
     requires domain { AreInDomain old.now }
     requires new { BelongsTo span (AreSlotsOf span new.now) }
     ensures adds { OnOk result (Compares comparison span (ArePointsOf span old.now) (AreSlotsOf span new.now) out.old out.new) }
-    ensures bounded { OnOk result (VisitsBelow comparison.since span (AreSlotsOf span new.now) steps.old steps.new) }
+    ensures bounded { VisitsBelow comparison.since span (AreSlotsOf span new.now) steps.old steps.new }
     ensures never_falls { steps.old ≤ steps.new }
 {
     for i in 0..FAN_OUT {
@@ -78,14 +78,14 @@ pub(crate) fn compare_points_with_slots(
 /// Compares those of the points that are in one slot with the newer tree. It skips the slot if its version is not above
 /// `since`.
 #[cycle(leaf_walk)]
-fn compare_points_with_slot(
+fn compare_points_with_slot<L>(
     span: Span,
     version: u64,
     old: &[Point],
     new: Child<'_>,
     comparison: Comparison,
     out: &mut Ranges,
-    steps: &mut Steps,
+    steps: &mut Steps<L>,
 ) -> Result<(), AllocError>
     requires p { comparison.p ≤ 62 }
     requires order { IsInOrder old.now }
@@ -93,7 +93,7 @@ fn compare_points_with_slot(
     requires new { BelongsTo span (IsChildOf span (node_of new)) }
     ensures adds { OnOk result (Compares comparison span (IncludesPointsOf span old.now) (IsSlotOf span version (node_of new.entry))
         out.old out.new) }
-    ensures bounded { OnOk result (VisitsSlot comparison.since span version (node_of new.entry) steps.old steps.new) }
+    ensures bounded { VisitsSlot comparison.since span version (node_of new.entry) steps.old steps.new }
     ensures never_falls { steps.old ≤ steps.new }
 {
     if version <= comparison.since {

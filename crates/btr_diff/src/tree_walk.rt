@@ -5,6 +5,7 @@ ghost use Rattle.btr_base.specs.Bag.{IsInOrder};
 ghost use Rattle.btr_tree.specs.History.{Past, bag};
 ghost use Rattle.btr_tree.specs.EachHistory.{points_in};
 ghost use Rattle.btr_tree.specs.Slots.{node_of};
+ghost use Rattle.btr_tree.specs.Uncounted.{uncounted_child, uncounted_slots};
 ghost use Rattle.btr_diff.specs.Comparison.{AddsChangedSlots, BelongsTo, Compares, VisitsBelow, VisitsSlot};
 ghost use Rattle.btr_diff.specs.Comparison.{IsChildOf, IsNodeOf, IsSlotOf, AreSlotsOf};
 
@@ -13,27 +14,30 @@ use crate::gathering::gather_slots;
 use crate::leaf_walk::compare_points_with_slots;
 use crate::points::compare_points;
 use btr_base::{FAN_OUT, Point, Ranges, Span};
-use btr_tree::{Child, Node, Slots, Steps, visit};
+use btr_tree::{
+    Child, Node, Slots, Steps, UncountedChild, UncountedNode, UncountedSlots, visit,
+    visit_uncounted,
+};
 use std::alloc::AllocError;
 
 /// Adds to `out` the slots in which the trees differ in a span. Visits the newer node, and below it those that are
 /// newer.
 #[cycle(tree_walk)]
-fn compare_child(
+fn compare_child<L>(
     span: Span,
-    old: Child<'_>,
+    old: UncountedChild<'_>,
     new: Child<'_>,
     comparison: Comparison,
     out: &mut Ranges,
-    steps: &mut Steps,
+    steps: &mut Steps<L>,
 ) -> Result<(), AllocError>
     requires p { comparison.p ≤ 62 }
-    requires old { BelongsTo span (IsChildOf span (node_of old)) }
+    requires old { BelongsTo span (IsChildOf span (uncounted_child old)) }
     requires new { BelongsTo span (IsChildOf span (node_of new)) }
-    ensures adds { OnOk result (Compares comparison span (IsChildOf span (node_of old.entry)) (IsChildOf span (node_of new.entry))
-        out.old out.new) }
-    ensures bounded { OnOk result ((v : ℕ) → comparison.since < v
-        → VisitsSlot comparison.since span v (node_of new.entry) steps.old steps.new) }
+    ensures adds { OnOk result (Compares comparison span (IsChildOf span (uncounted_child old.entry))
+        (IsChildOf span (node_of new.entry)) out.old out.new) }
+    ensures bounded { (v : ℕ) → comparison.since < v
+        → VisitsSlot comparison.since span v (node_of new.entry) steps.old steps.new }
     ensures never_falls { steps.old ≤ steps.new }
 {
     match visit(new, steps) {
@@ -44,19 +48,20 @@ fn compare_child(
 
 /// Compares the older tree with a node of the newer one that was visited.
 #[cycle(tree_walk)]
-pub(crate) fn compare_node(
+pub(crate) fn compare_node<L>(
     span: Span,
-    old: Child<'_>,
+    old: UncountedChild<'_>,
     new: Node<'_>,
     comparison: Comparison,
     out: &mut Ranges,
-    steps: &mut Steps,
+    steps: &mut Steps<L>,
 ) -> Result<(), AllocError>
     requires p { comparison.p ≤ 62 }
-    requires old { BelongsTo span (IsChildOf span (node_of old)) }
+    requires old { BelongsTo span (IsChildOf span (uncounted_child old)) }
     requires new { BelongsTo span (IsNodeOf span new) }
-    ensures adds { OnOk result (Compares comparison span (IsChildOf span (node_of old.entry)) (IsNodeOf span new.entry) out.old out.new) }
-    ensures bounded { OnOk result (VisitsBelow comparison.since span (IsNodeOf span new.entry) steps.old steps.new) }
+    ensures adds { OnOk result (Compares comparison span (IsChildOf span (uncounted_child old.entry))
+        (IsNodeOf span new.entry) out.old out.new) }
+    ensures bounded { VisitsBelow comparison.since span (IsNodeOf span new.entry) steps.old steps.new }
     ensures never_falls { steps.old ≤ steps.new }
 {
     match new {
@@ -67,47 +72,51 @@ pub(crate) fn compare_node(
 
 /// Compares the older tree with the slots of an inner node of the newer one.
 #[cycle(tree_walk)]
-fn compare_with_slots(
+fn compare_with_slots<L>(
     span: Span,
-    old: Child<'_>,
+    old: UncountedChild<'_>,
     new: &Slots,
     comparison: Comparison,
     out: &mut Ranges,
-    steps: &mut Steps,
+    steps: &mut Steps<L>,
 ) -> Result<(), AllocError>
     requires p { comparison.p ≤ 62 }
-    requires old { BelongsTo span (IsChildOf span (node_of old)) }
+    requires old { BelongsTo span (IsChildOf span (uncounted_child old)) }
     requires new { BelongsTo span (AreSlotsOf span new.now) }
-    ensures adds { OnOk result (Compares comparison span (IsChildOf span (node_of old.entry)) (AreSlotsOf span new.now) out.old out.new) }
-    ensures bounded { OnOk result (VisitsBelow comparison.since span (AreSlotsOf span new.now) steps.old steps.new) }
+    ensures adds { OnOk result (Compares comparison span (IsChildOf span (uncounted_child old.entry))
+        (AreSlotsOf span new.now) out.old out.new) }
+    ensures bounded { VisitsBelow comparison.since span (AreSlotsOf span new.now) steps.old steps.new }
     ensures never_falls { steps.old ≤ steps.new }
 {
-    match visit(old, &mut Steps::new(comparison.alloc)) {
+    match visit_uncounted(old) {
         None => compare_points_with_slots(span, &[], new, comparison, out, steps),
         Some(node) => match node {
-            Node::Leaf { points, .. } => {
+            UncountedNode::Leaf { points, .. } => {
                 compare_points_with_slots(span, points, new, comparison, out, steps)
             }
-            Node::Inner { slots, .. } => compare_slots(span, slots, new, comparison, out, steps),
+            UncountedNode::Inner { slots, .. } => compare_slots(
+                span, slots, new, comparison, out, steps,
+            ),
         },
     }
 }
 
 /// Compares two inner nodes slot by slot.
 #[cycle(tree_walk)]
-fn compare_slots(
+fn compare_slots<L>(
     span: Span,
-    old: &Slots,
+    old: UncountedSlots<'_>,
     new: &Slots,
     comparison: Comparison,
     out: &mut Ranges,
-    steps: &mut Steps,
+    steps: &mut Steps<L>,
 ) -> Result<(), AllocError>
     requires p { comparison.p ≤ 62 }
-    requires old { BelongsTo span (AreSlotsOf span old.now) }
+    requires old { BelongsTo span (AreSlotsOf span (uncounted_slots old)) }
     requires new { BelongsTo span (AreSlotsOf span new.now) }
-    ensures adds { OnOk result (Compares comparison span (AreSlotsOf span old.now) (AreSlotsOf span new.now) out.old out.new) }
-    ensures bounded { OnOk result (VisitsBelow comparison.since span (AreSlotsOf span new.now) steps.old steps.new) }
+    ensures adds { OnOk result (Compares comparison span (AreSlotsOf span (uncounted_slots old.entry))
+        (AreSlotsOf span new.now) out.old out.new) }
+    ensures bounded { VisitsBelow comparison.since span (AreSlotsOf span new.now) steps.old steps.new }
     ensures never_falls { steps.old ≤ steps.new }
 {
     for i in 0..FAN_OUT {
@@ -127,21 +136,21 @@ fn compare_slots(
 
 /// Compares the trees in one slot. It skips the slot if its version is not above `since`.
 #[cycle(tree_walk)]
-fn compare_slot(
+fn compare_slot<L>(
     span: Span,
     version: u64,
-    old: Child<'_>,
+    old: UncountedChild<'_>,
     new: Child<'_>,
     comparison: Comparison,
     out: &mut Ranges,
-    steps: &mut Steps,
+    steps: &mut Steps<L>,
 ) -> Result<(), AllocError>
     requires p { comparison.p ≤ 62 }
-    requires old { BelongsTo span (IsChildOf span (node_of old)) }
+    requires old { BelongsTo span (IsChildOf span (uncounted_child old)) }
     requires new { BelongsTo span (IsChildOf span (node_of new)) }
-    ensures adds { OnOk result (Compares comparison span (IsChildOf span (node_of old.entry)) (IsSlotOf span version (node_of new.entry))
-        out.old out.new) }
-    ensures bounded { OnOk result (VisitsSlot comparison.since span version (node_of new.entry) steps.old steps.new) }
+    ensures adds { OnOk result (Compares comparison span (IsChildOf span (uncounted_child old.entry))
+        (IsSlotOf span version (node_of new.entry)) out.old out.new) }
+    ensures bounded { VisitsSlot comparison.since span version (node_of new.entry) steps.old steps.new }
     ensures never_falls { steps.old ≤ steps.new }
 {
     if version <= comparison.since {
@@ -153,23 +162,23 @@ fn compare_slot(
 /// Adds to `out` the slots in which the points of a span in the older tree differ from `new`.
 pub(crate) fn compare_with_points(
     span: Span,
-    old: Child<'_>,
+    old: UncountedChild<'_>,
     new: &[Point],
     comparison: Comparison,
     out: &mut Ranges,
 ) -> Result<(), AllocError>
     requires p { comparison.p ≤ 62 }
-    requires old { BelongsTo span (IsChildOf span (node_of old)) }
+    requires old { BelongsTo span (IsChildOf span (uncounted_child old)) }
     requires order { IsInOrder new.now }
     requires domain { AreInDomain new.now }
-    ensures { OnOk result ((h : Past) → IsChildOf span (node_of old.entry) h
+    ensures { OnOk result ((h : Past) → IsChildOf span (uncounted_child old.entry) h
         → AddsChangedSlots comparison.p out.old out.new (points_in span (bag h)) new.now) }
 {
-    match visit(old, &mut Steps::new(comparison.alloc)) {
+    match visit_uncounted(old) {
         None => compare_points(&[], new, comparison.p, out),
         Some(node) => match node {
-            Node::Leaf { points, .. } => compare_points(points, new, comparison.p, out),
-            Node::Inner { slots, .. } => {
+            UncountedNode::Leaf { points, .. } => compare_points(points, new, comparison.p, out),
+            UncountedNode::Inner { slots, .. } => {
                 let mut points = Vec::new(comparison.alloc);
                 gather_slots(comparison.alloc, span, slots, &mut points)?;
                 compare_points(&points, new, comparison.p, out)

@@ -11,8 +11,13 @@ use crate::sight::Sight;
 use btr_base::Ranges;
 use btr_diff::changes;
 use btr_hist::Spec;
-use btr_tree::{Steps, Tree};
+use btr_tree::{Label, Steps, Tree};
 use std::alloc::{AllocError, Global};
+
+/// The label of the counters of walks over inputs.
+struct InputWalk;
+
+impl Label for InputWalk {}
 
 /// The times at which the output may differ: where an input differs, widened.
 pub(crate) fn affected(alloc: Global, sight: &Sight<'_>) -> Result<Ranges, AllocError>
@@ -77,7 +82,14 @@ fn changed(
     ensures { IfOk result (λ r. (before after : List Point) → IsInput since old.now new.now before after
         → r ≡ changes_of grain before after) }
 {
-    let mut steps = Steps::new(alloc);
-    let slots = changes(alloc, old, new, since, grain, &mut steps)?;
+    let mut steps = Steps::<InputWalk>::new();
+    let slots = changes(
+        alloc,
+        old.uncounted::<InputWalk>(),
+        new,
+        since,
+        grain,
+        &mut steps,
+    )?;
     Ok(slots)
 }

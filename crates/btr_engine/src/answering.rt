@@ -12,9 +12,14 @@ use btr_base::{MAX_EXPONENT, MAX_WIDTH, Range, Toward};
 use btr_diff::changes;
 use btr_hist::{Answer, At, CellList, PointList, Query, Refusal, Rows, StreamList, StreamRow};
 use btr_scan::{nearest, range};
-use btr_tree::{Steps, Tree};
+use btr_tree::{Label, Steps, Tree};
 use btr_window::{aligned, windows};
 use std::alloc::{AllocError, Global};
+
+/// The label of the counters of walks that answer questions.
+struct AnswerWalk;
+
+impl Label for AnswerWalk {}
 
 impl Board {
     /// Answers a question. It costs the nodes of the tree that the question needs, and its rows. The list of all streams costs
@@ -97,7 +102,7 @@ impl Board {
             Ok(asked) => asked,
             Err(refusal) => return Ok(Answer::Refused(refusal)),
         };
-        let mut steps = Steps::new(alloc);
+        let mut steps = Steps::<AnswerWalk>::new();
         let mut found = Vec::new(alloc);
         if let Some(point) = nearest(tree, time, toward, &mut steps) {
             found.push(point)?;
@@ -182,7 +187,8 @@ impl Board {
             Ok(asked) => asked,
             Err(refusal) => return Ok(Answer::Refused(refusal)),
         };
-        let mut steps = Steps::new(alloc);
+        let mut steps = Steps::<AnswerWalk>::new();
+        let older = older.uncounted::<AnswerWalk>();
         let found = changes(alloc, older, newer, old, p, &mut steps)?;
         Ok(Answer::Found {
             version,

@@ -24,8 +24,13 @@ use crate::board::{Board, PushFault, Receipt, Staged, Stream, read_at};
 use btr_base::{Bag, MAX_STREAMS, MAX_VERSIONS, Ranges};
 use btr_board::Trail;
 use btr_hist::{Entry, Reads, Rejection, Spec, change_rejection, distillate_change_rejection};
-use btr_tree::{Steps, Tree, TreeFault};
+use btr_tree::{Label, Steps, Tree, TreeFault};
 use std::alloc::{AllocError, Global};
+
+/// The label of the counters of the nodes that a staged commit writes.
+struct StageWalk;
+
+impl Label for StageWalk {}
 
 impl Board {
     /// Makes the next board, with an entry more, if the entry may follow. This board stays as it is.
@@ -457,7 +462,7 @@ fn next_tree(
     let Some(last) = trees.get(latest) else {
         unreachable!()
     };
-    let mut steps = Steps::new(alloc);
+    let mut steps = Steps::<StageWalk>::new();
     match last.apply(alloc, cut, added, latest as u64 + 1, &mut steps) {
         Ok(applied) => Ok(applied.tree),
         Err(fault) => Err(push_fault(fault)),

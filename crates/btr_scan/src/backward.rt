@@ -15,7 +15,11 @@ use btr_base::{END, FAN_OUT, FIRST, Point, Span, parted};
 use btr_tree::{Child, Node, Slots, Steps, root_span, visit};
 
 /// Returns the last point of the tree before a time. It visits at most 21 nodes.
-pub(crate) fn previous_in_root(child: Child<'_>, time: i64, steps: &mut Steps) -> Option<Point>
+pub(crate) fn previous_in_root<L>(
+    child: Child<'_>,
+    time: i64,
+    steps: &mut Steps<L>,
+) -> Option<Point>
     requires { IsSomeChild 10 FIRST_TIME (node_of child) 0 }
     ensures point { (h : Past) → IsChild 10 FIRST_TIME above_root h (node_of child.entry) → AreInDomain (bag h)
         → result ≡ last_or None (filter (λ p. int_lt p.time time) (bag h)) }
@@ -34,7 +38,12 @@ pub(crate) fn previous_in_root(child: Child<'_>, time: i64, steps: &mut Steps) -
 /// Returns the last point of a child before a time, which is above the span's start and at most its end. It visits at most
 /// two nodes a height, and at most one if it finds none.
 #[cycle(previous)]
-fn previous_in_child(span: Span, child: Child<'_>, time: i64, steps: &mut Steps) -> Option<Point>
+fn previous_in_child<L>(
+    span: Span,
+    child: Child<'_>,
+    time: i64,
+    steps: &mut Steps<L>,
+) -> Option<Point>
     requires some { IsSomeChild span.height span.start (node_of child) 0 }
     requires begins { span.start <ℤ time }
     requires ends { time ≤ℤ end_of span }
@@ -55,7 +64,7 @@ fn previous_in_child(span: Span, child: Child<'_>, time: i64, steps: &mut Steps)
 /// Returns the last point of an inner node before a time: of the last slot that begins before the time, or else of the slots
 /// before that one.
 #[cycle(previous)]
-fn previous_in_slots(span: Span, slots: &Slots, time: i64, steps: &mut Steps) -> Option<Point>
+fn previous_in_slots<L>(span: Span, slots: &Slots, time: i64, steps: &mut Steps<L>) -> Option<Point>
     requires some { (below : ℕ) × (span.height ≡ suc below) × AreSomeSlots below span.start slots.now 0 }
     requires begins { span.start <ℤ time }
     requires ends { time ≤ℤ end_of span }
@@ -73,7 +82,7 @@ fn previous_in_slots(span: Span, slots: &Slots, time: i64, steps: &mut Steps) ->
 
 /// Returns the last point of a child. It visits at most one node a height.
 #[cycle(last)]
-fn last_in_child(span: Span, child: Child<'_>, steps: &mut Steps) -> Option<Point>
+fn last_in_child<L>(span: Span, child: Child<'_>, steps: &mut Steps<L>) -> Option<Point>
     requires { IsSomeChild span.height span.start (node_of child) 0 }
     ensures point { AtEachHistory span (node_of child.entry) (λ h. result ≡ last_or None (points_in span (bag h))) }
     ensures bounded { steps.new ≤ steps.old + span.height + 1 }
@@ -87,7 +96,7 @@ fn last_in_child(span: Span, child: Child<'_>, steps: &mut Steps) -> Option<Poin
 
 /// Returns the last point of the slots of an inner node with a number below `to`. It visits no node if it finds none.
 #[cycle(last)]
-fn last_in_slots(span: Span, slots: &Slots, to: u8, steps: &mut Steps) -> Option<Point>
+fn last_in_slots<L>(span: Span, slots: &Slots, to: u8, steps: &mut Steps<L>) -> Option<Point>
     requires some { (below : ℕ) × (span.height ≡ suc below) × AreSomeSlots below span.start slots.now 0 }
     requires place { to ≤ 64 }
     ensures point { (below : ℕ) (h : Past) → span.height ≡ suc below → HasSlots below span.start h slots.now

@@ -14,7 +14,7 @@ use btr_base::{END, FIRST, Point, Span, parted};
 use btr_tree::{Child, Node, Slots, Steps, root_span, visit};
 
 /// Returns the first point of the tree at or after a time. It visits at most 21 nodes.
-pub(crate) fn next_in_root(child: Child<'_>, time: i64, steps: &mut Steps) -> Option<Point>
+pub(crate) fn next_in_root<L>(child: Child<'_>, time: i64, steps: &mut Steps<L>) -> Option<Point>
     requires { IsSomeChild 10 FIRST_TIME (node_of child) 0 }
     ensures point { (h : Past) → IsChild 10 FIRST_TIME above_root h (node_of child.entry) → AreInDomain (bag h)
         → result ≡ slice_get (filter (λ p. int_le time p.time) (bag h)) 0 }
@@ -33,7 +33,7 @@ pub(crate) fn next_in_root(child: Child<'_>, time: i64, steps: &mut Steps) -> Op
 /// Returns the first point of a child at or after a time of its span. It visits at most two nodes a height, and at most one
 /// if it finds none.
 #[cycle(next)]
-fn next_in_child(span: Span, child: Child<'_>, time: i64, steps: &mut Steps) -> Option<Point>
+fn next_in_child<L>(span: Span, child: Child<'_>, time: i64, steps: &mut Steps<L>) -> Option<Point>
     requires some { IsSomeChild span.height span.start (node_of child) 0 }
     requires begins { span.start ≤ℤ time }
     requires ends { time <ℤ end_of span }
@@ -54,7 +54,7 @@ fn next_in_child(span: Span, child: Child<'_>, time: i64, steps: &mut Steps) -> 
 /// Returns the first point of an inner node at or after a time: of the slot that the time lies in, or else of the slots after
 /// that one.
 #[cycle(next)]
-fn next_in_slots(span: Span, slots: &Slots, time: i64, steps: &mut Steps) -> Option<Point>
+fn next_in_slots<L>(span: Span, slots: &Slots, time: i64, steps: &mut Steps<L>) -> Option<Point>
     requires some { (below : ℕ) × (span.height ≡ suc below) × AreSomeSlots below span.start slots.now 0 }
     requires begins { span.start ≤ℤ time }
     requires ends { time <ℤ end_of span }
@@ -72,7 +72,7 @@ fn next_in_slots(span: Span, slots: &Slots, time: i64, steps: &mut Steps) -> Opt
 
 /// Returns the first point of a child. It visits at most one node a height.
 #[cycle(first)]
-fn first_in_child(span: Span, child: Child<'_>, steps: &mut Steps) -> Option<Point>
+fn first_in_child<L>(span: Span, child: Child<'_>, steps: &mut Steps<L>) -> Option<Point>
     requires { IsSomeChild span.height span.start (node_of child) 0 }
     ensures point { AtEachHistory span (node_of child.entry) (λ h. result ≡ slice_get (points_in span (bag h)) 0) }
     ensures bounded { steps.new ≤ steps.old + span.height + 1 }
@@ -87,7 +87,7 @@ fn first_in_child(span: Span, child: Child<'_>, steps: &mut Steps) -> Option<Poi
 /// Returns the first point of the slots of an inner node with a number of at least `from`. It visits no node if it finds
 /// none.
 #[cycle(first)]
-fn first_in_slots(span: Span, slots: &Slots, from: u8, steps: &mut Steps) -> Option<Point>
+fn first_in_slots<L>(span: Span, slots: &Slots, from: u8, steps: &mut Steps<L>) -> Option<Point>
     requires some { (below : ℕ) × (span.height ≡ suc below) × AreSomeSlots below span.start slots.now 0 }
     requires place { from ≤ 64 }
     ensures point { (below : ℕ) (h : Past) → span.height ≡ suc below → HasSlots below span.start h slots.now

@@ -13,7 +13,7 @@ use btr_tree::{Steps, Tree};
 /// Forward this is the first point at or after the time, backward the last point before it, by time and value. Returns `None`
 /// if there is no such point. Any `i64` may be asked. It visits at most 21 nodes, each of which is one step, and takes no
 /// memory.
-pub fn nearest(tree: &Tree, time: i64, toward: Toward, steps: &mut Steps) -> Option<Point>
+pub fn nearest<L>(tree: &Tree, time: i64, toward: Toward, steps: &mut Steps<L>) -> Option<Point>
     ensures point { AtEachTree tree.now (λ h. result ≡ nearest_in toward time (bag h)) }
     ensures bounded { steps.new ≤ steps.old + 21 }
     ensures never_falls { steps.old ≤ steps.new }

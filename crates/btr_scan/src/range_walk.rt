@@ -8,8 +8,13 @@ ghost use Rattle.btr_tree.specs.Root.{AtEachTree};
 ghost use Rattle.btr_tree.specs.Slots.{node_of};
 
 use btr_base::{END, FIRST, Point, Range, Span, points_between};
-use btr_tree::{Child, Node, Slots, Steps, Tree, root_span, visit};
+use btr_tree::{Child, Label, Node, Slots, Steps, Tree, root_span, visit};
 use std::alloc::{AllocError, Global};
+
+/// The label of the counters of walks over a range, on whose nodes no bound is claimed.
+struct RangeWalk;
+
+impl Label for RangeWalk {}
 
 /// Returns the points of a version with `from <= time < to`, by time and value (BTrDB's GetRange). Equal points each count.
 /// The cost is its points, and the nodes on the way to the two ends of the range. An `Err` is out of memory.
@@ -17,7 +22,7 @@ pub fn range(alloc: Global, tree: &Tree, range: Range) -> Result<Vec<Point>, All
     ensures { IfOk result (λ v. AtEachTree tree.now (λ h. v.items ≡ within range.from range.to (bag h))) }
 {
     let mut rows = Vec::new(alloc);
-    let mut steps = Steps::new(alloc);
+    let mut steps = Steps::<RangeWalk>::new();
     prove!(FIRST < range.to && range.from < END);
     walk_child(root_span(), tree.root(), range, &mut rows, &mut steps)?;
     Ok(rows)
@@ -25,12 +30,12 @@ pub fn range(alloc: Global, tree: &Tree, range: Range) -> Result<Vec<Point>, All
 
 /// Appends the points of a child whose times are in a range that meets the span.
 #[cycle(walk)]
-fn walk_child(
+fn walk_child<L>(
     span: Span,
     child: Child<'_>,
     range: Range,
     rows: &mut Vec<Point>,
-    steps: &mut Steps,
+    steps: &mut Steps<L>,
 ) -> Result<(), AllocError>
     requires some { IsSomeChild span.height span.start (node_of child) 0 }
     requires begins { range.from <ℤ end_of span }
@@ -52,12 +57,12 @@ fn walk_child(
 /// Appends the points of an inner node whose times are in a range. It walks from one slot with a point to the next, through
 /// those that meet the range.
 #[cycle(walk)]
-fn walk_slots(
+fn walk_slots<L>(
     span: Span,
     slots: &Slots,
     range: Range,
     rows: &mut Vec<Point>,
-    steps: &mut Steps,
+    steps: &mut Steps<L>,
 ) -> Result<(), AllocError>
     requires some { (below : ℕ) × (span.height ≡ suc below) × AreSomeSlots below span.start slots.now 0 }
     requires begins { range.from <ℤ end_of span }

@@ -6,16 +6,22 @@ use Rattle.btr_tree.specs.declared.node.Node.TheVariants as seen
 use Rattle.btr_tree.specs.declared.node.NodeData.{NodeData}
 use Rattle.btr_tree.specs.declared.slots.Slots.{Slots}
 use Rattle.btr_tree.specs.declared.uncounted.Uncounted.{Uncounted}
+use Rattle.btr_tree.specs.declared.uncounted.UncountedChild.{UncountedChild}
 use Rattle.btr_tree.specs.declared.uncounted.UncountedNode.{UncountedNode}
 use Rattle.btr_tree.specs.declared.uncounted.UncountedNode.TheVariants.{Leaf, Inner}
 use Rattle.btr_tree.specs.declared.uncounted.UncountedSlots.{UncountedSlots}
 use Rattle.btr_tree.specs.History.{Past, bag}
 use Rattle.btr_tree.specs.Nodes.{points_of}
+use Rattle.btr_tree.specs.Root.{TreeValue}
 use Rattle.btr_tree.specs.Shape.{IsChild, IsNode}
 use Rattle.btr_tree.specs.Slots.{node_of}
 
+-- The tree that is walked without a counter.
+abbrev pub uncounted_tree : Uncounted → TreeValue
+uncounted_tree t = t.tree.now
+
 -- The node of a link that is visited without a counter, if there is one.
-abbrev pub uncounted_child : Uncounted → Option NodeData
+abbrev pub uncounted_child : UncountedChild → Option NodeData
 uncounted_child link = node_of link.child
 
 -- The slots of a node that was visited without a counter.

@@ -5,7 +5,9 @@
 //! and the child of each of its 64 slots. In memory it keeps only the slots that have a point, or a version other than one
 //! that it keeps once. Versions share what a commit does not touch, and any thread can read them.
 //!
-//! Links to nodes are opaque: [`visit`] is the only way to a node, and it counts each node in a [`Steps`].
+//! Links to nodes are opaque: [`visit`] counts each node in a [`Steps`]. Only a call that knows a type with [`Label`] can make a
+//! counter. All calls here are generic in the label, so they count with their caller's counter. One call makes nodes, and it
+//! counts each. A walk without a counter goes through a tree that its caller hands in as [`Uncounted`].
 //!
 //! The definitions say over a past as plain data which spans are nodes, and the versions of nodes and slots. A past is a base
 //! and the commits since. The crate knows no bytes, no device and no other stream.
@@ -41,4 +43,4 @@ pub use root::root_span;
 pub use slots::Slots;
 pub use steps::{Label, Steps};
 pub use tree::{Applied, Tree};
-pub use uncounted::{Uncounted, UncountedNode, UncountedSlots, visit_uncounted};
+pub use uncounted::{Uncounted, UncountedChild, UncountedNode, UncountedSlots, visit_uncounted};

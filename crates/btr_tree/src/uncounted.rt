@@ -8,7 +8,7 @@ ghost use Rattle.btr_tree.specs.Nodes.{above_root};
 ghost use Rattle.btr_tree.specs.Root.{AtEachTree};
 ghost use Rattle.btr_tree.specs.Shape.{IsChild, IsNodeData};
 ghost use Rattle.btr_tree.specs.Slots.{child_in, IsNextOccupied};
-ghost use Rattle.btr_tree.specs.Uncounted.{uncounted_child, uncounted_slots, IsUncountedNode, IsUncountedVisit};
+ghost use Rattle.btr_tree.specs.Uncounted.{uncounted_tree, uncounted_child, uncounted_slots, IsUncountedNode, IsUncountedVisit};
 
 use crate::node::{Child, NodeData};
 use crate::slots::Slots;
@@ -16,10 +16,16 @@ use crate::steps::Label;
 use crate::tree::Tree;
 use btr_base::Point;
 
-/// The link to the node of a span, which can be visited without a counter. Only a call that can make a counter can make it of
-/// a tree. So a call that is generic in its label walks without a counter only through the trees that its caller names.
+/// A tree whose nodes can be visited without a counter. Only a call that can make a counter can make it of a tree. So a call
+/// that is generic in its label walks without a counter only through the trees that its caller names.
 #[derive(Clone, Copy)]
 pub struct Uncounted<'a> {
+    tree: &'a Tree,
+}
+
+/// The link to the node of a span, which can be visited without a counter.
+#[derive(Clone, Copy)]
+pub struct UncountedChild<'a> {
     child: Child<'a>,
 }
 
@@ -46,17 +52,28 @@ pub struct UncountedSlots<'a> {
 }
 
 impl Tree {
-    /// The link to the root, as [`Tree::root`] gives it, for walks without a counter. `M` is a label of the caller's own.
+    /// The same tree for walks without a counter. `M` is a label of the caller's own.
     pub fn uncounted<M: Label>(&self) -> Uncounted<'_>
-        ensures child { AtEachTree self.now (λ h. IsChild 10 FIRST_TIME above_root h (uncounted_child result)) }
+        ensures { uncounted_tree result ≡ self.now }
+    {
+        Uncounted { tree: self }
+    }
+}
+
+impl<'a> Uncounted<'a> {
+    /// The link to the root, whose span is the whole domain, in constant time. It takes no memory.
+    pub fn root(self) -> UncountedChild<'a>
+        ensures child { AtEachTree (uncounted_tree self.entry) (λ h. IsChild 10 FIRST_TIME above_root h (uncounted_child result)) }
         ensures some { IsSomeChild 10 FIRST_TIME (uncounted_child result) 0 }
     {
-        Uncounted { child: self.root() }
+        UncountedChild {
+            child: self.tree.root(),
+        }
     }
 }
 
 /// Visits the node of a span without a counter. Returns `None` if the span has no point. It takes constant time and no memory.
-pub fn visit_uncounted<'a>(link: Uncounted<'a>) -> Option<UncountedNode<'a>>
+pub fn visit_uncounted<'a>(link: UncountedChild<'a>) -> Option<UncountedNode<'a>>
     ensures { IsUncountedVisit (uncounted_child link.entry) result }
 {
     match link.child.node {
@@ -84,11 +101,11 @@ fn seen<'a>(node: &'a NodeData) -> UncountedNode<'a>
 
 impl<'a> UncountedSlots<'a> {
     /// The link to the child of a slot, in constant time. It takes no memory.
-    pub fn child(self, i: u8) -> Uncounted<'a>
+    pub fn child(self, i: u8) -> UncountedChild<'a>
         requires { i < 64 }
         ensures { uncounted_child result ≡ child_in (uncounted_slots self.entry) i }
     {
-        Uncounted {
+        UncountedChild {
             child: self.slots.child(i),
         }
     }

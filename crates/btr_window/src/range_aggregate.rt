@@ -14,7 +14,7 @@ use btr_tree::{Child, Node, Slots, Steps, Tree, root_span, visit};
 
 /// Returns the aggregate of the points of a version with `from <= time < to`. It visits at most 21 nodes, each one
 /// step: those on the way to the two ends of the range. It takes no memory.
-pub fn aggregate(tree: &Tree, range: Range, steps: &mut Steps) -> Agg
+pub fn aggregate<L>(tree: &Tree, range: Range, steps: &mut Steps<L>) -> Agg
     ensures agg { (h : Past) → IsTree h tree.now → result ≡ agg_within range.from range.to (bag h) }
     ensures bounded { steps.new ≤ steps.old + 21 }
     ensures never_falls { steps.old ≤ steps.new }
@@ -26,7 +26,7 @@ pub fn aggregate(tree: &Tree, range: Range, steps: &mut Steps) -> Agg
 /// Returns the aggregate of the points of a span in a range that meets it. It visits the node of the span, and below
 /// it, for each end of the range inside the span, one node at each height.
 #[cycle(range_aggregate)]
-fn agg_in_child(span: Span, child: Child<'_>, range: Range, steps: &mut Steps) -> Agg
+fn agg_in_child<L>(span: Span, child: Child<'_>, range: Range, steps: &mut Steps<L>) -> Agg
     requires some { IsSomeChild span.height span.start (node_of child) 0 }
     requires begins { range.from <ℤ end_of span }
     requires ends { span.start <ℤ range.to }
@@ -47,7 +47,7 @@ fn agg_in_child(span: Span, child: Child<'_>, range: Range, steps: &mut Steps) -
 
 /// Returns the aggregate of the points of an inner node in a range, slot by slot.
 #[cycle(range_aggregate)]
-fn agg_in_slots(span: Span, slots: &Slots, range: Range, steps: &mut Steps) -> Agg
+fn agg_in_slots<L>(span: Span, slots: &Slots, range: Range, steps: &mut Steps<L>) -> Agg
     requires some { (below : ℕ) × (span.height ≡ suc below) × AreSomeSlots below span.start slots.now 0 }
     requires begins { range.from <ℤ end_of span }
     requires ends { span.start <ℤ range.to }
@@ -67,7 +67,7 @@ fn agg_in_slots(span: Span, slots: &Slots, range: Range, steps: &mut Steps) -> A
 /// Returns the aggregate of the points of slot `i`, which has this span, in a range. It visits no node if the slot has no
 /// point or is inside the range.
 #[cycle(range_aggregate)]
-fn agg_in_slot(span: Span, slots: &Slots, i: u8, range: Range, steps: &mut Steps) -> Agg
+fn agg_in_slot<L>(span: Span, slots: &Slots, i: u8, range: Range, steps: &mut Steps<L>) -> Agg
     requires place { i < 64 }
     requires some { IsSomeSlot span.height span.start (slot_in slots.now i) (child_in slots.now i) 0 }
     requires begins { range.from <ℤ end_of span }

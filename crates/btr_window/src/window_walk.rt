@@ -13,8 +13,13 @@ use crate::accumulate::{add_part, add_points, start_around};
 use crate::inside::is_inside;
 use crate::whole_windows::whole_windows;
 use btr_base::{Cell, END, FIRST, Grid, Range, Span, points_between};
-use btr_tree::{Child, Node, Slots, Steps, Tree, root_span, visit};
+use btr_tree::{Child, Label, Node, Slots, Steps, Tree, root_span, visit};
 use std::alloc::{AllocError, Global};
+
+/// The label of the counters of walks over windows, on whose nodes no bound is claimed.
+struct WindowWalk;
+
+impl Label for WindowWalk {}
 
 /// Returns the aligned windows that meet a range and have a point, in order, each whole: those of `2^p` ns from the
 /// first time of the domain on (BTrDB's GetStatisticalRange). `p` is 0 to 62, the caller's condition.
@@ -97,7 +102,7 @@ fn walk_child(
         AddsWithin grid range cells.old.items cells.new.items (points_in span (bag h)))) }
     ensures starts { OnOk result (AreStarts grid cells.new.items) }
 {
-    match visit(child, &mut Steps::new(alloc)) {
+    match visit(child, &mut Steps::<WindowWalk>::new()) {
         None => Ok(()),
         Some(node) => match node {
             Node::Leaf { points, .. } => {

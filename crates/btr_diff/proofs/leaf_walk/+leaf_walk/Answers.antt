@@ -12,76 +12,75 @@ use Rattle.btr_tree.specs.Slots.{node_of}
 use Rattle.btr_diff.proofs.ChangedSlots.{adds-none}
 use Rattle.btr_diff.proofs.Nodes.{found-node, leaf-points, points-order, points-domain, node-some, inner-slots, child-belongs}
 use Rattle.btr_diff.proofs.Slots.{adds-as, adds-first, adds-slot, adds-done, slot-belongs, slot-points, points-here}
-use Rattle.btr_diff.proofs.Newer.{newer-slot, below-sum, bounded-slot}
+use Rattle.btr_diff.proofs.Newer.{newer-slot, below-sum, bounded-slot, bounded-exit}
 use Rattle.btr_diff.proofs.leaf_walk.+leaf_walk.Goals as goal
 
 -- ---- One child.
 
 pub compare_points_with_child-compare_points-requires-in-Leaf-clause-new_order : goal.compare_points_with_child-compare_points-requires-in-Leaf-clause-new_order
-compare_points_with_child-compare_points-requires-in-Leaf-clause-new_order t c =
+compare_points_with_child-compare_points-requires-in-Leaf-clause-new_order over t c =
     let new = c.requires.new in
     points-order c.args.span new.past c.in-Leaf.points.now (leaf-points c.args.span new.past c.in-Some.node c.in-Leaf.version c.in-Leaf.points c.in-Leaf.is (found-node c.args.span (node_of c.args.new) c.in-Some.node _ _ c.in-Some.ensures new.past new.holds))
 
 pub compare_points_with_child-compare_points-requires-in-Leaf-clause-new_domain : goal.compare_points_with_child-compare_points-requires-in-Leaf-clause-new_domain
-compare_points_with_child-compare_points-requires-in-Leaf-clause-new_domain t c =
+compare_points_with_child-compare_points-requires-in-Leaf-clause-new_domain over t c =
     let new = c.requires.new in
     points-domain c.args.span new.past c.in-Leaf.points.now new.inside (leaf-points c.args.span new.past c.in-Some.node c.in-Leaf.version c.in-Leaf.points c.in-Leaf.is (found-node c.args.span (node_of c.args.new) c.in-Some.node _ _ c.in-Some.ensures new.past new.holds))
 
 pub compare_points_with_child-compare_points_with_slots-requires : goal.compare_points_with_child-compare_points_with_slots-requires
-compare_points_with_child-compare_points_with_slots-requires t c =
+compare_points_with_child-compare_points_with_slots-requires over t c κs outlives =
     let new = c.requires.new in
     let d = c.decreases in
     let slots = inner-slots c.args.span new.past c.in-Some.node c.in-Inner.version c.in-Inner.slots c.in-Inner.is (found-node c.args.span (node_of c.args.new) c.in-Some.node _ _ c.in-Some.ensures new.past new.holds) in
-    (omega arith, (c.requires.p, (c.requires.order, (c.requires.domain, record { inside = new.inside; past = new.past; holds = slots }))))
+    (omega arith, (outlives, (c.requires.p, (c.requires.order, (c.requires.domain, record { inside = new.inside; past = new.past; holds = slots })))))
 
 pub compare_points_with_child-returns-in-Leaf-clause-adds : goal.compare_points_with_child-returns-in-Leaf-clause-adds
-compare_points_with_child-returns-in-Leaf-clause-adds t c =
+compare_points_with_child-returns-in-Leaf-clause-adds over t c =
     let span = c.args.span in
     on_ok_weaker c.compare_points-in-Leaf.result (λ e h g same child agree.
     adds-as c.args.comparison.p c.args.out.now c.compare_points-in-Leaf.new.out _ _ _ _ same (leaf-points span g c.in-Some.node c.in-Leaf.version c.in-Leaf.points c.in-Leaf.is (found-node span (node_of c.args.new) c.in-Some.node _ _ c.in-Some.ensures g child)) e) c.compare_points-in-Leaf.ensures
 
 pub compare_points_with_child-returns-in-Leaf-clause-bounded : goal.compare_points_with_child-returns-in-Leaf-clause-bounded
-compare_points_with_child-returns-in-Leaf-clause-bounded t c =
+compare_points_with_child-returns-in-Leaf-clause-bounded over t c v newer g slot =
     let span = c.args.span in
-    on_ok_weaker c.compare_points-in-Leaf.result (λ e v newer g slot.
     let some = node-some span g c.in-Some.node (found-node span (node_of c.args.new) c.in-Some.node _ _ c.in-Some.ensures g (is_inner slot.above slot.begin, slot.holds)) in
     let one = newer-slot span c.args.comparison.since v (node_of c.args.new) g some newer slot in
     let more = c.visit.ensures.at_most in
-    omega arith) c.compare_points-in-Leaf.ensures
+    omega arith
 
 pub compare_points_with_child-returns-in-Inner-clause-adds : goal.compare_points_with_child-returns-in-Inner-clause-adds
-compare_points_with_child-returns-in-Inner-clause-adds t c =
+compare_points_with_child-returns-in-Inner-clause-adds over t c =
     let span = c.args.span in
     on_ok_weaker c.compare_points_with_slots.result (λ e h g same child agree.
     e h g same (inner-slots span g c.in-Some.node c.in-Inner.version c.in-Inner.slots c.in-Inner.is (found-node span (node_of c.args.new) c.in-Some.node _ _ c.in-Some.ensures g child)) agree) c.compare_points_with_slots.ensures.adds
 
 pub compare_points_with_child-returns-in-Inner-clause-bounded : goal.compare_points_with_child-returns-in-Inner-clause-bounded
-compare_points_with_child-returns-in-Inner-clause-bounded t c =
+compare_points_with_child-returns-in-Inner-clause-bounded over t c v newer g slot =
     let span = c.args.span in
-    on_ok_weaker c.compare_points_with_slots.result (λ e v newer g slot.
+    let e = c.compare_points_with_slots.ensures.bounded in
     let node = found-node span (node_of c.args.new) c.in-Some.node _ _ c.in-Some.ensures g (is_inner slot.above slot.begin, slot.holds) in
     let slots = inner-slots span g c.in-Some.node c.in-Inner.version c.in-Inner.slots c.in-Inner.is node in
     let one = newer-slot span c.args.comparison.since v (node_of c.args.new) g (node-some span g c.in-Some.node node) newer slot in
     let few = e g slots in
     let more = c.visit.ensures.at_most in
-    omega arith) c.compare_points_with_slots.ensures.bounded
+    omega arith
 
 -- ---- One slot.
 
 pub compare_points_with_slot-returns-then-version-comparison-clause-adds : goal.compare_points_with_slot-returns-then-version-comparison-clause-adds
-compare_points_with_slot-returns-then-version-comparison-clause-adds t c h g same slot agree =
+compare_points_with_slot-returns-then-version-comparison-clause-adds over t c h g same slot agree =
     let span = c.args.span in
     let equal = agree.slots slot.above slot.begin span.height span.start (omega (arith, slot.carried, c.if-version-comparison.true)) in
     adds-as c.args.comparison.p c.args.out.now c.args.out.now _ _ _ _ (λ i. points_of span.height span.start (bag h)) equal (adds-none c.args.comparison.p c.args.out.now _)
 
 pub compare_points_with_slot-compare_points_with_child-requires : goal.compare_points_with_slot-compare_points_with_child-requires
-compare_points_with_slot-compare_points_with_child-requires t c =
+compare_points_with_slot-compare_points_with_child-requires over t c κs outlives =
     let d = c.decreases in
     let here = c.points_between-here.ensures in
-    (omega arith, (c.requires.p, (subst IsInOrder (sym here) (within-in_order _ _ c.args.old.now c.requires.order), (subst AreInDomain (sym here) (each-filter (λ q. InDomain q.time) (is_within _ _) c.args.old.now c.requires.domain), c.requires.new))))
+    (omega arith, (outlives, (c.requires.p, (subst IsInOrder (sym here) (within-in_order _ _ c.args.old.now c.requires.order), (subst AreInDomain (sym here) (each-filter (λ q. InDomain q.time) (is_within _ _) c.args.old.now c.requires.domain), c.requires.new)))))
 
 pub compare_points_with_slot-returns-clause-adds : goal.compare_points_with_slot-returns-clause-adds
-compare_points_with_slot-returns-clause-adds t c =
+compare_points_with_slot-returns-clause-adds over t c =
     let k = c.args.span.height in
     let s = c.args.span.start in
     let begin = ap (λ p. p.start) c.span.view_is in
@@ -90,16 +89,16 @@ compare_points_with_slot-returns-clause-adds t c =
     on_ok_weaker c.compare_points_with_child.result (λ e h g same slot agree. e h g (here ∙ same) (is_inner slot.above slot.begin, slot.holds) agree) c.compare_points_with_child.ensures.adds
 
 pub compare_points_with_slot-returns-clause-bounded : goal.compare_points_with_slot-returns-clause-bounded
-compare_points_with_slot-returns-clause-bounded t c =
-    on_ok_weaker c.compare_points_with_child.result (λ e. e c.args.version c.if-version-comparison.false) c.compare_points_with_child.ensures.bounded
+compare_points_with_slot-returns-clause-bounded over t c =
+    c.compare_points_with_child.ensures.bounded c.args.version c.if-version-comparison.false
 
 -- ---- All slots.
 
 pub compare_points_with_slots-slot-requires : goal.compare_points_with_slots-slot-requires
-compare_points_with_slots-slot-requires t c = let high = c.requires.new.holds.height in record { height = omega arith; place = omega arith }
+compare_points_with_slots-slot-requires over t c = let high = c.requires.new.holds.height in record { height = omega arith; place = omega arith }
 
 pub compare_points_with_slots-loop-i-init : goal.compare_points_with_slots-loop-i-init
-compare_points_with_slots-loop-i-init t c =
+compare_points_with_slots-loop-i-init over t c =
     record {
       adds = λ h g same slots agree. adds-first c.args.comparison.p c.args.out.now slots.below c.args.span.start h g;
       bounded = λ g slots. omega arith;
@@ -107,16 +106,16 @@ compare_points_with_slots-loop-i-init t c =
     }
 
 pub compare_points_with_slots-compare_points_with_slot-requires : goal.compare_points_with_slots-compare_points_with_slot-requires
-compare_points_with_slots-compare_points_with_slot-requires t c =
+compare_points_with_slots-compare_points_with_slot-requires over t c κs outlives =
     let d = c.decreases in
     let new = c.requires.new in
     let child = child-belongs c.args.span c.loop-i.i c.slot.result (node_of c.child.result) c.args.new.now new (omega arith) c.slot.ensures c.child.ensures in
     let low = child.1 in
-    (omega arith, (c.requires.p, (c.requires.order, (c.requires.domain, child.0))))
+    (omega arith, (outlives, (c.requires.p, (c.requires.order, (c.requires.domain, child.0)))))
 
 pub compare_points_with_slots-loop-i-preserved : goal.compare_points_with_slots-loop-i-preserved
 unfolding slot-belongs
-compare_points_with_slots-loop-i-preserved t c =
+compare_points_with_slots-loop-i-preserved over t c =
     let span = c.args.span in
     let start = span.start in
     let i = c.loop-i.i in
@@ -140,11 +139,24 @@ compare_points_with_slots-loop-i-preserved t c =
     }
 
 pub compare_points_with_slots-returns-clause-adds : goal.compare_points_with_slots-returns-clause-adds
-compare_points_with_slots-returns-clause-adds t c h g same slots agree =
+compare_points_with_slots-returns-clause-adds over t c h g same slots agree =
     adds-done c.args.comparison.p c.args.out.now c.loop-i.out c.args.span.height slots.below c.args.span.start c.loop-i.i h g (omega arith) slots.height (c.loop-i.invariant.adds h g same slots agree)
 
 pub compare_points_with_slots-returns-clause-bounded : goal.compare_points_with_slots-returns-clause-bounded
-compare_points_with_slots-returns-clause-bounded t c g slots =
+compare_points_with_slots-returns-clause-bounded over t c g slots =
     let all = below-sum c.args.span.height slots.below c.args.span.start g c.args.comparison.since c.loop-i.i slots.height slots.inner (omega arith) in
     let few = c.loop-i.invariant.bounded g slots in
     omega arith
+
+pub compare_points_with_slots-returns-in_err-compare_points_with_slot-clause-bounded : goal.compare_points_with_slots-returns-in_err-compare_points_with_slot-clause-bounded
+unfolding slot-belongs
+compare_points_with_slots-returns-in_err-compare_points_with_slot-clause-bounded over t c g slots =
+    let span = c.args.span in
+    let start = span.start in
+    let i = c.loop-i.i in
+    let part = c.slot.result in
+    let since = c.args.comparison.since in
+    let low : i < 64 = omega arith in
+    let at = child-at span slots.below g i part (node_of c.child.result) c.args.new.now slots.height slots.each low c.slot.ensures c.child.ensures in
+    let slot = slot-belongs span c.args.new.now g i part c.slot-slot.result (node_of c.child.result) slots low c.slot.ensures c.slot-slot.ensures c.child.ensures in
+    bounded-exit span.height slots.below start i g since c.args.steps.now c.compare_points_with_slot.new.steps slots.height slots.inner low (bounded-slot slots.below start i part g since c.args.steps.now c.loop-i.steps c.compare_points_with_slot.new.steps at.is (c.loop-i.invariant.bounded g slots) (c.compare_points_with_slot.ensures.bounded g slot))

@@ -13,17 +13,17 @@ use Rattle.btr_scan.proofs.Firsts.{last-any}
 use Rattle.btr_scan.proofs.backward.+last.Goals as goal
 
 pub last_in_child-last_in_slots-requires : goal.last_in_child-last_in_slots-requires
-last_in_child-last_in_slots-requires t c =
+last_in_child-last_in_slots-requires over t c κs outlives =
     let st = c.requires in
     let k = c.args.span.height in
     let s = c.args.span.start in
     let d = c.decreases in
     let node = c.in_ok-points.ensures.node k s st.above st.commits st.holds in
     let body = inner-parts k s st.above st.commits c.in_ok-points.field-0 c.in-Inner.version c.in-Inner.slots c.in-Inner.is node in
-    (omega arith, (inner-stands k s st.commits _ body st.few, omega arith))
+    (omega arith, (outlives, (inner-stands k s st.commits _ body st.few, omega arith)))
 
 pub last_in_child-returns-in-Leaf-clause-point : goal.last_in_child-returns-in-Leaf-clause-point
-last_in_child-returns-in-Leaf-clause-point t c above h holds =
+last_in_child-returns-in-Leaf-clause-point over t c above h holds =
     let k = c.args.span.height in
     let s = c.args.span.start in
     let node = c.in_ok-points.ensures.node k s above h holds in
@@ -31,7 +31,7 @@ last_in_child-returns-in-Leaf-clause-point t c above h holds =
     c.last_of.ensures ∙ ap (λ (x : List Point). last_or None x) points
 
 pub last_in_child-returns-in-Inner-clause-point : goal.last_in_child-returns-in-Inner-clause-point
-last_in_child-returns-in-Inner-clause-point t c above h holds =
+last_in_child-returns-in-Inner-clause-point over t c above h holds =
     let k = c.args.span.height in
     let s = c.args.span.start in
     let node = c.in_ok-points.ensures.node k s above h holds in
@@ -41,11 +41,11 @@ last_in_child-returns-in-Inner-clause-point t c above h holds =
     ∙ ap (λ j. last_or None (points_of j s (bag h))) (sym body.height)
 
 pub last_in_slots-returns-in_err-i-clause-point : goal.last_in_slots-returns-in_err-i-clause-point
-last_in_slots-returns-in_err-i-clause-point t c below h e slots each =
+last_in_slots-returns-in_err-i-clause-point over t c below h e slots each =
     none-before below c.args.span.start h c.args.slots.now c.args.to c.from_residual.result slots c.requires.place c.in_err-i.ensures (search rules)
 
 pub last_in_slots-last_in_child-requires : goal.last_in_slots-last_in_child-requires
-last_in_slots-last_in_child-requires t c =
+last_in_slots-last_in_child-requires over t c κs outlives =
     let st = c.requires.some in
     let below = st.0 in
     let d = c.decreases in
@@ -55,10 +55,10 @@ last_in_slots-last_in_child-requires t c =
     let stands = child-stands below c.args.span.start st.2.commits i c.slot.result (node_of c.child.result) at.is at.holds place st.2.few in
     let down : c.slot.result.height ≡ below = ap (λ u. u.height) at.is in
     let up = st.1 in
-    (omega arith, stands)
+    (omega arith, (outlives, stands))
 
 pub last_in_slots-returns-clause-point : goal.last_in_slots-returns-clause-point
-last_in_slots-returns-clause-point t c below h e slots each =
+last_in_slots-returns-clause-point over t c below h e slots each =
     let i = c.in_ok-i.i in
     let found = c.in_ok-i.ensures in
     let place : i < 64 = omega (arith, c.in_ok-i.ensures.0) in
@@ -66,7 +66,7 @@ last_in_slots-returns-clause-point t c below h e slots each =
     last-before below c.args.span.start h c.args.slots.now c.args.to i c.slot.result c.last_in_child.result slots found.0 c.requires.place found.1 found.2 at.is (c.last_in_child.ensures.point (is_inner (suc below) c.args.span.start) h at.holds)
 
 pub last_in_slots-returns-clause-none : goal.last_in_slots-returns-clause-none
-last_in_slots-returns-clause-none t c none =
+last_in_slots-returns-clause-none over t c none =
     let st = c.requires.some in
     let below = st.0 in
     let h = st.2.commits in

@@ -16,7 +16,7 @@ use Rattle.btr_scan.proofs.Runs.{previous-here, previous-before}
 use Rattle.btr_scan.proofs.backward.+previous.Goals as goal
 
 pub previous_in_child-returns-in_err-points-clause-point : goal.previous_in_child-returns-in_err-points-clause-point
-previous_in_child-returns-in_err-points-clause-point t c above h holds =
+previous_in_child-returns-in_err-points-clause-point over t c above h holds =
     let k = c.args.span.height in
     let s = c.args.span.start in
     let none = none-until k s (bag h) c.args.time c.requires.ends (c.in_err-points.ensures.none refl k s above h holds) in
@@ -24,7 +24,7 @@ previous_in_child-returns-in_err-points-clause-point t c above h holds =
     is ∙ sym (ap (λ (x : List Point). last_or None x) none)
 
 pub previous_in_child-parted-requires : goal.previous_in_child-parted-requires
-previous_in_child-parted-requires t c =
+previous_in_child-parted-requires over t c =
     let st = c.requires.some in
     let k = c.args.span.height in
     let s = c.args.span.start in
@@ -32,7 +32,7 @@ previous_in_child-parted-requires t c =
     leaf-in_order k s st.above st.commits c.in_ok-points.field-0 c.in-Leaf.version c.in-Leaf.points c.in-Leaf.is node
 
 pub previous_in_child-previous_in_slots-requires : goal.previous_in_child-previous_in_slots-requires
-previous_in_child-previous_in_slots-requires t c =
+previous_in_child-previous_in_slots-requires over t c κs outlives =
     let st = c.requires.some in
     let k = c.args.span.height in
     let s = c.args.span.start in
@@ -42,13 +42,16 @@ previous_in_child-previous_in_slots-requires t c =
     let body = inner-parts k s st.above st.commits c.in_ok-points.field-0 c.in-Inner.version c.in-Inner.slots c.in-Inner.is node in (
       omega arith,
       (
-        inner-stands k s st.commits _ body st.few,
-        (subst (λ x. s <ℤ x) (sym same) c.requires.begins, subst (λ x. x ≤ℤ end_of c.args.span) (sym same) c.requires.ends),
+        outlives,
+        (
+          inner-stands k s st.commits _ body st.few,
+          (subst (λ x. s <ℤ x) (sym same) c.requires.begins, subst (λ x. x ≤ℤ end_of c.args.span) (sym same) c.requires.ends),
+        ),
       ),
     )
 
 pub previous_in_child-returns-in-Leaf-clause-point : goal.previous_in_child-returns-in-Leaf-clause-point
-previous_in_child-returns-in-Leaf-clause-point t c above h holds =
+previous_in_child-returns-in-Leaf-clause-point over t c above h holds =
     let k = c.args.span.height in
     let s = c.args.span.start in
     let same = to_z-of_z w64 c.args.time c.ranges.time in
@@ -58,7 +61,7 @@ previous_in_child-returns-in-Leaf-clause-point t c above h holds =
     c.last_of.ensures ∙ ap (λ (x : List Point). last_or None x) before
 
 pub previous_in_child-returns-in-Inner-clause-point : goal.previous_in_child-returns-in-Inner-clause-point
-previous_in_child-returns-in-Inner-clause-point t c above h holds =
+previous_in_child-returns-in-Inner-clause-point over t c above h holds =
     let k = c.args.span.height in
     let s = c.args.span.start in
     let same = to_z-of_z w64 c.args.time c.ranges.time in
@@ -68,7 +71,7 @@ previous_in_child-returns-in-Inner-clause-point t c above h holds =
     ∙ ap (λ x. last_or None (within s x (bag h))) same
 
 pub previous_in_slots-previous_in_child-requires : goal.previous_in_slots-previous_in_child-requires
-previous_in_slots-previous_in_child-requires t c =
+previous_in_slots-previous_in_child-requires over t c κs outlives =
     let st = c.requires.some in
     let below = st.0 in
     let d = c.decreases in
@@ -82,16 +85,19 @@ previous_in_slots-previous_in_child-requires t c =
     let high = subst (λ x. x ≤ℤ end_of c.args.span) (sym same) c.requires.ends in (
       omega arith,
       (
-        stands,
+        outlives,
         (
-          subst (λ (u : SpanValue). u.start <ℤ to_z w64 (of_z w64 c.args.time)) (sym c.slot.ensures) all.last,
-          last-reaches c.args.span below (to_z w64 (of_z w64 c.args.time)) i c.slot.result st.1 all.place high all.behind c.slot.ensures,
+          stands,
+          (
+            subst (λ (u : SpanValue). u.start <ℤ to_z w64 (of_z w64 c.args.time)) (sym c.slot.ensures) all.last,
+            last-reaches c.args.span below (to_z w64 (of_z w64 c.args.time)) i c.slot.result st.1 all.place high all.behind c.slot.ensures,
+          ),
         ),
       ),
     )
 
 pub previous_in_slots-returns-in-Some-clause-point : goal.previous_in_slots-returns-in-Some-clause-point
-previous_in_slots-returns-in-Some-clause-point t c below h e slots each =
+previous_in_slots-returns-in-Some-clause-point over t c below h e slots each =
     let i = c.slots_between-i.result.1 in
     let all = c.slots_between-i.ensures in
     let same = to_z-of_z w64 c.args.time c.ranges.time in
@@ -101,7 +107,7 @@ previous_in_slots-returns-in-Some-clause-point t c below h e slots each =
     previous-here below c.args.span.start h c.args.time i c.slot.result c.in-Some.point at.is (omega (arith, ints)) found
 
 pub previous_in_slots-returns-in-None-clause-point : goal.previous_in_slots-returns-in-None-clause-point
-previous_in_slots-returns-in-None-clause-point t c below h e slots each =
+previous_in_slots-returns-in-None-clause-point over t c below h e slots each =
     let i = c.slots_between-i.result.1 in
     let all = c.slots_between-i.ensures in
     let same = to_z-of_z w64 c.args.time c.ranges.time in
@@ -111,7 +117,7 @@ previous_in_slots-returns-in-None-clause-point t c below h e slots each =
     previous-before below c.args.span.start h c.args.time i c.slot.result c.last_in_slots.result at.is (omega (arith, ints)) missed (c.last_in_slots.ensures.point below h e slots each)
 
 pub previous_in_slots-returns-in-None-clause-none : goal.previous_in_slots-returns-in-None-clause-none
-previous_in_slots-returns-in-None-clause-none t c none =
+previous_in_slots-returns-in-None-clause-none over t c none =
     let first = c.in-None.ensures.none refl in
     let behind = c.last_in_slots.ensures.none none in
     let down = ap (λ (u : SpanValue). u.height) c.slot.ensures in

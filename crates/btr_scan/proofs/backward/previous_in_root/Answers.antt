@@ -16,13 +16,13 @@ use Rattle.btr_scan.proofs.Domain.{none-before_first, all-before_end, rest-befor
 use Rattle.btr_scan.proofs.backward.previous_in_root.Goals as goal
 
 pub returns-then-time-le-FIRST-clause-point : goal.returns-then-time-le-FIRST-clause-point
-returns-then-time-le-FIRST-clause-point c h holds inside =
+returns-then-time-le-FIRST-clause-point over c h holds inside =
     let same = to_z-of_z w64 c.args.time c.ranges.time in
     let early = c.if-time-le-FIRST.true in
     sym (ap (λ (x : List Point). last_or None x) (none-before_first c.args.time (bag h) inside (omega (arith, ints))))
 
 pub returns-then-time-ge-END-clause-point : goal.returns-then-time-ge-END-clause-point
-returns-then-time-ge-END-clause-point c h holds inside =
+returns-then-time-ge-END-clause-point over c h holds inside =
     let same = to_z-of_z w64 c.args.time c.ranges.time in
     let late = c.if-time-ge-END.true in
     let place = subst (λ (u : SpanValue). IsChild u.height u.start above_root h (node_of c.args.child)) (sym c.root_span.ensures) holds in
@@ -31,14 +31,14 @@ returns-then-time-ge-END-clause-point c h holds inside =
     ∙ ap (λ (x : List Point). last_or None x) (root-points (bag h) inside ∙ sym (all-before_end c.args.time (bag h) inside (omega (arith, ints))))
 
 pub previous_in_child-requires-clause-ends : goal.previous_in_child-requires-clause-ends
-previous_in_child-requires-clause-ends c =
+previous_in_child-requires-clause-ends over c =
     let same = to_z-of_z w64 c.args.time c.ranges.time in
     let early = c.if-time-ge-END.false in
     let end : end_of root_part ≡ END = end-root in
     subst (λ u. to_z w64 (of_z w64 c.args.time) ≤ℤ end_of u) (sym c.root_span-2.ensures) (omega (arith, ints))
 
 pub returns-clause-point : goal.returns-clause-point
-returns-clause-point c h holds inside =
+returns-clause-point over c h holds inside =
     let same = to_z-of_z w64 c.args.time c.ranges.time in
     let early = c.if-time-ge-END.false in
     let place = subst (λ (u : SpanValue). IsChild u.height u.start above_root h (node_of c.args.child)) (sym c.root_span-2.ensures) holds in

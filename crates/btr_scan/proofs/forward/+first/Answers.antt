@@ -13,17 +13,17 @@ use Rattle.btr_scan.proofs.Firsts.{first-any}
 use Rattle.btr_scan.proofs.forward.+first.Goals as goal
 
 pub first_in_child-first_in_slots-requires : goal.first_in_child-first_in_slots-requires
-first_in_child-first_in_slots-requires t c =
+first_in_child-first_in_slots-requires over t c κs outlives =
     let st = c.requires in
     let k = c.args.span.height in
     let s = c.args.span.start in
     let d = c.decreases in
     let node = c.in_ok-points.ensures.node k s st.above st.commits st.holds in
     let body = inner-parts k s st.above st.commits c.in_ok-points.field-0 c.in-Inner.version c.in-Inner.slots c.in-Inner.is node in
-    (omega arith, (inner-stands k s st.commits _ body st.few, omega arith))
+    (omega arith, (outlives, (inner-stands k s st.commits _ body st.few, omega arith)))
 
 pub first_in_child-returns-in-Leaf-clause-point : goal.first_in_child-returns-in-Leaf-clause-point
-first_in_child-returns-in-Leaf-clause-point t c above h holds =
+first_in_child-returns-in-Leaf-clause-point over t c above h holds =
     let k = c.args.span.height in
     let s = c.args.span.start in
     let node = c.in_ok-points.ensures.node k s above h holds in
@@ -31,7 +31,7 @@ first_in_child-returns-in-Leaf-clause-point t c above h holds =
     c.first_of.ensures ∙ ap (λ (x : List Point). slice_get x 0) points
 
 pub first_in_child-returns-in-Inner-clause-point : goal.first_in_child-returns-in-Inner-clause-point
-first_in_child-returns-in-Inner-clause-point t c above h holds =
+first_in_child-returns-in-Inner-clause-point over t c above h holds =
     let k = c.args.span.height in
     let s = c.args.span.start in
     let node = c.in_ok-points.ensures.node k s above h holds in
@@ -40,11 +40,11 @@ first_in_child-returns-in-Inner-clause-point t c above h holds =
     ∙ ap (λ a. slice_get (within a (end_of c.args.span) (bag h)) 0) (slot-first body.below s)
 
 pub first_in_slots-returns-in_err-i-clause-point : goal.first_in_slots-returns-in_err-i-clause-point
-first_in_slots-returns-in_err-i-clause-point t c below h e slots each =
+first_in_slots-returns-in_err-i-clause-point over t c below h e slots each =
     none-behind c.args.span below h c.args.slots.now c.args.from c.from_residual.result e slots c.requires.place c.in_err-i.ensures (search rules)
 
 pub first_in_slots-first_in_child-requires : goal.first_in_slots-first_in_child-requires
-first_in_slots-first_in_child-requires t c =
+first_in_slots-first_in_child-requires over t c κs outlives =
     let st = c.requires.some in
     let below = st.0 in
     let d = c.decreases in
@@ -54,17 +54,17 @@ first_in_slots-first_in_child-requires t c =
     let stands = child-stands below c.args.span.start st.2.commits i c.slot.result (node_of c.child.result) at.is at.holds place st.2.few in
     let down : c.slot.result.height ≡ below = ap (λ u. u.height) at.is in
     let up = st.1 in
-    (omega arith, stands)
+    (omega arith, (outlives, stands))
 
 pub first_in_slots-returns-clause-point : goal.first_in_slots-returns-clause-point
-first_in_slots-returns-clause-point t c below h e slots each =
+first_in_slots-returns-clause-point over t c below h e slots each =
     let i = c.in_ok-i.i in
     let found = c.in_ok-i.ensures in
     let at = child-at c.args.span below h i c.slot.result (node_of c.child.result) c.args.slots.now e each found.1 c.slot.ensures c.child.ensures in
     first-behind c.args.span below h c.args.slots.now c.args.from i c.slot.result c.first_in_child.result e slots found.0 found.1 found.2 found.3 at.is (c.first_in_child.ensures.point (is_inner (suc below) c.args.span.start) h at.holds)
 
 pub first_in_slots-returns-clause-none : goal.first_in_slots-returns-clause-none
-first_in_slots-returns-clause-none t c none =
+first_in_slots-returns-clause-none over t c none =
     let st = c.requires.some in
     let below = st.0 in
     let h = st.2.commits in

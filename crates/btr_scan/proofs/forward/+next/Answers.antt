@@ -14,7 +14,7 @@ use Rattle.btr_scan.proofs.Runs.{next-here, next-behind}
 use Rattle.btr_scan.proofs.forward.+next.Goals as goal
 
 pub next_in_child-returns-in_err-points-clause-point : goal.next_in_child-returns-in_err-points-clause-point
-next_in_child-returns-in_err-points-clause-point t c above h holds =
+next_in_child-returns-in_err-points-clause-point over t c above h holds =
     let k = c.args.span.height in
     let s = c.args.span.start in
     let none = none-from k s (bag h) c.args.time c.requires.begins (c.in_err-points.ensures.none refl k s above h holds) in
@@ -22,7 +22,7 @@ next_in_child-returns-in_err-points-clause-point t c above h holds =
     is ∙ sym (ap (λ (x : List Point). slice_get x 0) none)
 
 pub next_in_child-parted-requires : goal.next_in_child-parted-requires
-next_in_child-parted-requires t c =
+next_in_child-parted-requires over t c =
     let st = c.requires.some in
     let k = c.args.span.height in
     let s = c.args.span.start in
@@ -30,7 +30,7 @@ next_in_child-parted-requires t c =
     leaf-in_order k s st.above st.commits c.in_ok-points.field-0 c.in-Leaf.version c.in-Leaf.points c.in-Leaf.is node
 
 pub next_in_child-next_in_slots-requires : goal.next_in_child-next_in_slots-requires
-next_in_child-next_in_slots-requires t c =
+next_in_child-next_in_slots-requires over t c κs outlives =
     let st = c.requires.some in
     let k = c.args.span.height in
     let s = c.args.span.start in
@@ -40,13 +40,16 @@ next_in_child-next_in_slots-requires t c =
     let body = inner-parts k s st.above st.commits c.in_ok-points.field-0 c.in-Inner.version c.in-Inner.slots c.in-Inner.is node in (
       omega arith,
       (
-        inner-stands k s st.commits _ body st.few,
-        (subst (λ x. s ≤ℤ x) (sym same) c.requires.begins, subst (λ x. x <ℤ end_of c.args.span) (sym same) c.requires.ends),
+        outlives,
+        (
+          inner-stands k s st.commits _ body st.few,
+          (subst (λ x. s ≤ℤ x) (sym same) c.requires.begins, subst (λ x. x <ℤ end_of c.args.span) (sym same) c.requires.ends),
+        ),
       ),
     )
 
 pub next_in_child-returns-in-Leaf-clause-point : goal.next_in_child-returns-in-Leaf-clause-point
-next_in_child-returns-in-Leaf-clause-point t c above h holds =
+next_in_child-returns-in-Leaf-clause-point over t c above h holds =
     let k = c.args.span.height in
     let s = c.args.span.start in
     let same = to_z-of_z w64 c.args.time c.ranges.time in
@@ -56,7 +59,7 @@ next_in_child-returns-in-Leaf-clause-point t c above h holds =
     c.first_of.ensures ∙ ap (λ (x : List Point). slice_get x 0) behind
 
 pub next_in_child-returns-in-Inner-clause-point : goal.next_in_child-returns-in-Inner-clause-point
-next_in_child-returns-in-Inner-clause-point t c above h holds =
+next_in_child-returns-in-Inner-clause-point over t c above h holds =
     let k = c.args.span.height in
     let s = c.args.span.start in
     let same = to_z-of_z w64 c.args.time c.ranges.time in
@@ -66,7 +69,7 @@ next_in_child-returns-in-Inner-clause-point t c above h holds =
     ∙ ap (λ x. slice_get (within x (end_of c.args.span) (bag h)) 0) same
 
 pub next_in_slots-next_in_child-requires : goal.next_in_slots-next_in_child-requires
-next_in_slots-next_in_child-requires t c =
+next_in_slots-next_in_child-requires over t c κs outlives =
     let st = c.requires.some in
     let below = st.0 in
     let d = c.decreases in
@@ -79,16 +82,19 @@ next_in_slots-next_in_child-requires t c =
     let x = to_z w64 (of_z w64 c.args.time) in (
       omega arith,
       (
-        stands,
+        outlives,
         (
-          subst (λ (u : SpanValue). u.start ≤ℤ to_z w64 (of_z w64 c.args.time)) (sym c.slot.ensures) all.begins,
-          subst (λ (u : SpanValue). to_z w64 (of_z w64 c.args.time) <ℤ end_of u) (sym c.slot.ensures) all.ends,
+          stands,
+          (
+            subst (λ (u : SpanValue). u.start ≤ℤ to_z w64 (of_z w64 c.args.time)) (sym c.slot.ensures) all.begins,
+            subst (λ (u : SpanValue). to_z w64 (of_z w64 c.args.time) <ℤ end_of u) (sym c.slot.ensures) all.ends,
+          ),
         ),
       ),
     )
 
 pub next_in_slots-returns-in-Some-clause-point : goal.next_in_slots-returns-in-Some-clause-point
-next_in_slots-returns-in-Some-clause-point t c below h e slots each =
+next_in_slots-returns-in-Some-clause-point over t c below h e slots each =
     let i = c.slot_at-i.result in
     let all = c.slot_at-i.ensures in
     let same = to_z-of_z w64 c.args.time c.ranges.time in
@@ -98,7 +104,7 @@ next_in_slots-returns-in-Some-clause-point t c below h e slots each =
     next-here c.args.span below h c.args.time i c.slot.result c.in-Some.point e all.place at.is (omega (arith, ints)) found
 
 pub next_in_slots-returns-in-None-clause-point : goal.next_in_slots-returns-in-None-clause-point
-next_in_slots-returns-in-None-clause-point t c below h e slots each =
+next_in_slots-returns-in-None-clause-point over t c below h e slots each =
     let i = c.slot_at-i.result in
     let all = c.slot_at-i.ensures in
     let same = to_z-of_z w64 c.args.time c.ranges.time in
@@ -108,7 +114,7 @@ next_in_slots-returns-in-None-clause-point t c below h e slots each =
     next-behind c.args.span below h c.args.time i c.slot.result c.first_in_slots.result e all.place at.is (omega (arith, ints)) missed (c.first_in_slots.ensures.point below h e slots each)
 
 pub next_in_slots-returns-in-None-clause-none : goal.next_in_slots-returns-in-None-clause-none
-next_in_slots-returns-in-None-clause-none t c none =
+next_in_slots-returns-in-None-clause-none over t c none =
     let first = c.in-None.ensures.none refl in
     let behind = c.first_in_slots.ensures.none none in
     let down = ap (λ (u : SpanValue). u.height) c.slot.ensures in

@@ -15,13 +15,13 @@ use Rattle.btr_scan.proofs.Domain.{none-from_end, all-from_first, rest-from}
 use Rattle.btr_scan.proofs.forward.next_in_root.Goals as goal
 
 pub returns-then-time-ge-END-clause-point : goal.returns-then-time-ge-END-clause-point
-returns-then-time-ge-END-clause-point c h holds inside =
+returns-then-time-ge-END-clause-point over c h holds inside =
     let same = to_z-of_z w64 c.args.time c.ranges.time in
     let late = c.if-time-ge-END.true in
     sym (ap (λ (x : List Point). slice_get x 0) (none-from_end c.args.time (bag h) inside (omega (arith, ints))))
 
 pub returns-then-time-lt-FIRST-clause-point : goal.returns-then-time-lt-FIRST-clause-point
-returns-then-time-lt-FIRST-clause-point c h holds inside =
+returns-then-time-lt-FIRST-clause-point over c h holds inside =
     let same = to_z-of_z w64 c.args.time c.ranges.time in
     let early = c.if-time-lt-FIRST.true in
     let place = subst (λ (u : SpanValue). IsChild u.height u.start above_root h (node_of c.args.child)) (sym c.root_span.ensures) holds in
@@ -30,14 +30,14 @@ returns-then-time-lt-FIRST-clause-point c h holds inside =
     ∙ ap (λ (x : List Point). slice_get x 0) (root-points (bag h) inside ∙ sym (all-from_first c.args.time (bag h) inside (omega (arith, ints))))
 
 pub next_in_child-requires-clause-ends : goal.next_in_child-requires-clause-ends
-next_in_child-requires-clause-ends c =
+next_in_child-requires-clause-ends over c =
     let same = to_z-of_z w64 c.args.time c.ranges.time in
     let early = c.if-time-ge-END.false in
     let end : end_of root_part ≡ END = end-root in
     subst (λ u. to_z w64 (of_z w64 c.args.time) <ℤ end_of u) (sym c.root_span-2.ensures) (omega (arith, ints))
 
 pub returns-clause-point : goal.returns-clause-point
-returns-clause-point c h holds inside =
+returns-clause-point over c h holds inside =
     let same = to_z-of_z w64 c.args.time c.ranges.time in
     let late = c.if-time-lt-FIRST.false in
     let place = subst (λ (u : SpanValue). IsChild u.height u.start above_root h (node_of c.args.child)) (sym c.root_span-2.ensures) holds in

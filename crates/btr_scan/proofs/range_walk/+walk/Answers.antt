@@ -14,7 +14,7 @@ use Rattle.btr_scan.proofs.Parts.{before-first, rows-end, rows-more, slot-met}
 use Rattle.btr_scan.proofs.range_walk.+walk.Goals as goal
 
 pub walk_child-points_between-requires : goal.walk_child-points_between-requires
-walk_child-points_between-requires t c =
+walk_child-points_between-requires over t c =
     let st = c.requires.some in
     let k = c.args.span.height in
     let s = c.args.span.start in
@@ -22,17 +22,17 @@ walk_child-points_between-requires t c =
     leaf-in_order k s st.above st.commits c.in-Some.node c.in-Leaf.version c.in-Leaf.points c.in-Leaf.is node
 
 pub walk_child-walk_slots-requires : goal.walk_child-walk_slots-requires
-walk_child-walk_slots-requires t c =
+walk_child-walk_slots-requires over t c κs outlives =
     let st = c.requires.some in
     let k = c.args.span.height in
     let s = c.args.span.start in
     let d = c.decreases in
     let node = c.in-Some.ensures.node k s st.above st.commits st.holds in
     let body = inner-parts k s st.above st.commits c.in-Some.node c.in-Inner.version c.in-Inner.slots c.in-Inner.is node in
-    (omega arith, (inner-stands k s st.commits _ body st.few, (c.requires.begins, c.requires.ends)))
+    (omega arith, (outlives, (inner-stands k s st.commits _ body st.few, (c.requires.begins, c.requires.ends))))
 
 pub walk_child-returns-in-Leaf : goal.walk_child-returns-in-Leaf
-walk_child-returns-in-Leaf t c =
+walk_child-returns-in-Leaf over t c =
     let k = c.args.span.height in
     let s = c.args.span.start in
     let low_fits : SFits w64 c.range.inside.from = search rules in
@@ -46,7 +46,7 @@ walk_child-returns-in-Leaf t c =
     e ∙ ap (λ x. c.args.rows.now.items ++ x) (between ∙ ap (within c.args.range.from c.args.range.to) points)) (where_ok c.extend_from_slice.result _ _ _ c.extend_from_slice.ensures.items)
 
 pub walk_child-returns-in-Inner : goal.walk_child-returns-in-Inner
-walk_child-returns-in-Inner t c =
+walk_child-returns-in-Inner over t c =
     let k = c.args.span.height in
     let s = c.args.span.start in
     on_ok_weaker c.walk_slots.result (λ e above h holds.
@@ -55,7 +55,7 @@ walk_child-returns-in-Inner t c =
     e body.below h body.height body.all body.each) c.walk_slots.ensures
 
 pub walk_slots-loop-i-init : goal.walk_slots-loop-i-init
-walk_slots-loop-i-init t c =
+walk_slots-loop-i-init over t c =
     let low_fits : SFits w64 c.range.inside.from = search rules in
     let low : to_z w64 (of_z w64 c.range.inside.from) ≡ c.args.range.from = to_z-of_z w64 c.range.inside.from low_fits ∙ ap (λ r. r.from) c.range.view_is in
     let all = c.slots_between-first.ensures in
@@ -69,7 +69,7 @@ walk_slots-loop-i-init t c =
     }
 
 pub walk_slots-returns-then-i-last : goal.walk_slots-returns-then-i-last
-walk_slots-returns-then-i-last t c below h e slots each =
+walk_slots-returns-then-i-last over t c below h e slots each =
     let high_fits : SFits w64 c.range.inside.to = search rules in
     let high : to_z w64 (of_z w64 c.range.inside.to) ≡ c.args.range.to = to_z-of_z w64 c.range.inside.to high_fits ∙ ap (λ r. r.to) c.range.view_is in
     let all = c.slots_between-first.ensures in
@@ -78,7 +78,7 @@ walk_slots-returns-then-i-last t c below h e slots each =
     ∙ ap (λ x. c.args.rows.now.items ++ x) (rows-end c.args.span below h c.args.slots.now c.args.range.from c.args.range.to c.loop-i.from last e slots all.place (λ i less place. subst (λ x. x ≤ℤ (slot_of c.args.span i).start) high (all.behind i less place)) c.loop-i.invariant.high (λ m from to. c.in-Some.ensures.3 m from (omega (arith, c.if-i-last.true))))
 
 pub walk_slots-walk_child-requires : goal.walk_slots-walk_child-requires
-walk_slots-walk_child-requires t c =
+walk_slots-walk_child-requires over t c κs outlives =
     let st = c.requires.some in
     let below = st.0 in
     let d = c.decreases in
@@ -98,10 +98,10 @@ walk_slots-walk_child-requires t c =
     let met = slot-met c.args.span below c.args.range.from c.args.range.to first last i c.slot.result st.1 at.is (omega (arith, c.loop-i.invariant.low, found.0)) (omega (arith, c.if-i-last.false)) begins ends in
     let down : c.slot.result.height ≡ below = ap (λ u. u.height) at.is in
     let up = st.1 in
-    (omega arith, (stands, (met.0, met.1)))
+    (omega arith, (outlives, (stands, (met.0, met.1))))
 
 pub walk_slots-loop-i-preserved : goal.walk_slots-loop-i-preserved
-walk_slots-loop-i-preserved t c =
+walk_slots-loop-i-preserved over t c =
     let start = c.args.span.start in
     let i = c.in-Some.i in
     let found = c.in-Some.ensures in
@@ -119,7 +119,7 @@ walk_slots-loop-i-preserved t c =
     }
 
 pub walk_slots-returns : goal.walk_slots-returns
-walk_slots-returns t c below h e slots each =
+walk_slots-returns over t c below h e slots each =
     let high_fits : SFits w64 c.range.inside.to = search rules in
     let high : to_z w64 (of_z w64 c.range.inside.to) ≡ c.args.range.to = to_z-of_z w64 c.range.inside.to high_fits ∙ ap (λ r. r.to) c.range.view_is in
     let all = c.slots_between-first.ensures in

@@ -23,36 +23,36 @@ use Rattle.btr_window.proofs.range_aggregate.+range_aggregate.Goals.{agg_in_slot
 -- ---- One child.
 
 pub agg_in_child-points_between-requires : goal.agg_in_child-points_between-requires
-agg_in_child-points_between-requires t c =
+agg_in_child-points_between-requires over t c =
     let some = c.requires.some in
     let span = c.args.span in
     let leaf = leaf-is span.height span.start some.above some.commits c.in-Some.node c.in-Leaf.version c.in-Leaf.points c.in-Leaf.is (c.in-Some.ensures.node span.height span.start some.above some.commits some.holds) in
     subst IsInOrder (sym leaf.same) (points-in_order span.height span.start some.commits)
 
 pub agg_in_child-agg_in_slots-requires : goal.agg_in_child-agg_in_slots-requires
-agg_in_child-agg_in_slots-requires t c =
+agg_in_child-agg_in_slots-requires over t c κs outlives =
     let some = c.requires.some in
     let span = c.args.span in
     let d = c.decreases in
     let slots = inner-some span 0 (node_of c.args.child) c.in-Some.node c.in-Inner.version c.in-Inner.slots some c.in-Inner.is (c.in-Some.ensures.node span.height span.start some.above some.commits some.holds) in
     let high = slots.1 in
-    (omega arith, (slots, (c.requires.begins, c.requires.ends)))
+    (omega arith, (outlives, (slots, (c.requires.begins, c.requires.ends))))
 
 pub agg_in_child-returns-in-None-clause-agg : goal.agg_in_child-returns-in-None-clause-agg
-agg_in_child-returns-in-None-clause-agg t c above h holds =
+agg_in_child-returns-in-None-clause-agg over t c above h holds =
     let span = c.args.span in
     c.none.ensures
     ∙ sym (ap (agg_within c.args.range.from c.args.range.to) (c.in-None.ensures.none refl span.height span.start above h holds))
 
 pub agg_in_child-returns-in-Leaf-clause-agg : goal.agg_in_child-returns-in-Leaf-clause-agg
-agg_in_child-returns-in-Leaf-clause-agg t c above h holds =
+agg_in_child-returns-in-Leaf-clause-agg over t c above h holds =
     let span = c.args.span in
     let leaf = leaf-is span.height span.start above h c.in-Some.node c.in-Leaf.version c.in-Leaf.points c.in-Leaf.is (c.in-Some.ensures.node span.height span.start above h holds) in
     c.of_points.ensures
     ∙ ap agg (c.points_between.ensures ∙ within-as _ _ _ _ _ _ (range-from _ _ c.range.invariant c.range.view_is) (range-to _ _ c.range.invariant c.range.view_is) leaf.same)
 
 pub agg_in_child-returns-in-Inner-clause-agg : goal.agg_in_child-returns-in-Inner-clause-agg
-agg_in_child-returns-in-Inner-clause-agg t c above h holds =
+agg_in_child-returns-in-Inner-clause-agg over t c above h holds =
     let span = c.args.span in
     let body = inner-is span.height span.start above h c.in-Some.node c.in-Inner.version c.in-Inner.slots c.in-Inner.is (c.in-Some.ensures.node span.height span.start above h holds) in
     c.agg_in_slots.ensures.agg body.below h body.height body.inner.all body.each
@@ -60,7 +60,7 @@ agg_in_child-returns-in-Inner-clause-agg t c above h holds =
 -- ---- One slot.
 
 pub agg_in_slot-returns-then-agg-eq0-clause-agg : goal.agg_in_slot-returns-then-agg-eq0-clause-agg
-agg_in_slot-returns-then-agg-eq0-clause-agg t c above h holds counted =
+agg_in_slot-returns-then-agg-eq0-clause-agg over t c above h holds counted =
     let span = c.args.span in
     let range = c.args.range in
     let whole : c.slot-agg.result.agg ≡ agg (points_of span.height span.start (bag h)) = ap (λ (y : Slot). y.agg) c.slot-agg.ensures ∙ counted in
@@ -73,7 +73,7 @@ agg_in_slot-returns-then-agg-eq0-clause-agg t c above h holds counted =
     ]
 
 pub agg_in_slot-returns-clause-bounded : goal.agg_in_slot-returns-clause-bounded
-agg_in_slot-returns-clause-bounded t c =
+agg_in_slot-returns-clause-bounded over t c =
     let span = c.args.span in
     let range = c.args.range in
     let e = ends_inside span.start (end_of span) range.from range.to in
@@ -85,7 +85,7 @@ agg_in_slot-returns-clause-bounded t c =
 -- ---- The slots of an inner node.
 
 pub agg_in_slots-loop-i-init : goal.agg_in_slots-loop-i-init
-agg_in_slots-loop-i-init t c =
+agg_in_slots-loop-i-init over t c =
     let said = c.slots_between-first.ensures in
     let between = λ (below : ℕ) (e : c.args.span.height ≡ suc below). between-is c.args.span below _ _ c.args.range.from c.args.range.to _ _ e (range-from _ _ c.range.invariant c.range.view_is) (range-to _ _ c.range.invariant c.range.view_is) said.order said.place said.before said.first said.last said.behind in
     record {
@@ -97,7 +97,7 @@ agg_in_slots-loop-i-init t c =
     }
 
 pub agg_in_slots-agg_in_slot-part-requires : goal.agg_in_slots-agg_in_slot-part-requires
-agg_in_slots-agg_in_slot-part-requires t c =
+agg_in_slots-agg_in_slot-part-requires over t c κs outlives =
     let st = c.requires.some in
     let below = st.0 in
     let start = c.args.span.start in
@@ -117,22 +117,25 @@ agg_in_slots-agg_in_slot-part-requires t c =
     let last = met.ends in (
       omega arith,
       (
-        omega arith,
+        outlives,
         (
-          record {
-            above = is_inner (suc below) start;
-            commits = st.2.commits;
-            holds = at.holds;
-            counted = at.counted;
-            few = omega arith;
-          },
-          (omega (arith, ints), omega (arith, ints)),
+          omega arith,
+          (
+            record {
+              above = is_inner (suc below) start;
+              commits = st.2.commits;
+              holds = at.holds;
+              counted = at.counted;
+              few = omega arith;
+            },
+            (omega (arith, ints), omega (arith, ints)),
+          ),
         ),
       ),
     )
 
 pub agg_in_slots-join-all-requires : goal.agg_in_slots-join-all-requires
-agg_in_slots-join-all-requires t c =
+agg_in_slots-join-all-requires over t c =
     let st = c.requires.some in
     let below = st.0 in
     let start = c.args.span.start in
@@ -149,7 +152,7 @@ agg_in_slots-join-all-requires t c =
     omega arith
 
 pub agg_in_slots-loop-i-preserved : goal.agg_in_slots-loop-i-preserved
-agg_in_slots-loop-i-preserved t c =
+agg_in_slots-loop-i-preserved over t c =
     let start = c.args.span.start in
     let range = c.args.range in
     let i = c.loop-i.i in
@@ -183,7 +186,7 @@ agg_in_slots-loop-i-preserved t c =
     }
 
 pub agg_in_slots-returns-clause-agg : goal.agg_in_slots-returns-clause-agg
-agg_in_slots-returns-clause-agg t c below h e slots each =
+agg_in_slots-returns-clause-agg over t c below h e slots each =
     let start = c.args.span.start in
     let last : c.loop-i.i ≡ c.slots_between-first.result.1 + 1 = omega arith in
     c.loop-i.invariant.agg below h e slots each
@@ -192,7 +195,7 @@ agg_in_slots-returns-clause-agg t c below h e slots each =
     ∙ ap (λ k. agg_within c.args.range.from c.args.range.to (points_of k start (bag h))) (sym e)
 
 pub agg_in_slots-returns-clause-bounded : goal.agg_in_slots-returns-clause-bounded
-agg_in_slots-returns-clause-bounded t c =
+agg_in_slots-returns-clause-bounded over t c =
     let st = c.requires.some in
     let below = st.0 in
     let start = c.args.span.start in

@@ -9,7 +9,7 @@ use Rattle.btr_window.proofs.range_aggregate.+range_aggregate.Given as goal
 
 -- The aggregate of the slots so far, and the steps for the ends of the range inside them.
 abbrev pub invariant-agg_in_slots-loop-i : goal.invariant-agg_in_slots-loop-i
-invariant-agg_in_slots-loop-i l = record {
+invariant-agg_in_slots-loop-i over l = record {
   between : (below : ℕ) → l.span.height ≡ suc below → IsBetween below l.span.start l.range.from l.range.to l.first l.last;
   agg : (below : ℕ) (h : Past) → l.span.height ≡ suc below → HasSlots below l.span.start h l.slots → HasChildren below l.span.start h l.slots → l.all ≡ agg_within l.range.from l.range.to (within l.span.start (slot_start below l.span.start l.i) (bag h));
   none : l.i ≡ l.first → l.steps ≡ l.fn.steps;
@@ -18,10 +18,10 @@ invariant-agg_in_slots-loop-i l = record {
 }
 
 abbrev pub decreases-agg_in_child : goal.decreases-agg_in_child
-decreases-agg_in_child l = 3 * l.span.height + 1
+decreases-agg_in_child over l = 3 * l.span.height + 1
 
 abbrev pub decreases-agg_in_slots : goal.decreases-agg_in_slots
-decreases-agg_in_slots l = 3 * l.span.height
+decreases-agg_in_slots over l = 3 * l.span.height
 
 abbrev pub decreases-agg_in_slot : goal.decreases-agg_in_slot
-decreases-agg_in_slot l = 3 * l.span.height + 2
+decreases-agg_in_slot over l = 3 * l.span.height + 2
