@@ -75,7 +75,7 @@ impl CellList {
 }
 
 /// A stream in the list of all streams.
-#[derive(Clone, Copy)]
+#[derive(Clone, Copy, PartialEq)]
 pub struct StreamRow {
     pub id: u128,
 
