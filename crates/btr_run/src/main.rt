@@ -7,6 +7,9 @@ ghost use Rattle.btr_host.specs.declared.file_disk.Lock.TheVariants.{Shared};
 ghost use Rattle.btr_words.specs.Words.{command_of};
 ghost use Rattle.btr_words.specs.declared.command.Command.TheVariants.{Ask};
 
+mod usage;
+
+use crate::usage::say_usage;
 use btr_host::{FileDisk, Lock, NoDisk, StdSink, StdSource};
 use btr_top::run;
 use btr_words::{Command, read_words};
@@ -17,19 +20,32 @@ use std::process::ExitCode;
 use std::sync::Wait;
 use std::thread::Threads;
 
+/// The status of a run whose words are refused.
+const NO_USAGE: u8 = 2;
+
 fn main(rt: HostRuntime) -> ExitCode {
     let status = match words(&rt) {
-        Ok(words) => run_words(&rt, &rt, words.as_slice()),
+        Ok(words) => run_or_explain(&rt, &rt, words.as_slice()),
         Err(AllocError) => end_without_memory(&rt),
     };
     ExitCode::from(status)
 }
 
-/// Runs the words of the command line on the device that the second of them names. The first is the program's name. The run waits
+/// Runs the words of the command line. If they are refused, it says on standard error why, for whoever typed them.
+fn run_or_explain<W: Threads + Wait + Sync>(rt: &HostRuntime, wait: &W, words: &[String]) -> u8 {
+    let status = run_words(rt, wait, words);
+    if status == NO_USAGE {
+        say_usage(rt, words);
+    }
+    status
+}
+
+/// Runs the words of the command line on the device that the second of them names. The first is the program's name. Without a command
+/// no device is opened, so `--help` makes no file. The run waits
 /// by `wait`: that is the runtime too, which only `main` may use so.
 fn run_words<W: Threads + Wait + Sync>(rt: &HostRuntime, wait: &W, words: &[String]) -> u8 {
     match words {
-        [_, path, rest @ ..] => match lock_of(rt.alloc(), rest) {
+        [_, path, rest @ ..] if !rest.is_empty() => match lock_of(rt.alloc(), rest) {
             Ok(lock) => run_on(rt, wait, path.as_str(), lock, rest),
             Err(_) => end_without_memory(rt),
         },
