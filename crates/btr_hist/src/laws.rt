@@ -1,7 +1,8 @@
 //! The laws of all histories. Each is a function with an empty body, and its contract is the law.
 
 ghost use Rattle.btr_hist.specs.Laws.{OldVersionsStay, HoldsWhatWasPutIn, KernelsAreLocal, OutputsAreLocal, ChangesAreWidened};
-ghost use Rattle.btr_hist.specs.Laws.{DistillatesAreRight, LegalIsRight, DistillatesAreAllowed, PrefixesAreLegal, PointsLieInTheDomain, MachineStaysLegal};
+ghost use Rattle.btr_hist.specs.Laws.{DistillatesAreRight, LegalIsRight, DistillatesAreAllowed, PrefixesAreLegal};
+ghost use Rattle.btr_hist.specs.Laws.{PointsLieInTheDomain, MachineStaysLegal};
 
 /// The answer to a question about versions that exist, given by their numbers, never changes, whatever is committed later.
 pub fn old_versions_stay()
