@@ -6,4 +6,5 @@ mod PublishCalls
 mod NeitherByte
 mod TornBlocks
 mod FuseImages
+mod Filled
 mod Recording

@@ -11,3 +11,4 @@ pub mod Torn
 pub mod CallRecord
 pub mod RecordLaws
 pub mod FuseLaws
+pub mod Fill

@@ -3,8 +3,9 @@ ghost use Rattle.std.specs.Prelude.{◌≡◌, ◌+◌, ◌-◌, ◌^◌, ◌<�
 ghost use Rattle.std.specs.Prelude.{vec_len, vec_capacity};
 ghost use Rattle.btr_disk.specs.Torn.{IsUntorn};
 
+use crate::image::fill_calls;
 use crate::torn::TornBlocks;
-use crate::{BLOCK, Capacity};
+use crate::{BLOCK, Capacity, Fill};
 use std::alloc::{AllocError, Global};
 
 /// What a call did.
@@ -31,6 +32,8 @@ pub(crate) struct CallRecord {
 }
 
 impl CallRecord {
+    ghost use Rattle.std.specs.Prelude.{◌*◌};
+    ghost use Rattle.btr_disk.specs.Fill.{IsFilled, IsLooseAt};
     ghost use Rattle.btr_disk.specs.CallRecord.{Records, IsLeftOut, CanRecord, HasCapacity, IsEmpty, TearsOnly, call_count};
 
     /// The record of a device of `blocks` blocks on which no call was made.
@@ -90,6 +93,15 @@ impl CallRecord {
         ensures { result ≡ min (call_count self.now) (2 ^ 64 - 1) }
     {
         self.unrecorded.saturating_add(self.calls.len() as u64)
+    }
+
+    /// Fills each address where a crash may leave any byte.
+    pub(crate) fn fill(&self, bytes: &mut [u8], fill: Fill)
+        requires { length bytes.old ≡ 4096 * length self.now.torn.flags.items }
+        ensures { IsFilled fill (IsLooseAt self.now) bytes.old bytes.new }
+    {
+        fill_calls(bytes, &self.calls, fill);
+        self.torn.fill(bytes, fill);
     }
 
     /// The number of calls in the record.

@@ -6,7 +6,7 @@ ghost use Rattle.btr_disk.specs.Images.{Only};
 ghost use Rattle.btr_disk.specs.Causes.{Counted};
 
 use crate::call_record::{Call, CallRecord};
-use crate::{BLOCK, Disk, Failed};
+use crate::{BLOCK, Disk, Failed, Fill};
 use std::alloc::{AllocError, Global};
 
 /// How much a [`MemDisk`] can remember.
@@ -33,12 +33,17 @@ pub struct MemDisk {
     made: CallRecord,
     failing: Vec<u64>,
     faults: u64,
+    /// What it was made with.
+    room: Capacity,
+    ghost room_fits: { room.blocks ≤ 2 ^ 32 },
     ghost are_bytes: { (k : ℕ) → slice_index bytes.items k < 256 },
     ghost whole_blocks: { length bytes.items ≡ 4096 * length made.torn.flags.items },
 }
 
 impl MemDisk {
-    ghost use Rattle.btr_disk.specs.Memory.{is_listed};
+    ghost use Rattle.std.specs.Prelude.{[]};
+    ghost use Rattle.btr_disk.specs.Fill.{HasFill};
+    ghost use Rattle.btr_disk.specs.Memory.{is_listed, images_of};
 
     /// A device of `blocks` blocks of zeros, at most 2^32, on which no call was made.
     ///
@@ -89,7 +94,45 @@ impl MemDisk {
             made: CallRecord::new(alloc, capacity, blocks)?,
             failing,
             faults: 0,
+            room: capacity,
         })
+    }
+
+    /// What a crash at this moment may leave, as a device of its own.
+    ///
+    /// At each address where a crash may leave any byte it has that of `fill`. No call was made of it, and
+    /// none is listed to fail. It can remember as much as this device. The error means out of memory. The
+    /// cost is that of copying the device, and of what was written since the last sync.
+    pub fn image(&self, alloc: Global, fill: Fill) -> Result<MemDisk, AllocError>
+        ensures observable { ⟦<MemDisk as Disk>⟧.is_observable }
+        ensures size { IfOk result (λ image. ⟦<MemDisk as Disk>⟧.size image ≡ ⟦<MemDisk as Disk>⟧.size self.now) }
+        ensures image { IfOk result (λ image. ⟦<MemDisk as Disk>⟧.images_now self.now (⟦<MemDisk as Disk>⟧.contents image)) }
+        ensures fill { IfOk result (λ image. HasFill fill (⟦<MemDisk as Disk>⟧.contents self.now) self.now.made
+            (length self.now.bytes.items) (⟦<MemDisk as Disk>⟧.contents image)) }
+        ensures settled { IfOk result (λ image. Only (⟦<MemDisk as Disk>⟧.contents image) (⟦<MemDisk as Disk>⟧.images_now image)) }
+        ensures unused { IfOk result (λ image. (⟦<MemDisk as Disk>⟧.calls image ≡ 0) × (⟦<MemDisk as Disk>⟧.faults image ≡ 0)) }
+        ensures failing { IfOk result (λ image. image.failing.items ≡ []) }
+        ensures capacity { IfOk result (λ image. HasCapacity self.now.room.calls self.now.room.blocks image.made) }
+    {
+        let bytes = self.filled(alloc, fill)?;
+        MemDisk::from_bytes(alloc, bytes, self.room, Vec::new(alloc))
+    }
+
+    /// The bytes of that image.
+    #[tactic(auto, using(crate::proofs::Filled::filled_left, crate::proofs::Filled::filled_has))]
+    fn filled(&self, alloc: Global, fill: Fill) -> Result<Vec<u8>, AllocError>
+        ensures length { IfOk result (λ bytes. length bytes.items ≡ length self.now.bytes.items) }
+        ensures image { IfOk result (λ bytes. images_of self.now (contents_of bytes.items)) }
+        ensures fill { IfOk result (λ bytes. HasFill fill (contents_of self.now.bytes.items) self.now.made
+            (length self.now.bytes.items) (contents_of bytes.items)) }
+    {
+        let mut bytes = Vec::with_capacity(alloc, self.bytes.len())?;
+        bytes.extend_from_slice(&self.bytes)?;
+        if matches!(fill, Fill::Written) {
+            return Ok(bytes);
+        }
+        self.made.fill(&mut bytes, fill);
+        Ok(bytes)
     }
 
     /// The bytes that a read of all blocks returns.
