@@ -2,6 +2,8 @@
 #![tactic(auto)]
 
 #[cfg(test)]
+mod fixture;
+#[cfg(test)]
 mod log_tests;
 #[cfg(test)]
 mod super_tests;
