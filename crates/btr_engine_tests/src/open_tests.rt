@@ -1,5 +1,5 @@
 //! Tests of an engine from its opening on, over a device in memory.
-ghost use Rattle.std.specs.Prelude.{◌≡◌, ◌%◌, IfOk, length};
+ghost use Rattle.std.specs.Prelude.{◌≡◌, ◌%◌, ◌<◌, ◌≤◌, ◌^◌, length};
 
 use crate::fixture::no_wrong;
 use btr_base::{Agg, Bag, END, FIRST, Point, Range, Ranges, Toward};

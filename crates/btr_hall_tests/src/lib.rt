@@ -2,6 +2,8 @@
 #![tactic(auto)]
 
 #[cfg(test)]
+mod fixture;
+#[cfg(test)]
 mod hall_tests;
 #[cfg(test)]
 mod jobs_tests;
