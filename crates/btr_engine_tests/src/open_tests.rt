@@ -800,7 +800,13 @@ fn is_output_at(
         at,
     };
     let has_points = is_answered(alloc, snapshot, &points, version, rows)?;
-    let has_info = is_answered(alloc, snapshot, &Query::Info { stream: 1, at }, version, info)?;
+    let has_info = is_answered(
+        alloc,
+        snapshot,
+        &Query::Info { stream: 1, at },
+        version,
+        info,
+    )?;
     Ok(has_info && has_points && snapshot.reads(1, version) == reads)
 }
 
@@ -851,10 +857,7 @@ fn is_rejected(
     Ok(step(alloc, engine, &entry) == Err(StepFault::Rejected(why)))
 }
 
-fn first_not_rejected(
-    alloc: Global,
-    engine: &mut Engine<MemDisk>,
-) -> Result<Option<usize>, Fail> {
+fn first_not_rejected(alloc: Global, engine: &mut Engine<MemDisk>) -> Result<Option<usize>, Fail> {
     for (row, (stream, read, why)) in REJECTED.iter().enumerate() {
         if !is_rejected(alloc, engine, *stream, *read, *why)? {
             return Ok(Some(row));

@@ -176,12 +176,7 @@ const LANDED: &[Row<'static>] = &[
     (
         Act::Nothing,
         1,
-        Wanted::Plan(
-            0,
-            (1, None),
-            &[(0, 31)],
-            &[(0, 10), (10, 30), (20, 50)],
-        ),
+        Wanted::Plan(0, (1, None), &[(0, 31)], &[(0, 10), (10, 30), (20, 50)]),
     ),
     (Act::Refresh(1), 1, Wanted::UpToDate(1)),
     (

@@ -135,12 +135,7 @@ fn add_points<R: Wait>(
 }
 
 /// Makes a plain stream with three points, and an output of their sums over 10 ns. Returns whether all was accepted.
-fn define<R: Wait>(
-    rt: &R,
-    alloc: Global,
-    hall: &Place,
-    user: &mut User,
-) -> Result<bool, AllocError>
+fn define<R: Wait>(rt: &R, alloc: Global, hall: &Place, user: &mut User) -> Result<bool, AllocError>
     requires { IsSessionOf hall.now user.old }
     ensures own { IsSessionOf hall.now user.new }
     ensures share { share_of user.new ≡ share_of user.old }
@@ -379,7 +374,10 @@ fn create<R: Wait>(rt: &R, alloc: Global, hall: &Place, user: User, count: u32) 
 
 /// Makes two streams in a new hall, and lets two threads write and read. Returns how many streams were made, the numbers of good answers,
 /// and the number of entries in the end.
-fn read_by_two<R: Threads + Wait + Sync>(rt: &R, alloc: Global) -> Result<(u32, u32, u32, u64), Fail> {
+fn read_by_two<R: Threads + Wait + Sync>(
+    rt: &R,
+    alloc: Global,
+) -> Result<(u32, u32, u32, u64), Fail> {
     let (hall, user) = begun_empty(alloc, 2000, &[])?;
     let (user, made) = create(rt, alloc, &hall, user, 2);
     let (user, here, there) = two_write_and_read(rt, alloc, &hall, user);
@@ -686,7 +684,12 @@ fn refused_thrice<R: Wait>(
 
 /// What a user sees of a hall: the number of entries if it is stopped, the latest version of stream 0 and the number of its points, and
 /// two ids.
-type Sight = (Option<u64>, Option<(u64, usize)>, Option<Found>, Option<Found>);
+type Sight = (
+    Option<u64>,
+    Option<(u64, usize)>,
+    Option<Found>,
+    Option<Found>,
+);
 
 fn sight_of<R: Wait>(rt: &R, alloc: Global, hall: &Place, user: &mut User) -> Sight
     requires { IsSessionOf hall.now user.old }

@@ -154,7 +154,8 @@ const APART: Lines<'static> = &[
 ];
 
 /// The replies to those lines.
-const APART_REPLIES: &[u8] = b"held 1\nno line\nno empty\nok 0 0\nok 1 0\nok 1 2\n1 1\n2 2\nok 1 0\n\
+const APART_REPLIES: &[u8] =
+    b"held 1\nno line\nno empty\nok 0 0\nok 1 0\nok 1 2\n1 1\n2 2\nok 1 0\n\
 no domain 3458764513820540928\nno plain\nno range\nno empty\n";
 
 /// Lanes that do not touch what the others do have the replies that each has alone, in the order of the script. A lane has feeds of its

@@ -176,16 +176,7 @@ fn new_gives<R: Threads + Wait + Sync>(
 const ONE_BATCH: Given<'static> = (&[Wanted::Committed(0, &[ENTRY_2], 1)], 2);
 
 /// A load of five points by twos.
-const THREE_BATCHES: Given<'static> = (
-    &[
-        Wanted::Committed(
-            0,
-            &[ENTRY_2, ENTRY_3, ENTRY_4],
-            3,
-        ),
-    ],
-    0,
-);
+const THREE_BATCHES: Given<'static> = (&[Wanted::Committed(0, &[ENTRY_2, ENTRY_3, ENTRY_4], 3)], 0);
 
 /// A load by one worker is the same as one by two if there is one stream.
 #[test]
@@ -207,33 +198,29 @@ fn rows_of_one_stream_are_committed_in_batches(rt: HostRuntime) -> Result<(), Fa
 
 /// A load whose last batch does not fit.
 const FULL: Given<'static> = (
-    &[
-        Wanted::Committed(
-            0,
-            &[
-                ENTRY_2,
-                ENTRY_3,
-                Err(StepFault::DeviceFull { need: 2, left: 1 }),
-            ],
-            2,
-        ),
-    ],
+    &[Wanted::Committed(
+        0,
+        &[
+            ENTRY_2,
+            ENTRY_3,
+            Err(StepFault::DeviceFull { need: 2, left: 1 }),
+        ],
+        2,
+    )],
     0,
 );
 
 /// A load in whose first batch the device fails.
 const FAILED: Given<'static> = (
-    &[
-        Wanted::Committed(
-            0,
-            &[
-                Err(StepFault::DeviceFault),
-                Err(StepFault::Stopped { entries: 1 }),
-                Err(StepFault::Stopped { entries: 1 }),
-            ],
-            0,
-        ),
-    ],
+    &[Wanted::Committed(
+        0,
+        &[
+            Err(StepFault::DeviceFault),
+            Err(StepFault::Stopped { entries: 1 }),
+            Err(StepFault::Stopped { entries: 1 }),
+        ],
+        0,
+    )],
     0,
 );
 
@@ -275,16 +262,14 @@ fn crowded_rows(alloc: Global) -> Result<String, AllocError> {
 
 /// A load whose first batch is crowded.
 const CROWDED: Given<'static> = (
-    &[
-        Wanted::Committed(
-            0,
-            &[
-                Err(StepFault::Rejected(Rejection::Crowded { start: 0 })),
-                ENTRY_2,
-            ],
-            1,
-        ),
-    ],
+    &[Wanted::Committed(
+        0,
+        &[
+            Err(StepFault::Rejected(Rejection::Crowded { start: 0 })),
+            ENTRY_2,
+        ],
+        1,
+    )],
     0,
 );
 
@@ -298,21 +283,10 @@ fn a_crowded_batch_is_refused(rt: HostRuntime) -> Result<(), Fail> {
 }
 
 /// A load of five points by threes.
-const TWO_BATCHES: Given<'static> = (
-    &[
-        Wanted::Committed(0, &[ENTRY_2, ENTRY_3], 2),
-    ],
-    0,
-);
+const TWO_BATCHES: Given<'static> = (&[Wanted::Committed(0, &[ENTRY_2, ENTRY_3], 2)], 0);
 
 /// A load of rows of an output, and of one batch of its input.
-const WITH_OUTPUT: Given<'static> = (
-    &[
-        Wanted::Output,
-        Wanted::Committed(0, &[ENTRY_5], 3),
-    ],
-    0,
-);
+const WITH_OUTPUT: Given<'static> = (&[Wanted::Output, Wanted::Committed(0, &[ENTRY_5], 3)], 0);
 
 /// Commits points of the id 7 and makes an output of the id 8, and then loads rows of both. Returns whether both loads gave what is
 /// wanted.

@@ -181,10 +181,8 @@ fn has_lines(report: &Result<Vec<ReportLine>, AllocError>, wanted: &[(u32, Broug
     match report {
         Ok(lines) => {
             lines.len() == wanted.len()
-                && lines
-                    .iter()
-                    .zip(wanted.iter())
-                    .all(|(line, pair)| line.output == pair.0 && line.result == pair.1)
+                && lines.iter().zip(wanted.iter()).all(|(line, pair)| line.output == pair.0
+                    && line.result == pair.1)
         }
         Err(_) => false,
     }

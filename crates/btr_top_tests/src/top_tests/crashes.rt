@@ -65,9 +65,13 @@ fn before_and_after(
     ensures { IfOk result (λ r. length r.0.items % 4096 ≡ 0) }
 {
     let script = b"create U\ninsert U 1 1\n";
-    let before = run_on(rt, "live", script, store_of(rt, "64")?)?.disk.into_bytes();
+    let before = run_on(rt, "live", script, store_of(rt, "64")?)?
+        .disk
+        .into_bytes();
     let device = device_of(rt.alloc(), before.clone()?)?;
-    let after = run_on(rt, "live", b"insert U 2 2\n", device)?.disk.into_bytes();
+    let after = run_on(rt, "live", b"insert U 2 2\n", device)?
+        .disk
+        .into_bytes();
     Ok((before, after))
 }
 

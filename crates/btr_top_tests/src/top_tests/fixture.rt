@@ -1,11 +1,11 @@
 //! Runs on a device in memory, and transcripts of such runs.
 ghost use Rattle.std.specs.Prelude.{◌≡◌, ◌%◌, length};
 
-use btr_top::{Outcome, run, run_paced};
 use btr_disk::{Capacity, MemDisk};
 use btr_io::{MemSink, MemSource};
 use btr_jobs::Pace;
 use btr_text::read_unsigned;
+use btr_top::{Outcome, run, run_paced};
 use std::alloc::{AllocError, Global};
 use std::sync::Wait;
 use std::sync::atomic::{AtomicU32, Ordering};

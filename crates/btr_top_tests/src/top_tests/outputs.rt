@@ -398,12 +398,7 @@ fn nine_changes(alloc: Global) -> Result<Changes, AllocError> {
 #[test]
 fn an_output_is_its_kernel_after_many_changes(rt: HostRuntime) -> Result<(), Fail> {
     let changes = nine_changes(rt.alloc())?;
-    let ran = run_on(
-        &rt,
-        "live",
-        changes.script.as_bytes(),
-        store_of(&rt, "64")?,
-    )?;
+    let ran = run_on(&rt, "live", changes.script.as_bytes(), store_of(&rt, "64")?)?;
     assert!(rt; ran.gave(changes.want.as_str(), 0));
     Ok(())
 }

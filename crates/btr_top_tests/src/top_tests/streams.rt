@@ -76,10 +76,7 @@ fn an_input_over_the_limit_is_refused(rt: HostRuntime) -> Result<(), Fail> {
 }
 
 /// Runs words on an empty device. Returns the status and the calls of the device.
-fn called(
-    rt: &(impl AllocGlobal + Threads + Wait + Sync),
-    words: &str,
-) -> Result<(u8, u64), Fail> {
+fn called(rt: &(impl AllocGlobal + Threads + Wait + Sync), words: &str) -> Result<(u8, u64), Fail> {
     let ran = run_on(rt, words, b"", empty_device(rt.alloc(), &[])?)?;
     Ok((ran.status, ran.disk.calls()))
 }
