@@ -1,6 +1,7 @@
 //! Tests of the machine: events of several actors in tables, each with the reply that it has to get.
-use btr_core::*;
+use crate::fixture::no_wrong;
 use btr_base::{Bag, Point, Ranges};
+use btr_core::*;
 use btr_hist::{Answer, At, Entry, Kernel, Query, Reads, Refusal, Rejection, Rows, Spec};
 use std::alloc::{AllocError, Global};
 use std::test::Fail;
@@ -9,7 +10,7 @@ use std::test::Fail;
 type Pairs<'a> = &'a [(i64, i64)];
 
 /// What an actor does, in a table.
-#[derive(Clone, Copy, Debug)]
+#[derive(Clone, Copy)]
 enum Act<'a> {
     /// Creates a stream with this id.
     Create(u128),
@@ -39,7 +40,7 @@ enum Act<'a> {
 }
 
 /// The reply that an actor has to get, in a table.
-#[derive(Clone, Copy, Debug)]
+#[derive(Clone, Copy)]
 enum Wanted<'a> {
     /// The number of the entry, its stream, and the version that it made.
     Accepted(u64, u32, u64),
@@ -201,8 +202,8 @@ fn replies(reply: &Reply, wanted: &Wanted<'_>) -> bool {
     }
 }
 
-/// Plays the events of a table, and returns the number of the first row whose reply is another one.
-fn first_wrong(alloc: Global, rows: &[Row<'_>]) -> Result<Option<usize>, Fail> {
+/// Returns the events of a table.
+fn events_of(alloc: Global, rows: &[Row<'_>]) -> Result<Vec<Event>, AllocError> {
     let mut events = Vec::new(alloc);
     for (actor, act, _) in rows {
         events.push(Event {
@@ -210,137 +211,144 @@ fn first_wrong(alloc: Global, rows: &[Row<'_>]) -> Result<Option<usize>, Fail> {
             what: what(alloc, *act)?,
         })?;
     }
-    let got = run(alloc, &events)?;
+    Ok(events)
+}
+
+/// Plays the events of a table, and returns the number of the first row whose reply is another one, or that has none.
+fn first_wrong(alloc: Global, rows: &[Row<'_>]) -> Result<Option<usize>, Fail> {
+    let got = run(alloc, &events_of(alloc, rows)?)?;
     if got.len() != rows.len() {
         return Err("one reply for each event".into());
     }
-    for (place, row) in rows.iter().enumerate() {
-        let (_, _, wanted) = row;
-        if !replies(&got[place], wanted) {
+    for (place, (reply, (_, _, wanted))) in got.iter().zip(rows.iter()).enumerate() {
+        if !replies(reply, wanted) {
             return Ok(Some(place));
         }
     }
     Ok(None)
 }
 
+/// Actors that are admitted, and one that is not.
+const ADMITTED: &[Row<'static>] = &[
+    (1, Act::Create(7), Wanted::Accepted(1, 0, 0)),
+    (1, Act::Insert(0, &[(0, 1)]), Wanted::Accepted(2, 0, 1)),
+    (2, Act::Admit, Wanted::Admitted(2)),
+    (1, Act::Insert(0, &[(5, 2)]), Wanted::Accepted(3, 0, 2)),
+    (2, Act::Info(0), Wanted::Info(1, (1, 1), (1, 1), None)),
+    (2, Act::Admit, Wanted::Admitted(3)),
+    (2, Act::Info(0), Wanted::Info(2, (2, 3), (1, 2), None)),
+    (3, Act::Streams, Wanted::Streams(0, 0)),
+    (3, Act::Info(0), Wanted::Refused(Refusal::NoStream)),
+    (2, Act::Streams, Wanted::Streams(3, 1)),
+    (2, Act::Plan(0), Wanted::NotOutput),
+    (3, Act::Plan(0), Wanted::NotOutput),
+    (2, Act::Land, Wanted::NoPlan),
+    (3, Act::Land, Wanted::NoPlan),
+    (
+        u16::MAX,
+        Act::Create(7),
+        Wanted::Rejected(Rejection::StreamExists),
+    ),
+    (
+        0,
+        Act::Insert(1, &[(5, 2)]),
+        Wanted::Rejected(Rejection::NoStream),
+    ),
+    (0, Act::Distil(0), Wanted::Rejected(Rejection::NotWritable)),
+    (0, Act::Admit, Wanted::Admitted(3)),
+];
+
 #[test]
 fn an_actor_sees_what_it_was_admitted_to(rt: HostRuntime) -> Result<(), Fail> {
-    let rows: &[Row<'_>] = &[
-        (1, Act::Create(7), Wanted::Accepted(1, 0, 0)),
-        (1, Act::Insert(0, &[(0, 1)]), Wanted::Accepted(2, 0, 1)),
-        (2, Act::Admit, Wanted::Admitted(2)),
-        (1, Act::Insert(0, &[(5, 2)]), Wanted::Accepted(3, 0, 2)),
-        (2, Act::Info(0), Wanted::Info(1, (1, 1), (1, 1), None)),
-        (2, Act::Admit, Wanted::Admitted(3)),
-        (2, Act::Info(0), Wanted::Info(2, (2, 3), (1, 2), None)),
-        (3, Act::Streams, Wanted::Streams(0, 0)),
-        (3, Act::Info(0), Wanted::Refused(Refusal::NoStream)),
-        (2, Act::Streams, Wanted::Streams(3, 1)),
-        (2, Act::Plan(0), Wanted::NotOutput),
-        (3, Act::Plan(0), Wanted::NotOutput),
-        (2, Act::Land, Wanted::NoPlan),
-        (3, Act::Land, Wanted::NoPlan),
-        (
-            u16::MAX,
-            Act::Create(7),
-            Wanted::Rejected(Rejection::StreamExists),
-        ),
-        (
-            0,
-            Act::Insert(1, &[(5, 2)]),
-            Wanted::Rejected(Rejection::NoStream),
-        ),
-        (0, Act::Distil(0), Wanted::Rejected(Rejection::NotWritable)),
-        (0, Act::Admit, Wanted::Admitted(3)),
-    ];
-    assert_eq!(rt; first_wrong(rt.alloc(), rows)?, None);
-    Ok(())
+    no_wrong(first_wrong(rt.alloc(), ADMITTED)?)
 }
+
+/// Two actors with a plan of the same output.
+const TWO_PLANS: &[Row<'static>] = &[
+    (1, Act::Create(7), Wanted::Accepted(1, 0, 0)),
+    (
+        1,
+        Act::Insert(0, &[(0, 10), (10, 20), (20, 30)]),
+        Wanted::Accepted(2, 0, 1),
+    ),
+    (1, Act::Sum(8), Wanted::Accepted(3, 1, 0)),
+    (1, Act::Admit, Wanted::Admitted(3)),
+    (1, Act::Plan(1), Wanted::Planned(true)),
+    (1, Act::Land, Wanted::Accepted(4, 1, 1)),
+    (1, Act::Insert(0, &[(5, 1)]), Wanted::Accepted(5, 0, 2)),
+    (1, Act::Admit, Wanted::Admitted(5)),
+    (1, Act::Plan(1), Wanted::Planned(true)),
+    (2, Act::Admit, Wanted::Admitted(5)),
+    (2, Act::Plan(1), Wanted::Planned(true)),
+    (1, Act::Land, Wanted::Accepted(6, 1, 2)),
+    (2, Act::Land, Wanted::Superseded(2)),
+    (2, Act::Land, Wanted::NoPlan),
+    // what is up to date needs no plan, and the one that there was is kept
+    (2, Act::Plan(1), Wanted::Planned(true)),
+    (2, Act::Admit, Wanted::Admitted(6)),
+    (2, Act::Plan(1), Wanted::Planned(false)),
+    (
+        2,
+        Act::Info(1),
+        Wanted::Info(2, (4, 102), (10, 50), Some(2)),
+    ),
+    (
+        2,
+        Act::Points(1),
+        Wanted::Points(2, &[(0, 10), (5, 11), (10, 31), (20, 50)]),
+    ),
+    (2, Act::Land, Wanted::Superseded(2)),
+    (2, Act::Land, Wanted::NoPlan),
+    (
+        2,
+        Act::Insert(1, &[(5, 1)]),
+        Wanted::Rejected(Rejection::NotWritable),
+    ),
+    (2, Act::Distil(1), Wanted::Rejected(Rejection::NotWritable)),
+];
 
 #[test]
 fn one_of_two_plans_lands(rt: HostRuntime) -> Result<(), Fail> {
-    let rows: &[Row<'_>] = &[
-        (1, Act::Create(7), Wanted::Accepted(1, 0, 0)),
-        (
-            1,
-            Act::Insert(0, &[(0, 10), (10, 20), (20, 30)]),
-            Wanted::Accepted(2, 0, 1),
-        ),
-        (1, Act::Sum(8), Wanted::Accepted(3, 1, 0)),
-        (1, Act::Admit, Wanted::Admitted(3)),
-        (1, Act::Plan(1), Wanted::Planned(true)),
-        (1, Act::Land, Wanted::Accepted(4, 1, 1)),
-        (1, Act::Insert(0, &[(5, 1)]), Wanted::Accepted(5, 0, 2)),
-        (1, Act::Admit, Wanted::Admitted(5)),
-        (1, Act::Plan(1), Wanted::Planned(true)),
-        (2, Act::Admit, Wanted::Admitted(5)),
-        (2, Act::Plan(1), Wanted::Planned(true)),
-        (1, Act::Land, Wanted::Accepted(6, 1, 2)),
-        (2, Act::Land, Wanted::Superseded(2)),
-        (2, Act::Land, Wanted::NoPlan),
-        // what is up to date needs no plan, and the one that there was is kept
-        (2, Act::Plan(1), Wanted::Planned(true)),
-        (2, Act::Admit, Wanted::Admitted(6)),
-        (2, Act::Plan(1), Wanted::Planned(false)),
-        (
-            2,
-            Act::Info(1),
-            Wanted::Info(2, (4, 102), (10, 50), Some(2)),
-        ),
-        (
-            2,
-            Act::Points(1),
-            Wanted::Points(2, &[(0, 10), (5, 11), (10, 31), (20, 50)]),
-        ),
-        (2, Act::Land, Wanted::Superseded(2)),
-        (2, Act::Land, Wanted::NoPlan),
-        (
-            2,
-            Act::Insert(1, &[(5, 1)]),
-            Wanted::Rejected(Rejection::NotWritable),
-        ),
-        (2, Act::Distil(1), Wanted::Rejected(Rejection::NotWritable)),
-    ];
-    assert_eq!(rt; first_wrong(rt.alloc(), rows)?, None);
-    Ok(())
+    no_wrong(first_wrong(rt.alloc(), TWO_PLANS)?)
 }
+
+/// A plan that lands after a change of its input.
+const OWN_READS: &[Row<'static>] = &[
+    (1, Act::Create(7), Wanted::Accepted(1, 0, 0)),
+    (
+        1,
+        Act::Insert(0, &[(0, 10), (10, 20), (20, 30)]),
+        Wanted::Accepted(2, 0, 1),
+    ),
+    (1, Act::Sum(8), Wanted::Accepted(3, 1, 0)),
+    (1, Act::Admit, Wanted::Admitted(3)),
+    (1, Act::Plan(1), Wanted::Planned(true)),
+    (2, Act::Insert(0, &[(5, 1)]), Wanted::Accepted(4, 0, 2)),
+    (1, Act::Land, Wanted::Accepted(5, 1, 1)),
+    (3, Act::Admit, Wanted::Admitted(5)),
+    (3, Act::Info(1), Wanted::Info(1, (3, 90), (10, 50), Some(1))),
+    (
+        3,
+        Act::Points(1),
+        Wanted::Points(1, &[(0, 10), (10, 30), (20, 50)]),
+    ),
+    (1, Act::Admit, Wanted::Admitted(5)),
+    (1, Act::Plan(1), Wanted::Planned(true)),
+    (1, Act::Land, Wanted::Accepted(6, 1, 2)),
+    (3, Act::Admit, Wanted::Admitted(6)),
+    (
+        3,
+        Act::Info(1),
+        Wanted::Info(2, (4, 102), (10, 50), Some(2)),
+    ),
+    (
+        3,
+        Act::Points(1),
+        Wanted::Points(2, &[(0, 10), (5, 11), (10, 31), (20, 50)]),
+    ),
+];
 
 #[test]
 fn a_plan_lands_with_its_own_reads(rt: HostRuntime) -> Result<(), Fail> {
-    let rows: &[Row<'_>] = &[
-        (1, Act::Create(7), Wanted::Accepted(1, 0, 0)),
-        (
-            1,
-            Act::Insert(0, &[(0, 10), (10, 20), (20, 30)]),
-            Wanted::Accepted(2, 0, 1),
-        ),
-        (1, Act::Sum(8), Wanted::Accepted(3, 1, 0)),
-        (1, Act::Admit, Wanted::Admitted(3)),
-        (1, Act::Plan(1), Wanted::Planned(true)),
-        (2, Act::Insert(0, &[(5, 1)]), Wanted::Accepted(4, 0, 2)),
-        (1, Act::Land, Wanted::Accepted(5, 1, 1)),
-        (3, Act::Admit, Wanted::Admitted(5)),
-        (3, Act::Info(1), Wanted::Info(1, (3, 90), (10, 50), Some(1))),
-        (
-            3,
-            Act::Points(1),
-            Wanted::Points(1, &[(0, 10), (10, 30), (20, 50)]),
-        ),
-        (1, Act::Admit, Wanted::Admitted(5)),
-        (1, Act::Plan(1), Wanted::Planned(true)),
-        (1, Act::Land, Wanted::Accepted(6, 1, 2)),
-        (3, Act::Admit, Wanted::Admitted(6)),
-        (
-            3,
-            Act::Info(1),
-            Wanted::Info(2, (4, 102), (10, 50), Some(2)),
-        ),
-        (
-            3,
-            Act::Points(1),
-            Wanted::Points(2, &[(0, 10), (5, 11), (10, 31), (20, 50)]),
-        ),
-    ];
-    assert_eq!(rt; first_wrong(rt.alloc(), rows)?, None);
-    Ok(())
+    no_wrong(first_wrong(rt.alloc(), OWN_READS)?)
 }

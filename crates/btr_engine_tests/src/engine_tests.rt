@@ -1,6 +1,7 @@
 //! Tests of the board and of snapshots.
-use btr_engine::*;
+use crate::fixture::no_wrong;
 use btr_base::{Bag, Point, Ranges};
+use btr_engine::*;
 use btr_hist::{Answer, At, Entry, Query, Rejection, Rows};
 use std::alloc::{AllocError, Global};
 use std::test::Fail;
@@ -66,59 +67,110 @@ fn latest_points(
     }
 }
 
-#[test]
-fn a_snapshot_answers_as_before_after_later_commits(rt: HostRuntime) -> Result<(), Fail> {
-    let alloc = rt.alloc();
+/// Adds a commit to stream 1, and returns whether it was accepted while a snapshot answered as before.
+fn is_as_before(
+    alloc: Global,
+    board: &mut Board,
+    snapshot: &Snapshot,
+    first: i64,
+) -> Result<bool, AllocError> {
+    let entry = commit(alloc, 1, first)?;
+    let is_added = add(alloc, board, &entry).is_ok();
+    Ok(is_added && latest_points(alloc, snapshot, 1)? == Some((1, 3)))
+}
+
+/// Adds 300 commits, and returns the number of the first one that was refused or changed what a snapshot answers.
+fn first_change(
+    alloc: Global,
+    board: &mut Board,
+    snapshot: &Snapshot,
+) -> Result<Option<usize>, AllocError> {
+    for index in 0..300u32 {
+        if !is_as_before(alloc, board, snapshot, 10 + i64::from(index))? {
+            return Ok(Some(index as usize));
+        }
+    }
+    Ok(None)
+}
+
+/// What a snapshot has of stream 1: its latest version and the number of its points, the entries, and the latest version again.
+type Seen = (Option<(u64, usize)>, u64, Option<u64>);
+
+fn seen(alloc: Global, snapshot: &Snapshot) -> Result<Seen, AllocError> {
+    let points = latest_points(alloc, snapshot, 1)?;
+    Ok((points, snapshot.entries(), snapshot.latest(1)))
+}
+
+/// Adds 300 commits beside a snapshot and one that is shared. Returns the number of the first commit that changed the shared one, and
+/// what the first snapshot and a later one have.
+fn seen_before_and_after(alloc: Global) -> Result<(Option<usize>, Seen, Seen), Fail> {
     let mut board = small(alloc)?;
     let snapshot = board.admit()?;
-    let shared = snapshot.share()?;
-    for index in 0..300u32 {
-        let entry = commit(alloc, 1, 10 + i64::from(index))?;
-        assert!(rt; add(alloc, &mut board, &entry).is_ok());
-        assert_eq!(rt; latest_points(alloc, &shared, 1)?, Some((1, 3)));
-    }
-    assert_eq!(rt; latest_points(alloc, &snapshot, 1)?, Some((1, 3)));
-    let later = board.admit()?;
-    assert_eq!(rt; latest_points(alloc, &later, 1)?, Some((301, 903)));
-    assert_eq!(rt; (snapshot.entries(), later.entries()), (3, 303));
-    assert_eq!(rt; (snapshot.latest(1), later.latest(1)), (Some(1), Some(301)));
-    Ok(())
+    let wrong = first_change(alloc, &mut board, &snapshot.share()?)?;
+    let before = seen(alloc, &snapshot)?;
+    let after = seen(alloc, &board.admit()?)?;
+    Ok((wrong, before, after))
 }
 
 #[test]
-fn a_snapshot_has_streams_versions_and_trees(rt: HostRuntime) -> Result<(), Fail> {
+fn a_snapshot_answers_as_before_after_later_commits(rt: HostRuntime) -> Result<(), Fail> {
+    let (wrong, before, after) = seen_before_and_after(rt.alloc())?;
+    assert!(rt; before == (Some((1, 3)), 3, Some(1)));
+    assert!(rt; after == (Some((301, 903)), 303, Some(301)));
+    no_wrong(wrong)
+}
+
+/// What a snapshot finds for three ids, and the latest versions of three streams.
+type Streams = ([Option<u32>; 3], [Option<u64>; 3]);
+
+fn streams_of(snapshot: &Snapshot) -> Streams {
+    (
+        [snapshot.find(7), snapshot.find(8), snapshot.find(9)],
+        [snapshot.latest(0), snapshot.latest(1), snapshot.latest(2)],
+    )
+}
+
+#[test]
+fn a_snapshot_has_streams_and_versions(rt: HostRuntime) -> Result<(), Fail> {
     let alloc = rt.alloc();
     let snapshot = small(alloc)?.admit()?;
-    assert_eq!(rt; snapshot.streams(), 2);
-    assert_eq!(rt;
-        (snapshot.find(7), snapshot.find(8), snapshot.find(9)),
-        (Some(0), Some(1), None)
-    );
-    assert_eq!(rt;
-        (snapshot.latest(0), snapshot.latest(1), snapshot.latest(2)),
-        (Some(0), Some(1), None)
-    );
-    for (stream, version, count) in [
-        (0, 0, Some(0)),
-        (0, 1, None),
-        (1, 0, Some(0)),
-        (1, 1, Some(3)),
-        (1, 2, None),
-        (2, 0, None),
-        (u32::MAX, u64::MAX, None),
-    ] {
-        assert_eq!(rt;
-            snapshot.tree(stream, version).map(|tree| tree.count()),
-            count
-        );
-    }
-    assert_eq!(rt; latest_points(alloc, &snapshot, 2)?, None);
+    let (found, latest) = streams_of(&snapshot);
+    let points = latest_points(alloc, &snapshot, 2)?;
+    assert!(rt; snapshot.streams() == 2);
+    assert!(rt; found == [Some(0), Some(1), None]);
+    assert!(rt; latest == [Some(0), Some(1), None]);
+    assert!(rt; points == None);
     Ok(())
 }
 
+/// A stream, a version, and the number of its points, if it is there.
+const TREES: &[(u32, u64, Option<u64>)] = &[
+    (0, 0, Some(0)),
+    (0, 1, None),
+    (1, 0, Some(0)),
+    (1, 1, Some(3)),
+    (1, 2, None),
+    (2, 0, None),
+    (u32::MAX, u64::MAX, None),
+];
+
+fn first_wrong_tree(snapshot: &Snapshot) -> Option<usize> {
+    for (row, (stream, version, count)) in TREES.iter().enumerate() {
+        if snapshot.tree(*stream, *version).map(|tree| tree.count()) != *count {
+            return Some(row);
+        }
+    }
+    None
+}
+
 #[test]
-fn the_limit_of_streams_is_kept(rt: HostRuntime) -> Result<(), Fail> {
-    let alloc = rt.alloc();
+fn a_snapshot_has_the_tree_of_each_version(rt: HostRuntime) -> Result<(), Fail> {
+    let snapshot = small(rt.alloc())?.admit()?;
+    no_wrong(first_wrong_tree(&snapshot))
+}
+
+/// Returns the board of as many streams as there may be.
+fn full(alloc: Global) -> Result<Board, Fail> {
     let mut board = Board::empty();
     for number in 0..65536u32 {
         let id = u128::from(number) << 64;
@@ -126,34 +178,59 @@ fn the_limit_of_streams_is_kept(rt: HostRuntime) -> Result<(), Fail> {
             return Err("a stream was refused".into());
         }
     }
-    for number in [0u32, 40_000, 65_535] {
-        let id = u128::from(number) << 64;
-        assert_eq!(rt;
-            add(alloc, &mut board, &Entry::Create { id }),
-            Err(PushFault::Rejected(Rejection::StreamExists))
-        );
-        assert_eq!(rt; board.find(id), Some(number));
+    Ok(board)
+}
+
+/// Creates three streams again, and returns the number of the first one that is not refused or not found.
+fn first_not_found(alloc: Global, board: &mut Board) -> Option<usize> {
+    for (row, number) in [0u32, 40_000, 65_535].iter().enumerate() {
+        let id = u128::from(*number) << 64;
+        let again = add(alloc, board, &Entry::Create { id });
+        if again != Err(PushFault::Rejected(Rejection::StreamExists))
+            || board.find(id) != Some(*number)
+        {
+            return Some(row);
+        }
     }
-    assert_eq!(rt;
-        add(alloc, &mut board, &Entry::Create { id: 1 }),
-        Err(PushFault::Rejected(Rejection::StreamLimit))
-    );
-    assert_eq!(rt; (board.streams(), board.entries()), (65536, 65536));
-    assert_eq!(rt;
-        add(alloc, &mut board, &commit(alloc, 65536, 0)?),
-        Err(PushFault::Rejected(Rejection::NoStream))
-    );
-    assert_eq!(rt;
-        add(alloc, &mut board, &commit(alloc, 65535, 0)?),
-        Ok(Receipt {
-            number: 65537,
-            stream: 65535,
-            version: 1
-        })
-    );
-    assert_eq!(rt;
-        (board.latest(65534), board.latest(65535)),
-        (Some(0), Some(1))
-    );
+    None
+}
+
+#[test]
+fn the_limit_of_streams_is_kept(rt: HostRuntime) -> Result<(), Fail> {
+    let alloc = rt.alloc();
+    let mut board = full(alloc)?;
+    let wrong = first_not_found(alloc, &mut board);
+    let one_more = add(alloc, &mut board, &Entry::Create { id: 1 });
+    let counts = (board.streams(), board.entries());
+    assert!(rt; one_more == Err(PushFault::Rejected(Rejection::StreamLimit)));
+    assert!(rt; counts == (65536, 65536));
+    no_wrong(wrong)
+}
+
+/// Adds a commit to a stream.
+fn add_commit(
+    alloc: Global,
+    board: &mut Board,
+    stream: u32,
+) -> Result<Result<Receipt, PushFault>, AllocError> {
+    let entry = commit(alloc, stream, 0)?;
+    Ok(add(alloc, board, &entry))
+}
+
+#[test]
+fn the_last_stream_takes_commits(rt: HostRuntime) -> Result<(), Fail> {
+    let alloc = rt.alloc();
+    let mut board = full(alloc)?;
+    let refused = add_commit(alloc, &mut board, 65536)?;
+    let accepted = add_commit(alloc, &mut board, 65535)?;
+    let latest = (board.latest(65534), board.latest(65535));
+    let receipt = Receipt {
+        number: 65537,
+        stream: 65535,
+        version: 1,
+    };
+    assert!(rt; refused == Err(PushFault::Rejected(Rejection::NoStream)));
+    assert!(rt; accepted == Ok(receipt));
+    assert!(rt; latest == (Some(0), Some(1)));
     Ok(())
 }

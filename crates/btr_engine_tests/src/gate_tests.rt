@@ -5,6 +5,7 @@ ghost use Rattle.btr_gate.specs.Shares.{on_path};
 ghost use Rattle.btr_gate.specs.Views.{with_entry};
 ghost use Rattle.btr_gate.specs.Gates.{IsPassOf, IsFree, view};
 
+use crate::fixture::no_wrong;
 use btr_gate::{Chronicle, Gate, Pass, Turn};
 use std::alloc::{AllocError, Global};
 use std::snapshot::Snapshot;
@@ -228,41 +229,45 @@ fn met_in_order(gate: &Marks, order: u8, a: Marker, b: Marker, c: Marker, d: Mar
     }
 }
 
-/// Returns the count of one thread.
-fn count_of(tally: &Tally, thread: usize) -> u64 {
-    tally.by.get(thread).copied().unwrap_or(0)
+/// Counts what two and then eight threads add, each a thousand entries.
+fn counted_by_threads<R: Threads + Wait + Sync>(rt: &R, alloc: Global) -> Option<Tally> {
+    let (gate, pass) = begun(alloc)?;
+    let pass = add_in_two(rt, &gate, pass, 0);
+    let pass = add_in_eight(rt, &gate, pass, 0);
+    Some(closed(gate, pass))
 }
 
-/// Counts what two and then eight threads add, each a thousand entries.
 #[test]
 fn each_entry_of_each_thread_is_counted(rt: HostRuntime) -> Result<(), Fail> {
-    let (gate, pass) = begun(rt.alloc()).ok_or("no memory")?;
-    let pass = add_in_two(&rt, &gate, pass, 0);
-    let pass = add_in_eight(&rt, &gate, pass, 0);
-    let tally = closed(gate, pass);
-    assert_eq!(rt; tally.count, 10_000);
-    for thread in 0..8 {
-        let expected = if thread < 2 { 2000 } else { 1000 };
-        assert_eq!(rt; count_of(&tally, thread), expected, "{thread}");
-    }
+    let tally = counted_by_threads(&rt, rt.alloc()).ok_or("no memory")?;
+    assert!(rt; tally.count == 10_000);
+    assert!(rt; tally.by == [2000, 2000, 1000, 1000, 1000, 1000, 1000, 1000]);
     Ok(())
 }
 
-/// Closes after splits and meetings in each order. Two of the four passes never enter.
-#[test]
-fn the_last_pass_closes_after_meetings_in_any_order(rt: HostRuntime) -> Result<(), Fail> {
-    for order in 0..6 {
-        let (gate, pass) = begun(rt.alloc()).ok_or("no memory")?;
-        let (a, b, c, d) = quarters(&gate, pass);
-        let a = add(&rt, &gate, a, 0, 3);
-        let c = add(&rt, &gate, c, 2, 5);
-        let pass = met_in_order(&gate, order, a, b, c, d);
-        let pass = add(&rt, &gate, pass, 7, 1);
-        let tally = closed(gate, pass);
-        assert_eq!(rt; tally.count, 9, "{order}");
-        for (thread, count) in [(0, 3), (2, 5), (7, 1)] {
-            assert_eq!(rt; count_of(&tally, thread), count, "{order}, {thread}");
+/// Closes after splits and meetings in an order. Two of the four passes never enter.
+fn counted_in_order<R: Wait>(rt: &R, alloc: Global, order: u8) -> Option<Tally> {
+    let (gate, pass) = begun(alloc)?;
+    let (a, b, c, d) = quarters(&gate, pass);
+    let a = add(rt, &gate, a, 0, 3);
+    let c = add(rt, &gate, c, 2, 5);
+    let pass = met_in_order(&gate, order, a, b, c, d);
+    let pass = add(rt, &gate, pass, 7, 1);
+    Some(closed(gate, pass))
+}
+
+/// Returns the number of the first order with another tally.
+fn first_wrong_order<R: Wait>(rt: &R, alloc: Global) -> Option<usize> {
+    for order in 0..6u8 {
+        match counted_in_order(rt, alloc, order) {
+            Some(tally) if tally.count == 9 && tally.by == [3, 0, 5, 0, 0, 0, 0, 1] => {}
+            _ => return Some(usize::from(order)),
         }
     }
-    Ok(())
+    None
+}
+
+#[test]
+fn the_last_pass_closes_after_meetings_in_any_order(rt: HostRuntime) -> Result<(), Fail> {
+    no_wrong(first_wrong_order(&rt, rt.alloc()))
 }

@@ -2,16 +2,18 @@
 #![tactic(auto)]
 
 #[cfg(test)]
-mod log_tests;
-#[cfg(test)]
-mod super_tests;
+mod core_tests;
 #[cfg(test)]
 mod engine_tests;
 #[cfg(test)]
-mod plan_tests;
+mod fixture;
+#[cfg(test)]
+mod gate_tests;
+#[cfg(test)]
+mod log_tests;
 #[cfg(test)]
 mod open_tests;
 #[cfg(test)]
-mod core_tests;
+mod plan_tests;
 #[cfg(test)]
-mod gate_tests;
+mod super_tests;

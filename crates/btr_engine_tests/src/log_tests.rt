@@ -5,13 +5,12 @@ ghost use Rattle.btr_log.specs.Extents.{IsBody};
 ghost use Rattle.btr_log.specs.Log.{blocks_of};
 ghost use Rattle.btr_log.specs.Append.{IsAppendRun};
 
-use btr_log::*;
-use btr_log::is_same_head;
-use btr_log::{copy_to_prefix, zeroed};
+use crate::fixture::no_wrong;
 use btr_disk::bytes::put;
 use btr_disk::{BLOCK, Capacity, GATE_MARK, MemDisk, is_open_gate};
+use btr_log::laws::is_same_head;
+use btr_log::*;
 use std::alloc::{AllocError, Global};
-use std::process::Abort;
 use std::test::Fail;
 
 const CAPACITY: Capacity = Capacity {
@@ -37,11 +36,11 @@ fn a_head_is_spelled_as_by_hand(rt: HostRuntime) {
         nodes: 0,
         root: 0,
     };
-    assert_eq!(rt; Head::for_entry(1, 5), head);
+    assert!(rt; Head::for_entry(1, 5) == head);
     let mut bytes = [7; HEAD_BYTES];
     head.encode(&mut bytes);
-    assert_eq!(rt; bytes, ENTRY);
-    assert_eq!(rt; Head::decode(&ENTRY), Some(head));
+    assert!(rt; bytes == ENTRY);
+    assert!(rt; Head::decode(&ENTRY) == Some(head));
     assert!(rt; is_same_head(&head, &head));
 }
 
@@ -54,7 +53,7 @@ fn body_of(alloc: Global, head: &Head) -> Result<Vec<u8>, AllocError>
     let mut bytes = [0; HEAD_BYTES];
     head.encode(&mut bytes);
     let mut body = vec![in alloc; 7; BLOCK * head.n as usize]?;
-    copy_to_prefix(&mut body, &bytes);
+    put(&mut body, 0, &bytes);
     Ok(body)
 }
 
@@ -97,92 +96,198 @@ fn log_of(alloc: Global, blocks: u64, failing: Vec<u64>) -> Result<Log<MemDisk>,
     Ok(Log::at(disk, 4, blocks, 0))
 }
 
-#[test]
-fn what_is_appended_is_found(rt: HostRuntime) -> Result<(), Fail> {
-    let alloc = rt.alloc();
+/// What a log says: its tail, its room, its extents, and whether it is stopped.
+type State = (u64, u64, u64, bool);
+
+fn state_of(log: &Log<MemDisk>) -> State {
+    (log.tail(), log.room(), log.extents(), log.stopped())
+}
+
+/// Appends a body with this head.
+fn append(alloc: Global, log: &mut Log<MemDisk>, head: &Head) -> Result<(), Fail>
+    requires head { IsHead head.now }
+    requires few { head.now.n ≤ 2 ^ 20 }
+    ensures { blocks_of log.new ≡ blocks_of log.old }
+{
+    match log.append(&run_of(alloc, head)?) {
+        Ok(()) => Ok(()),
+        Err(_) => Err("it was not appended".into()),
+    }
+}
+
+/// A log of 16 blocks with a body of one block, and what it says.
+fn one_appended(alloc: Global) -> Result<(Log<MemDisk>, State), Fail>
+    ensures { IfOk result (λ r. blocks_of r.0 ≡ 16) }
+{
     let mut log = log_of(alloc, 16, Vec::new(alloc))?;
-    let first = entry(1, 1, 4032);
-    let second = entry(2, 2, 4033);
-    assert!(rt; log.append(&run_of(alloc, &first)?).is_ok());
-    assert_eq!(rt; log.tail(), 6);
-    assert!(rt; log.append(&run_of(alloc, &second)?).is_ok());
-    assert_eq!(rt; log.tail(), 9);
-    assert_eq!(rt; log.room(), 6);
-    assert_eq!(rt; log.extents(), 2);
-    assert!(rt; !log.stopped());
-    expect_extent(&rt, &mut log, 4, &first, 6)?;
-    expect_extent(&rt, &mut log, 6, &second, 9)?;
-    assert!(rt; matches!(log.read_extent(alloc, 9), Ok(Found::Closed)));
-    assert!(rt; matches!(log.read_extent(alloc, 15), Ok(Found::Closed)));
-    let disk = log.into_disk();
-    // four calls for each append, one to find a body of one block or none, and two for the other
-    assert_eq!(rt; disk.calls(), 13);
-    assert_eq!(rt; disk.faults(), 0);
-    let bytes = disk.into_bytes();
-    assert!(rt; is_open_gate(&bytes[BLOCK * 4..]));
-    assert!(rt; !is_open_gate(&bytes[BLOCK * 9..]));
+    append(alloc, &mut log, &entry(1, 1, 4032))?;
+    let state = state_of(&log);
+    Ok((log, state))
+}
+
+/// The log with a second body, of two blocks, and what it says.
+fn two_appended(alloc: Global) -> Result<(Log<MemDisk>, State), Fail>
+    ensures { IfOk result (λ r. blocks_of r.0 ≡ 16) }
+{
+    let (mut log, _) = one_appended(alloc)?;
+    append(alloc, &mut log, &entry(2, 2, 4033))?;
+    let state = state_of(&log);
+    Ok((log, state))
+}
+
+#[test]
+fn an_append_moves_the_tail(rt: HostRuntime) -> Result<(), Fail> {
+    let alloc = rt.alloc();
+    let (_, first) = one_appended(alloc)?;
+    let (_, second) = two_appended(alloc)?;
+    assert!(rt; first == (6, 9, 1, false));
+    assert!(rt; second == (9, 6, 2, false));
     Ok(())
 }
 
-fn expect_extent(
-    rt: &(impl Abort + AllocGlobal),
+/// Whether the bytes are as many as the head says, the first is that of the mark, and the last is 7.
+fn is_body_of(bytes: &[u8], head: &Head) -> bool
+    requires { head.now.n ≤ 2 ^ 20 }
+{
+    bytes.len() as u64 == 4096 * head.n && matches!(bytes, [b'B', .., 7])
+}
+
+/// Whether an extent with this head is at a gate, and this gate follows.
+fn is_extent(
+    alloc: Global,
     log: &mut Log<MemDisk>,
     gate: u64,
     wanted: &Head,
     following: u64,
-) -> Result<(), Fail>
-    requires { gate < blocks_of log.old }
+) -> bool
+    requires gate { gate < blocks_of log.old }
+    requires few { wanted.now.n ≤ 2 ^ 20 }
     ensures { blocks_of log.new ≡ blocks_of log.old }
 {
-    match log.read_extent(rt.alloc(), gate) {
+    match log.read_extent(alloc, gate) {
         Ok(Found::Extent { head, body, next }) => {
-            assert_eq!(rt; head, *wanted);
-            assert_eq!(rt; next, following);
-            assert_eq!(rt; body.len() as u64, 4096 * wanted.n);
-            assert_eq!(rt; body[0], b'B');
-            assert_eq!(rt; body[body.len() - 1], 7);
-            Ok(())
+            let is_whole = is_body_of(&body, wanted);
+            is_whole && head == *wanted && next == following
         }
-        _ => panic!(rt; "no extent"),
+        _ => false,
     }
+}
+
+/// Whether a gate is closed.
+fn is_closed(alloc: Global, log: &mut Log<MemDisk>, gate: u64) -> bool
+    requires gate { gate < blocks_of log.old }
+    ensures { blocks_of log.new ≡ blocks_of log.old }
+{
+    matches!(log.read_extent(alloc, gate), Ok(Found::Closed))
+}
+
+/// Whether the two bodies are found, and two closed gates after them; the calls of the device, and its faults.
+fn found_in_two(alloc: Global) -> Result<([bool; 4], u64, u64), Fail> {
+    let (mut log, _) = two_appended(alloc)?;
+    let found = [
+        is_extent(alloc, &mut log, 4, &entry(1, 1, 4032), 6),
+        is_extent(alloc, &mut log, 6, &entry(2, 2, 4033), 9),
+        is_closed(alloc, &mut log, 9),
+        is_closed(alloc, &mut log, 15),
+    ];
+    let disk = log.into_disk();
+    Ok((found, disk.calls(), disk.faults()))
+}
+
+#[test]
+fn what_is_appended_is_found(rt: HostRuntime) -> Result<(), Fail> {
+    let (found, calls, faults) = found_in_two(rt.alloc())?;
+    assert!(rt; found == [true, true, true, true]);
+    // four calls for each append, one to find a body of one block or none, and two for the other
+    assert!(rt; calls == 13);
+    assert!(rt; faults == 0);
+    Ok(())
+}
+
+/// Whether the first gate and the gate at the tail are open on the device.
+fn open_gates(alloc: Global) -> Result<(bool, bool), Fail> {
+    let (log, _) = two_appended(alloc)?;
+    let bytes = log.into_disk().into_bytes();
+    let first = is_open_gate(&bytes[BLOCK * 4..]);
+    let last = is_open_gate(&bytes[BLOCK * 9..]);
+    Ok((first, last))
+}
+
+#[test]
+fn the_gate_at_the_tail_is_closed(rt: HostRuntime) -> Result<(), Fail> {
+    assert!(rt; open_gates(rt.alloc())? == (true, false));
+    Ok(())
+}
+
+/// Appends a body of two blocks to a log of this many blocks. Returns what the append gave, what the log says, and the calls of
+/// the device.
+fn two_blocks_in(
+    alloc: Global,
+    blocks: u64,
+) -> Result<(Result<(), AppendFault>, State, u64), AllocError>
+    requires some { 5 ≤ blocks }
+    requires few { blocks ≤ 2 ^ 10 }
+{
+    let run = run_of(alloc, &entry(1, 2, 5000))?;
+    let mut log = log_of(alloc, blocks, Vec::new(alloc))?;
+    let appended = log.append(&run);
+    let state = state_of(&log);
+    Ok((appended, state, log.into_disk().calls()))
 }
 
 #[test]
 fn an_append_needs_its_blocks_and_one_more(rt: HostRuntime) -> Result<(), Fail> {
     let alloc = rt.alloc();
-    let run = run_of(alloc, &entry(1, 2, 5000))?;
     // gates at 4 and 7, and the body between
-    let mut fits = log_of(alloc, 8, Vec::new(alloc))?;
-    assert_eq!(rt; fits.append(&run), Ok(()));
-    assert_eq!(rt; fits.room(), 0);
-    let mut full = log_of(alloc, 7, Vec::new(alloc))?;
-    assert_eq!(rt;
-        full.append(&run),
-        Err(AppendFault::Full { need: 3, left: 2 })
-    );
-    assert_eq!(rt; full.tail(), 4);
-    assert!(rt; !full.stopped());
-    assert_eq!(rt; full.into_disk().calls(), 0);
+    let (fits, state, _) = two_blocks_in(alloc, 8)?;
+    assert!(rt; fits == Ok(()));
+    assert!(rt; state.1 == 0);
+    let (full, state, calls) = two_blocks_in(alloc, 7)?;
+    assert!(rt; full == Err(AppendFault::Full { need: 3, left: 2 }));
+    assert!(rt; (state.0, state.3, calls) == (4, false, 0));
     Ok(())
+}
+
+/// Appends twice to a log whose device fails at a call. Returns what both gave, whether the log was stopped between, what it says, and
+/// the calls of the device.
+fn appended_twice(
+    alloc: Global,
+    call: u64,
+) -> Result<([Result<(), AppendFault>; 2], bool, State, u64), AllocError> {
+    let run = run_of(alloc, &entry(1, 1, 0))?;
+    let mut log = log_of(alloc, 8, vec![in alloc; call]?)?;
+    let first = log.append(&run);
+    let is_stopped = log.stopped();
+    let second = log.append(&run);
+    let state = state_of(&log);
+    Ok(([first, second], is_stopped, state, log.into_disk().calls()))
+}
+
+/// A call that fails, and the calls of the device in the end.
+const FAILING: &[(u64, u64)] = &[(0, 1), (1, 2), (2, 3), (3, 4)];
+
+/// Whether a log is stopped by a failed call.
+fn stops(alloc: Global, call: u64, calls: u64) -> Result<bool, AllocError> {
+    let (appended, is_stopped, state, called) = appended_twice(alloc, call)?;
+    let wanted = [
+        Err(AppendFault::Fault),
+        Err(AppendFault::Stopped { extents: 0 }),
+    ];
+    Ok(appended == wanted && is_stopped && state.0 == 4 && called == calls)
+}
+
+fn first_that_goes_on(alloc: Global) -> Result<Option<usize>, AllocError> {
+    for (row, (call, calls)) in FAILING.iter().enumerate() {
+        if !stops(alloc, *call, *calls)? {
+            return Ok(Some(row));
+        }
+    }
+    Ok(None)
 }
 
 #[test]
 fn a_log_whose_device_failed_is_stopped(rt: HostRuntime) -> Result<(), Fail> {
-    let alloc = rt.alloc();
-    let run = run_of(alloc, &entry(1, 1, 0))?;
-    for call in 0..4 {
-        let mut log = log_of(alloc, 8, vec![in alloc; call]?)?;
-        assert_eq!(rt; log.append(&run), Err(AppendFault::Fault), "at {call}");
-        assert!(rt; log.stopped(), "at {call}");
-        assert_eq!(rt;
-            log.append(&run),
-            Err(AppendFault::Stopped { extents: 0 }),
-            "at {call}"
-        );
-        assert_eq!(rt; log.tail(), 4, "at {call}");
-        assert_eq!(rt; log.into_disk().calls(), call + 1, "at {call}");
-    }
-    Ok(())
+    no_wrong(first_that_goes_on(rt.alloc())?)
 }
 
 /// Eight blocks of zeros, but for an open gate and the bytes after it.
@@ -191,7 +296,7 @@ fn image_of(alloc: Global, gate: usize, head: &[u8]) -> Result<Vec<u8>, AllocErr
     requires head { length head.now ≤ 4096 }
     ensures { IfOk result (λ bytes. length bytes.items ≡ 32768) }
 {
-    let mut bytes = zeroed(alloc, 8)?;
+    let mut bytes = vec![in alloc; 0; 8 * BLOCK]?;
     open_at(&mut bytes, gate, head);
     Ok(bytes)
 }
@@ -221,6 +326,31 @@ fn found_at(
     Ok(Log::at(disk, 4, 8, 0).read_extent(alloc, asked))
 }
 
+/// What is found at a gate, in short.
+#[derive(Clone, Copy, PartialEq, Eq)]
+enum Seen {
+    /// The block that breaks the format.
+    Damaged(u64),
+
+    /// The gate that follows the extent.
+    Extent(u64),
+
+    Else,
+}
+
+/// What is seen at a gate of such an image.
+fn seen_at(alloc: Global, gate: usize, head: &[u8], asked: u64) -> Result<Seen, AllocError>
+    requires gate { gate ≤ 6 }
+    requires head { length head.now ≤ 4096 }
+    requires asked { asked < 8 }
+{
+    Ok(match found_at(alloc, gate, head, asked)? {
+        Err(ExtentFault::Damaged { block }) => Seen::Damaged(block),
+        Ok(Found::Extent { next, .. }) => Seen::Extent(next),
+        _ => Seen::Else,
+    })
+}
+
 /// The head by hand with another byte at `at`.
 fn changed(at: usize, value: u8) -> [u8; HEAD_BYTES] {
     let mut head = ENTRY;
@@ -230,69 +360,80 @@ fn changed(at: usize, value: u8) -> [u8; HEAD_BYTES] {
     head
 }
 
-#[test]
-fn a_head_with_one_wrong_byte_is_damaged(rt: HostRuntime) -> Result<(), Fail> {
-    let alloc = rt.alloc();
+/// A byte of the head by hand, its value, and what is seen.
+const BYTES: &[(usize, u8, Seen)] = &[
     // a mark, a kind that is none, no checkpoint's number 0 as an entry's, a format, a number, n too
     // small and too great, a length that asks for two blocks, a node block, and a byte that is to be 0
-    for (at, value) in [
-        (0, b'b'),
-        (7, b'y'),
-        (8, 1),
-        (11, 0),
-        (11, 3),
-        (15, 2),
-        (23, 0),
-        (31, 0),
-        (31, 2),
-        (24, 0xff),
-        (38, 0x10),
-        (47, 1),
-        (56, 1),
-        (63, 1),
-    ] {
-        let found = found_at(alloc, 4, &changed(at, value), 4)?;
-        assert!(rt;
-            matches!(found, Err(ExtentFault::Damaged { block: 5 })),
-            "at {at}"
-        );
-    }
+    (0, b'b', Seen::Damaged(5)),
+    (7, b'y', Seen::Damaged(5)),
+    (8, 1, Seen::Damaged(5)),
+    (11, 0, Seen::Damaged(5)),
+    (11, 3, Seen::Damaged(5)),
+    (15, 2, Seen::Damaged(5)),
+    (23, 0, Seen::Damaged(5)),
+    (31, 0, Seen::Damaged(5)),
+    (31, 2, Seen::Damaged(5)),
+    (24, 0xff, Seen::Damaged(5)),
+    (38, 0x10, Seen::Damaged(5)),
+    (47, 1, Seen::Damaged(5)),
+    (56, 1, Seen::Damaged(5)),
+    (63, 1, Seen::Damaged(5)),
     // another length in one block, and another root
-    for (at, value) in [(38, 15), (39, 0), (55, 9)] {
-        let found = found_at(alloc, 4, &changed(at, value), 4)?;
-        assert!(rt; matches!(found, Ok(Found::Extent { .. })), "at {at}");
+    (38, 15, Seen::Extent(6)),
+    (39, 0, Seen::Extent(6)),
+    (55, 9, Seen::Extent(6)),
+];
+
+fn first_unseen(alloc: Global) -> Result<Option<usize>, AllocError> {
+    for (row, (at, value, wanted)) in BYTES.iter().enumerate() {
+        if seen_at(alloc, 4, &changed(*at, *value), 4)? != *wanted {
+            return Ok(Some(row));
+        }
     }
-    Ok(())
+    Ok(None)
 }
 
 #[test]
-fn a_checkpoint_has_no_nodes_and_no_root(rt: HostRuntime) -> Result<(), Fail> {
+fn a_head_with_one_wrong_byte_is_damaged(rt: HostRuntime) -> Result<(), Fail> {
+    no_wrong(first_unseen(rt.alloc())?)
+}
+
+/// Whether heads are read: of a checkpoint, of one with the number 0, of one with a root, and of one with a node block; and of an entry
+/// with a node block.
+fn are_heads() -> [bool; 5] {
     let mut head = changed(11, 2);
-    assert!(rt; Head::decode(&head).is_some());
+    let plain = Head::decode(&head).is_some();
     head[23] = 0;
-    assert!(rt; Head::decode(&head).is_some());
+    let first = Head::decode(&head).is_some();
     head[55] = 1;
-    assert!(rt; Head::decode(&head).is_none());
+    let rooted = Head::decode(&head).is_some();
     head[55] = 0;
     head[31] = 2;
     head[47] = 1;
-    assert!(rt; Head::decode(&head).is_none());
+    let with_node = Head::decode(&head).is_some();
     head[11] = 1;
     head[23] = 1;
-    assert!(rt; Head::decode(&head).is_some());
-    Ok(())
+    [
+        plain,
+        first,
+        rooted,
+        with_node,
+        Head::decode(&head).is_some(),
+    ]
+}
+
+#[test]
+fn a_checkpoint_has_no_nodes_and_no_root(rt: HostRuntime) {
+    assert!(rt; are_heads() == [true, true, false, false, true]);
 }
 
 #[test]
 fn an_extent_has_room_for_the_next_gate(rt: HostRuntime) -> Result<(), Fail> {
     let alloc = rt.alloc();
     // gate 6, body 7, and no block 8
-    let found = found_at(alloc, 6, &ENTRY, 6)?;
-    assert!(rt; matches!(found, Err(ExtentFault::Damaged { block: 7 })));
-    let found = found_at(alloc, 5, &ENTRY, 5)?;
-    assert!(rt; matches!(found, Ok(Found::Extent { next: 7, .. })));
+    assert!(rt; seen_at(alloc, 6, &ENTRY, 6)? == Seen::Damaged(7));
+    assert!(rt; seen_at(alloc, 5, &ENTRY, 5)? == Seen::Extent(7));
     // an open gate at the last block
-    let found = found_at(alloc, 6, &GATE_MARK, 7)?;
-    assert!(rt; matches!(found, Err(ExtentFault::Damaged { block: 7 })));
+    assert!(rt; seen_at(alloc, 6, &GATE_MARK, 7)? == Seen::Damaged(7));
     Ok(())
 }

@@ -1,7 +1,7 @@
 //! Tests of an engine from its opening on, over a device in memory.
-ghost use Rattle.std.specs.Prelude.{◌≡◌, ◌%◌, IfOk, length};
+ghost use Rattle.std.specs.Prelude.{◌≡◌, ◌%◌, ◌<◌, ◌≤◌, ◌^◌, length};
 
-use btr_open::*;
+use crate::fixture::no_wrong;
 use btr_base::{Agg, Bag, END, FIRST, Point, Range, Ranges, Toward};
 use btr_disk::{Capacity, Disk, MemDisk};
 use btr_engine::{Engine, Receipt, Snapshot, StepFault};
@@ -10,10 +10,11 @@ use btr_hist::{
     StreamRow,
 };
 use btr_log::Log;
+use btr_open::*;
 use btr_super::format;
 use std::alloc::{AllocError, Global};
 use std::test::Fail;
-use std::thread;
+use std::thread::{Threads, join};
 
 const CAPACITY: Capacity = Capacity {
     calls: 64,
@@ -82,111 +83,192 @@ fn latest(alloc: Global, engine: &Engine<MemDisk>) -> Result<(u64, usize), Fail>
     Ok(found.ok_or("no points were answered")?)
 }
 
+/// The result of a step.
+type Stepped = Result<Receipt, StepFault>;
+
+/// The receipt of an entry.
+fn receipt(number: u64, stream: u32, version: u64) -> Stepped {
+    Ok(Receipt {
+        number,
+        stream,
+        version,
+    })
+}
+
+/// Adds a commit of `count` points to stream 0.
+fn step_insert(alloc: Global, engine: &mut Engine<MemDisk>, count: u32) -> Result<Stepped, Fail> {
+    let entry = insert(alloc, count)?;
+    Ok(step(alloc, engine, &entry))
+}
+
+/// Adds two streams, a commit of three points, and the first stream again. Returns the engine, and the results of the steps.
+fn three_entries(alloc: Global) -> Result<(Engine<MemDisk>, [Stepped; 4]), Fail> {
+    let mut engine = opened(alloc, formatted(alloc, &[])?)?;
+    let first = step(alloc, &mut engine, &Entry::Create { id: 7 });
+    let second = step(alloc, &mut engine, &Entry::Create { id: 8 });
+    let third = step_insert(alloc, &mut engine, 3)?;
+    let again = step(alloc, &mut engine, &Entry::Create { id: 7 });
+    Ok((engine, [first, second, third, again]))
+}
+
+/// The engine of three entries, opened again.
+fn reopened(alloc: Global) -> Result<Engine<MemDisk>, Fail> {
+    let (engine, _) = three_entries(alloc)?;
+    opened(alloc, engine.into_disk())
+}
+
+/// The number of entries of an engine that was just made.
+fn new_entries(alloc: Global) -> Result<u64, Fail> {
+    let engine = opened(alloc, formatted(alloc, &[])?)?;
+    Ok(engine.entries())
+}
+
+#[test]
+fn each_accepted_entry_has_its_receipt(rt: HostRuntime) -> Result<(), Fail> {
+    let alloc = rt.alloc();
+    assert!(rt; new_entries(alloc)? == 0);
+    let (engine, stepped) = three_entries(alloc)?;
+    let found = latest(alloc, &engine)?;
+    let [first, second, third, again] = stepped;
+    assert!(rt; (first, second) == (receipt(1, 0, 0), receipt(2, 1, 0)));
+    assert!(rt; third == receipt(3, 0, 1));
+    assert!(rt; again == Err(StepFault::Rejected(Rejection::StreamExists)));
+    assert!(rt; found == (1, 3));
+    Ok(())
+}
+
+/// The number of entries of a reopened engine, and two of its streams.
+fn reopened_streams(alloc: Global) -> Result<(u64, Option<u32>, Option<u32>), Fail> {
+    let engine = reopened(alloc)?;
+    let snapshot = engine.admit()?;
+    Ok((engine.entries(), snapshot.find(8), snapshot.find(9)))
+}
+
+/// The latest version of stream 0 in a reopened engine, and the number of its points.
+fn reopened_latest(alloc: Global) -> Result<(u64, usize), Fail> {
+    let engine = reopened(alloc)?;
+    latest(alloc, &engine)
+}
+
 #[test]
 fn acknowledged_entries_are_there_after_reopening(rt: HostRuntime) -> Result<(), Fail> {
     let alloc = rt.alloc();
-    let mut engine = opened(alloc, formatted(alloc, &[])?)?;
-    let create = Entry::Create { id: 7 };
-    assert_eq!(rt; engine.entries(), 0);
-    assert_eq!(rt;
-        step(alloc, &mut engine, &create),
-        Ok(Receipt {
-            number: 1,
-            stream: 0,
-            version: 0
-        })
-    );
-    assert_eq!(rt;
-        step(alloc, &mut engine, &Entry::Create { id: 8 }),
-        Ok(Receipt {
-            number: 2,
-            stream: 1,
-            version: 0
-        })
-    );
-    assert_eq!(rt;
-        step(alloc, &mut engine, &insert(alloc, 3)?),
-        Ok(Receipt {
-            number: 3,
-            stream: 0,
-            version: 1
-        })
-    );
-    assert_eq!(rt;
-        step(alloc, &mut engine, &create),
-        Err(StepFault::Rejected(Rejection::StreamExists))
-    );
-    assert_eq!(rt; latest(alloc, &engine)?, (1, 3));
-    let mut engine = opened(alloc, engine.into_disk())?;
-    assert_eq!(rt; engine.entries(), 3);
-    let snapshot = engine.admit()?;
-    assert_eq!(rt; snapshot.find(8), Some(1));
-    assert_eq!(rt; snapshot.find(9), None);
-    assert_eq!(rt; latest(alloc, &engine)?, (1, 3));
-    // three of the sixteen blocks are left after the fourth entry
-    assert_eq!(rt;
-        step(alloc, &mut engine, &insert(alloc, 3)?),
-        Ok(Receipt {
-            number: 4,
-            stream: 0,
-            version: 2
-        })
-    );
-    assert_eq!(rt;
-        step(alloc, &mut engine, &insert(alloc, 1000)?),
-        Err(StepFault::DeviceFull { need: 5, left: 3 })
-    );
-    assert!(rt; !engine.stopped());
-    assert_eq!(rt; latest(alloc, &engine)?, (2, 6));
-    // the snapshot is as it was
-    assert_eq!(rt; snapshot.entries(), 3);
-    assert_eq!(rt; snapshot.latest(0), Some(1));
+    assert!(rt; reopened_streams(alloc)? == (3, Some(1), None));
+    assert!(rt; reopened_latest(alloc)? == (1, 3));
     Ok(())
+}
+
+/// Adds a small commit to a reopened engine, and one that is too large. Returns the engine, and the results of the steps.
+fn filled(alloc: Global) -> Result<(Engine<MemDisk>, [Stepped; 2]), Fail> {
+    let mut engine = reopened(alloc)?;
+    let small = step_insert(alloc, &mut engine, 3)?;
+    let large = step_insert(alloc, &mut engine, 1000)?;
+    Ok((engine, [small, large]))
+}
+
+#[test]
+fn a_full_device_is_said_so(rt: HostRuntime) -> Result<(), Fail> {
+    let alloc = rt.alloc();
+    let (engine, [small, large]) = filled(alloc)?;
+    let found = latest(alloc, &engine)?;
+    let is_stopped = engine.stopped();
+    // three of the sixteen blocks are left after the fourth entry
+    assert!(rt; small == receipt(4, 0, 2));
+    assert!(rt; large == Err(StepFault::DeviceFull { need: 5, left: 3 }));
+    assert!(rt; !is_stopped);
+    assert!(rt; found == (2, 6));
+    Ok(())
+}
+
+/// The number of entries and the latest version of stream 0 in a snapshot that was made before a commit.
+fn seen_before(alloc: Global) -> Result<(u64, Option<u64>), Fail> {
+    let mut engine = reopened(alloc)?;
+    let snapshot = engine.admit()?;
+    let _stepped = step_insert(alloc, &mut engine, 3)?;
+    Ok((snapshot.entries(), snapshot.latest(0)))
+}
+
+#[test]
+fn a_snapshot_is_as_it_was_after_a_commit(rt: HostRuntime) -> Result<(), Fail> {
+    assert!(rt; seen_before(rt.alloc())? == (3, Some(1)));
+    Ok(())
+}
+
+/// What steps give on a device that fails: two attempts of a commit, whether the engine is stopped, the latest version of stream 0 and
+/// the number of its points, and the faults of the device.
+type Failed = ([Stepped; 2], bool, (u64, usize), u64);
+
+/// Returns an engine with one stream, whose device fails at a call.
+fn failing_at(alloc: Global, call: u64) -> Result<Engine<MemDisk>, Fail> {
+    let mut engine = opened(alloc, formatted(alloc, &[call])?)?;
+    match step(alloc, &mut engine, &Entry::Create { id: 7 }) {
+        Ok(_) => Ok(engine),
+        Err(_) => Err("no stream was made".into()),
+    }
+}
+
+/// Adds a commit twice to an engine.
+fn stepped_twice(alloc: Global, engine: &mut Engine<MemDisk>) -> Result<[Stepped; 2], AllocError> {
+    let entry = insert(alloc, 3)?;
+    let first = step(alloc, engine, &entry);
+    let second = step(alloc, engine, &entry);
+    Ok([first, second])
+}
+
+fn failed_at(alloc: Global, call: u64) -> Result<Failed, Fail> {
+    let mut engine = failing_at(alloc, call)?;
+    let stepped = stepped_twice(alloc, &mut engine)?;
+    let found = latest(alloc, &engine)?;
+    let is_stopped = engine.stopped();
+    Ok((stepped, is_stopped, found, engine.into_disk().faults()))
+}
+
+fn first_that_goes_on(alloc: Global) -> Result<Option<usize>, Fail> {
+    let wanted = [
+        Err(StepFault::DeviceFault),
+        Err(StepFault::Stopped { entries: 1 }),
+    ];
+    // after the format three calls open the store, and each entry takes four
+    for (row, call) in [15, 16, 17, 18].iter().enumerate() {
+        if failed_at(alloc, *call)? != (wanted, true, (0, 0), 1) {
+            return Ok(Some(row));
+        }
+    }
+    Ok(None)
 }
 
 #[test]
 fn a_device_that_fails_stops_the_engine(rt: HostRuntime) -> Result<(), Fail> {
-    let alloc = rt.alloc();
-    // after the format three calls open the store, and each entry takes four
-    for call in 15..19 {
-        let mut engine = opened(alloc, formatted(alloc, &[call])?)?;
-        assert!(rt; step(alloc, &mut engine, &Entry::Create { id: 7 }).is_ok());
-        let entry = insert(alloc, 3)?;
-        assert_eq!(rt;
-            step(alloc, &mut engine, &entry),
-            Err(StepFault::DeviceFault)
-        );
-        assert_eq!(rt;
-            step(alloc, &mut engine, &entry),
-            Err(StepFault::Stopped { entries: 1 })
-        );
-        assert!(rt; engine.stopped());
-        assert_eq!(rt; latest(alloc, &engine)?, (0, 0));
-        assert_eq!(rt; engine.into_disk().faults(), 1);
+    no_wrong(first_that_goes_on(rt.alloc())?)
+}
+
+/// Why a device is not opened, and the calls of the device that is handed back.
+fn unopened(alloc: Global, disk: MemDisk) -> Option<(OpenCause, u64)> {
+    match open_store(alloc, disk) {
+        Ok(_) => None,
+        Err(fault) => Some((fault.cause, fault.disk.calls())),
     }
-    Ok(())
+}
+
+/// The first call whose failure does not keep a store from being opened.
+fn first_opened(alloc: Global) -> Result<Option<usize>, Fail> {
+    for (row, (call, calls)) in [(8, 9), (9, 10), (10, 11)].iter().enumerate() {
+        let disk = formatted(alloc, &[*call])?;
+        if unopened(alloc, disk) != Some((OpenCause::Fault, *calls)) {
+            return Ok(Some(row));
+        }
+    }
+    Ok(None)
 }
 
 #[test]
 fn a_device_that_is_not_opened_is_handed_back(rt: HostRuntime) -> Result<(), Fail> {
     let alloc = rt.alloc();
     let empty = MemDisk::new(alloc, 64, CAPACITY, Vec::new(alloc))?;
-    match open_store(alloc, empty) {
-        Ok(_) => assert!(rt; false, "it was opened"),
-        Err(fault) => {
-            assert_eq!(rt; fault.cause, OpenCause::NotAStore);
-            assert_eq!(rt; fault.disk.calls(), 2);
-        }
-    }
-    for call in 8..11 {
-        match open_store(alloc, formatted(alloc, &[call])?) {
-            Ok(_) => assert!(rt; false, "it was opened"),
-            Err(fault) => assert_eq!(rt; fault.cause, OpenCause::Fault),
-        }
-    }
+    assert!(rt; unopened(alloc, empty) == Some((OpenCause::NotAStore, 2)));
     one_history_is_held();
     held_is_sound();
-    Ok(())
+    no_wrong(first_opened(alloc)?)
 }
 
 /// Returns a commit of these ranges and points.
@@ -388,34 +470,79 @@ fn are_same(a: &Answer, b: &Answer) -> bool {
     }
 }
 
-#[test]
-fn the_engine_answers_as_the_history(rt: HostRuntime) -> Result<(), Fail> {
-    let alloc = rt.alloc();
+/// Returns a device of 64 blocks with a store of as many.
+fn whole_store(alloc: Global, capacity: Capacity) -> Result<MemDisk, Fail>
+    requires { capacity.blocks ≤ 2 ^ 32 }
+{
+    let mut disk = MemDisk::new(alloc, 64, capacity, Vec::new(alloc))?;
+    match format(&mut disk, 64) {
+        Ok(()) => Ok(disk),
+        Err(_) => Err("no store was made".into()),
+    }
+}
+
+/// Adds an entry that is accepted.
+fn add(alloc: Global, engine: &mut Engine<MemDisk>, entry: &Entry) -> Result<(), Fail> {
+    match step(alloc, engine, entry) {
+        Ok(_) => Ok(()),
+        Err(_) => Err("an entry was refused".into()),
+    }
+}
+
+/// Returns a snapshot of an engine of those six entries.
+fn snapshot_of_six(alloc: Global) -> Result<Snapshot, Fail> {
     let capacity = Capacity {
         calls: 64,
         blocks: 256,
     };
-    let mut disk = MemDisk::new(alloc, 64, capacity, Vec::new(alloc))?;
-    assert!(rt; format(&mut disk, 64).is_ok());
-    let mut engine = opened(alloc, disk)?;
+    let mut engine = opened(alloc, whole_store(alloc, capacity)?)?;
+    for index in 0..6 {
+        add(alloc, &mut engine, &entry_at(alloc, index)?)?;
+    }
+    Ok(engine.admit()?)
+}
+
+/// Returns the history of those six entries.
+fn history_of_six(alloc: Global) -> Result<History, Fail> {
     let mut history = History::empty(alloc);
     for index in 0..6 {
         history.push(entry_at(alloc, index)?)?;
-        assert!(rt;
-            step(alloc, &mut engine, &entry_at(alloc, index)?).is_ok(),
-            "entry {index}"
-        );
     }
-    let snapshot = engine.admit()?;
-    for query in &questions(alloc)? {
-        let found = snapshot.answer(alloc, query)?;
-        let want = history.answer(alloc, query)?;
-        assert!(rt;
-            are_same(&found, &want),
-            "{query:?}: {found:?}, not {want:?}"
-        );
+    Ok(history)
+}
+
+/// Returns whether a snapshot answers as a history.
+fn answers_alike(
+    alloc: Global,
+    snapshot: &Snapshot,
+    history: &History,
+    query: &Query,
+) -> Result<bool, AllocError> {
+    let found = snapshot.answer(alloc, query)?;
+    let want = history.answer(alloc, query)?;
+    Ok(are_same(&found, &want))
+}
+
+/// Returns the number of the first question that a snapshot answers in another way than a history.
+fn first_other(
+    alloc: Global,
+    snapshot: &Snapshot,
+    history: &History,
+) -> Result<Option<usize>, AllocError> {
+    for (row, query) in questions(alloc)?.iter().enumerate() {
+        if !answers_alike(alloc, snapshot, history, query)? {
+            return Ok(Some(row));
+        }
     }
-    Ok(())
+    Ok(None)
+}
+
+#[test]
+fn the_engine_answers_as_the_history(rt: HostRuntime) -> Result<(), Fail> {
+    let alloc = rt.alloc();
+    let snapshot = snapshot_of_six(alloc)?;
+    let history = history_of_six(alloc)?;
+    no_wrong(first_other(alloc, &snapshot, &history)?)
 }
 
 /// Adds a stream, and returns the engine.
@@ -423,6 +550,11 @@ fn with_stream(alloc: Global, engine: Engine<MemDisk>, id: u128) -> Option<Engin
     let mut engine = engine;
     step(alloc, &mut engine, &Entry::Create { id }).ok()?;
     Some(engine)
+}
+
+/// The number of entries of an engine.
+fn entries_of(engine: Option<Engine<MemDisk>>) -> Option<u64> {
+    Some(engine?.entries())
 }
 
 /// Returns the log of an empty store on a device, if the device has its blocks.
@@ -433,35 +565,75 @@ fn log_on(disk: MemDisk) -> Option<Log<MemDisk>> {
     Some(Log::at(disk, 4, 16, 0))
 }
 
-#[test]
-fn an_engine_its_device_and_a_snapshot_move_to_other_threads(rt: HostRuntime) -> Result<(), Fail> {
-    let alloc = rt.alloc();
-    let engine = opened(alloc, formatted(alloc, &[])?)?;
+/// Adds a stream in another thread, while this one has a snapshot. Returns the numbers of entries of the engine and the snapshot.
+fn engine_moved<R: Threads>(
+    rt: &R,
+    alloc: Global,
+    engine: Engine<MemDisk>,
+) -> Result<(Option<u64>, u64), AllocError> {
     let snapshot = engine.admit()?;
-    // the engine goes to another thread and back, while this one has the snapshot
-    let (moved, entries) = thread::join(
-        &rt,
+    let (moved, entries) = join(
+        rt,
         move || with_stream(alloc, engine, 7),
         || snapshot.entries(),
     );
-    assert_eq!(rt; entries, 0);
-    let engine = moved.ok_or("no stream was added")?;
-    let later = engine.admit()?;
-    // the snapshots go to another thread, while this one has the engine
-    let (found, moved) = thread::join(
-        &rt,
-        move || (snapshot.find(7), later.find(7)),
+    Ok((entries_of(moved), entries))
+}
+
+/// Asks a snapshot in another thread, while this one has the engine. Returns what was found, and the number of entries.
+fn snapshot_moved<R: Threads>(
+    rt: &R,
+    alloc: Global,
+    engine: Engine<MemDisk>,
+) -> Result<(Option<u32>, Option<u64>), AllocError> {
+    let snapshot = engine.admit()?;
+    let (found, moved) = join(
+        rt,
+        move || snapshot.find(7),
         move || with_stream(alloc, engine, 8),
     );
-    assert_eq!(rt; found, (None, Some(0)));
-    let disk = moved.ok_or("no stream was added")?.into_disk();
-    // the device goes to another thread, and comes back as an engine
-    let (reopened, _) = thread::join(&rt, move || open_store(alloc, disk).ok(), || ());
-    let engine = reopened.ok_or("it was not opened")?;
-    assert_eq!(rt; engine.entries(), 2);
-    let log = log_on(engine.into_disk()).ok_or("too few blocks")?;
-    let (room, _) = thread::join(&rt, move || log.room(), || ());
-    assert_eq!(rt; room, 11);
+    Ok((found, entries_of(moved)))
+}
+
+/// Opens a device in another thread. Returns the engine.
+fn device_moved<R: Threads>(rt: &R, alloc: Global, disk: MemDisk) -> Option<Engine<MemDisk>> {
+    let (opened, _) = join(rt, move || open_store(alloc, disk).ok(), || ());
+    opened
+}
+
+/// Asks a log for its room in another thread.
+fn log_moved<R: Threads>(rt: &R, log: Log<MemDisk>) -> u64 {
+    let (room, _) = join(rt, move || log.room(), || ());
+    room
+}
+
+#[test]
+fn an_engine_moves_to_another_thread(rt: HostRuntime) -> Result<(), Fail> {
+    let alloc = rt.alloc();
+    let engine = opened(alloc, formatted(alloc, &[])?)?;
+    assert!(rt; engine_moved(&rt, alloc, engine)? == (Some(1), 0));
+    Ok(())
+}
+
+#[test]
+fn a_snapshot_moves_to_another_thread(rt: HostRuntime) -> Result<(), Fail> {
+    let alloc = rt.alloc();
+    let engine = opened(alloc, formatted(alloc, &[])?)?;
+    assert!(rt; snapshot_moved(&rt, alloc, engine)? == (None, Some(1)));
+    let engine = with_stream(alloc, opened(alloc, formatted(alloc, &[])?)?, 7);
+    let engine = engine.ok_or("no stream was added")?;
+    assert!(rt; snapshot_moved(&rt, alloc, engine)? == (Some(0), Some(2)));
+    Ok(())
+}
+
+#[test]
+fn a_device_and_a_log_move_to_another_thread(rt: HostRuntime) -> Result<(), Fail> {
+    let alloc = rt.alloc();
+    let engine = reopened(alloc)?;
+    let moved = device_moved(&rt, alloc, engine.into_disk());
+    assert!(rt; entries_of(moved) == Some(3));
+    let log = log_on(formatted(alloc, &[])?).ok_or("too few blocks")?;
+    assert!(rt; log_moved(&rt, log) == 11);
     Ok(())
 }
 
@@ -487,29 +659,44 @@ fn with_commits(alloc: Global, engine: Engine<MemDisk>, count: u32) -> Option<En
     Some(engine)
 }
 
+/// Returns an engine with a stream and a commit of three points. Its device keeps a record of many calls.
+fn one_commit(alloc: Global) -> Result<Engine<MemDisk>, Fail> {
+    let capacity = Capacity {
+        calls: 256,
+        blocks: 256,
+    };
+    let mut engine = opened(alloc, whole_store(alloc, capacity)?)?;
+    add(alloc, &mut engine, &Entry::Create { id: 7 })?;
+    add(alloc, &mut engine, &insert(alloc, 3)?)?;
+    Ok(engine)
+}
+
+/// Asks a snapshot in another thread, while this one adds eight commits. Returns what the snapshot answered, and the engine.
+fn asked_and_added<R: Threads>(
+    rt: &R,
+    alloc: Global,
+    snapshot: Snapshot,
+    engine: Engine<MemDisk>,
+) -> (Option<(u64, usize)>, Option<Engine<MemDisk>>) {
+    join(
+        rt,
+        move || steady(alloc, &snapshot),
+        move || with_commits(alloc, engine, 8),
+    )
+}
+
 #[test]
 fn a_snapshot_answers_as_before_in_another_thread_while_commits_go_on(
     rt: HostRuntime,
 ) -> Result<(), Fail> {
     let alloc = rt.alloc();
-    let capacity = Capacity {
-        calls: 256,
-        blocks: 256,
-    };
-    let mut disk = MemDisk::new(alloc, 64, capacity, Vec::new(alloc))?;
-    assert!(rt; format(&mut disk, 64).is_ok());
-    let mut engine = opened(alloc, disk)?;
-    assert!(rt; step(alloc, &mut engine, &Entry::Create { id: 7 }).is_ok());
-    assert!(rt; step(alloc, &mut engine, &insert(alloc, 3)?).is_ok());
+    let engine = one_commit(alloc)?;
     let snapshot = engine.admit()?;
-    let (found, moved) = thread::join(
-        &rt,
-        move || steady(alloc, &snapshot),
-        move || with_commits(alloc, engine, 8),
-    );
-    assert_eq!(rt; found, Some((1, 3)));
+    let (found, moved) = asked_and_added(&rt, alloc, snapshot, engine);
     let engine = moved.ok_or("a commit was refused")?;
-    assert_eq!(rt; latest(alloc, &engine)?, (9, 27));
+    let after = latest(alloc, &engine)?;
+    assert!(rt; found == Some((1, 3)));
+    assert!(rt; after == (9, 27));
     Ok(())
 }
 
@@ -568,17 +755,24 @@ fn derived_at(alloc: Global, index: u32) -> Result<Entry, Fail> {
 
 /// Returns an engine of that history. Its extents have two blocks each, from block 4 on.
 fn with_output(alloc: Global) -> Result<Engine<MemDisk>, Fail> {
-    let mut disk = MemDisk::new(alloc, 64, CAPACITY, Vec::new(alloc))?;
-    if format(&mut disk, 64).is_err() {
-        return Err("no store was made".into());
-    }
-    let mut engine = opened(alloc, disk)?;
+    let mut engine = opened(alloc, whole_store(alloc, CAPACITY)?)?;
     for index in 0..6 {
-        if step(alloc, &mut engine, &derived_at(alloc, index)?).is_err() {
-            return Err("an entry was refused".into());
-        }
+        add(alloc, &mut engine, &derived_at(alloc, index)?)?;
     }
     Ok(engine)
+}
+
+/// Returns whether an answer to a question about stream 1 has these rows of a version.
+fn is_answered(
+    alloc: Global,
+    snapshot: &Snapshot,
+    query: &Query,
+    version: u64,
+    rows: Rows,
+) -> Result<bool, AllocError> {
+    let want = Answer::Found { version, rows };
+    let found = snapshot.answer(alloc, query)?;
+    Ok(are_same(&found, &want))
 }
 
 /// Returns whether a version of the output has these points, and has read the version of its input with the same number.
@@ -593,37 +787,31 @@ fn is_output_at(
         first: version,
         second: None,
     });
-    let info = Answer::Found {
-        version,
-        rows: Rows::Info {
-            output: true,
-            agg: Agg::of_points(&want),
-            reads,
-        },
+    let info = Rows::Info {
+        output: true,
+        agg: Agg::of_points(&want),
+        reads,
     };
-    let rows = Answer::Found {
-        version,
-        rows: Rows::Points(PointList::from_points(want)),
+    let rows = Rows::Points(PointList::from_points(want));
+    let points = Query::Points {
+        stream: 1,
+        from: -100,
+        to: 100,
+        at,
     };
-    let found_info = snapshot.answer(alloc, &Query::Info { stream: 1, at })?;
-    let found_rows = snapshot.answer(
+    let has_points = is_answered(alloc, snapshot, &points, version, rows)?;
+    let has_info = is_answered(
         alloc,
-        &Query::Points {
-            stream: 1,
-            from: -100,
-            to: 100,
-            at,
-        },
+        snapshot,
+        &Query::Info { stream: 1, at },
+        version,
+        info,
     )?;
-    Ok(
-        are_same(&found_info, &info)
-            && are_same(&found_rows, &rows)
-            && snapshot.reads(1, version) == reads,
-    )
+    Ok(has_info && has_points && snapshot.reads(1, version) == reads)
 }
 
-/// Returns whether a snapshot has the stream and the output, with both versions of it.
-fn has_output(alloc: Global, snapshot: &Snapshot) -> Result<bool, AllocError> {
+/// Returns whether a snapshot has the stream and the output.
+fn has_streams(alloc: Global, snapshot: &Snapshot) -> Result<bool, AllocError> {
     let mut rows = Vec::new(alloc);
     rows.push(StreamRow {
         id: 7,
@@ -635,54 +823,88 @@ fn has_output(alloc: Global, snapshot: &Snapshot) -> Result<bool, AllocError> {
         latest: 2,
         output: true,
     })?;
-    let streams = Answer::Found {
-        version: 6,
-        rows: Rows::Streams(StreamList::from_rows(rows)),
-    };
+    let streams = Rows::Streams(StreamList::from_rows(rows));
+    is_answered(alloc, snapshot, &Query::Streams, 6, streams)
+}
+
+/// Returns whether a snapshot has the stream and the output, with both versions of it.
+fn has_output(alloc: Global, snapshot: &Snapshot) -> Result<bool, AllocError> {
     let first = points(alloc, &[(0, 10), (10, 30), (20, 50)])?;
+    let has_first = is_output_at(alloc, snapshot, 1, first)?;
     let second = points(alloc, &[(0, 10), (5, 11), (10, 31), (20, 50)])?;
-    Ok(
-        are_same(&snapshot.answer(alloc, &Query::Streams)?, &streams)
-            && is_output_at(alloc, snapshot, 1, first)?
-            && is_output_at(alloc, snapshot, 2, second)?,
-    )
+    let has_second = is_output_at(alloc, snapshot, 2, second)?;
+    Ok(has_first && has_second && has_streams(alloc, snapshot)?)
+}
+
+/// A distillate of a stream that reads a version, and why it is rejected: a plain stream, a version that is not there yet, one before
+/// the last that was read, and no stream.
+const REJECTED: &[(u32, u64, Rejection)] = &[
+    (0, 2, Rejection::NotWritable),
+    (1, 3, Rejection::NotWritable),
+    (1, 1, Rejection::NotWritable),
+    (2, 2, Rejection::NoStream),
+];
+
+/// Returns whether a distillate is rejected for this reason.
+fn is_rejected(
+    alloc: Global,
+    engine: &mut Engine<MemDisk>,
+    stream: u32,
+    read: u64,
+    why: Rejection,
+) -> Result<bool, Fail> {
+    let entry = distillate(alloc, stream, read, (0, 1), Vec::new(alloc))?;
+    Ok(step(alloc, engine, &entry) == Err(StepFault::Rejected(why)))
+}
+
+fn first_not_rejected(alloc: Global, engine: &mut Engine<MemDisk>) -> Result<Option<usize>, Fail> {
+    for (row, (stream, read, why)) in REJECTED.iter().enumerate() {
+        if !is_rejected(alloc, engine, *stream, *read, *why)? {
+            return Ok(Some(row));
+        }
+    }
+    Ok(None)
+}
+
+/// Adds a user's commit to the output.
+fn step_user(alloc: Global, engine: &mut Engine<MemDisk>) -> Result<Stepped, Fail> {
+    let entry = commit(alloc, 1, &[(0, 1)], Vec::new(alloc))?;
+    Ok(step(alloc, engine, &entry))
+}
+
+#[test]
+fn an_output_takes_the_next_distillate_alone(rt: HostRuntime) -> Result<(), Fail> {
+    let alloc = rt.alloc();
+    let mut engine = with_output(alloc)?;
+    let wrong = first_not_rejected(alloc, &mut engine)?;
+    let user = step_user(alloc, &mut engine)?;
+    assert!(rt; user == Err(StepFault::Rejected(Rejection::NotWritable)));
+    assert!(rt; has_output(alloc, &engine.admit()?)?);
+    no_wrong(wrong)
+}
+
+/// Returns a snapshot of that history after reopening, with the rejected entries before.
+fn reopened_output(alloc: Global) -> Result<Snapshot, Fail> {
+    let mut engine = with_output(alloc)?;
+    let _wrong = first_not_rejected(alloc, &mut engine)?;
+    let engine = opened(alloc, engine.into_disk())?;
+    Ok(engine.admit()?)
 }
 
 #[test]
 fn an_output_is_the_same_after_reopening(rt: HostRuntime) -> Result<(), Fail> {
     let alloc = rt.alloc();
-    let mut engine = with_output(alloc)?;
-    // a plain stream, a version that is not there yet, one before the last that was read, and no stream
-    for (stream, read, why) in [
-        (0, 2, Rejection::NotWritable),
-        (1, 3, Rejection::NotWritable),
-        (1, 1, Rejection::NotWritable),
-        (2, 2, Rejection::NoStream),
-    ] {
-        let entry = distillate(alloc, stream, read, (0, 1), Vec::new(alloc))?;
-        assert_eq!(rt;
-            step(alloc, &mut engine, &entry),
-            Err(StepFault::Rejected(why))
-        );
-    }
-    let user = commit(alloc, 1, &[(0, 1)], Vec::new(alloc))?;
-    assert_eq!(rt;
-        step(alloc, &mut engine, &user),
-        Err(StepFault::Rejected(Rejection::NotWritable))
+    let snapshot = reopened_output(alloc)?;
+    let has_output = has_output(alloc, &snapshot)?;
+    let specs = (snapshot.spec(0), snapshot.spec(1), snapshot.spec(2));
+    let reads = (
+        snapshot.reads(1, 0),
+        snapshot.reads(1, 3),
+        snapshot.reads(0, 1),
     );
-    assert!(rt; has_output(alloc, &engine.admit()?)?);
-    let snapshot = opened(alloc, engine.into_disk())?.admit()?;
-    assert!(rt; has_output(alloc, &snapshot)?);
-    assert!(rt; snapshot.spec(0).is_none() && snapshot.spec(2).is_none());
-    assert_eq!(rt; snapshot.spec(1), Some(SPEC));
-    assert_eq!(rt;
-        (
-            snapshot.reads(1, 0),
-            snapshot.reads(1, 3),
-            snapshot.reads(0, 1)
-        ),
-        (None, None, None)
-    );
+    assert!(rt; has_output);
+    assert!(rt; specs == (None, Some(SPEC), None));
+    assert!(rt; reads == (None, None, None));
     Ok(())
 }
 
@@ -693,26 +915,48 @@ fn device_of(alloc: Global, bytes: Vec<u8>) -> Result<MemDisk, AllocError>
     MemDisk::from_bytes(alloc, bytes, CAPACITY, Vec::new(alloc))
 }
 
+/// A byte of the body of the last entry, its value, and why the device is not opened. The body is block 15: after its head a byte of
+/// its kind, four of its stream, one of the number of its reads, and eight of the read: the version that it had, one that is not there
+/// yet, one before the last, and a plain stream.
+const BYTES: &[(usize, u8, Option<OpenCause>)] = &[
+    (77, 2, None),
+    (77, 3, Some(OpenCause::Damaged { block: 15 })),
+    (77, 0, Some(OpenCause::Damaged { block: 15 })),
+    (68, 0, Some(OpenCause::Damaged { block: 15 })),
+];
+
+/// Why a device is not opened if this byte has this value.
+fn cause_with(
+    alloc: Global,
+    bytes: Vec<u8>,
+    at: usize,
+    value: u8,
+) -> Result<Option<OpenCause>, AllocError>
+    requires whole { length bytes.items % 4096 ≡ 0 }
+    requires at { at < 4096 }
+{
+    let mut bytes = bytes;
+    if let Some(byte) = bytes.get_mut(15 * 4096 + at) {
+        *byte = value;
+    }
+    let disk = device_of(alloc, bytes)?;
+    Ok(open_store(alloc, disk).err().map(|fault| fault.cause))
+}
+
+fn first_wrong_byte(alloc: Global, whole: &Vec<u8>) -> Result<Option<usize>, AllocError>
+    requires { length whole.now.items % 4096 ≡ 0 }
+{
+    for (row, (at, value, want)) in BYTES.iter().enumerate() {
+        if cause_with(alloc, whole.clone()?, *at, *value)? != *want {
+            return Ok(Some(row));
+        }
+    }
+    Ok(None)
+}
+
 #[test]
 fn a_distillate_that_may_not_follow_is_damage(rt: HostRuntime) -> Result<(), Fail> {
     let alloc = rt.alloc();
     let whole = with_output(alloc)?.into_disk().into_bytes();
-    // the body of the last entry is block 15: after its head a byte of its kind, four of its stream, one of the number of its
-    // reads, and eight of the read: the version that it had, one that is not there yet, one before the last, and a plain stream
-    for (at, value, want) in [
-        (77, 2, None),
-        (77, 3, Some(OpenCause::Damaged { block: 15 })),
-        (77, 0, Some(OpenCause::Damaged { block: 15 })),
-        (68, 0, Some(OpenCause::Damaged { block: 15 })),
-    ] {
-        let mut bytes = whole.clone()?;
-        if let Some(byte) = bytes.get_mut(15 * 4096 + at) {
-            *byte = value;
-        }
-        let cause = open_store(alloc, device_of(alloc, bytes)?)
-            .err()
-            .map(|fault| fault.cause);
-        assert_eq!(rt; cause, want, "byte {at}");
-    }
-    Ok(())
+    no_wrong(first_wrong_byte(alloc, &whole)?)
 }

@@ -1,8 +1,9 @@
 //! Tests of sights and plans over small histories. The expected plans are worked out by hand.
-use btr_plan::{Next, next_plan, sight};
+use crate::fixture::no_wrong;
 use btr_base::{Bag, Point, Ranges};
-use btr_engine::Board;
+use btr_engine::{Board, Snapshot};
 use btr_hist::{Entry, Kernel, Reads, Spec};
+use btr_plan::{Next, next_plan, sight};
 use std::alloc::{AllocError, Global};
 use std::test::Fail;
 
@@ -96,7 +97,7 @@ fn has_ranges(ranges: &Ranges, pairs: Pairs<'_>) -> bool {
 }
 
 /// What is to be planned for a stream, in a table.
-#[derive(Clone, Copy, Debug)]
+#[derive(Clone, Copy)]
 enum Wanted<'a> {
     NotOutput,
 
@@ -123,7 +124,7 @@ fn is_wanted(next: &Next, stream: u32, wanted: Wanted<'_>) -> bool {
 }
 
 /// What happens before a plan, in a table.
-#[derive(Clone, Copy, Debug)]
+#[derive(Clone, Copy)]
 enum Act<'a> {
     Nothing,
 
@@ -143,64 +144,92 @@ fn change(alloc: Global, board: &mut Board, act: Act<'_>) -> Result<(), Fail> {
     }
 }
 
+/// What happens, a stream, and what is then to be planned for it.
+type Row<'a> = (Act<'a>, u32, Wanted<'a>);
+
+/// Returns whether what is planned for the stream of a row after its act is what is wanted.
+fn holds(alloc: Global, board: &mut Board, row: &Row<'_>) -> Result<bool, Fail> {
+    let (act, stream, wanted) = row;
+    change(alloc, board, *act)?;
+    let snapshot = board.admit()?;
+    let next = next_plan(alloc, &snapshot, *stream)?;
+    Ok(is_wanted(&next, *stream, *wanted))
+}
+
 /// Plays the rows of a table, and returns the number of the first one whose stream has another plan.
-fn first_wrong(alloc: Global, rows: &[(Act<'_>, u32, Wanted<'_>)]) -> Result<Option<usize>, Fail> {
+fn first_wrong(alloc: Global, rows: &[Row<'_>]) -> Result<Option<usize>, Fail> {
     let mut board = small(alloc)?;
-    for (number, (act, stream, wanted)) in rows.iter().enumerate() {
-        change(alloc, &mut board, *act)?;
-        let snapshot = board.admit()?;
-        let next = next_plan(alloc, &snapshot, *stream)?;
-        if !is_wanted(&next, *stream, *wanted) {
+    for (number, row) in rows.iter().enumerate() {
+        if !holds(alloc, &mut board, row)? {
             return Ok(Some(number));
         }
     }
     Ok(None)
 }
 
+/// Plans before and after they land.
+const LANDED: &[Row<'static>] = &[
+    (Act::Nothing, 0, Wanted::NotOutput),
+    (Act::Nothing, 2, Wanted::NotOutput),
+    (Act::Nothing, 4, Wanted::NotOutput),
+    (Act::Nothing, u32::MAX, Wanted::NotOutput),
+    (
+        Act::Nothing,
+        1,
+        Wanted::Plan(0, (1, None), &[(0, 31)], &[(0, 10), (10, 30), (20, 50)]),
+    ),
+    (Act::Refresh(1), 1, Wanted::UpToDate(1)),
+    (
+        Act::Insert(0, &[(5, 1)]),
+        1,
+        Wanted::Plan(1, (2, None), &[(5, 16)], &[(5, 11), (10, 31)]),
+    ),
+    (Act::Nothing, 0, Wanted::NotOutput),
+    (Act::Refresh(1), 1, Wanted::UpToDate(2)),
+];
+
 #[test]
 fn plans_before_and_after_they_land(rt: HostRuntime) -> Result<(), Fail> {
-    let sums: Pairs<'_> = &[(0, 10), (10, 30), (20, 50)];
-    let rows: &[(Act<'_>, u32, Wanted<'_>)] = &[
-        (Act::Nothing, 0, Wanted::NotOutput),
-        (Act::Nothing, 2, Wanted::NotOutput),
-        (Act::Nothing, 4, Wanted::NotOutput),
-        (Act::Nothing, u32::MAX, Wanted::NotOutput),
-        (
-            Act::Nothing,
-            1,
-            Wanted::Plan(0, (1, None), &[(0, 31)], sums),
-        ),
-        (Act::Refresh(1), 1, Wanted::UpToDate(1)),
-        (
-            Act::Insert(0, &[(5, 1)]),
-            1,
-            Wanted::Plan(1, (2, None), &[(5, 16)], &[(5, 11), (10, 31)]),
-        ),
-        (Act::Nothing, 0, Wanted::NotOutput),
-        (Act::Refresh(1), 1, Wanted::UpToDate(2)),
-    ];
-    assert_eq!(rt; first_wrong(rt.alloc(), rows)?, None);
-    Ok(())
+    no_wrong(first_wrong(rt.alloc(), LANDED)?)
 }
+
+/// Plans of an output with two inputs.
+const TWO_INPUTS: &[Row<'static>] = &[
+    (
+        Act::Nothing,
+        3,
+        Wanted::Plan(0, (1, Some(0)), &[(0, 1), (10, 11), (20, 21)], &[]),
+    ),
+    (Act::Refresh(3), 3, Wanted::UpToDate(1)),
+    (
+        Act::Insert(2, &[(10, 5), (15, 1)]),
+        3,
+        Wanted::Plan(1, (1, Some(1)), &[(10, 11), (15, 16)], &[(10, 15)]),
+    ),
+    (Act::Refresh(3), 3, Wanted::UpToDate(2)),
+];
 
 #[test]
 fn plans_of_two_inputs(rt: HostRuntime) -> Result<(), Fail> {
-    let rows: &[(Act<'_>, u32, Wanted<'_>)] = &[
-        (
-            Act::Nothing,
-            3,
-            Wanted::Plan(0, (1, Some(0)), &[(0, 1), (10, 11), (20, 21)], &[]),
-        ),
-        (Act::Refresh(3), 3, Wanted::UpToDate(1)),
-        (
-            Act::Insert(2, &[(10, 5), (15, 1)]),
-            3,
-            Wanted::Plan(1, (1, Some(1)), &[(10, 11), (15, 16)], &[(10, 15)]),
-        ),
-        (Act::Refresh(3), 3, Wanted::UpToDate(2)),
-    ];
-    assert_eq!(rt; first_wrong(rt.alloc(), rows)?, None);
-    Ok(())
+    no_wrong(first_wrong(rt.alloc(), TWO_INPUTS)?)
+}
+
+/// A stream, and the version of its sight, if it has one.
+const SIGHTS: &[(u32, Option<u64>)] = &[
+    (0, None),
+    (1, Some(1)),
+    (2, None),
+    (3, Some(0)),
+    (4, None),
+];
+
+fn first_wrong_sight(snapshot: &Snapshot) -> Option<usize> {
+    for (row, (stream, base)) in SIGHTS.iter().enumerate() {
+        if sight(snapshot, *stream).map(|sight| sight.base()) != *base {
+            return Some(row);
+        }
+    }
+    None
 }
 
 #[test]
@@ -208,9 +237,5 @@ fn outputs_alone_have_a_sight(rt: HostRuntime) -> Result<(), Fail> {
     let alloc = rt.alloc();
     let mut board = small(alloc)?;
     refresh(alloc, &mut board, 1)?;
-    let snapshot = board.admit()?;
-    for (stream, base) in [(0, None), (1, Some(1)), (2, None), (3, Some(0)), (4, None)] {
-        assert_eq!(rt; sight(&snapshot, stream).map(|sight| sight.base()), base);
-    }
-    Ok(())
+    no_wrong(first_wrong_sight(&board.admit()?))
 }

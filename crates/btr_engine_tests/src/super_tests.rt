@@ -1,8 +1,9 @@
 //! Stores that are made on a device in memory, and the superblock that is chosen there.
 ghost use Rattle.std.specs.Prelude.{◌≡◌, ◌*◌, ◌%◌, ◌≤◌, IfOk, length};
 
-use btr_super::*;
+use crate::fixture::no_wrong;
 use btr_disk::{Capacity, Disk, MemDisk};
+use btr_super::*;
 use std::alloc::{AllocError, Global};
 use std::test::Fail;
 
@@ -66,38 +67,60 @@ fn chosen(alloc: Global, bytes: Vec<u8>) -> Result<Result<Super, ChooseFault>, A
     Ok(choose(&mut disk))
 }
 
+/// What is chosen on a device, and what a format gave.
+type Chosen = Result<Super, ChooseFault>;
+
+type Formatted = Result<(), FormatFault>;
+
+/// Chooses on an empty device of nine blocks, makes a store of eight, chooses, makes a store of nine, and chooses again. Returns what was
+/// chosen, what the formats gave, and the calls of the device after the first choice and each format.
+fn made_twice(alloc: Global) -> Result<([Chosen; 3], [Formatted; 2], [u64; 3]), AllocError> {
+    let mut disk = MemDisk::new(alloc, 9, CAPACITY, Vec::new(alloc))?;
+    let empty = choose(&mut disk);
+    let chosen_calls = disk.calls();
+    let made = format(&mut disk, 8);
+    let made_calls = disk.calls();
+    let first = choose(&mut disk);
+    let refused = format(&mut disk, 9);
+    let refused_calls = disk.calls();
+    let second = choose(&mut disk);
+    Ok((
+        [empty, first, second],
+        [made, refused],
+        [chosen_calls, made_calls, refused_calls],
+    ))
+}
+
 #[test]
 fn a_store_is_made_and_chosen(rt: HostRuntime) -> Result<(), Fail> {
-    let alloc = rt.alloc();
-    let mut disk = MemDisk::new(alloc, 9, CAPACITY, Vec::new(alloc))?;
-    assert_eq!(rt; choose(&mut disk), Err(ChooseFault::NotAStore));
-    assert_eq!(rt; disk.calls(), 1);
-    assert_eq!(rt; format(&mut disk, 8), Ok(()));
-    assert_eq!(rt; disk.calls(), 9);
-    assert_eq!(rt; choose(&mut disk), Ok(FIRST));
+    let (chosen, made, calls) = made_twice(rt.alloc())?;
     // another store is refused, with the gate's block, and the first one stays
-    assert_eq!(rt;
-        format(&mut disk, 9),
-        Err(FormatFault::Occupied { block: 0 })
-    );
-    assert_eq!(rt; disk.calls(), 13);
-    assert_eq!(rt; choose(&mut disk), Ok(FIRST));
+    assert!(rt; chosen == [Err(ChooseFault::NotAStore), Ok(FIRST), Ok(FIRST)]);
+    assert!(rt; made == [Ok(()), Err(FormatFault::Occupied { block: 0 })]);
+    assert!(rt; calls == [1, 9, 13]);
     Ok(())
+}
+
+/// What a format of so many blocks gave on a device, and the calls of the device.
+fn format_on(disk: MemDisk, blocks: u64) -> (Formatted, u64)
+    requires { (8 ≤ blocks) × (blocks ≤ 16) }
+{
+    let mut disk = disk;
+    let outcome = format(&mut disk, blocks);
+    (outcome, disk.calls())
 }
 
 #[test]
 fn a_device_that_is_too_small_is_not_called(rt: HostRuntime) -> Result<(), Fail> {
     let alloc = rt.alloc();
-    let mut disk = MemDisk::new(alloc, 8, CAPACITY, Vec::new(alloc))?;
-    let outcome = format(&mut disk, 9);
-    assert_eq!(rt;
-        outcome,
-        Err(FormatFault::TooSmall {
-            asked: 9,
-            blocks: 8
-        })
-    );
-    assert_eq!(rt; disk.calls(), 0);
+    let disk = MemDisk::new(alloc, 8, CAPACITY, Vec::new(alloc))?;
+    let (outcome, calls) = format_on(disk, 9);
+    let wanted = FormatFault::TooSmall {
+        asked: 9,
+        blocks: 8,
+    };
+    assert!(rt; outcome == Err(wanted));
+    assert!(rt; calls == 0);
     Ok(())
 }
 
@@ -112,15 +135,20 @@ const PIECES: [(usize, [u8; 8]); 6] = [
     (4128, [0, 0, 0, 0, 0, 0, 0, 4]),
 ];
 
-#[test]
-fn the_bytes_of_a_new_store(rt: HostRuntime) -> Result<(), Fail> {
-    let alloc = rt.alloc();
+/// The bytes of a new store, by hand.
+fn by_hand(alloc: Global) -> Result<Vec<u8>, AllocError> {
     let zeros = filled(alloc, 2, 0)?;
     let mut want = with_piece(filled(alloc, 8, 0xaa)?, 0, &zeros);
     for (at, piece) in PIECES {
         want = with_piece(want, at, &piece);
     }
-    let want = with_piece(want, 16384, &filled(alloc, 1, 0)?);
+    Ok(with_piece(want, 16384, &filled(alloc, 1, 0)?))
+}
+
+#[test]
+fn the_bytes_of_a_new_store(rt: HostRuntime) -> Result<(), Fail> {
+    let alloc = rt.alloc();
+    let want = by_hand(alloc)?;
     assert!(rt; formatted(alloc)?.as_slice() == want.as_slice());
     Ok(())
 }
@@ -150,19 +178,24 @@ const BREAKS: [(u16, u8); 21] = [
     (4095, 1),
 ];
 
+/// What is chosen if a byte of the body has this value.
+fn chosen_with(alloc: Global, at: u16, value: u8) -> Result<Chosen, AllocError> {
+    let bytes = with_piece(formatted(alloc)?, 4096 + at as usize, &[value]);
+    chosen(alloc, bytes)
+}
+
+fn first_unbroken(alloc: Global) -> Result<Option<usize>, AllocError> {
+    for (row, (at, value)) in BREAKS.iter().enumerate() {
+        if chosen_with(alloc, *at, *value)? != Err(ChooseFault::Damaged { block: 1 }) {
+            return Ok(Some(row));
+        }
+    }
+    Ok(None)
+}
+
 #[test]
 fn each_byte_of_a_body_counts(rt: HostRuntime) -> Result<(), Fail> {
-    let alloc = rt.alloc();
-    for (at, value) in BREAKS {
-        let bytes = with_piece(formatted(alloc)?, 4096 + at as usize, &[value]);
-        let outcome = chosen(alloc, bytes)?;
-        assert_eq!(rt;
-            outcome,
-            Err(ChooseFault::Damaged { block: 1 }),
-            "{value} at {at}"
-        );
-    }
-    Ok(())
+    no_wrong(first_unbroken(rt.alloc())?)
 }
 
 const SECOND: Super = Super {
@@ -175,7 +208,7 @@ const SECOND: Super = Super {
 };
 
 /// A byte of a device that has the same superblock on both sides, and what is chosen if it is 0.
-const SIDES: [(usize, Result<Super, ChooseFault>); 7] = [
+const SIDES: [(usize, Chosen); 7] = [
     (0, Ok(SECOND)),
     (7, Ok(SECOND)),
     (8, Err(ChooseFault::Damaged { block: 3 })),
@@ -185,18 +218,28 @@ const SIDES: [(usize, Result<Super, ChooseFault>); 7] = [
     (12288, Err(ChooseFault::Damaged { block: 3 })),
 ];
 
+/// What is chosen if a byte of a device that has the same superblock on both sides is 0.
+fn chosen_without(alloc: Global, at: usize) -> Result<Chosen, AllocError> {
+    let bytes = with_piece(twice(alloc)?, at, &[0]);
+    chosen(alloc, bytes)
+}
+
+fn first_wrong_side(alloc: Global) -> Result<Option<usize>, AllocError> {
+    for (row, (at, want)) in SIDES.iter().enumerate() {
+        if chosen_without(alloc, *at)? != *want {
+            return Ok(Some(row));
+        }
+    }
+    Ok(None)
+}
+
 #[test]
 fn the_sides_of_a_device(rt: HostRuntime) -> Result<(), Fail> {
-    let alloc = rt.alloc();
-    for (at, want) in SIDES {
-        let bytes = with_piece(twice(alloc)?, at, &[0]);
-        assert_eq!(rt; chosen(alloc, bytes)?, want, "{at}");
-    }
-    Ok(())
+    no_wrong(first_wrong_side(rt.alloc())?)
 }
 
 /// The blocks of a device whose superblock is on the second side, and what is chosen there.
-const SIZES: [(u8, Result<Super, ChooseFault>); 5] = [
+const SIZES: [(u8, Chosen); 5] = [
     (0, Err(ChooseFault::NotAStore)),
     (2, Err(ChooseFault::NotAStore)),
     (3, Err(ChooseFault::Damaged { block: 3 })),
@@ -204,58 +247,80 @@ const SIZES: [(u8, Result<Super, ChooseFault>); 5] = [
     (8, Ok(SECOND)),
 ];
 
+/// What is chosen on the first blocks of a device whose superblock is on the second side.
+fn chosen_of(alloc: Global, blocks: u8) -> Result<Chosen, AllocError> {
+    let mut bytes = with_piece(twice(alloc)?, 0, &[0]);
+    bytes.truncate(4096 * blocks as usize);
+    chosen(alloc, bytes)
+}
+
+fn first_wrong_size(alloc: Global) -> Result<Option<usize>, AllocError> {
+    for (row, (blocks, want)) in SIZES.iter().enumerate() {
+        if chosen_of(alloc, *blocks)? != *want {
+            return Ok(Some(row));
+        }
+    }
+    Ok(None)
+}
+
 #[test]
 fn a_device_has_its_blocks_alone(rt: HostRuntime) -> Result<(), Fail> {
-    let alloc = rt.alloc();
-    for (blocks, want) in SIZES {
-        let mut bytes = with_piece(twice(alloc)?, 0, &[0]);
-        bytes.truncate(4096 * blocks as usize);
-        assert_eq!(rt; chosen(alloc, bytes)?, want, "{blocks} blocks");
-    }
-    Ok(())
+    no_wrong(first_wrong_size(rt.alloc())?)
 }
 
 #[test]
 fn a_store_on_the_second_side_is_not_overwritten(rt: HostRuntime) -> Result<(), Fail> {
     let alloc = rt.alloc();
     let bytes = with_piece(twice(alloc)?, 0, &[0]);
-    let mut disk = MemDisk::from_bytes(alloc, bytes, CAPACITY, Vec::new(alloc))?;
-    assert_eq!(rt;
-        format(&mut disk, 8),
-        Err(FormatFault::Occupied { block: 2 })
-    );
-    assert_eq!(rt; disk.calls(), 3);
+    let disk = MemDisk::from_bytes(alloc, bytes, CAPACITY, Vec::new(alloc))?;
+    let (outcome, calls) = format_on(disk, 8);
+    assert!(rt; outcome == Err(FormatFault::Occupied { block: 2 }));
+    assert!(rt; calls == 3);
     Ok(())
+}
+
+/// A call that fails, the calls of the device in the end, and what is then chosen. There is a store only if the last write was made.
+const FAILING: [(u64, u64, Chosen); 8] = [
+    (0, 1, Err(ChooseFault::NotAStore)),
+    (1, 2, Err(ChooseFault::NotAStore)),
+    (2, 3, Err(ChooseFault::NotAStore)),
+    (3, 4, Err(ChooseFault::NotAStore)),
+    (4, 5, Err(ChooseFault::NotAStore)),
+    (5, 6, Err(ChooseFault::NotAStore)),
+    (6, 7, Err(ChooseFault::NotAStore)),
+    (7, 8, Ok(FIRST)),
+];
+
+/// What a format gave on a device whose call fails, the calls of the device, and what is chosen there.
+fn failed_at(alloc: Global, call: u64) -> Result<(Formatted, u64, Chosen), AllocError> {
+    let bytes = filled(alloc, 8, 0xaa)?;
+    let mut disk = MemDisk::from_bytes(alloc, bytes, CAPACITY, vec![in alloc; call]?)?;
+    let outcome = format(&mut disk, 8);
+    let calls = disk.calls();
+    Ok((outcome, calls, choose(&mut disk)))
+}
+
+fn first_wrong_failure(alloc: Global) -> Result<Option<usize>, AllocError> {
+    for (row, (call, calls, want)) in FAILING.iter().enumerate() {
+        if failed_at(alloc, *call)? != (Err(FormatFault::Fault), *calls, *want) {
+            return Ok(Some(row));
+        }
+    }
+    Ok(None)
 }
 
 #[test]
 fn each_call_may_fail(rt: HostRuntime) -> Result<(), Fail> {
-    let alloc = rt.alloc();
-    for call in 0..8 {
-        let failing = vec![in alloc; call]?;
-        let mut disk = MemDisk::from_bytes(alloc, filled(alloc, 8, 0xaa)?, CAPACITY, failing)?;
-        assert_eq!(rt;
-            format(&mut disk, 8),
-            Err(FormatFault::Fault),
-            "call {call}"
-        );
-        assert_eq!(rt; disk.calls(), call + 1, "call {call}");
-        // There is a store only if the last write was made.
-        let want = if call < 7 {
-            Err(ChooseFault::NotAStore)
-        } else {
-            Ok(FIRST)
-        };
-        assert_eq!(rt; choose(&mut disk), want, "call {call}");
-    }
-    Ok(())
+    no_wrong(first_wrong_failure(rt.alloc())?)
 }
 
 #[test]
 fn a_failed_read_is_a_fault(rt: HostRuntime) -> Result<(), Fail> {
     let alloc = rt.alloc();
     let mut disk = MemDisk::new(alloc, 8, CAPACITY, vec![in alloc; 0]?)?;
-    assert_eq!(rt; choose(&mut disk), Err(ChooseFault::Fault));
-    assert_eq!(rt; disk.faults(), 1);
+    let outcome = choose(&mut disk);
+    let faults = disk.faults();
+    assert!(rt; outcome == Err(ChooseFault::Fault));
+    assert!(rt; faults == 1);
     Ok(())
 }

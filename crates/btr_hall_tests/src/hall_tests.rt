@@ -1,77 +1,38 @@
 //! Sessions in one thread and in many, over devices in memory. The expected values are worked out by hand.
-ghost use Rattle.std.specs.Prelude.{◌≡◌, ℕ, ◌<◌, ◌≤◌, Bool, false, List, [], IfOk, IfSome};
+ghost use Rattle.std.specs.Prelude.{◌≡◌, ℕ, ◌<◌, ◌≤◌, Bool, false, List, IfOk, IfSome};
 ghost use Rattle.std.specs.Thread.{IsSync};
 ghost use Rattle.btr_hist.specs.declared.entry.Entry.{Entry as EntrySpec};
 ghost use Rattle.btr_gate.specs.Shares.{on_path};
 ghost use Rattle.btr_plan.specs.Plan.{IsPlanOf};
 ghost use Rattle.btr_engine.specs.Engine.{IsEngineOf};
 ghost use Rattle.btr_hall.specs.Trace.{history_of};
-ghost use Rattle.btr_hall.specs.Session.{IsSessionOf, IsAlone, opening_of, seen_of, share_of};
+ghost use Rattle.btr_hall.specs.Session.{IsSessionOf, opening_of, seen_of, share_of};
 ghost use Rattle.btr_hall.specs.Commit.{is_distillate};
 ghost use Rattle.btr_hall.specs.Sole.{hall_of};
 
-use btr_hall::*;
-use btr_base::{Bag, Point, Ranges};
-use btr_disk::{Capacity, Disk, MemDisk};
+use crate::fixture::{Place, User, begun_empty, close, points_of};
+use btr_base::{Bag, Ranges};
+use btr_disk::{Disk, MemDisk};
 use btr_distil::Plan;
-use btr_engine::{Board, Engine, Receipt, StepFault};
+use btr_engine::{Engine, Receipt, StepFault};
 use btr_entry::decode;
+use btr_hall::*;
 use btr_hist::{Answer, At, Entry, Kernel, Query, Rows, Spec};
 use btr_log::{Found as FoundExtent, HEAD_BYTES, Log};
 use btr_plan::{Next, next_plan};
 use std::alloc::{AllocError, Global};
-use std::process::Abort;
-use std::snapshot::Snapshot as State;
 use std::sync::Wait;
 use std::test::Fail;
 use std::thread::{Threads, join};
-
-type Place = Hall<MemDisk>;
-
-type User = Session<MemDisk>;
-
-/// Returns an engine of no entries over a device of this many blocks. The calls of the device in the list fail.
-fn empty(alloc: Global, blocks: u32, failing: &[u64]) -> Result<Engine<MemDisk>, Fail>
-    requires { (8 ≤ blocks) × (blocks ≤ 100_000) }
-    ensures { IfOk result (IsEngineOf []) }
-{
-    let count = blocks as usize;
-    let capacity = Capacity {
-        calls: 4 * count,
-        blocks: 2 * count,
-    };
-    let disk = MemDisk::new(alloc, count, capacity, failing.to_vec(alloc)?)?;
-    let synced = State::of(&disk);
-    let log = Log::at(disk, 4, u64::from(blocks), 0);
-    Ok(Engine::over(log, Board::empty(), synced))
-}
-
-/// Makes a hall of an engine, and its first session.
-fn begun(alloc: Global, engine: Engine<MemDisk>) -> Result<(Place, User), Fail>
-    requires { (h : List EntrySpec) × IsEngineOf h engine }
-    ensures { IfOk result (λ r. IsSessionOf r.0 r.1 × IsAlone r.1) }
-{
-    match Hall::begin(alloc, engine) {
-        Ok(made) => Ok(made),
-        Err(_) => Err("out of memory".into()),
-    }
-}
 
 /// A commit that adds points to a stream.
 fn insert(alloc: Global, stream: u32, pairs: &[(i64, i64)]) -> Result<Entry, AllocError>
     ensures { IfOk result (λ e. is_distillate e ≡ false) }
 {
-    let mut points = Vec::new(alloc);
-    for (time, value) in pairs {
-        points.push(Point {
-            time: *time,
-            value: *value,
-        })?;
-    }
     Ok(Entry::Commit {
         stream,
         cut: Ranges::none(alloc),
-        added: Bag::from_points(points),
+        added: Bag::from_points(points_of(alloc, pairs)?),
     })
 }
 
@@ -157,16 +118,24 @@ fn latest<R: Wait>(
     }
 }
 
-/// Takes the engine out of a hall with one session.
-fn close(hall: Place, user: User) -> Engine<MemDisk>
-    requires own { IsSessionOf hall user }
-    requires alone { IsAlone user }
+/// Adds points to a stream, and returns whether they were accepted.
+fn add_points<R: Wait>(
+    rt: &R,
+    alloc: Global,
+    hall: &Place,
+    user: &mut User,
+    pairs: &[(i64, i64)],
+) -> Result<bool, AllocError>
+    requires { IsSessionOf hall.now user.old }
+    ensures own { IsSessionOf hall.now user.new }
+    ensures share { share_of user.new ≡ share_of user.old }
 {
-    hall.close(user)
+    let entry = insert(alloc, 0, pairs)?;
+    Ok(commit(rt, alloc, hall, user, &entry).is_ok())
 }
 
-/// Makes a plain stream with three points, and an output of their sums over 10 ns with its first version.
-fn prepare<R: Wait>(rt: &R, alloc: Global, hall: &Place, user: &mut User) -> Result<(), Fail>
+/// Makes a plain stream with three points, and an output of their sums over 10 ns. Returns whether all was accepted.
+fn define<R: Wait>(rt: &R, alloc: Global, hall: &Place, user: &mut User) -> Result<bool, AllocError>
     requires { IsSessionOf hall.now user.old }
     ensures own { IsSessionOf hall.now user.new }
     ensures share { share_of user.new ≡ share_of user.old }
@@ -178,67 +147,132 @@ fn prepare<R: Wait>(rt: &R, alloc: Global, hall: &Place, user: &mut User) -> Res
         first: 0,
         second: None,
     };
-    let points = insert(alloc, 0, &[(0, 10), (10, 20), (20, 30)])?;
-    commit(rt, alloc, hall, user, &Entry::Create { id: 7 })?;
-    commit(rt, alloc, hall, user, &points)?;
-    commit(rt, alloc, hall, user, &Entry::Define { id: 8, spec })?;
-    let plan = plan_now(rt, alloc, hall, user, 1)?.ok_or("a plan")?;
-    land(rt, alloc, hall, user, &plan)?;
-    Ok(())
+    let is_created = commit(rt, alloc, hall, user, &Entry::Create { id: 7 }).is_ok();
+    let is_added = add_points(rt, alloc, hall, user, &[(0, 10), (10, 20), (20, 30)])?;
+    let is_defined = commit(rt, alloc, hall, user, &Entry::Define { id: 8, spec }).is_ok();
+    Ok(is_created && is_added && is_defined)
 }
 
-/// Both users plan the next version of the output after a change of its input. The first one lands, and the second one is superseded.
-fn plan_and_land<R: Abort + Wait>(
+/// Plans what the output needs now, and lands it. Returns whether a plan was made and landed.
+fn plan_and_land<R: Wait>(
+    rt: &R,
+    alloc: Global,
+    hall: &Place,
+    user: &mut User,
+) -> Result<bool, AllocError>
+    requires { IsSessionOf hall.now user.old }
+    ensures own { IsSessionOf hall.now user.new }
+    ensures share { share_of user.new ≡ share_of user.old }
+{
+    let Some(plan) = plan_now(rt, alloc, hall, user, 1)? else {
+        return Ok(false);
+    };
+    Ok(land(rt, alloc, hall, user, &plan).is_ok())
+}
+
+/// Makes a plain stream, and an output with its first version, and adds a point to the plain stream. Returns whether all was accepted.
+fn prepare<R: Wait>(
+    rt: &R,
+    alloc: Global,
+    hall: &Place,
+    user: &mut User,
+) -> Result<bool, AllocError>
+    requires { IsSessionOf hall.now user.old }
+    ensures own { IsSessionOf hall.now user.new }
+    ensures share { share_of user.new ≡ share_of user.old }
+{
+    let is_defined = define(rt, alloc, hall, user)?;
+    let is_landed = plan_and_land(rt, alloc, hall, user)?;
+    let is_changed = add_points(rt, alloc, hall, user, &[(5, 1)])?;
+    Ok(is_defined && is_landed && is_changed)
+}
+
+/// The result of a landing.
+type Landed = Result<Receipt, LandFault>;
+
+/// Both users plan the next version of the output. The first one lands, and then the second one. Returns the results.
+fn both_land<R: Wait>(
     rt: &R,
     alloc: Global,
     hall: &Place,
     first: &mut User,
     second: &mut User,
-) -> Result<(), Fail>
+) -> Result<Option<(Landed, Landed)>, AllocError>
     requires { IsSessionOf hall.now first.old × IsSessionOf hall.now second.old }
     ensures own { IsSessionOf hall.now first.new × IsSessionOf hall.now second.new }
     ensures share { (share_of first.new ≡ share_of first.old) × (share_of second.new ≡ share_of second.old) }
 {
-    prepare(rt, alloc, hall, first)?;
-    let more = insert(alloc, 0, &[(5, 1)])?;
-    commit(rt, alloc, hall, first, &more)?;
-    let ours = plan_now(rt, alloc, hall, first, 1)?.ok_or("a plan")?;
-    let theirs = plan_now(rt, alloc, hall, second, 1)?.ok_or("a plan")?;
-    let landed = land(rt, alloc, hall, first, &ours)?;
-    assert_eq!(rt; (landed.number, landed.stream, landed.version), (6, 1, 2));
-    assert_eq!(rt;
-        land(rt, alloc, hall, second, &theirs).err(),
-        Some(LandFault::Superseded { version: 2 })
-    );
-    assert_eq!(rt; latest(rt, alloc, hall, second, 1), Some((2, 4)));
-    Ok(())
+    let Some(ours) = plan_now(rt, alloc, hall, first, 1)? else {
+        return Ok(None);
+    };
+    let Some(theirs) = plan_now(rt, alloc, hall, second, 1)? else {
+        return Ok(None);
+    };
+    let landed = land(rt, alloc, hall, first, &ours);
+    let superseded = land(rt, alloc, hall, second, &theirs);
+    Ok(Some((landed, superseded)))
 }
 
-/// Splits the user, lets both plan and land, and lets them meet again.
-fn two_plan<R: Abort + Wait>(
+/// What two users found: whether all was prepared, the results of their landings, and the latest version of the output and the number of
+/// its points.
+type Planned = (bool, Option<(Landed, Landed)>, Option<(u64, usize)>);
+
+/// Both users plan and land after a change of the input, and the second one asks for the output.
+fn both_plan<R: Wait>(
     rt: &R,
     alloc: Global,
     hall: &Place,
     first: &mut User,
-) -> Result<(), Fail>
+    second: &mut User,
+) -> Result<Planned, AllocError>
+    requires { IsSessionOf hall.now first.old × IsSessionOf hall.now second.old }
+    ensures own { IsSessionOf hall.now first.new × IsSessionOf hall.now second.new }
+    ensures share { (share_of first.new ≡ share_of first.old) × (share_of second.new ≡ share_of second.old) }
+{
+    let is_prepared = prepare(rt, alloc, hall, first)?;
+    let landed = both_land(rt, alloc, hall, first, second)?;
+    let found = latest(rt, alloc, hall, second, 1);
+    Ok((is_prepared, landed, found))
+}
+
+/// Splits the user, lets both plan and land, and lets them meet again.
+fn two_plan<R: Wait>(
+    rt: &R,
+    alloc: Global,
+    hall: &Place,
+    first: &mut User,
+) -> Result<Planned, AllocError>
     requires { IsSessionOf hall.now first.old }
     ensures own { IsSessionOf hall.now first.new }
     ensures share { (path : ℕ → Bool) → on_path path (share_of first.new) ≡ on_path path (share_of first.old) }
 {
     let mut second = first.split(hall);
-    let outcome = plan_and_land(rt, alloc, hall, first, &mut second);
+    let outcome = both_plan(rt, alloc, hall, first, &mut second);
     first.meet(hall, second);
     outcome
 }
 
+/// Returns what two users of a new hall found, and the number of its entries in the end.
+fn planned_by_two<R: Wait>(rt: &R, alloc: Global) -> Result<(Planned, u64), Fail> {
+    let (hall, mut user) = begun_empty(alloc, 64, &[])?;
+    let outcome = two_plan(rt, alloc, &hall, &mut user);
+    let engine = close(hall, user);
+    Ok((outcome?, engine.entries()))
+}
+
 #[test]
 fn a_plan_of_an_output_that_has_moved_is_superseded(rt: HostRuntime) -> Result<(), Fail> {
-    let alloc = rt.alloc();
-    let (hall, mut user) = begun(alloc, empty(alloc, 64, &[])?)?;
-    let outcome = two_plan(&rt, alloc, &hall, &mut user);
-    let engine = close(hall, user);
-    outcome?;
-    assert_eq!(rt; engine.entries(), 6);
+    let ((is_prepared, landed, found), entries) = planned_by_two(&rt, rt.alloc())?;
+    let receipt = Receipt {
+        number: 6,
+        stream: 1,
+        version: 2,
+    };
+    let superseded = LandFault::Superseded { version: 2 };
+    assert!(rt; is_prepared);
+    assert!(rt; landed == Some((Ok(receipt), Err(superseded))));
+    assert!(rt; found == Some((2, 4)));
+    assert!(rt; entries == 6);
     Ok(())
 }
 
@@ -338,20 +372,27 @@ fn create<R: Wait>(rt: &R, alloc: Global, hall: &Place, user: User, count: u32) 
     (user, made)
 }
 
+/// Makes two streams in a new hall, and lets two threads write and read. Returns how many streams were made, the numbers of good answers,
+/// and the number of entries in the end.
+fn read_by_two<R: Threads + Wait + Sync>(
+    rt: &R,
+    alloc: Global,
+) -> Result<(u32, u32, u32, u64), Fail> {
+    let (hall, user) = begun_empty(alloc, 2000, &[])?;
+    let (user, made) = create(rt, alloc, &hall, user, 2);
+    let (user, here, there) = two_write_and_read(rt, alloc, &hall, user);
+    let engine = close(hall, user);
+    Ok((made, here, there, engine.entries()))
+}
+
 #[test]
 fn each_of_two_threads_reads_its_own_commits(rt: HostRuntime) -> Result<(), Fail> {
-    let alloc = rt.alloc();
-    let (hall, user) = begun(alloc, empty(alloc, 2000, &[])?)?;
-    let (user, made) = create(&rt, alloc, &hall, user, 2);
-    let (user, here, there) = two_write_and_read(&rt, alloc, &hall, user);
-    let engine = close(hall, user);
-    assert_eq!(rt; (made, here, there), (2, 250, 250));
-    assert_eq!(rt; engine.entries(), 502);
+    assert!(rt; read_by_two(&rt, rt.alloc())? == (2, 250, 250, 502));
     Ok(())
 }
 
 /// What a thread was told of a commit: its number, its stream, and the time of its point.
-#[derive(Clone, Copy, Debug, PartialEq, Eq)]
+#[derive(Clone, Copy, PartialEq, Eq)]
 struct Told {
     number: u64,
     stream: u32,
@@ -522,6 +563,16 @@ fn commit_in(alloc: Global, body: &[u8], length: u64) -> Option<(u32, i64)> {
     }
 }
 
+/// Returns what the body of an extent says, if it has a commit.
+fn told_in(alloc: Global, number: u64, body: &[u8], length: u64) -> Option<Told> {
+    let (stream, time) = commit_in(alloc, body, length)?;
+    Some(Told {
+        number,
+        stream,
+        time,
+    })
+}
+
 /// Returns the streams and times of the commits in the log of a device, with the number of each extent. The first eight extents
 /// have no commit.
 fn commits_on(alloc: Global, disk: MemDisk) -> List {
@@ -543,13 +594,7 @@ fn commits_on(alloc: Global, disk: MemDisk) -> List {
                     return None;
                 }
                 if number > 8 {
-                    let (stream, time) = commit_in(alloc, &body, head.length)?;
-                    list.push(Told {
-                        number,
-                        stream,
-                        time,
-                    })
-                    .ok()?;
+                    list.push(told_in(alloc, number, &body, head.length)?).ok()?;
                 }
                 gate = next;
             }
@@ -564,76 +609,130 @@ fn is_log_of(log: &[Told], told: &mut [Told]) -> bool {
     log == told
 }
 
+/// Lets eight threads commit ten thousand points to a new hall. Returns how many streams were made, what the threads were told, and the
+/// engine in the end.
+fn told_to_eight<R: Threads + Wait + Sync>(
+    rt: &R,
+    alloc: Global,
+) -> Result<(u32, List, Engine<MemDisk>), Fail> {
+    let (hall, user) = begun_empty(alloc, 30_000, &[])?;
+    let (user, made) = create(rt, alloc, &hall, user, 8);
+    let (user, told) = eight_tell(rt, alloc, &hall, user);
+    let engine = close(hall, user);
+    Ok((made, told, engine))
+}
+
+/// Returns how many commits the threads were told and the log has, and whether they are the same.
+fn compared(alloc: Global, told: List, engine: Engine<MemDisk>) -> Option<(usize, usize, bool)> {
+    let mut told = told?;
+    let log = commits_on(alloc, engine.into_disk())?;
+    let is_same = is_log_of(&log, &mut told);
+    Some((told.len(), log.len(), is_same))
+}
+
 /// Eight threads commit ten thousand points. The log of the device has each commit at the number that its thread was told.
 #[test]
 fn the_log_has_what_eight_threads_were_told(rt: HostRuntime) -> Result<(), Fail> {
     let alloc = rt.alloc();
-    let (hall, user) = begun(alloc, empty(alloc, 30_000, &[])?)?;
-    let (user, made) = create(&rt, alloc, &hall, user, 8);
-    let (user, told) = eight_tell(&rt, alloc, &hall, user);
-    let engine = close(hall, user);
-    let mut told = told.ok_or("each commit is accepted")?;
-    assert_eq!(rt; (made, told.len()), (8, 10_000));
-    assert_eq!(rt; engine.entries(), 10_008);
-    let log = commits_on(alloc, engine.into_disk()).ok_or("a log of commits")?;
-    assert_eq!(rt; log.len(), 10_000);
-    assert!(rt; is_log_of(&log, &mut told));
+    let (made, told, engine) = told_to_eight(&rt, alloc)?;
+    let entries = engine.entries();
+    let compared = compared(alloc, told, engine);
+    assert!(rt; (made, entries) == (8, 10_008));
+    assert!(rt; compared == Some((10_000, 10_000, true)));
     Ok(())
 }
 
-/// The device fails in the second user's step. Then no user's entry is accepted, but questions are answered.
-fn fail_and_go_on<R: Abort + Wait>(
+/// Makes a stream as the first user, and adds a point as the second one. Returns whether both were accepted and the hall is not stopped.
+fn add_one<R: Wait>(
     rt: &R,
     alloc: Global,
     hall: &Place,
     first: &mut User,
     second: &mut User,
-) -> Result<(), Fail>
+) -> Result<bool, AllocError>
+    requires { IsSessionOf hall.now first.old × IsSessionOf hall.now second.old }
+    ensures own { IsSessionOf hall.now first.new × IsSessionOf hall.now second.new }
+    ensures share { (share_of first.new ≡ share_of first.old) × (share_of second.new ≡ share_of second.old) }
+{
+    let is_created = commit(rt, alloc, hall, first, &Entry::Create { id: 7 }).is_ok();
+    let is_added = add_points(rt, alloc, hall, second, &[(3, 7)])?;
+    let stopped = first.stopped(rt, hall);
+    Ok(is_created && is_added && stopped == None)
+}
+
+/// The second user's step of an entry, the first user's, and the second user's again.
+type Refused = [Option<StepFault>; 3];
+
+/// Adds a point as the second user, as the first one, and as the second one. Returns why each was refused.
+fn refused_thrice<R: Wait>(
+    rt: &R,
+    alloc: Global,
+    hall: &Place,
+    first: &mut User,
+    second: &mut User,
+) -> Result<Refused, AllocError>
     requires { IsSessionOf hall.now first.old × IsSessionOf hall.now second.old }
     ensures own { IsSessionOf hall.now first.new × IsSessionOf hall.now second.new }
     ensures share { (share_of first.new ≡ share_of first.old) × (share_of second.new ≡ share_of second.old) }
 {
     let entry = insert(alloc, 0, &[(3, 7)])?;
-    commit(rt, alloc, hall, first, &Entry::Create { id: 7 })?;
-    commit(rt, alloc, hall, second, &entry)?;
-    assert_eq!(rt; first.stopped(rt, hall), None);
-    assert_eq!(rt;
-        commit(rt, alloc, hall, second, &entry).err(),
-        Some(StepFault::DeviceFault)
-    );
-    assert_eq!(rt;
-        commit(rt, alloc, hall, first, &entry).err(),
-        Some(StepFault::Stopped { entries: 2 })
-    );
-    assert_eq!(rt;
-        commit(rt, alloc, hall, second, &entry).err(),
-        Some(StepFault::Stopped { entries: 2 })
-    );
-    assert_eq!(rt;
-        (first.stopped(rt, hall), second.stopped(rt, hall)),
-        (Some(2), Some(2))
-    );
-    assert_eq!(rt; latest(rt, alloc, hall, first, 0), Some((1, 1)));
-    assert_eq!(rt; latest(rt, alloc, hall, second, 0), Some((1, 1)));
-    let found = second.find(rt, hall, 7);
-    assert_eq!(rt;
-        found,
-        Some(Found {
-            stream: 0,
-            spec: None
-        })
-    );
-    assert_eq!(rt; second.find(rt, hall, 8), None);
-    Ok(())
+    let failed = commit(rt, alloc, hall, second, &entry).err();
+    let ours = commit(rt, alloc, hall, first, &entry).err();
+    let theirs = commit(rt, alloc, hall, second, &entry).err();
+    Ok([failed, ours, theirs])
 }
 
-/// Splits the user, lets both go on over the fault, and lets them meet again.
-fn two_fail<R: Abort + Wait>(
+/// What a user sees of a hall: the number of entries if it is stopped, the latest version of stream 0 and the number of its points, and
+/// two ids.
+type Sight = (
+    Option<u64>,
+    Option<(u64, usize)>,
+    Option<Found>,
+    Option<Found>,
+);
+
+fn sight_of<R: Wait>(rt: &R, alloc: Global, hall: &Place, user: &mut User) -> Sight
+    requires { IsSessionOf hall.now user.old }
+    ensures own { IsSessionOf hall.now user.new }
+    ensures share { share_of user.new ≡ share_of user.old }
+{
+    let stopped = user.stopped(rt, hall);
+    let found = latest(rt, alloc, hall, user, 0);
+    let there = user.find(rt, hall, 7);
+    let absent = user.find(rt, hall, 8);
+    (stopped, found, there, absent)
+}
+
+/// What two users saw: whether the first entries were accepted in a hall that was not stopped, why later ones were refused, and what each
+/// sees after that.
+type Faulted = (bool, Refused, Sight, Sight);
+
+/// The device fails in the second user's step. Then no user's entry is accepted, but questions are answered.
+fn fail_and_go_on<R: Wait>(
     rt: &R,
     alloc: Global,
     hall: &Place,
     first: &mut User,
-) -> Result<(), Fail>
+    second: &mut User,
+) -> Result<Faulted, AllocError>
+    requires { IsSessionOf hall.now first.old × IsSessionOf hall.now second.old }
+    ensures own { IsSessionOf hall.now first.new × IsSessionOf hall.now second.new }
+    ensures share { (share_of first.new ≡ share_of first.old) × (share_of second.new ≡ share_of second.old) }
+{
+    let is_added = add_one(rt, alloc, hall, first, second)?;
+    let refused = refused_thrice(rt, alloc, hall, first, second)?;
+    let ours = sight_of(rt, alloc, hall, first);
+    let theirs = sight_of(rt, alloc, hall, second);
+    Ok((is_added, refused, ours, theirs))
+}
+
+/// Splits the user, lets both go on over the fault, and lets them meet again.
+fn two_fail<R: Wait>(
+    rt: &R,
+    alloc: Global,
+    hall: &Place,
+    first: &mut User,
+) -> Result<Faulted, AllocError>
     requires { IsSessionOf hall.now first.old }
     ensures own { IsSessionOf hall.now first.new }
     ensures share { (path : ℕ → Bool) → on_path path (share_of first.new) ≡ on_path path (share_of first.old) }
@@ -644,54 +743,109 @@ fn two_fail<R: Abort + Wait>(
     outcome
 }
 
-/// Each entry takes four calls of the device. Of the third one, call 9 fails: its first sync.
+/// Returns what two users of a hall saw whose device fails, and in the end the entries, whether the engine is stopped, and the faults of
+/// the device. Each entry takes four calls of the device. Of the third one, call 9 fails: its first sync.
+fn failed_for_two<R: Wait>(rt: &R, alloc: Global) -> Result<(Faulted, (u64, bool, u64)), Fail> {
+    let (hall, mut user) = begun_empty(alloc, 64, &[9])?;
+    let outcome = two_fail(rt, alloc, &hall, &mut user);
+    let engine = close(hall, user);
+    let entries = engine.entries();
+    let is_stopped = engine.stopped();
+    let faults = engine.into_disk().faults();
+    Ok((outcome?, (entries, is_stopped, faults)))
+}
+
+/// What each user sees after the fault.
+const AFTER_FAULT: Sight = (
+    Some(2),
+    Some((1, 1)),
+    Some(Found {
+        stream: 0,
+        spec: None,
+    }),
+    None,
+);
+
 #[test]
 fn after_a_fault_of_the_device_questions_are_answered(rt: HostRuntime) -> Result<(), Fail> {
-    let alloc = rt.alloc();
-    let (hall, mut user) = begun(alloc, empty(alloc, 64, &[9])?)?;
-    let outcome = two_fail(&rt, alloc, &hall, &mut user);
-    let engine = close(hall, user);
-    outcome?;
-    assert_eq!(rt; (engine.entries(), engine.stopped()), (2, true));
-    assert_eq!(rt; engine.into_disk().faults(), 1);
+    let ((is_added, refused, ours, theirs), end) = failed_for_two(&rt, rt.alloc())?;
+    let stopped = Some(StepFault::Stopped { entries: 2 });
+    assert!(rt; is_added);
+    assert!(rt; refused == [Some(StepFault::DeviceFault), stopped, stopped]);
+    assert!(rt; ours == AFTER_FAULT && theirs == AFTER_FAULT);
+    assert!(rt; end == (2, true, 1));
     Ok(())
 }
 
-/// Uses the only session of a hall as an engine.
-fn use_alone<R: Abort + Wait>(
-    rt: &R,
+/// The result of a step.
+type Stepped = Result<Receipt, StepFault>;
+
+/// Makes a stream and adds a point by the only session of a hall.
+fn step_alone<R: Wait>(
     alloc: Global,
     alone: &mut Sole<'_, R, MemDisk>,
-) -> Result<(), Fail>
+) -> Result<[Stepped; 2], AllocError>
     ensures { hall_of alone.new ≡ hall_of alone.old }
 {
     let entry = insert(alloc, 0, &[(3, 7)])?;
-    assert_eq!(rt; alone.find(7), None);
-    let receipt = alone.step(alloc, &Entry::Create { id: 7 })?;
-    assert_eq!(rt;
-        (receipt.number, receipt.stream, receipt.version),
-        (1, 0, 0)
-    );
-    let receipt = alone.step(alloc, &entry)?;
-    assert_eq!(rt;
-        (receipt.number, receipt.stream, receipt.version),
-        (2, 0, 1)
-    );
-    assert_eq!(rt; (alone.find(7), alone.spec(0)), (Some(0), None));
-    assert_eq!(rt; (alone.entries(), alone.stopped()), (2, false));
-    assert_eq!(rt; alone.admit()?.latest(0), Some(1));
-    Ok(())
+    let created = alone.step(alloc, &Entry::Create { id: 7 });
+    let added = alone.step(alloc, &entry);
+    Ok([created, added])
+}
+
+/// What the only session of a hall sees: the stream with the id 7, the spec of stream 0, the entries, whether the engine is stopped, and
+/// the latest version of stream 0.
+type SoleSight = (Option<u32>, Option<Spec>, u64, bool, Option<u64>);
+
+fn sight_alone<R: Wait>(alone: &mut Sole<'_, R, MemDisk>) -> Result<SoleSight, AllocError>
+    ensures { hall_of alone.new ≡ hall_of alone.old }
+{
+    let found = alone.find(7);
+    let spec = alone.spec(0);
+    let entries = alone.entries();
+    let is_stopped = alone.stopped();
+    let latest = alone.admit()?.latest(0);
+    Ok((found, spec, entries, is_stopped, latest))
+}
+
+/// What the only session of a hall saw: the stream with the id 7 before, the steps, and the sight after them.
+type Alone = (Option<u32>, [Stepped; 2], SoleSight);
+
+/// Uses the only session of a hall as an engine.
+fn use_alone<R: Wait>(alloc: Global, alone: &mut Sole<'_, R, MemDisk>) -> Result<Alone, AllocError>
+    ensures { hall_of alone.new ≡ hall_of alone.old }
+{
+    let before = alone.find(7);
+    let stepped = step_alone(alloc, alone)?;
+    let after = sight_alone(alone)?;
+    Ok((before, stepped, after))
+}
+
+/// Returns what the only session of a new hall saw, and the number of entries in the end.
+fn used_alone<R: Wait>(rt: &R, alloc: Global) -> Result<(Alone, u64), Fail> {
+    let (hall, user) = begun_empty(alloc, 64, &[])?;
+    let mut alone = Sole::of(rt, &hall, user);
+    let outcome = use_alone(alloc, &mut alone);
+    let user = alone.into_session();
+    let engine = close(hall, user);
+    Ok((outcome?, engine.entries()))
+}
+
+/// The receipt of an entry.
+fn receipt(number: u64, stream: u32, version: u64) -> Stepped {
+    Ok(Receipt {
+        number,
+        stream,
+        version,
+    })
 }
 
 #[test]
 fn a_session_alone_is_used_as_an_engine(rt: HostRuntime) -> Result<(), Fail> {
-    let alloc = rt.alloc();
-    let (hall, user) = begun(alloc, empty(alloc, 64, &[])?)?;
-    let mut alone = Sole::of(&rt, &hall, user);
-    let outcome = use_alone(&rt, alloc, &mut alone);
-    let user = alone.into_session();
-    let engine = close(hall, user);
-    outcome?;
-    assert_eq!(rt; engine.entries(), 2);
+    let ((before, stepped, after), entries) = used_alone(&rt, rt.alloc())?;
+    assert!(rt; before == None);
+    assert!(rt; stepped == [receipt(1, 0, 0), receipt(2, 0, 1)]);
+    assert!(rt; after == (Some(0), None, 2, false, Some(1)));
+    assert!(rt; entries == 2);
     Ok(())
 }

@@ -1,23 +1,15 @@
 //! Jobs for one worker and for many, over devices in memory. The expected values are worked out by hand.
-ghost use Rattle.std.specs.Prelude.{◌≡◌, ◌≤◌, false, List, [], IfOk};
-ghost use Rattle.btr_hist.specs.declared.entry.Entry.{Entry as EntrySpec};
-ghost use Rattle.btr_engine.specs.Engine.{IsEngineOf};
-ghost use Rattle.btr_hall.specs.Session.{IsAlone};
-ghost use Rattle.btr_jobs.specs.Jobs.{IsAt};
-
-use btr_jobs::*;
-use btr_disk::{Capacity, Disk, MemDisk};
-use btr_engine::{Board, Engine, Receipt, StepFault};
+use crate::fixture::{Meeting, Met, begun_empty, no_wrong};
+use btr_disk::Disk;
+use btr_engine::{Receipt, StepFault};
 use btr_hall::{Hall, Session};
 use btr_hist::{Entry, Rejection};
-use btr_log::Log;
+use btr_jobs::*;
 use std::alloc::{AllocError, Global};
 use std::marker::Sync;
-use std::snapshot::Snapshot as State;
 use std::sync::Wait;
-use std::sync::atomic::{AtomicU32, Ordering};
 use std::test::Fail;
-use std::thread::{Threads, yield_now};
+use std::thread::Threads;
 
 /// Makes a stream with this id, and keeps the result.
 #[derive(Drop)]
@@ -69,72 +61,6 @@ fn makes(alloc: Global, ids: &[u128]) -> Result<Vec<Make>, AllocError> {
     Ok(jobs)
 }
 
-/// Counts the turns that begin, and adds up the numbers of those that end. The turn 0 waits until another one has begun.
-#[derive(Drop)]
-struct Meeting {
-    begun: AtomicU32,
-    ended: AtomicU32,
-    beside: AtomicU32,
-}
-
-impl Meeting {
-    fn new() -> Meeting {
-        Meeting {
-            begun: AtomicU32::new(0),
-            ended: AtomicU32::new(0),
-            beside: AtomicU32::new(0),
-        }
-    }
-
-    /// Waits for at most a million tries until a second turn has begun.
-    fn wait(&self) {
-        for _ in 0..1_000_000u32 {
-            if self.begun.load(Ordering::SeqCst) > 1 {
-                self.beside.store(1, Ordering::SeqCst);
-                return;
-            }
-            yield_now();
-        }
-    }
-}
-
-impl Pace for Meeting {
-    fn begun(&self, turn: u32) {
-        self.begun.fetch_add(1, Ordering::SeqCst);
-        if turn == 0 {
-            self.wait();
-        }
-    }
-
-    fn ended(&self, turn: u32) {
-        self.ended.fetch_add(turn, Ordering::SeqCst);
-    }
-}
-
-/// Returns an engine of no entries over a device of 64 blocks.
-fn empty(alloc: Global) -> Result<Engine<MemDisk>, Fail>
-    ensures { IfOk result (IsEngineOf []) }
-{
-    let capacity = Capacity {
-        calls: 256,
-        blocks: 128,
-    };
-    let disk = MemDisk::new(alloc, 64, capacity, Vec::new(alloc))?;
-    let synced = State::of(&disk);
-    let log = Log::at(disk, 4, 64, 0);
-    Ok(Engine::over(log, Board::empty(), synced))
-}
-
-/// Makes a hall of an engine of no entries, and its first session.
-fn begun(alloc: Global) -> Result<(Hall<MemDisk>, Session<MemDisk>), Fail>
-    ensures { IfOk result (λ r. IsAt r.0 r.1 × IsAlone r.1) }
-{
-    match Hall::begin(alloc, empty(alloc)?) {
-        Ok(made) => Ok(made),
-        Err(_) => Err("out of memory".into()),
-    }
-}
-
 /// Does the jobs at a hall of their own, with at most so many workers. Returns the number of its entries in the end.
 fn done<R: Threads + Wait + Sync, P: Pace + Sync>(
     rt: &R,
@@ -144,7 +70,7 @@ fn done<R: Threads + Wait + Sync, P: Pace + Sync>(
     jobs: &mut [Make],
     pace: &P,
 ) -> Result<u64, Fail> {
-    let (hall, mut session) = begun(alloc)?;
+    let (hall, mut session) = begun_empty(alloc, 64, &[])?;
     run_jobs(rt, alloc, &hall, &mut session, workers, first, jobs, pace);
     let engine = hall.close(session);
     Ok(engine.entries())
@@ -152,7 +78,7 @@ fn done<R: Threads + Wait + Sync, P: Pace + Sync>(
 
 /// Does the jobs in turn at a hall of their own. Returns the number of its entries in the end.
 fn done_in_turn<R: Wait>(rt: &R, alloc: Global, jobs: &mut [Make]) -> Result<u64, Fail> {
-    let (hall, mut session) = begun(alloc)?;
+    let (hall, mut session) = begun_empty(alloc, 64, &[])?;
     run_in_turn(rt, alloc, &hall, &mut session, 0, jobs, &NoPace);
     let engine = hall.close(session);
     Ok(engine.entries())
@@ -175,55 +101,83 @@ fn told(alloc: Global, jobs: &[Make]) -> Result<(Vec<u64>, u32), AllocError> {
     Ok((numbers, refused))
 }
 
+/// Returns whether seven jobs make five streams by so many workers, with the numbers 1 to 5, and two of them are refused.
+fn makes_five<R: Threads + Wait + Sync>(rt: &R, alloc: Global, workers: u8) -> Result<bool, Fail> {
+    let mut jobs = makes(alloc, &[7, 8, 9, 7, 10, 8, 11])?;
+    let entries = done(rt, alloc, workers, 0, &mut jobs, &NoPace)?;
+    let (numbers, refused) = told(alloc, &jobs)?;
+    Ok((entries, refused) == (5, 2) && matches!(numbers.as_slice(), [1, 2, 3, 4, 5]))
+}
+
+/// Numbers of workers.
+const WORKERS: &[u8] = &[0, 1, 2, 4, 200];
+
+fn first_wrong_workers<R: Threads + Wait + Sync>(
+    rt: &R,
+    alloc: Global,
+) -> Result<Option<usize>, Fail> {
+    for (row, workers) in WORKERS.iter().enumerate() {
+        if !makes_five(rt, alloc, *workers)? {
+            return Ok(Some(row));
+        }
+    }
+    Ok(None)
+}
+
 /// Seven jobs make five streams, and two of them are refused since the stream exists, whatever the order is. So there are five
 /// entries.
 #[test]
 fn each_job_is_done_once_by_any_number_of_workers(rt: HostRuntime) -> Result<(), Fail> {
-    let alloc = rt.alloc();
-    for workers in [0, 1, 2, 4, 200] {
-        let mut jobs = makes(alloc, &[7, 8, 9, 7, 10, 8, 11])?;
-        let entries = done(&rt, alloc, workers, 0, &mut jobs, &NoPace)?;
-        let (numbers, refused) = told(alloc, &jobs)?;
-        assert_eq!(rt; entries, 5, "by {workers}");
-        assert_eq!(rt;
-            numbers.as_slice(),
-            [1, 2, 3, 4, 5].as_slice(),
-            "by {workers}"
-        );
-        assert_eq!(rt; refused, 2, "by {workers}");
-    }
-    Ok(())
+    no_wrong(first_wrong_workers(&rt, rt.alloc())?)
+}
+
+/// Returns the number of entries after three jobs in turn, whether the numbers of the receipts are 1 and 2, and how many were refused.
+fn three_in_turn<R: Wait>(rt: &R, alloc: Global) -> Result<(u64, bool, u32), Fail> {
+    let mut jobs = makes(alloc, &[7, 8, 7])?;
+    let entries = done_in_turn(rt, alloc, &mut jobs)?;
+    let (numbers, refused) = told(alloc, &jobs)?;
+    Ok((entries, matches!(numbers.as_slice(), [1, 2]), refused))
 }
 
 /// In turn in one session, three jobs make two streams, and the last one is refused.
 #[test]
 fn jobs_are_done_in_turn(rt: HostRuntime) -> Result<(), Fail> {
-    let alloc = rt.alloc();
-    let mut jobs = makes(alloc, &[7, 8, 7])?;
-    let entries = done_in_turn(&rt, alloc, &mut jobs)?;
-    let (numbers, refused) = told(alloc, &jobs)?;
-    assert_eq!(rt; (entries, refused), (2, 1));
-    assert_eq!(rt; numbers.as_slice(), [1, 2].as_slice());
+    assert!(rt; three_in_turn(&rt, rt.alloc())? == (2, true, 1));
     Ok(())
+}
+
+/// Returns the number of entries after two jobs by so many workers, and what their meeting saw. The turns begin with `first`.
+fn met_by<R: Threads + Wait + Sync>(
+    rt: &R,
+    alloc: Global,
+    workers: u8,
+    first: u32,
+) -> Result<(u64, Met), Fail> {
+    let mut jobs = makes(alloc, &[7, 8])?;
+    let pace = Meeting::new();
+    let entries = done(rt, alloc, workers, first, &mut jobs, &pace)?;
+    Ok((entries, pace.met()))
+}
+
+/// The number of workers, the first turn, the sum of both turns, and whether the first turn met the second.
+const MEETINGS: &[(u8, u32, u32, u32)] = &[(1, 0, 1, 0), (2, 0, 1, 1), (2, 5, 11, 0)];
+
+fn first_wrong_meeting<R: Threads + Wait + Sync>(
+    rt: &R,
+    alloc: Global,
+) -> Result<Option<usize>, Fail> {
+    for (row, (workers, first, sum, beside)) in MEETINGS.iter().enumerate() {
+        let (entries, met) = met_by(rt, alloc, *workers, *first)?;
+        if (entries, met.begun, met.ended, met.beside) != (2, 2, *sum, *beside) {
+            return Ok(Some(row));
+        }
+    }
+    Ok(None)
 }
 
 /// Of two workers each begins its job while the other one waits. One worker waits in vain. The turns are 0 and 1, or 5 and 6, of which
 /// none waits.
 #[test]
 fn two_workers_work_beside_each_other(rt: HostRuntime) -> Result<(), Fail> {
-    let alloc = rt.alloc();
-    for (workers, first, sum, beside) in [(1, 0, 1, 0), (2, 0, 1, 1), (2, 5, 11, 0)] {
-        let mut jobs = makes(alloc, &[7, 8])?;
-        let pace = Meeting::new();
-        let entries = done(&rt, alloc, workers, first, &mut jobs, &pace)?;
-        let begun = pace.begun.load(Ordering::SeqCst);
-        let ended = pace.ended.load(Ordering::SeqCst);
-        let met = pace.beside.load(Ordering::SeqCst);
-        assert_eq!(rt;
-            (entries, begun, ended, met),
-            (2, 2, sum, beside),
-            "by {workers}"
-        );
-    }
-    Ok(())
+    no_wrong(first_wrong_meeting(&rt, rt.alloc())?)
 }

@@ -2,14 +2,16 @@
 #![tactic(auto)]
 
 #[cfg(test)]
+mod bulk_tests;
+#[cfg(test)]
+mod fixture;
+#[cfg(test)]
 mod hall_tests;
 #[cfg(test)]
 mod jobs_tests;
 #[cfg(test)]
-mod work_tests;
+mod live_tests;
 #[cfg(test)]
 mod load_tests;
 #[cfg(test)]
-mod live_tests;
-#[cfg(test)]
-mod bulk_tests;
+mod work_tests;

@@ -1,21 +1,14 @@
 //! Scripts in lanes, over devices in memory. The expected replies are worked out by hand.
-ghost use Rattle.std.specs.Prelude.{◌≤◌, [], IfOk};
+ghost use Rattle.std.specs.Prelude.{◌≤◌, IfOk};
 ghost use Rattle.btr_text.specs.Input.{HaveLanes};
-ghost use Rattle.btr_engine.specs.Engine.{IsEngineOf};
-ghost use Rattle.btr_hall.specs.Session.{IsAlone, opening_of};
-ghost use Rattle.btr_jobs.specs.Jobs.{IsAt};
 
-use btr_live::*;
-use btr_disk::{Capacity, MemDisk};
-use btr_engine::{Board, Engine};
-use btr_hall::{Hall, Session};
+use crate::fixture::{begun_empty, close, no_wrong};
 use btr_jobs::{NoPace, Pace};
-use btr_log::Log;
+use btr_live::*;
 use btr_text::{LineReply, ScriptLine, read_script, write_reply};
 use btr_work::{Brought, Report};
 use std::alloc::{AllocError, Global};
 use std::marker::Sync;
-use std::snapshot::Snapshot as State;
 use std::sync::Wait;
 use std::sync::atomic::{AtomicU32, Ordering};
 use std::test::Fail;
@@ -73,34 +66,6 @@ const SOUND: Device<'static> = Device {
     failing: &[],
 };
 
-/// Returns an engine of no entries over a device.
-fn empty(alloc: Global, device: Device<'_>) -> Result<Engine<MemDisk>, Fail>
-    requires { (8 ≤ device.blocks) × (device.blocks ≤ 100_000) }
-    ensures { IfOk result (IsEngineOf []) }
-{
-    let blocks = device.blocks as usize;
-    let capacity = Capacity {
-        calls: 4 * blocks,
-        blocks: 2 * blocks,
-    };
-    let failing = device.failing.to_vec(alloc)?;
-    let disk = MemDisk::new(alloc, blocks, capacity, failing)?;
-    let synced = State::of(&disk);
-    let log = Log::at(disk, 4, u64::from(device.blocks), 0);
-    Ok(Engine::over(log, Board::empty(), synced))
-}
-
-/// Makes a hall of an engine of no entries, and its first session.
-fn begun(alloc: Global, device: Device<'_>) -> Result<(Hall<MemDisk>, Session<MemDisk>), Fail>
-    requires { (8 ≤ device.blocks) × (device.blocks ≤ 100_000) }
-    ensures { IfOk result (λ r. IsEngineOf [] (opening_of r.0) × IsAt r.0 r.1 × IsAlone r.1) }
-{
-    match Hall::begin(alloc, empty(alloc, device)?) {
-        Ok(made) => Ok(made),
-        Err(_) => Err("out of memory".into()),
-    }
-}
-
 /// Runs two scripts on a store of their own, one after the other, the second with rounds beside its lanes if that is wanted. Points
 /// are due by twos. Returns the report of the second, and the number of entries in the end.
 fn ran<R: Threads + Wait + Sync, P: Pace + Sync>(
@@ -115,10 +80,10 @@ fn ran<R: Threads + Wait + Sync, P: Pace + Sync>(
     requires blocks { (8 ≤ device.blocks) × (device.blocks ≤ 100_000) }
     requires lanes { HaveLanes first.items × HaveLanes second.items }
 {
-    let (hall, mut session) = begun(alloc, device)?;
+    let (hall, mut session) = begun_empty(alloc, device.blocks, device.failing)?;
     let begun = lanes(rt, alloc, &hall, &mut session, first, 2, false, &NoPace);
     let report = lanes(rt, alloc, &hall, &mut session, second, 2, materialize, pace);
-    let engine = hall.close(session);
+    let engine = close(hall, session);
     begun?;
     Ok((report?, engine.entries()))
 }
@@ -132,119 +97,186 @@ fn text_of(alloc: Global, replies: &[LineReply]) -> Result<Vec<u8>, AllocError> 
     Ok(text)
 }
 
+/// Whether replies have this text.
+fn have_text(alloc: Global, replies: &[LineReply], wanted: &[u8]) -> Result<bool, AllocError> {
+    Ok(text_of(alloc, replies)?.as_slice() == wanted)
+}
+
+/// The lines of a script.
+type Lines<'a> = &'a [&'a [u8]];
+
+/// Runs two scripts without rounds. Returns the replies to the second one, whether it has no last round, and the number of entries.
+fn replied<R: Threads + Wait + Sync>(
+    rt: &R,
+    alloc: Global,
+    device: Device<'_>,
+    first: Lines<'_>,
+    second: Lines<'_>,
+) -> Result<(Vec<LineReply>, bool, u64), Fail>
+    requires blocks { (8 ≤ device.blocks) × (device.blocks ≤ 100_000) }
+{
+    let first = script(alloc, first)?;
+    let second = script(alloc, second)?;
+    let (report, entries) = ran(rt, alloc, device, first, second, false, &NoPace)?;
+    Ok((report.replies, report.last.is_none(), entries))
+}
+
+/// Runs two scripts without rounds. Returns whether the replies to the second one have this text, whether it has no last round, and the
+/// number of entries.
+fn says<R: Threads + Wait + Sync>(
+    rt: &R,
+    alloc: Global,
+    device: Device<'_>,
+    first: Lines<'_>,
+    second: Lines<'_>,
+    wanted: &[u8],
+) -> Result<(bool, bool, u64), Fail>
+    requires blocks { (8 ≤ device.blocks) × (device.blocks ≤ 100_000) }
+{
+    let (replies, is_without_rounds, entries) = replied(rt, alloc, device, first, second)?;
+    let has_text = have_text(alloc, &replies, wanted)?;
+    Ok((has_text, is_without_rounds, entries))
+}
+
+/// The lines of lanes that do not touch what the others do.
+const APART: Lines<'static> = &[
+    b"@3 feed U 1 1",
+    b"nonsense",
+    b"@7 flush U",
+    b"@7 create W",
+    b"@3 feed U 2 2",
+    b"@3 range U 0 5 latest",
+    b"insert V 0 7",
+    b"@0 feed V 3458764513820540928 1",
+    b"@7 refresh W",
+    b"@7 delete W 5 5",
+    b"@0 flush V",
+];
+
+/// The replies to those lines.
+const APART_REPLIES: &[u8] =
+    b"held 1\nno line\nno empty\nok 0 0\nok 1 0\nok 1 2\n1 1\n2 2\nok 1 0\n\
+no domain 3458764513820540928\nno plain\nno range\nno empty\n";
+
 /// Lanes that do not touch what the others do have the replies that each has alone, in the order of the script. A lane has feeds of its
 /// own, in which points wait by twos.
 #[test]
 fn replies_are_in_the_order_of_the_script(rt: HostRuntime) -> Result<(), Fail> {
-    let alloc = rt.alloc();
-    let first = script(alloc, &[b"create U", b"create V"])?;
-    let second = script(
-        alloc,
-        &[
-            b"@3 feed U 1 1",
-            b"nonsense",
-            b"@7 flush U",
-            b"@7 create W",
-            b"@3 feed U 2 2",
-            b"@3 range U 0 5 latest",
-            b"insert V 0 7",
-            b"@0 feed V 3458764513820540928 1",
-            b"@7 refresh W",
-            b"@7 delete W 5 5",
-            b"@0 flush V",
-        ],
-    )?;
-    let (report, entries) = ran(&rt, alloc, SOUND, first, second, false, &NoPace)?;
-    let text = text_of(alloc, &report.replies)?;
-    let wanted = b"held 1\nno line\nno empty\nok 0 0\nok 1 0\nok 1 2\n1 1\n2 2\nok 1 0\n\
-no domain 3458764513820540928\nno plain\nno range\nno empty\n";
-    assert_eq!(rt; text.as_slice(), wanted.as_slice());
-    assert_eq!(rt; entries, 5);
-    assert!(rt; report.last.is_none());
+    let first: Lines<'_> = &[b"create U", b"create V"];
+    let said = says(&rt, rt.alloc(), SOUND, first, APART, APART_REPLIES)?;
+    assert!(rt; said == (true, true, 5));
     Ok(())
+}
+
+/// Returns the version that a lane made and the one that it read, if it has such replies.
+fn made_and_read(replies: &[LineReply]) -> Option<(u64, u64)> {
+    match replies {
+        [
+            LineReply::Done { version: made },
+            LineReply::Found { version: read, .. },
+        ] => Some((*made, *read)),
+        _ => None,
+    }
+}
+
+/// Returns the number of the first pair of replies that are other ones, or of which the second reads an earlier version than the first
+/// made.
+fn first_wrong_lane(replies: &[LineReply]) -> Option<usize> {
+    for (row, pair) in replies.chunks(2).enumerate() {
+        match made_and_read(pair) {
+            Some((made, read)) if made <= read => {}
+            _ => return Some(row),
+        }
+    }
+    None
+}
+
+/// Eight lanes write to one stream and read it. Returns the first lane with wrong replies, the number of replies, and the number of
+/// entries.
+fn eight_lanes<R: Threads + Wait + Sync>(
+    rt: &R,
+    alloc: Global,
+) -> Result<(Option<usize>, usize, u64), Fail> {
+    let first = script(alloc, &[b"create U"])?;
+    let second = in_each_lane(alloc, &[b"insert U 0 1", b"info U latest"])?;
+    let (report, entries) = ran(rt, alloc, SOUND, first, second, false, &NoPace)?;
+    let wrong = first_wrong_lane(&report.replies);
+    Ok((wrong, report.replies.len(), entries))
 }
 
 /// Eight lanes write to one stream: each then reads at least its own version, and there are eight in the end.
 #[test]
 fn eight_lanes_read_what_they_wrote(rt: HostRuntime) -> Result<(), Fail> {
-    let alloc = rt.alloc();
-    let first = script(alloc, &[b"create U"])?;
-    let second = in_each_lane(alloc, &[b"insert U 0 1", b"info U latest"])?;
-    let (report, entries) = ran(&rt, alloc, SOUND, first, second, false, &NoPace)?;
-    for pair in report.replies.chunks(2) {
-        match pair {
-            [
-                LineReply::Done { version: made },
-                LineReply::Found { version: read, .. },
-            ] => {
-                assert!(rt; made <= read);
-            }
-            _ => return Err("other replies".into()),
-        }
-    }
-    assert_eq!(rt; report.replies.len(), 16);
-    assert_eq!(rt; entries, 9);
-    Ok(())
+    let (wrong, replies, entries) = eight_lanes(&rt, rt.alloc())?;
+    assert!(rt; (replies, entries) == (16, 9));
+    no_wrong(wrong)
 }
+
+/// Two lanes that feed one stream.
+const FEEDS: Lines<'static> = &[
+    b"@1 feed U 1 1",
+    b"@1 feed U 2 2",
+    b"@1 flush U",
+    b"@2 flush U",
+    b"@2 discard U",
+    b"@1 feed U 3 3",
+    b"@1 discard U",
+    b"@1 flush U",
+];
+
+/// The replies to those lines, if the device has room for one entry.
+const FEED_REPLIES: &[u8] =
+    b"held 1\nno full 2 1\nno full 2 1\nno empty\nheld 0\nno full 2 1\nheld 0\nno empty\n";
 
 /// A lane has feeds of its own: what one lane feeds, another one does not flush. Points whose commit is refused wait still. There is room
 /// for one entry: an entry takes two of the three blocks.
 #[test]
 fn a_full_device_leaves_points_in_the_feed_of_their_lane(rt: HostRuntime) -> Result<(), Fail> {
-    let alloc = rt.alloc();
-    let first = script(alloc, &[b"create U"])?;
-    let second = script(
-        alloc,
-        &[
-            b"@1 feed U 1 1",
-            b"@1 feed U 2 2",
-            b"@1 flush U",
-            b"@2 flush U",
-            b"@2 discard U",
-            b"@1 feed U 3 3",
-            b"@1 discard U",
-            b"@1 flush U",
-        ],
-    )?;
     let device = Device {
         blocks: 8,
         failing: &[],
     };
-    let (report, entries) = ran(&rt, alloc, device, first, second, false, &NoPace)?;
-    let text = text_of(alloc, &report.replies)?;
-    let wanted =
-        b"held 1\nno full 2 1\nno full 2 1\nno empty\nheld 0\nno full 2 1\nheld 0\nno empty\n";
-    assert_eq!(rt; text.as_slice(), wanted.as_slice());
-    assert_eq!(rt; entries, 1);
+    let first: Lines<'_> = &[b"create U"];
+    let said = says(&rt, rt.alloc(), device, first, FEEDS, FEED_REPLIES)?;
+    assert!(rt; said == (true, true, 1));
     Ok(())
+}
+
+/// Returns how many lanes saw the device fail, or nothing if one has other replies than those of a device that failed.
+fn failures_in(alloc: Global, replies: &[LineReply]) -> Result<Option<u32>, AllocError> {
+    let mut failures = 0u32;
+    for lane in replies.chunks(3) {
+        if have_text(alloc, lane, b"no device\nno stopped 2\nok 1 1\n1 1\n")? {
+            failures = failures.saturating_add(1);
+        } else if !have_text(alloc, lane, b"no stopped 2\nno stopped 2\nok 1 1\n1 1\n")? {
+            return Ok(None);
+        }
+    }
+    Ok(Some(failures))
+}
+
+/// Eight lanes write to a device that fails. Returns how many saw it fail, the number of replies, and the number of entries.
+fn failed_lanes<R: Threads + Wait + Sync>(
+    rt: &R,
+    alloc: Global,
+) -> Result<(Option<u32>, usize, u64), Fail> {
+    let first = script(alloc, &[b"create U", b"insert U 1 1"])?;
+    let lines: Lines<'_> = &[b"insert U 2 2", b"insert U 3 3", b"range U 0 5 latest"];
+    let second = in_each_lane(alloc, lines)?;
+    let device = Device {
+        blocks: 64,
+        failing: &[9],
+    };
+    let (report, entries) = ran(rt, alloc, device, first, second, false, &NoPace)?;
+    let failures = failures_in(alloc, &report.replies)?;
+    Ok((failures, report.replies.len(), entries))
 }
 
 /// Each entry takes four calls of the device. Of the third one, call 9 fails: its first sync. One lane gets that as its reply, and all
 /// later lines that commit are refused, but questions are answered.
 #[test]
 fn one_lane_sees_the_device_fail(rt: HostRuntime) -> Result<(), Fail> {
-    let alloc = rt.alloc();
-    let first = script(alloc, &[b"create U", b"insert U 1 1"])?;
-    let lines: [&[u8]; 3] = [b"insert U 2 2", b"insert U 3 3", b"range U 0 5 latest"];
-    let second = in_each_lane(alloc, &lines)?;
-    let device = Device {
-        blocks: 64,
-        failing: &[9],
-    };
-    let (report, entries) = ran(&rt, alloc, device, first, second, false, &NoPace)?;
-    let failed = b"no device\nno stopped 2\nok 1 1\n1 1\n".as_slice();
-    let stopped = b"no stopped 2\nno stopped 2\nok 1 1\n1 1\n".as_slice();
-    let mut failures = 0u32;
-    for replies in report.replies.chunks(3) {
-        let text = text_of(alloc, replies)?;
-        if text.as_slice() == failed {
-            failures = failures.saturating_add(1);
-        } else {
-            assert_eq!(rt; text.as_slice(), stopped);
-        }
-    }
-    assert_eq!(rt; (failures, report.replies.len()), (1, 24));
-    assert_eq!(rt; entries, 2);
+    assert!(rt; failed_lanes(&rt, rt.alloc())? == (Some(1), 24, 2));
     Ok(())
 }
 
@@ -290,33 +322,57 @@ impl Pace for Beside {
     }
 }
 
+/// Two lanes: the first defines an output, and the second makes a stream.
+const TWO_LANES: Lines<'static> = &[
+    b"create V",
+    b"insert V 0 10 10 20 20 30",
+    b"distiller W sum 10 0 V",
+    b"@1 create U",
+];
+
+/// What is seen of a run in which turn 0 waits for another one: whether the replies are the wanted ones, whether both turns met, the
+/// number of entries, and whether the output is at its first version after the last round.
+type Met = (bool, u32, u64, bool);
+
+/// Runs two lanes, of which turn 0 waits for this one.
+fn met_with<R: Threads + Wait + Sync>(
+    rt: &R,
+    alloc: Global,
+    other: u32,
+    materialize: bool,
+) -> Result<Met, Fail> {
+    let none = script(alloc, &[])?;
+    let outputs = script(alloc, TWO_LANES)?;
+    let pace = Beside::new(other);
+    let (report, entries) = ran(rt, alloc, SOUND, none, outputs, materialize, &pace)?;
+    let has_text = have_text(alloc, &report.replies, b"ok 0 0\nok 1 0\nok 0 0\nok 0 0\n")?;
+    let beside = pace.beside.load(Ordering::SeqCst);
+    Ok((has_text, beside, entries, is_first_version(&report.last)))
+}
+
+/// The turn that turn 0 waits for, whether there are rounds, and what is then seen.
+const MEETINGS: &[(u32, bool, Met)] = &[
+    (1, false, (true, 1, 4, false)),
+    (1, true, (true, 1, 5, true)),
+    (8, true, (true, 1, 5, true)),
+];
+
+fn first_wrong_meeting<R: Threads + Wait + Sync>(
+    rt: &R,
+    alloc: Global,
+) -> Result<Option<usize>, Fail> {
+    for (row, (other, materialize, wanted)) in MEETINGS.iter().enumerate() {
+        if met_with(rt, alloc, *other, *materialize)? != *wanted {
+            return Ok(Some(row));
+        }
+    }
+    Ok(None)
+}
+
 /// Another lane, and the rounds, begin before the first lane has ended. A derived stream is up to date after rounds, with one version.
 #[test]
 fn lanes_and_rounds_run_beside_each_other(rt: HostRuntime) -> Result<(), Fail> {
-    let alloc = rt.alloc();
-    let lines: [&[u8]; 4] = [
-        b"create V",
-        b"insert V 0 10 10 20 20 30",
-        b"distiller W sum 10 0 V",
-        b"@1 create U",
-    ];
-    for (other, materialize, all) in [(1, false, 4), (1, true, 5), (8, true, 5)] {
-        let none = script(alloc, &[])?;
-        let outputs = script(alloc, &lines)?;
-        let pace = Beside::new(other);
-        let (report, entries) = ran(&rt, alloc, SOUND, none, outputs, materialize, &pace)?;
-        let text = text_of(alloc, &report.replies)?;
-        assert_eq!(rt;
-            text.as_slice(),
-            b"ok 0 0\nok 1 0\nok 0 0\nok 0 0\n".as_slice()
-        );
-        assert_eq!(rt; pace.beside.load(Ordering::SeqCst), 1, "beside {other}");
-        assert_eq!(rt;
-            (entries, is_first_version(&report.last)),
-            (all, materialize)
-        );
-    }
-    Ok(())
+    no_wrong(first_wrong_meeting(&rt, rt.alloc())?)
 }
 
 /// Begins the lanes after the rounds have ended, or the rounds after all lanes have ended: it waits for at most a million tries.
@@ -366,50 +422,56 @@ impl Pace for InOrder {
     }
 }
 
+/// A stream, and an output of it.
+const OUTPUT: Lines<'static> = &[
+    b"create V",
+    b"insert V 0 10 10 20 20 30",
+    b"distiller W sum 0 0 V",
+];
+
+/// Asks for the output in a run with rounds. Returns whether the reply is this one, whether the last round had this result for the output,
+/// and the number of entries.
+fn asked_in_order<R: Threads + Wait + Sync>(
+    rt: &R,
+    alloc: Global,
+    are_rounds_first: bool,
+    reply: &[u8],
+    brought: Brought,
+) -> Result<(bool, bool, u64), Fail> {
+    let outputs = script(alloc, OUTPUT)?;
+    let question = script(alloc, &[b"range W 0 40 latest"])?;
+    let pace = InOrder::new(are_rounds_first);
+    let (report, entries) = ran(rt, alloc, SOUND, outputs, question, true, &pace)?;
+    let has_text = have_text(alloc, &report.replies, reply)?;
+    Ok((has_text, has_result(&report.last, brought), entries))
+}
+
 /// A round that is made before a lane begins lands what the lane then reads. No round begins after all lanes have ended, so that the
 /// last round lands it.
 #[test]
 fn rounds_are_made_while_lanes_run(rt: HostRuntime) -> Result<(), Fail> {
     let alloc = rt.alloc();
-    let lines: [&[u8]; 3] = [
-        b"create V",
-        b"insert V 0 10 10 20 20 30",
-        b"distiller W sum 0 0 V",
-    ];
-    for (are_rounds_first, reply, wanted) in [
-        (
-            true,
-            b"ok 1 3\n0 10\n10 20\n20 30\n".as_slice(),
-            Brought::Current { version: 1 },
-        ),
-        (
-            false,
-            b"ok 0 0\n".as_slice(),
-            Brought::Landed { version: 1 },
-        ),
-    ] {
-        let outputs = script(alloc, &lines)?;
-        let question = script(alloc, &[b"range W 0 40 latest"])?;
-        let pace = InOrder::new(are_rounds_first);
-        let (report, entries) = ran(&rt, alloc, SOUND, outputs, question, true, &pace)?;
-        let text = text_of(alloc, &report.replies)?;
-        assert_eq!(rt; text.as_slice(), reply);
-        assert!(rt; has_result(&report.last, wanted), "{:?}", report.last);
-        assert_eq!(rt; entries, 4);
-    }
+    let before = b"ok 1 3\n0 10\n10 20\n20 30\n".as_slice();
+    let current = Brought::Current { version: 1 };
+    let landed = Brought::Landed { version: 1 };
+    assert!(rt; asked_in_order(&rt, alloc, true, before, current)? == (true, true, 4));
+    assert!(rt; asked_in_order(&rt, alloc, false, b"ok 0 0\n", landed)? == (true, true, 4));
     Ok(())
+}
+
+/// Runs a script in one lane. Returns the number of replies, and whether another turn began while turn 0 waited for it.
+fn one_lane<R: Threads + Wait + Sync>(rt: &R, alloc: Global) -> Result<(usize, u32), Fail> {
+    let none = script(alloc, &[])?;
+    let lines = script(alloc, &[b"create U", b"streams"])?;
+    let pace = Beside::new(1);
+    let (report, _) = ran(rt, alloc, SOUND, none, lines, false, &pace)?;
+    Ok((report.replies.len(), pace.beside.load(Ordering::SeqCst)))
 }
 
 /// The lines of one lane need no thread: all lanes run in turn, so that no other lane begins before the first one has ended.
 #[test]
 fn a_script_in_one_lane_runs_in_turn(rt: HostRuntime) -> Result<(), Fail> {
-    let alloc = rt.alloc();
-    let none = script(alloc, &[])?;
-    let lines = script(alloc, &[b"create U", b"streams"])?;
-    let pace = Beside::new(1);
-    let (report, _) = ran(&rt, alloc, SOUND, none, lines, false, &pace)?;
-    assert_eq!(rt; report.replies.len(), 2);
-    assert_eq!(rt; pace.beside.load(Ordering::SeqCst), 0);
+    assert!(rt; one_lane(&rt, rt.alloc())? == (2, 0));
     Ok(())
 }
 

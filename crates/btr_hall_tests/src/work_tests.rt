@@ -1,41 +1,23 @@
 //! Outputs that are brought up to date by one worker and by many, over devices in memory. The expected values are worked out by hand.
-ghost use Rattle.std.specs.Prelude.{◌≡◌, ◌≤◌, List, [], IfOk, OnOk};
+ghost use Rattle.std.specs.Prelude.{◌≤◌, List, IfOk, OnOk};
 ghost use Rattle.btr_hist.specs.declared.entry.Entry.{Entry as EntrySpec};
 ghost use Rattle.btr_engine.specs.Engine.{IsEngineOf};
 ghost use Rattle.btr_hall.specs.Session.{IsAlone};
 ghost use Rattle.btr_jobs.specs.Jobs.{IsAt};
 
-use btr_work::*;
-use btr_base::{Bag, Point, Ranges};
-use btr_disk::{Capacity, MemDisk};
-use btr_engine::{Board, Engine};
+use crate::fixture::{Meeting, begun, close, empty, no_wrong, points_of};
+use btr_base::{Bag, Ranges};
+use btr_disk::MemDisk;
+use btr_engine::Engine;
 use btr_hall::{Hall, LandFault, Session};
 use btr_hist::{Answer, At, Entry, Kernel, Query, Rows, Spec};
 use btr_jobs::{NoPace, Pace};
-use btr_log::Log;
+use btr_work::*;
 use std::alloc::{AllocError, Global};
 use std::marker::Sync;
-use std::snapshot::Snapshot as State;
 use std::sync::Wait;
-use std::sync::atomic::{AtomicU32, Ordering};
 use std::test::Fail;
-use std::thread::{Threads, yield_now};
-
-/// Returns an engine of no entries over a device of this many blocks.
-fn empty(alloc: Global, blocks: u32) -> Result<Engine<MemDisk>, Fail>
-    requires { (8 ≤ blocks) × (blocks ≤ 1000) }
-    ensures { IfOk result (λ e. (h : List EntrySpec) × IsEngineOf h e) }
-{
-    let count = blocks as usize;
-    let capacity = Capacity {
-        calls: 4 * count,
-        blocks: 2 * count,
-    };
-    let disk = MemDisk::new(alloc, count, capacity, Vec::new(alloc))?;
-    let synced = State::of(&disk);
-    let log = Log::at(disk, 4, u64::from(blocks), 0);
-    Ok(Engine::over(log, Board::empty(), synced))
-}
+use std::thread::Threads;
 
 /// Adds an entry.
 fn add(alloc: Global, engine: &mut Engine<MemDisk>, entry: &Entry) -> Result<(), Fail>
@@ -70,17 +52,26 @@ fn thirds(first: u32) -> Spec {
     }
 }
 
-/// The commit of three points to stream 0.
-fn points(alloc: Global) -> Result<Entry, AllocError> {
-    let mut points = Vec::new(alloc);
-    for (time, value) in [(0, 10), (10, 20), (20, 30)] {
-        points.push(Point { time, value })?;
-    }
-    Ok(Entry::Commit {
+/// Adds three points to stream 0.
+fn add_points(alloc: Global, engine: &mut Engine<MemDisk>) -> Result<(), Fail>
+    requires { (h : List EntrySpec) × IsEngineOf h engine.old }
+    ensures { OnOk result ((h : List EntrySpec) × IsEngineOf h engine.new) }
+{
+    let points = points_of(alloc, &[(0, 10), (10, 20), (20, 30)])?;
+    let entry = Entry::Commit {
         stream: 0,
         cut: Ranges::none(alloc),
         added: Bag::from_points(points),
-    })
+    };
+    add(alloc, engine, &entry)
+}
+
+/// Adds an output.
+fn define(alloc: Global, engine: &mut Engine<MemDisk>, id: u128, spec: Spec) -> Result<(), Fail>
+    requires { (h : List EntrySpec) × IsEngineOf h engine.old }
+    ensures { OnOk result ((h : List EntrySpec) × IsEngineOf h engine.new) }
+{
+    add(alloc, engine, &Entry::Define { id, spec })
 }
 
 /// Returns a store of a plain stream with three points, 0; an output of its sums, 1; and an output of that, 2.
@@ -88,20 +79,11 @@ fn two_levels(alloc: Global, blocks: u32) -> Result<Engine<MemDisk>, Fail>
     requires { (8 ≤ blocks) × (blocks ≤ 1000) }
     ensures { IfOk result (λ e. (h : List EntrySpec) × IsEngineOf h e) }
 {
-    let mut engine = empty(alloc, blocks)?;
+    let mut engine = empty(alloc, blocks, &[])?;
     add(alloc, &mut engine, &Entry::Create { id: 7 })?;
-    let inserted = points(alloc)?;
-    add(alloc, &mut engine, &inserted)?;
-    let first = Entry::Define {
-        id: 8,
-        spec: sums(0),
-    };
-    add(alloc, &mut engine, &first)?;
-    let second = Entry::Define {
-        id: 9,
-        spec: thirds(1),
-    };
-    add(alloc, &mut engine, &second)?;
+    add_points(alloc, &mut engine)?;
+    define(alloc, &mut engine, 8, sums(0))?;
+    define(alloc, &mut engine, 9, thirds(1))?;
     Ok(engine)
 }
 
@@ -143,17 +125,6 @@ fn bring_here<R: Wait>(
     }
 }
 
-/// Makes a hall of an engine, and its first session.
-fn begin(alloc: Global, engine: Engine<MemDisk>) -> Result<(Hall<MemDisk>, Session<MemDisk>), Fail>
-    requires { (h : List EntrySpec) × IsEngineOf h engine }
-    ensures { IfOk result (λ r. IsAt r.0 r.1 × IsAlone r.1) }
-{
-    match Hall::begin(alloc, engine) {
-        Ok(made) => Ok(made),
-        Err(_) => Err("out of memory".into()),
-    }
-}
-
 /// The lines of two calls one after the other, the second one without threads, and the engine after them.
 #[derive(Drop)]
 struct Twice {
@@ -171,10 +142,10 @@ fn bring_twice<R: Threads + Wait + Sync, P: Pace + Sync>(
 ) -> Result<Twice, Fail>
     requires { (h : List EntrySpec) × IsEngineOf h engine }
 {
-    let (hall, mut session) = begin(alloc, engine)?;
+    let (hall, mut session) = begun(alloc, engine)?;
     let first = bring(rt, alloc, &hall, &mut session, workers, pace);
     let second = bring_here(rt, alloc, &hall, &mut session);
-    let engine = hall.close(session);
+    let engine = close(hall, session);
     Ok(Twice {
         first,
         second,
@@ -182,152 +153,139 @@ fn bring_twice<R: Threads + Wait + Sync, P: Pace + Sync>(
     })
 }
 
-/// Returns the points of a stream from time 0 on, as times and values.
-fn points_of(
+/// Returns whether a stream has these points from time 0 on.
+fn has_points(
     alloc: Global,
     engine: &Engine<MemDisk>,
     stream: u32,
-) -> Result<Vec<(i64, i64)>, AllocError> {
+    pairs: &[(i64, i64)],
+) -> Result<bool, AllocError> {
     let query = Query::Points {
         stream,
         from: 0,
         to: 1000,
         at: At::Latest,
     };
-    let mut pairs = Vec::new(alloc);
-    let snapshot = engine.admit()?;
-    if let Answer::Found {
-        rows: Rows::Points(found),
-        ..
-    } = snapshot.answer(alloc, &query)?
-    {
-        for point in found.as_slice() {
-            pairs.push((point.time, point.value))?;
-        }
+    let wanted = points_of(alloc, pairs)?;
+    match engine.admit()?.answer(alloc, &query)? {
+        Answer::Found {
+            rows: Rows::Points(found),
+            ..
+        } => Ok(found.as_slice() == wanted.as_slice()),
+        _ => Ok(false),
     }
-    Ok(pairs)
 }
 
-/// A line of a report.
-fn line(output: u32, brought: Brought) -> ReportLine {
-    ReportLine {
-        output,
-        result: brought,
+/// Returns whether a report has these lines: outputs, and what became of them.
+fn has_lines(report: &Result<Vec<ReportLine>, AllocError>, wanted: &[(u32, Brought)]) -> bool {
+    match report {
+        Ok(lines) => {
+            lines.len() == wanted.len()
+                && lines.iter().zip(wanted.iter()).all(|(line, pair)| line.output == pair.0
+                    && line.result == pair.1)
+        }
+        Err(_) => false,
     }
+}
+
+/// An output that landed its first version, and one that has it already.
+const LANDED: Brought = Brought::Landed { version: 1 };
+
+const CURRENT: Brought = Brought::Current { version: 1 };
+
+/// Returns whether both outputs are landed by so many workers, and are then current; and whether the output above has its points.
+fn lands_both<R: Threads + Wait + Sync>(rt: &R, alloc: Global, workers: u8) -> Result<bool, Fail> {
+    let engine = two_levels(alloc, 64)?;
+    let twice = bring_twice(rt, alloc, engine, workers, &NoPace)?;
+    let has_points = has_points(alloc, &twice.engine, 2, &[(0, 7), (10, 20), (20, 33)])?;
+    Ok(
+        has_lines(&twice.first, &[(1, LANDED), (2, LANDED)])
+            && has_lines(&twice.second, &[(1, CURRENT), (2, CURRENT)])
+            && twice.engine.entries() == 6
+            && has_points,
+    )
+}
+
+fn first_not_landed<R: Threads + Wait + Sync>(
+    rt: &R,
+    alloc: Global,
+) -> Result<Option<usize>, Fail> {
+    for (row, workers) in [1, 2, 16].iter().enumerate() {
+        if !lands_both(rt, alloc, *workers)? {
+            return Ok(Some(row));
+        }
+    }
+    Ok(None)
 }
 
 #[test]
 fn each_output_reads_what_was_landed_below_it(rt: HostRuntime) -> Result<(), Fail> {
-    let alloc = rt.alloc();
-    for workers in [1, 2, 16] {
-        let engine = two_levels(alloc, 64)?;
-        let twice = bring_twice(&rt, alloc, engine, workers, &NoPace)?;
-        let landed = Brought::Landed { version: 1 };
-        let current = Brought::Current { version: 1 };
-        assert_eq!(rt;
-            twice.first?.as_slice(),
-            [line(1, landed), line(2, landed)].as_slice()
-        );
-        assert_eq!(rt;
-            twice.second?.as_slice(),
-            [line(1, current), line(2, current)].as_slice()
-        );
-        assert_eq!(rt; twice.engine.entries(), 6);
-        let points = points_of(alloc, &twice.engine, 2)?;
-        assert_eq!(rt; points.as_slice(), [(0, 7), (10, 20), (20, 33)].as_slice());
-    }
-    Ok(())
+    no_wrong(first_not_landed(&rt, rt.alloc())?)
+}
+
+/// What became of the outputs if the device is full.
+const FULL: &[(u32, Brought)] = &[
+    (
+        1,
+        Brought::Refused(LandFault::DeviceFull { need: 2, left: 0 }),
+    ),
+    (2, Brought::Current { version: 0 }),
+];
+
+/// Returns whether both reports say that the device is full, and the number of entries.
+fn brought_on_a_full_device<R: Threads + Wait + Sync>(
+    rt: &R,
+    alloc: Global,
+) -> Result<(bool, bool, u64), Fail> {
+    let engine = two_levels(alloc, 13)?;
+    let twice = bring_twice(rt, alloc, engine, 2, &NoPace)?;
+    let first = has_lines(&twice.first, FULL);
+    let second = has_lines(&twice.second, FULL);
+    Ok((first, second, twice.engine.entries()))
 }
 
 /// Four entries leave no block on a device of 13 blocks. The output above then has nothing to read.
 #[test]
 fn an_output_is_refused_if_the_device_is_full(rt: HostRuntime) -> Result<(), Fail> {
-    let alloc = rt.alloc();
-    let engine = two_levels(alloc, 13)?;
-    let twice = bring_twice(&rt, alloc, engine, 2, &NoPace)?;
-    let full = Brought::Refused(LandFault::DeviceFull { need: 2, left: 0 });
-    let current = Brought::Current { version: 0 };
-    assert_eq!(rt;
-        twice.first?.as_slice(),
-        [line(1, full), line(2, current)].as_slice()
-    );
-    assert_eq!(rt;
-        twice.second?.as_slice(),
-        [line(1, full), line(2, current)].as_slice()
-    );
-    assert_eq!(rt; twice.engine.entries(), 4);
+    assert!(rt; brought_on_a_full_device(&rt, rt.alloc())? == (true, true, 4));
     Ok(())
 }
 
-/// Counts the turns that begin, and keeps the number of the last one that ended. Turn 0 waits until another one has begun.
-#[derive(Drop)]
-struct Meeting {
-    begun: AtomicU32,
-    last: AtomicU32,
-    beside: AtomicU32,
+/// Returns a store with one more output of the plain stream, 3.
+fn three_outputs(alloc: Global) -> Result<Engine<MemDisk>, Fail>
+    ensures { IfOk result (λ e. (h : List EntrySpec) × IsEngineOf h e) }
+{
+    let mut engine = two_levels(alloc, 64)?;
+    define(alloc, &mut engine, 10, sums(0))?;
+    Ok(engine)
 }
 
-impl Meeting {
-    fn new() -> Meeting {
-        Meeting {
-            begun: AtomicU32::new(0),
-            last: AtomicU32::new(0),
-            beside: AtomicU32::new(0),
-        }
-    }
-
-    /// Waits for at most a million tries until a second turn has begun.
-    fn wait(&self) {
-        for _ in 0..1_000_000u32 {
-            if self.begun.load(Ordering::SeqCst) > 1 {
-                self.beside.store(1, Ordering::SeqCst);
-                return;
-            }
-            yield_now();
-        }
-    }
-}
-
-impl Pace for Meeting {
-    fn begun(&self, turn: u32) {
-        self.begun.fetch_add(1, Ordering::SeqCst);
-        if turn == 0 {
-            self.wait();
-        }
-    }
-
-    fn ended(&self, turn: u32) {
-        self.last.store(turn, Ordering::SeqCst);
-    }
+/// Returns whether three outputs are landed by so many workers, whether turn 0 met another one, and the last turn.
+fn met_by<R: Threads + Wait + Sync>(
+    rt: &R,
+    alloc: Global,
+    workers: u8,
+) -> Result<(bool, u32, u32), Fail> {
+    let engine = three_outputs(alloc)?;
+    let pace = Meeting::new();
+    let twice = bring_twice(rt, alloc, engine, workers, &pace)?;
+    let met = pace.met();
+    let wanted = [(1, LANDED), (2, LANDED), (3, LANDED)];
+    Ok((has_lines(&twice.first, &wanted), met.beside, met.last))
 }
 
 /// Outputs 1 and 3 are in one level, so their turns, 0 and 2, can meet. With one worker turn 0 waits in vain.
 #[test]
 fn two_workers_work_beside_each_other(rt: HostRuntime) -> Result<(), Fail> {
     let alloc = rt.alloc();
-    let third = Entry::Define {
-        id: 10,
-        spec: sums(0),
-    };
-    for (workers, beside) in [(1, 0), (2, 1)] {
-        let mut engine = two_levels(alloc, 64)?;
-        add(alloc, &mut engine, &third)?;
-        let pace = Meeting::new();
-        let twice = bring_twice(&rt, alloc, engine, workers, &pace)?;
-        let landed = Brought::Landed { version: 1 };
-        let lines = [line(1, landed), line(2, landed), line(3, landed)];
-        assert_eq!(rt; twice.first?.as_slice(), lines.as_slice(), "by {workers}");
-        assert_eq!(rt; pace.beside.load(Ordering::SeqCst), beside, "by {workers}");
-        // turn 1 is that of the output of the second level
-        assert_eq!(rt; pace.last.load(Ordering::SeqCst), 1, "by {workers}");
-    }
+    // turn 1 is that of the output of the second level
+    assert!(rt; met_by(&rt, alloc, 1)? == (true, 0, 1));
+    assert!(rt; met_by(&rt, alloc, 2)? == (true, 1, 1));
     Ok(())
 }
 
-/// A stream, an output of it and one of that output, and another output of both: it is in the third level.
-#[test]
-fn levels_follow_the_greatest_input(rt: HostRuntime) -> Result<(), Fail> {
-    let alloc = rt.alloc();
+/// Returns a store of three levels: an output of the plain stream and of the output above, 3; and one more of the plain stream, 4.
+fn three_levels(alloc: Global) -> Result<Engine<MemDisk>, Fail> {
     let mut engine = two_levels(alloc, 64)?;
     let minus = Spec {
         kernel: Kernel::Minus,
@@ -336,27 +294,30 @@ fn levels_follow_the_greatest_input(rt: HostRuntime) -> Result<(), Fail> {
         first: 0,
         second: Some(2),
     };
-    add(
-        alloc,
-        &mut engine,
-        &Entry::Define {
-            id: 10,
-            spec: minus,
-        },
-    )?;
-    add(
-        alloc,
-        &mut engine,
-        &Entry::Define {
-            id: 11,
-            spec: sums(0),
-        },
-    )?;
-    let snapshot = engine.admit()?;
-    let found = levels(alloc, &snapshot)?;
-    assert_eq!(rt; found.len(), 3);
-    assert_eq!(rt; found[0].as_slice(), [1, 4].as_slice());
-    assert_eq!(rt; found[1].as_slice(), [2].as_slice());
-    assert_eq!(rt; found[2].as_slice(), [3].as_slice());
+    define(alloc, &mut engine, 10, minus)?;
+    define(alloc, &mut engine, 11, sums(0))?;
+    Ok(engine)
+}
+
+/// Returns the number of levels, and whether they are the wanted ones.
+fn found_levels(alloc: Global) -> Result<(usize, [bool; 3]), Fail> {
+    let found = levels(alloc, &three_levels(alloc)?.admit()?)?;
+    Ok(match found.as_slice() {
+        [first, second, third] => (
+            3,
+            [
+                matches!(first.as_slice(), [1, 4]),
+                matches!(second.as_slice(), [2]),
+                matches!(third.as_slice(), [3]),
+            ],
+        ),
+        other => (other.len(), [false, false, false]),
+    })
+}
+
+/// A stream, an output of it and one of that output, and another output of both: it is in the third level.
+#[test]
+fn levels_follow_the_greatest_input(rt: HostRuntime) -> Result<(), Fail> {
+    assert!(rt; found_levels(rt.alloc())? == (3, [true, true, true]));
     Ok(())
 }

@@ -1,15 +1,14 @@
 //! A crash inside each call of a commit: what the blocks that are not synced may hold, and what the store then has.
 ghost use Rattle.std.specs.Prelude.{◌≡◌, ◌%◌, length, IfOk};
 
-use super::fixture::{device_of, run_on, store_of};
+use super::fixture::{device_of, no_wrong, run_on, store_of};
 use std::alloc::{AllocError, Global};
-use std::process::Abort;
 use std::sync::Wait;
 use std::test::Fail;
 use std::thread::Threads;
 
 /// What a block that was written and not synced may hold: its bytes before, the bytes written, or bytes of any kind.
-#[derive(Clone, Copy, Debug)]
+#[derive(Clone, Copy)]
 enum Torn {
     Old,
     New,
@@ -58,54 +57,90 @@ fn left_by(
     Ok(bytes)
 }
 
-#[test]
-fn a_commit_that_was_cut_off_is_there_or_not(rt: HostRuntime) -> Result<(), Fail> {
-    let alloc = rt.alloc();
-    let first = run_on(
-        &rt,
-        "live",
-        b"create U\ninsert U 1 1\n",
-        store_of(&rt, "64")?,
-    )?;
-    let before = first.disk.into_bytes();
-    let second = run_on(
-        &rt,
-        "live",
-        b"insert U 2 2\n",
-        device_of(alloc, before.clone()?)?,
-    )?;
-    let after = second.disk.into_bytes();
-    // the gate at the tail is block 8, the body block 9, and the next gate block 10
-    for body in ALL {
-        for next in ALL {
-            let bytes = left_by(alloc, &before, &after, &[(9, body), (10, next)])?;
-            reopens(&rt, bytes, false)?;
-        }
-    }
-    for gate in ALL {
-        let blocks = [(9, Torn::New), (10, Torn::New), (8, gate)];
-        let bytes = left_by(alloc, &before, &after, &blocks)?;
-        let is_open = matches!(gate, Torn::New | Torn::Gate);
-        reopens(&rt, bytes, is_open)?;
-    }
-    Ok(())
+/// Returns the bytes of a store before a commit, and after it. The gate at the tail is block 8, the body block 9, and the next gate block
+/// 10.
+fn before_and_after(
+    rt: &(impl AllocGlobal + Threads + Wait + Sync),
+) -> Result<(Vec<u8>, Vec<u8>), Fail>
+    ensures { IfOk result (λ r. length r.0.items % 4096 ≡ 0) }
+{
+    let script = b"create U\ninsert U 1 1\n";
+    let before = run_on(rt, "live", script, store_of(rt, "64")?)?
+        .disk
+        .into_bytes();
+    let device = device_of(rt.alloc(), before.clone()?)?;
+    let after = run_on(rt, "live", b"insert U 2 2\n", device)?
+        .disk
+        .into_bytes();
+    Ok((before, after))
 }
 
-/// Asserts that the device has the commit or not, and takes one more.
+/// Returns whether a store opens after a crash that left these blocks so, has the commit or not, and takes one more.
 fn reopens(
-    rt: &(impl AllocGlobal + Abort + Threads + Wait + Sync),
-    bytes: Vec<u8>,
+    rt: &(impl AllocGlobal + Threads + Wait + Sync),
+    before: &[u8],
+    after: &[u8],
+    blocks: &[(usize, Torn)],
     has_it: bool,
-) -> Result<(), Fail>
-    requires { length bytes.items % 4096 ≡ 0 }
+) -> Result<bool, Fail>
+    requires { length before.now % 4096 ≡ 0 }
 {
+    let alloc = rt.alloc();
+    let bytes = left_by(alloc, before, after, blocks)?;
     let script = b"range U 0 9 latest\ninsert U 3 3\nrange U 0 9 latest\n";
-    let ran = run_on(rt, "live", script, device_of(rt.alloc(), bytes)?)?;
+    let ran = run_on(rt, "live", script, device_of(alloc, bytes)?)?;
     let want = if has_it {
         "ok 2 2\n1 1\n2 2\nok 3 0\nok 3 3\n1 1\n2 2\n3 3\n"
     } else {
         "ok 1 1\n1 1\nok 2 0\nok 2 2\n1 1\n3 3\n"
     };
-    assert_eq!(rt; ran.text.as_str(), want);
-    Ok(())
+    Ok(ran.text.as_slice() == want.as_bytes())
+}
+
+/// Returns the first torn body with which a store does not reopen without the commit, whatever the next gate holds.
+fn first_wrong_body(
+    rt: &(impl AllocGlobal + Threads + Wait + Sync),
+    before: &[u8],
+    after: &[u8],
+) -> Result<Option<usize>, Fail>
+    requires { length before.now % 4096 ≡ 0 }
+{
+    for (row, body) in ALL.iter().enumerate() {
+        for next in ALL {
+            if !reopens(rt, before, after, &[(9, *body), (10, next)], false)? {
+                return Ok(Some(row));
+            }
+        }
+    }
+    Ok(None)
+}
+
+/// Returns the first torn gate with which a store does not reopen, with the commit if the gate is open.
+fn first_wrong_gate(
+    rt: &(impl AllocGlobal + Threads + Wait + Sync),
+    before: &[u8],
+    after: &[u8],
+) -> Result<Option<usize>, Fail>
+    requires { length before.now % 4096 ≡ 0 }
+{
+    for (row, gate) in ALL.iter().enumerate() {
+        let blocks = [(9, Torn::New), (10, Torn::New), (8, *gate)];
+        let is_open = matches!(gate, Torn::New | Torn::Gate);
+        if !reopens(rt, before, after, &blocks, is_open)? {
+            return Ok(Some(row));
+        }
+    }
+    Ok(None)
+}
+
+#[test]
+fn a_commit_whose_body_was_cut_off_is_not_there(rt: HostRuntime) -> Result<(), Fail> {
+    let (before, after) = before_and_after(&rt)?;
+    no_wrong(first_wrong_body(&rt, &before, &after)?)
+}
+
+#[test]
+fn a_commit_whose_gate_was_cut_off_is_there_or_not(rt: HostRuntime) -> Result<(), Fail> {
+    let (before, after) = before_and_after(&rt)?;
+    no_wrong(first_wrong_gate(&rt, &before, &after)?)
 }

@@ -1,59 +1,79 @@
 //! The bytes of a device: those that a script writes, and those that are refused.
-use super::fixture::{device_of, run_on, store_of};
-use btr_disk::Disk;
+ghost use Rattle.std.specs.Prelude.{◌≡◌, ◌%◌, length, IfOk};
+
+use super::fixture::{device_of, no_wrong, run_on, store_of, with_piece};
+use btr_disk::{Disk, MemDisk};
+use std::sync::Wait;
 use std::test::Fail;
+use std::thread::Threads;
+
+/// Returns the bytes of a store of two streams.
+fn two_streams(rt: &(impl AllocGlobal + Threads + Wait + Sync)) -> Result<Vec<u8>, Fail>
+    ensures { IfOk result (λ bytes. length bytes.items % 4096 ≡ 0) }
+{
+    let made = run_on(rt, "live", b"create U\ncreate V\n", store_of(rt, "64")?)?;
+    Ok(made.disk.into_bytes())
+}
+
+/// Returns whether a question on a device of these bytes gives this text and status.
+fn says(
+    rt: &(impl AllocGlobal + Threads + Wait + Sync),
+    question: &[u8],
+    bytes: Vec<u8>,
+    text: &str,
+    status: u8,
+) -> Result<bool, Fail>
+    requires { length bytes.items % 4096 ≡ 0 }
+{
+    let ran = run_on(rt, "ask", question, device_of(rt.alloc(), bytes)?)?;
+    Ok(ran.gave(text, status))
+}
+
+/// Returns the bytes with one bit of a byte turned.
+fn turned(bytes: Vec<u8>, at: usize) -> Vec<u8>
+    ensures { length result.items ≡ length bytes.items }
+{
+    let byte = bytes.get(at).copied().unwrap_or(0);
+    with_piece(bytes, at, &[byte ^ 1])
+}
+
+/// A byte that is changed, and the text and the status of a question: the superblock; the second entry's mark, number and kind; a byte
+/// after it; and the gate after it, which stays closed.
+const TURNED: &[(usize, &str, u8)] = &[
+    (4096, "no damaged 1\n", 7),
+    (7 * 4096, "no damaged 7\n", 7),
+    (7 * 4096 + 23, "no damaged 7\n", 7),
+    (7 * 4096 + 64, "no damaged 7\n", 7),
+    (7 * 4096 + 4095, "no damaged 7\n", 7),
+    (8 * 4096, "ok 0 0\n", 0),
+];
+
+fn first_wrong_byte(
+    rt: &(impl AllocGlobal + Threads + Wait + Sync),
+    whole: &Vec<u8>,
+) -> Result<Option<usize>, Fail>
+    requires { length whole.now.items % 4096 ≡ 0 }
+{
+    for (row, (at, text, status)) in TURNED.iter().enumerate() {
+        let bytes = turned(whole.clone()?, *at);
+        if !says(rt, b"range V 0 1 latest\n", bytes, text, *status)? {
+            return Ok(Some(row));
+        }
+    }
+    Ok(None)
+}
 
 #[test]
 fn a_device_that_is_no_store_is_refused(rt: HostRuntime) -> Result<(), Fail> {
-    let alloc = rt.alloc();
-    let made = run_on(&rt, "live", b"create U\ncreate V\n", store_of(&rt, "64")?)?;
-    let whole = made.disk.into_bytes();
-    // the superblock; the second entry's mark, number and kind; a byte after it; and the gate after it, which stays
-    // closed
-    for (at, want, status) in [
-        (4096, "no damaged 1\n", 7),
-        (7 * 4096, "no damaged 7\n", 7),
-        (7 * 4096 + 23, "no damaged 7\n", 7),
-        (7 * 4096 + 64, "no damaged 7\n", 7),
-        (7 * 4096 + 4095, "no damaged 7\n", 7),
-        (8 * 4096, "ok 0 0\n", 0),
-    ] {
-        let mut bytes = whole.clone()?;
-        if let Some(byte) = bytes.get_mut(at) {
-            *byte ^= 1;
-        }
-        let ran = run_on(
-            &rt,
-            "ask",
-            b"range V 0 1 latest\n",
-            device_of(alloc, bytes)?,
-        )?;
-        assert_eq!(rt;
-            (ran.text.as_str(), ran.status),
-            (want, status),
-            "byte {at}"
-        );
-    }
-    Ok(())
+    let whole = two_streams(&rt)?;
+    no_wrong(first_wrong_byte(&rt, &whole)?)
 }
 
 #[test]
 fn an_entry_that_may_not_follow_is_damage(rt: HostRuntime) -> Result<(), Fail> {
-    let made = run_on(&rt, "live", b"create U\ncreate V\n", store_of(&rt, "64")?)?;
-    let mut bytes = made.disk.into_bytes();
     // the second entry creates the first one's stream again
-    for offset in 0..17usize {
-        if let Some(byte) = bytes.get_mut((7 * 4096 + 64usize).saturating_add(offset)) {
-            *byte = CREATE.get(offset).copied().unwrap_or(0);
-        }
-    }
-    let ran = run_on(
-        &rt,
-        "ask",
-        b"range U 0 1 latest\n",
-        device_of(rt.alloc(), bytes)?,
-    )?;
-    assert_eq!(rt; (ran.text.as_str(), ran.status), ("no damaged 7\n", 7));
+    let bytes = with_piece(two_streams(&rt)?, 7 * 4096 + 64, CREATE);
+    assert!(rt; says(&rt, b"range U 0 1 latest\n", bytes, "no damaged 7\n", 7)?);
     Ok(())
 }
 
@@ -89,30 +109,39 @@ const BYTES: [(usize, &[u8]); 8] = [
     ),
 ];
 
-#[test]
-fn the_bytes_of_the_device_are_those_of_its_format(rt: HostRuntime) -> Result<(), Fail> {
-    let script = b"create U\ninsert U 0 5 3 7 4 -2\n";
-    let ran = run_on(&rt, "live", script, store_of(&rt, "64")?)?;
-    // eight calls to format, three to open, and four for each entry
-    assert_eq!(rt; ran.disk.calls(), 19);
+/// Returns the bytes of the device, by hand.
+fn by_hand(rt: &impl AllocGlobal) -> Result<Vec<u8>, Fail> {
     let mut want = vec![in rt.alloc(); 0; 64 * 4096]?;
     for (at, bytes) in BYTES {
-        for (offset, byte) in bytes.iter().enumerate() {
-            if let Some(to) = want.get_mut(at.saturating_add(offset)) {
-                *to = *byte;
-            }
-        }
+        want = with_piece(want, at, bytes);
     }
-    let bytes = ran.disk.into_bytes();
-    assert!(rt; bytes == want);
+    Ok(want)
+}
+
+/// Returns the number of calls of a device, and whether its bytes are those by hand.
+fn has_bytes(rt: &impl AllocGlobal, disk: MemDisk) -> Result<(u64, bool), Fail> {
+    let want = by_hand(rt)?;
+    let calls = disk.calls();
+    Ok((calls, disk.into_bytes().as_slice() == want.as_slice()))
+}
+
+/// Writes one entry of each of two kinds. Returns the device.
+fn written(rt: &(impl AllocGlobal + Threads + Wait + Sync)) -> Result<MemDisk, Fail> {
+    let script = b"create U\ninsert U 0 5 3 7 4 -2\n";
+    Ok(run_on(rt, "live", script, store_of(rt, "64")?)?.disk)
+}
+
+/// Asks a device with the bytes of one that was written. Returns the device.
+fn asked(rt: &(impl AllocGlobal + Threads + Wait + Sync)) -> Result<MemDisk, Fail> {
+    let disk = device_of(rt.alloc(), written(rt)?.into_bytes())?;
+    Ok(run_on(rt, "ask", b"create V\nrange U 0 5 latest\n", disk)?.disk)
+}
+
+#[test]
+fn the_bytes_of_the_device_are_those_of_its_format(rt: HostRuntime) -> Result<(), Fail> {
+    // eight calls to format, three to open, and four for each entry
+    assert!(rt; has_bytes(&rt, written(&rt)?)? == (19, true));
     // questions write nothing; the three calls to open an empty store, and one for each entry, are all
-    let asked = run_on(
-        &rt,
-        "ask",
-        b"create V\nrange U 0 5 latest\n",
-        device_of(rt.alloc(), bytes)?,
-    )?;
-    assert_eq!(rt; asked.disk.calls(), 5);
-    assert!(rt; asked.disk.into_bytes() == want);
+    assert!(rt; has_bytes(&rt, asked(&rt)?)? == (5, true));
     Ok(())
 }

@@ -1,13 +1,12 @@
 //! Runs on a device in memory, and transcripts of such runs.
 ghost use Rattle.std.specs.Prelude.{◌≡◌, ◌%◌, length};
 
-use btr_top::{Outcome, run, run_paced};
 use btr_disk::{Capacity, MemDisk};
 use btr_io::{MemSink, MemSource};
 use btr_jobs::Pace;
 use btr_text::read_unsigned;
+use btr_top::{Outcome, run, run_paced};
 use std::alloc::{AllocError, Global};
-use std::process::Abort;
 use std::sync::Wait;
 use std::sync::atomic::{AtomicU32, Ordering};
 use std::test::Fail;
@@ -22,9 +21,24 @@ const CAPACITY: Capacity = Capacity {
 /// What a run gave: its text, its status, and the device.
 #[derive(Drop)]
 pub(super) struct Ran {
-    pub(super) text: String,
+    pub(super) text: Vec<u8>,
     pub(super) status: u8,
     pub(super) disk: MemDisk,
+}
+
+impl Ran {
+    /// Whether the run wrote this text and ended with this status.
+    pub(super) fn gave(&self, text: &str, status: u8) -> bool {
+        self.status == status && self.text.as_slice() == text.as_bytes()
+    }
+}
+
+/// Fails with the number of the first wrong row of a table, if there is one.
+pub(super) fn no_wrong(row: Option<usize>) -> Result<(), Fail> {
+    match row {
+        None => Ok(()),
+        Some(number) => Err(Fail::new(format_args!("row {number} is wrong"))),
+    }
 }
 
 /// Makes a device of 64 blocks on which the calls with these numbers fail.
@@ -61,7 +75,7 @@ pub(super) fn run_on(
     let mut source = MemSource::new(with_ids(alloc, input)?, 7, Vec::new(alloc));
     let mut sink = MemSink::new(alloc, 10000, 11, Vec::new(alloc))?;
     let (status, disk) = run_words(rt, words, &mut source, &mut sink, disk)?;
-    let text = String::from_utf8_lossy(alloc, sink.written())?.to_string(alloc)?;
+    let text = sink.written().to_vec(alloc)?;
     Ok(Ran { text, status, disk })
 }
 
@@ -147,7 +161,7 @@ pub(super) fn run_beside(
         disk,
         &pace,
     );
-    let text = String::from_utf8_lossy(alloc, sink.written())?.to_string(alloc)?;
+    let text = sink.written().to_vec(alloc)?;
     let is_beside = pace.beside.load(Ordering::SeqCst) > 0;
     Ok((Ran { text, status, disk }, is_beside))
 }
@@ -167,68 +181,75 @@ pub(super) fn with_ids(alloc: Global, text: &[u8]) -> Result<Vec<u8>, AllocError
     Ok(out)
 }
 
+/// Returns the bytes, but for a piece from `at` on, if there is room for it.
+pub(super) fn with_piece(mut bytes: Vec<u8>, at: usize, piece: &[u8]) -> Vec<u8>
+    ensures { length result.items ≡ length bytes.items }
+{
+    if at <= bytes.len() && piece.len() <= bytes.len() - at {
+        bytes[at..at + piece.len()].copy_from_slice(piece);
+    }
+    bytes
+}
+
 /// Plays a transcript of runs on one device of 64 blocks. A line `$ WORDS` begins a run, `> LINE` is a line of its
 /// input, `< LINE` a line that it must write, and `= N` the status with which it must end. The calls of the device that
 /// are listed fail. `U`, `V`, `W` and `X` are short for four ids.
 pub(super) fn play(
-    rt: &(impl AllocGlobal + Abort + Threads + Wait + Sync),
+    rt: &(impl AllocGlobal + Threads + Wait + Sync),
     failing: &[u64],
     transcript: &str,
 ) -> Result<(), Fail> {
-    let alloc = rt.alloc();
-    let mut disk = empty_device(alloc, failing)?;
-    let mut words = String::new(alloc);
-    let mut input = String::new(alloc);
-    let mut wanted = String::new(alloc);
-    for line in transcript.split('\n') {
-        if let Some(given) = line.strip_prefix("$ ") {
-            words = given.to_string(alloc)?;
-            input = String::new(alloc);
-            wanted = String::new(alloc);
-        } else if let Some(said) = line.strip_prefix("> ") {
-            push_line(&mut input, said)?;
-        } else if let Some(reply) = line.strip_prefix("< ") {
-            push_line(&mut wanted, reply)?;
-        } else if let Some(status) = line.strip_prefix("= ") {
-            disk = ends_so(
-                rt,
-                words.as_str(),
-                input.as_str(),
-                disk,
-                wanted.as_str(),
-                status,
-            )?;
+    let mut disk = empty_device(rt.alloc(), failing)?;
+    for part in transcript.split('$') {
+        if let Some(lines) = part.strip_prefix(" ") {
+            disk = play_run(rt, lines, disk)?;
         }
     }
     Ok(())
 }
 
-/// Adds a line.
-fn push_line(text: &mut String, line: &str) -> Result<(), AllocError> {
-    text.push_str(line)?;
-    text.push('\n')
+/// Runs what the lines of a transcript say, and returns the device if the run gave what they want.
+fn play_run(
+    rt: &(impl AllocGlobal + Threads + Wait + Sync),
+    lines: &str,
+    disk: MemDisk,
+) -> Result<MemDisk, Fail> {
+    let alloc = rt.alloc();
+    let words = lines.split('\n').next().unwrap_or("");
+    let ran = run_on(rt, words, &lines_with(alloc, lines, "> ")?, disk)?;
+    let wanted = with_ids(alloc, &lines_with(alloc, lines, "< ")?)?;
+    if ran.text.as_slice() == wanted.as_slice() && status_in(lines) == Some(u64::from(ran.status)) {
+        return Ok(ran.disk);
+    }
+    Err(other_text(alloc, words, ran.status, &ran.text))
 }
 
-/// Asserts that a run writes this text and ends with this status, and returns the device.
-fn ends_so(
-    rt: &(impl AllocGlobal + Abort + Threads + Wait + Sync),
-    words: &str,
-    input: &str,
-    disk: MemDisk,
-    wanted: &str,
-    status: &str,
-) -> Result<MemDisk, Fail> {
-    let wanted = with_ids(rt.alloc(), wanted.as_bytes())?;
-    let ran = run_on(rt, words, input.as_bytes(), disk)?;
-    assert!(rt;
-        ran.text.as_bytes() == wanted.as_slice(),
-        "{words}: {input}{}",
-        ran.text
-    );
-    assert_eq!(rt;
-        Some(u64::from(ran.status)),
-        read_unsigned(status.as_bytes()),
-        "{words}: {input}"
-    );
-    Ok(ran.disk)
+/// Returns the failure of a run that gave another status or another text.
+fn other_text(alloc: Global, words: &str, status: u8, text: &[u8]) -> Fail {
+    match String::from_utf8_lossy(alloc, text) {
+        Ok(text) => Fail::new(format_args!("{words}: {status}, {text}")),
+        Err(_) => Fail::new(format_args!("{words}: {status}")),
+    }
+}
+
+/// Returns the lines that begin with a mark, without it.
+fn lines_with(alloc: Global, lines: &str, mark: &str) -> Result<Vec<u8>, AllocError> {
+    let mut text = Vec::new(alloc);
+    for line in lines.split('\n') {
+        if let Some(rest) = line.strip_prefix(mark) {
+            text.extend_from_slice(rest.as_bytes())?;
+            text.push(b'\n')?;
+        }
+    }
+    Ok(text)
+}
+
+/// Returns the number of the line `= N`.
+fn status_in(lines: &str) -> Option<u64> {
+    for line in lines.split('\n') {
+        if let Some(status) = line.strip_prefix("= ") {
+            return read_unsigned(status.as_bytes());
+        }
+    }
+    None
 }

@@ -459,19 +459,21 @@ $ live
 = 5
 ";
 
+/// A call of the device that fails, and a transcript. After the eight calls of the format come three to open, and four for each entry.
+const FAILED: &[(u64, &str)] = &[
+    (8, FAILED_OPENING),
+    (10, FAILED_OPENING),
+    (11, FAILED_CREATE),
+    (14, FAILED_CREATE),
+    (15, FAILED_INSERT),
+    (16, FAILED_INSERT),
+    (18, FAILED_INSERT),
+];
+
 #[test]
 fn a_call_that_fails_has_its_reply(rt: HostRuntime) -> Result<(), Fail> {
-    // after the eight calls of the format come three to open, and four for each entry
-    for (call, transcript) in [
-        (8, FAILED_OPENING),
-        (10, FAILED_OPENING),
-        (11, FAILED_CREATE),
-        (14, FAILED_CREATE),
-        (15, FAILED_INSERT),
-        (16, FAILED_INSERT),
-        (18, FAILED_INSERT),
-    ] {
-        play(&rt, &[call], transcript)?;
+    for (call, transcript) in FAILED {
+        play(&rt, &[*call], transcript)?;
     }
     Ok(())
 }

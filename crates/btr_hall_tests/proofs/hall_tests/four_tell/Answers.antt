@@ -2,7 +2,7 @@ use Rattle.std.proofs.Common.{arith}
 use denote.Param.Send.{sendable}
 use Rattle.std.proofs.Crossing.{crosses}
 use Rattle.btr_hall.proofs.SessionLemmas.{split_paths, meet_paths}
-use Rattle.btr_hall.proofs.TestLemmas.{user_send, place_sync}
+use Rattle.btr_hall_tests.proofs.TestLemmas.{user_send, place_sync}
 use Rattle.btr_hall_tests.proofs.hall_tests.four_tell.Goals as goal
 
 pub join-user-requires-send-F : goal.join-user-requires-send-F

@@ -1,6 +1,0 @@
-use Rattle.btr_hall.proofs.SessionLemmas.{alone_alike}
-use Rattle.btr_hall_tests.proofs.hall_tests.a_plan_of_an_output_that_has_moved_is_superseded.Goals as goal
-
-pub close-engine-requires-clause-alone : goal.close-engine-requires-clause-alone
-close-engine-requires-clause-alone g c =
-    alone_alike c.in_ok-hall.user c.two_plan-outcome.new.first c.two_plan-outcome.ensures.share c.in_ok-hall.ensures.1

@@ -1,8 +1,0 @@
-use Rattle.std.proofs.Common.{ap, ◌∙◌}
-use Rattle.btr_gate.specs.Shares.{on_path}
-use Rattle.btr_hall.proofs.SessionLemmas.{alone_alike}
-use Rattle.btr_hall_tests.proofs.hall_tests.the_log_has_what_eight_threads_were_told.Goals as goal
-
-pub close-engine-requires-clause-alone : goal.close-engine-requires-clause-alone
-close-engine-requires-clause-alone g c =
-    alone_alike c.in_ok-hall.user c.eight_tell-user.result.0 (λ path. c.eight_tell-user.ensures.share path ∙ ap (on_path path) c.create-user.ensures.share) c.in_ok-hall.ensures.1
