@@ -15,3 +15,4 @@ pub mod SampleLines
 pub mod Sample
 pub mod SampleRoom
 pub mod SampleLaw
+pub mod SampleLimits

@@ -21,8 +21,11 @@ mod streams;
 // the lines that are written, and the status that they ask for
 mod status;
 mod transcript;
+// the limits of a sample
+mod laws;
 
 pub use distil::distil_store;
+pub use laws::sample_limits_are_these;
 pub use load::load_store;
 pub use sample::sample_store;
 pub use status::Status;

@@ -22,7 +22,10 @@ mod quoted;
 mod read;
 // what is written
 mod sample;
+// the bytes that mark the parts of a row
+mod laws;
 
+pub use laws::row_marks_are_these;
 pub use list::{RowList, StreamRows};
 pub use read::read_rows;
 pub use row::{NumberedPoint, RefusedRow, Row, RowReason};

@@ -6,3 +6,5 @@ pub mod Input
 -- What is written: the reason of a refusal, the text of a reply.
 pub mod Reasons
 pub mod Text
+-- The bytes that mark the parts of a line.
+pub mod Laws
