@@ -29,6 +29,8 @@ impl<W: Write> Sink for StdSink<W> {
 
     ghost written = { λ sink. [] };
 
+    ghost passed_on = { λ sink. [] };
+
     ghost faults = { λ sink. sink.faults };
 
     fn write(&mut self, bytes: &[u8]) -> Result<usize, Failed> {

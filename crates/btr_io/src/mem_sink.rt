@@ -70,6 +70,8 @@ impl Sink for MemSink {
 
     ghost written = { λ s. s.written };
 
+    ghost passed_on = { λ s. s.written };
+
     ghost faults = { λ s. s.calls.faults };
 
     fn write(&mut self, bytes: &[u8]) -> Result<usize, Failed>

@@ -1,5 +1,5 @@
 //! Where bytes go.
-ghost use Rattle.std.specs.Prelude.{◌≡◌, ◌<◌, ◌≤◌, ◌++◌, List, ℕ, length, take, IfOk, OnErr};
+ghost use Rattle.std.specs.Prelude.{◌≡◌, ◌<◌, ◌≤◌, ◌++◌, List, ℕ, length, take, IfOk, OnOk, OnErr};
 ghost use Rattle.btr_io.specs.Faults.{HasCause};
 
 use crate::Failed;
@@ -15,6 +15,9 @@ pub trait Sink {
     /// The bytes that were written.
     ghost written: { Self → List ℕ };
 
+    /// Those of them that were passed on to whoever reads them. A sink may hold the others back.
+    ghost passed_on: { Self → List ℕ };
+
     /// The number of its calls that failed.
     ghost faults: { Self → ℕ };
 
@@ -28,8 +31,9 @@ pub trait Sink {
         ensures unchanged { is_observable → OnErr result (written self.new ≡ written self.old) }
         ensures cause { HasCause (faults self.old) (faults self.new) result };
 
-    /// Passes on what was written, if the sink holds any of it back. Takes no memory.
+    /// Passes on all that was written, if the sink holds any of it back. Takes no memory.
     fn flush(&mut self) -> Result<(), Failed>
         ensures unchanged { is_observable → written self.new ≡ written self.old }
+        ensures passed { is_observable → OnOk result (passed_on self.new ≡ written self.new) }
         ensures cause { HasCause (faults self.old) (faults self.new) result };
 }

@@ -47,11 +47,12 @@ module _ {K : Type 0} (sink : Ghosts K) where
   abbrev pub WrotePrefix : List ℕ → K → K → Type 0
   WrotePrefix text old new = (n : ℕ) × (n ≤ length text) × (sink.written new ≡ sink.written old ++ take n text)
 
-  -- The sink took the whole text, and no call of it failed. The status is the one that goes with the text.
+  -- The sink took the whole text and passed it on, and no call of it failed. The status is the one that goes with the text.
   pub record WritesAll (text : List ℕ) (wanted : ℕ) (old new : K) (status : ℕ) : Type 0 where
     pub same_status : status ≡ wanted
     pub no_fault : sink.faults new ≡ sink.faults old
     pub all : sink.is_observable → sink.written new ≡ sink.written old ++ text
+    pub passed : sink.is_observable → sink.passed_on new ≡ sink.written new
 
   -- A call of the sink failed, in the text or in the flush after it. The status is 4.
   pub record FailsToWrite (text : List ℕ) (old new : K) (status : ℕ) : Type 0 where

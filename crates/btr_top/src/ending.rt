@@ -85,6 +85,7 @@ fn write_text<K: Sink>(sink: &mut K, text: &[u8], status: u8) -> u8
 /// Writes all of a text, and has the sink pass it on.
 fn write_and_flush<K: Sink>(sink: &mut K, text: &[u8]) -> Result<(), Failed>
     ensures written { K.is_observable → OnOk result (K.written sink.new ≡ K.written sink.old ++ text.now) }
+    ensures passed { K.is_observable → OnOk result (K.passed_on sink.new ≡ K.written sink.new) }
     ensures part { K.is_observable → OnErr result (WrotePrefix ⟦<K as Sink>⟧ text.now sink.old sink.new) }
     ensures no_fault { OnOk result (K.faults sink.new ≡ K.faults sink.old) }
     ensures rose { OnErr result (Rose (K.faults sink.old) (K.faults sink.new)) }
