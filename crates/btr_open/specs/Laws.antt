@@ -1,9 +1,10 @@
 -- What holds of all devices.
-use Rattle.std.specs.Prelude.{◌≡◌, ℕ, List}
+use Rattle.std.specs.Prelude.{◌≡◌, ℕ, List, []}
 use Rattle.btr_disk.specs.Bytes.{Image}
 use Rattle.btr_super.specs.Choose.{HasNoSuper}
+use Rattle.btr_super.specs.Format.{IsEmptyStore}
 use Rattle.btr_hist.specs.declared.entry.Entry.{Entry}
-use Rattle.btr_engine.specs.Holds.{HoldsHistory}
+use Rattle.btr_engine.specs.Holds.{HoldsHistory, HoldsHistoryTo}
 use Rattle.btr_open.specs.Damage.{IsDamaged}
 
 -- A device holds at most one history.
@@ -16,3 +17,7 @@ abbrev pub HeldIsSound : Type 0
 HeldIsSound =
     (size block : ℕ) (image : Image) (h : List Entry) → HoldsHistory size image h
     → (HasNoSuper size image → ⊥) × (IsDamaged size image block → ⊥)
+
+-- An empty store, as it is made, holds the history without entries, and its log ends at its first gate.
+abbrev pub EmptyStoreHoldsNothing : Type 0
+EmptyStoreHoldsNothing = (size blocks : ℕ) (image : Image) → IsEmptyStore size blocks image → HoldsHistoryTo size image blocks 4 []

@@ -1,5 +1,5 @@
 //! Theorems on the definitions. Each is the contract of a function with an empty body.
-ghost use Rattle.btr_open.specs.Laws.{OneHistoryIsHeld, HeldIsSound};
+ghost use Rattle.btr_open.specs.Laws.{OneHistoryIsHeld, HeldIsSound, EmptyStoreHoldsNothing};
 
 /// At most one history is held by a device, whatever its bytes are.
 pub fn one_history_is_held()
@@ -10,4 +10,9 @@ pub fn one_history_is_held()
 /// history is refused only if memory runs out or the device fails.
 pub fn held_is_sound()
     ensures { HeldIsSound }
+{}
+
+/// An empty store, as `format` of btr_super makes it, holds the history without entries.
+pub fn empty_store_holds_nothing()
+    ensures { EmptyStoreHoldsNothing }
 {}

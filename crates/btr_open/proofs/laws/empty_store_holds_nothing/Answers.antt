@@ -1,0 +1,17 @@
+-- The superblock of an empty store is chosen, and its first gate is closed.
+use Rattle.std.proofs.Common.{refl, arith}
+use Rattle.btr_super.specs.Super.{first_super}
+use Rattle.btr_hist.proofs.HistoryLemmas.{follows-none}
+use Rattle.btr_open.proofs.laws.empty_store_holds_nothing.Goals as goal
+
+pub returns : goal.returns
+returns c = λ size blocks image is. record {
+  super = first_super blocks;
+  chosen = is.chosen;
+  same_blocks = refl;
+  spelled = tt;
+  extents = refl;
+  closed = is.no_entry;
+  inside = omega (arith, is.chosen.stored.spelled.keeps.blocks_from);
+  follows = follows-none;
+}
