@@ -214,6 +214,18 @@ Has-part bytes address n fits =
     let few : k < n = omega (arith, length-take n (drop address bytes)) in
     sym (get_or-take n (drop address bytes) k 0 few ∙ get_or-drop address bytes k 0))
 
+-- bytes that were put in the middle of a list
+pub Has-middle : (address : ℕ) (prefix bytes after : List ℕ) → address ≤ length prefix → Has (contents_of (take address prefix ++ (bytes ++ after))) address bytes
+Has-middle address prefix bytes after within =
+    let start = take address prefix in
+    let length_start : length start ≡ address = omega (arith, length-take address prefix) in
+    Has-from_each _ address bytes
+    (λ k lt.
+    let at : (address + k) - address ≡ k = omega arith in
+    get_or-append_right start (bytes ++ after) address (address + k) 0 length_start (omega arith)
+    ∙ ap (λ (i : ℕ). get_or (bytes ++ after) i 0) at
+    ∙ get_or_append_left bytes after 0 k lt)
+
 -- bytes that were put in the middle of a list, of which no more than `size` is kept
 pub Has-placed : (size address : ℕ) (prefix bytes after rest : List ℕ) → address ≤ length prefix → address + length bytes ≤ size → Has (contents_of (take size ((take address prefix ++ (bytes ++ after)) ++ rest))) address bytes
 Has-placed size address prefix bytes after rest within fits =

@@ -9,6 +9,7 @@ pub mod Memory
 pub mod Fuse
 pub mod Torn
 pub mod CallRecord
+pub mod Replay
 pub mod RecordLaws
 pub mod FuseLaws
 pub mod Fill

@@ -1,9 +1,9 @@
 //! What a device in memory remembers of its calls. The memory for it is allocated when the device is made.
-ghost use Rattle.std.specs.Prelude.{◌≡◌, ◌+◌, ◌-◌, ◌^◌, ◌<◌, ◌≤◌, ℕ, min, [], ◌++◌, ◌↔◌, length, IfOk, IsTrue, MatchBool};
+ghost use Rattle.std.specs.Prelude.{◌≡◌, ◌+◌, ◌-◌, ◌^◌, ◌<◌, ◌≤◌, ℕ, min, [], ◌++◌, ◌↔◌, true, length, IfOk, IsTrue, MatchBool};
 ghost use Rattle.std.specs.Prelude.{vec_len, vec_capacity};
 ghost use Rattle.btr_disk.specs.Torn.{IsUntorn};
 
-use crate::image::fill_calls;
+use crate::image::{fill_calls, undo_calls};
 use crate::torn::TornBlocks;
 use crate::{BLOCK, Capacity, Fill};
 use std::alloc::{AllocError, Global};
@@ -33,7 +33,10 @@ pub(crate) struct CallRecord {
 
 impl CallRecord {
     ghost use Rattle.std.specs.Prelude.{◌*◌};
-    ghost use Rattle.btr_disk.specs.Fill.{IsFilled, IsLooseAt};
+    ghost use Rattle.btr_disk.specs.Fill.{IsFilled, IsLooseAt, HasFill};
+    ghost use Rattle.btr_disk.specs.Bytes.{AreBytes};
+    ghost use Rattle.btr_disk.specs.Replay.{WasAtLastSync, is_replayable};
+    ghost use Rattle.btr_disk.specs.CallRecord.{contents_of, newest_first, MayLeaveNow};
     ghost use Rattle.btr_disk.specs.CallRecord.{Records, IsLeftOut, CanRecord, HasCapacity, IsEmpty, TearsOnly, call_count};
 
     /// The record of a device of `blocks` blocks on which no call was made.
@@ -96,12 +99,38 @@ impl CallRecord {
     }
 
     /// Fills each address where a crash may leave any byte.
-    pub(crate) fn fill(&self, bytes: &mut [u8], fill: Fill)
+    fn fill(&self, bytes: &mut [u8], fill: Fill)
         requires { length bytes.old ≡ 4096 * length self.now.torn.flags.items }
         ensures { IsFilled fill (IsLooseAt self.now) bytes.old bytes.new }
     {
         fill_calls(bytes, &self.calls, fill);
         self.torn.fill(bytes, fill);
+    }
+
+    /// Makes of what a read returns an image that a crash may leave now, that of this fill.
+    #[tactic(auto, using(crate::proofs::Filled::filled_left, crate::proofs::Filled::filled_has))]
+    pub(crate) fn leave(&self, bytes: &mut [u8], fill: Fill)
+        requires blocks { length bytes.old ≡ 4096 * length self.now.torn.flags.items }
+        requires replayable { is_replayable (newest_first self.now) (length self.now.replaced.items) (length bytes.old) ≡ true }
+        ensures length { length bytes.new ≡ length bytes.old }
+        ensures image { MayLeaveNow (contents_of bytes.old) self.now (contents_of bytes.new) }
+        ensures fill { HasFill fill (contents_of bytes.old) self.now (length bytes.old) (contents_of bytes.new) }
+    {
+        match fill {
+            Fill::Written => {}
+            Fill::Kept => self.undo(bytes),
+            Fill::Zeros | Fill::Ones | Fill::Gates => self.fill(bytes, fill),
+        }
+    }
+
+    /// Undoes the calls since the last sync that succeeded.
+    fn undo(&self, bytes: &mut [u8])
+        requires { is_replayable (newest_first self.now) (length self.now.replaced.items) (length bytes.old) ≡ true }
+        ensures length { length bytes.new ≡ length bytes.old }
+        ensures undone { WasAtLastSync (contents_of bytes.old) (newest_first self.now) self.now.replaced.items (contents_of bytes.new) }
+        ensures are_bytes { AreBytes (contents_of bytes.new) }
+    {
+        undo_calls(bytes, &self.calls, &self.replaced);
     }
 
     /// The number of calls in the record.

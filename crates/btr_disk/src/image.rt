@@ -1,6 +1,8 @@
 //! What a crash may leave of a device in memory.
 ghost use Rattle.std.specs.Prelude.{◌≡◌, ◌+◌, ◌*◌, ◌%◌, ◌<◌, ◌≤◌, ℕ, true, length, reverse};
-ghost use Rattle.btr_disk.specs.CallRecord.{IsUnsyncedAt};
+ghost use Rattle.btr_disk.specs.Bytes.{Has, SameBut};
+ghost use Rattle.btr_disk.specs.CallRecord.{IsUnsyncedAt, contents_of};
+ghost use Rattle.btr_disk.specs.Replay.{WasAtLastSync, is_replayable};
 ghost use Rattle.btr_disk.specs.Torn.{IsTornAt};
 ghost use Rattle.btr_disk.specs.Fill.{IsFilled, IsInside, fill_byte};
 
@@ -12,6 +14,10 @@ use crate::{BLOCK, GATE_MARK};
 pub enum Fill {
     /// What a read returns.
     Written,
+    /// What a read returned at the last sync that succeeded, or when the device was made.
+    ///
+    /// A write for which the device had no room to remember it changed nothing, so nothing of it is undone.
+    Kept,
     /// Zeros.
     Zeros,
     /// Bytes of 255.
@@ -25,7 +31,7 @@ fn byte_of(fill: Fill, at: usize) -> u8
     ensures { result ≡ fill_byte fill at }
 {
     match fill {
-        Fill::Written | Fill::Zeros => 0,
+        Fill::Written | Fill::Kept | Fill::Zeros => 0,
         Fill::Ones => 255,
         Fill::Gates => GATE_MARK.get(at % BLOCK).copied().unwrap_or(255),
     }
@@ -56,6 +62,38 @@ pub(crate) fn fill_calls(bytes: &mut [u8], calls: &[Call], fill: Fill)
             fill_calls(bytes, earlier, fill);
         }
     }
+}
+
+/// Undoes these calls, from the newest back to the last sync that succeeded.
+///
+/// `replaced` ends with the bytes that they replaced.
+pub(crate) fn undo_calls(bytes: &mut [u8], calls: &[Call], replaced: &[u8])
+    requires { is_replayable (reverse calls.now) (length replaced.now) (length bytes.old) ≡ true }
+    ensures length { length bytes.new ≡ length bytes.old }
+    ensures undone { WasAtLastSync (contents_of bytes.old) (reverse calls.now) replaced.now (contents_of bytes.new) }
+{
+    let Some((call, earlier)) = calls.split_last() else {
+        return;
+    };
+    match *call {
+        Call::Synced => {}
+        Call::Nothing => undo_calls(bytes, earlier, replaced),
+        Call::Wrote(at, n) => {
+            let start = replaced.len() - n;
+            put_back(bytes, at, &replaced[start..]);
+            undo_calls(bytes, earlier, &replaced[..start]);
+        }
+    }
+}
+
+/// Writes `part` at the address `at`.
+fn put_back(bytes: &mut [u8], at: usize, part: &[u8])
+    requires { at + length part.now ≤ length bytes.old }
+    ensures length { length bytes.new ≡ length bytes.old }
+    ensures written { Has (contents_of bytes.new) at part.now }
+    ensures elsewhere { SameBut at (length part.now) (contents_of bytes.old) (contents_of bytes.new) }
+{
+    bytes[at..at + part.len()].copy_from_slice(part);
 }
 
 /// Fills the torn blocks.

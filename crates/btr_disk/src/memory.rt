@@ -1,7 +1,8 @@
 //! A device in memory, for tests.
-ghost use Rattle.std.specs.Prelude.{◌≡◌, ◌+◌, ◌-◌, min, ◌*◌, ◌/◌, ◌%◌, ◌<◌, ◌≤◌, ◌^◌, ℕ, length, IfOk, IsErr, slice_index};
+ghost use Rattle.std.specs.Prelude.{◌≡◌, ◌+◌, ◌-◌, min, ◌*◌, ◌/◌, ◌%◌, ◌<◌, ◌≤◌, ◌^◌, ℕ, true, length, IfOk, IsErr, slice_index};
 ghost use Rattle.btr_disk.specs.Bytes.{AreBytes, Has, SameBut};
-ghost use Rattle.btr_disk.specs.CallRecord.{HasCapacity, contents_of};
+ghost use Rattle.btr_disk.specs.CallRecord.{HasCapacity, contents_of, newest_first};
+ghost use Rattle.btr_disk.specs.Replay.{is_replayable};
 ghost use Rattle.btr_disk.specs.Images.{Only};
 ghost use Rattle.btr_disk.specs.Causes.{Counted};
 
@@ -38,6 +39,7 @@ pub struct MemDisk {
     ghost room_fits: { room.blocks ≤ 2 ^ 32 },
     ghost are_bytes: { (k : ℕ) → slice_index bytes.items k < 256 },
     ghost whole_blocks: { length bytes.items ≡ 4096 * length made.torn.flags.items },
+    ghost replayable: { is_replayable (newest_first made) (length made.replaced.items) (length bytes.items) ≡ true },
 }
 
 impl MemDisk {
@@ -100,7 +102,8 @@ impl MemDisk {
 
     /// What a crash at this moment may leave, as a device of its own.
     ///
-    /// At each address where a crash may leave any byte it has that of `fill`. No call was made of it, and
+    /// At each address where a crash may leave any byte it has that of `fill`. For `Fill::Kept` it reads as
+    /// this device did at its last sync that succeeded, or when it was made. No call was made of it, and
     /// none is listed to fail. It can remember as much as this device. The error means out of memory. The
     /// cost is that of copying the device, and of what was written since the last sync.
     pub fn image(&self, alloc: Global, fill: Fill) -> Result<MemDisk, AllocError>
@@ -119,7 +122,6 @@ impl MemDisk {
     }
 
     /// The bytes of that image.
-    #[tactic(auto, using(crate::proofs::Filled::filled_left, crate::proofs::Filled::filled_has))]
     fn filled(&self, alloc: Global, fill: Fill) -> Result<Vec<u8>, AllocError>
         ensures length { IfOk result (λ bytes. length bytes.items ≡ length self.now.bytes.items) }
         ensures image { IfOk result (λ bytes. images_of self.now (contents_of bytes.items)) }
@@ -128,10 +130,7 @@ impl MemDisk {
     {
         let mut bytes = Vec::with_capacity(alloc, self.bytes.len())?;
         bytes.extend_from_slice(&self.bytes)?;
-        if matches!(fill, Fill::Written) {
-            return Ok(bytes);
-        }
-        self.made.fill(&mut bytes, fill);
+        self.made.leave(&mut bytes, fill);
         Ok(bytes)
     }
 
