@@ -13,7 +13,7 @@ pub loop-line-preserved : goal.loop-line-preserved
 loop-line-preserved c =
     filter_map-one_more (input_line c.args.names_lanes) (λ x. strip_carriage_return x.now) c.loop-line.lines.items c.add_line.new.lines.items c.loop-line.yielded c.in-Some.line
     c.loop-line.invariant
-    (c.in_ok-add_line.ensures ∙ ap (λ line. c.loop-line.lines.items ++ option_to_list (input_line c.args.names_lanes line)) c.without_carriage_return.ensures)
+    (c.in_ok-add_line.ensures ∙ ap (λ line. c.loop-line.lines.items ++ option_to_list (input_line c.args.names_lanes line)) c.without_carriage_return-line.ensures)
 
 pub returns-clause-script : goal.returns-clause-script
 returns-clause-script c =
