@@ -33,17 +33,15 @@ fn add(alloc: Global, board: &mut Board, entry: &Entry) -> Result<Receipt, PushF
 
 /// Returns the board of two streams, of which the second has a commit.
 fn small(alloc: Global) -> Result<Board, Fail> {
+    let entry = commit(alloc, 1, 0)?;
     let mut board = Board::empty();
-    for entry in [
-        Entry::Create { id: 7 },
-        Entry::Create { id: 8 },
-        commit(alloc, 1, 0)?,
-    ] {
-        if add(alloc, &mut board, &entry).is_err() {
-            return Err("an entry was refused".into());
-        }
+    let is_first = add(alloc, &mut board, &Entry::Create { id: 7 }).is_ok();
+    let is_second = add(alloc, &mut board, &Entry::Create { id: 8 }).is_ok();
+    let is_added = add(alloc, &mut board, &entry).is_ok();
+    if is_first && is_second && is_added {
+        return Ok(board);
     }
-    Ok(board)
+    Err("an entry was refused".into())
 }
 
 /// Returns the latest version of a stream and the number of its points.
@@ -120,26 +118,32 @@ fn a_snapshot_answers_as_before_after_later_commits(rt: HostRuntime) -> Result<(
     no_wrong(wrong)
 }
 
-/// What a snapshot finds for three ids, and the latest versions of three streams.
-type Streams = ([Option<u32>; 3], [Option<u64>; 3]);
+/// The number of streams in a snapshot, what it finds for three ids, and the latest versions of three streams.
+type Streams = (u32, [Option<u32>; 3], [Option<u64>; 3]);
 
-fn streams_of(snapshot: &Snapshot) -> Streams {
-    (
+fn streams_of(alloc: Global) -> Result<Streams, Fail> {
+    let snapshot = small(alloc)?.admit()?;
+    Ok((
+        snapshot.streams(),
         [snapshot.find(7), snapshot.find(8), snapshot.find(9)],
         [snapshot.latest(0), snapshot.latest(1), snapshot.latest(2)],
-    )
+    ))
+}
+
+/// The points of a stream that is not there.
+fn points_of_none(alloc: Global) -> Result<Option<(u64, usize)>, Fail> {
+    let snapshot = small(alloc)?.admit()?;
+    Ok(latest_points(alloc, &snapshot, 2)?)
 }
 
 #[test]
 fn a_snapshot_has_streams_and_versions(rt: HostRuntime) -> Result<(), Fail> {
     let alloc = rt.alloc();
-    let snapshot = small(alloc)?.admit()?;
-    let (found, latest) = streams_of(&snapshot);
-    let points = latest_points(alloc, &snapshot, 2)?;
-    assert!(rt; snapshot.streams() == 2);
+    let (streams, found, latest) = streams_of(alloc)?;
+    assert!(rt; streams == 2);
     assert!(rt; found == [Some(0), Some(1), None]);
     assert!(rt; latest == [Some(0), Some(1), None]);
-    assert!(rt; points == None);
+    assert!(rt; points_of_none(alloc)? == None);
     Ok(())
 }
 
@@ -217,13 +221,21 @@ fn add_commit(
     Ok(add(alloc, board, &entry))
 }
 
-#[test]
-fn the_last_stream_takes_commits(rt: HostRuntime) -> Result<(), Fail> {
-    let alloc = rt.alloc();
+/// The result of an entry.
+type Added = Result<Receipt, PushFault>;
+
+/// Adds a commit to a stream that is not there, and to the last one. Returns the results, and the latest versions of the last two streams.
+fn committed_to_the_last(alloc: Global) -> Result<([Added; 2], [Option<u64>; 2]), Fail> {
     let mut board = full(alloc)?;
     let refused = add_commit(alloc, &mut board, 65536)?;
     let accepted = add_commit(alloc, &mut board, 65535)?;
-    let latest = (board.latest(65534), board.latest(65535));
+    let latest = [board.latest(65534), board.latest(65535)];
+    Ok(([refused, accepted], latest))
+}
+
+#[test]
+fn the_last_stream_takes_commits(rt: HostRuntime) -> Result<(), Fail> {
+    let ([refused, accepted], latest) = committed_to_the_last(rt.alloc())?;
     let receipt = Receipt {
         number: 65537,
         stream: 65535,
@@ -231,6 +243,6 @@ fn the_last_stream_takes_commits(rt: HostRuntime) -> Result<(), Fail> {
     };
     assert!(rt; refused == Err(PushFault::Rejected(Rejection::NoStream)));
     assert!(rt; accepted == Ok(receipt));
-    assert!(rt; latest == (Some(0), Some(1)));
+    assert!(rt; latest == [Some(0), Some(1)]);
     Ok(())
 }

@@ -229,6 +229,12 @@ fn met_in_order(gate: &Marks, order: u8, a: Marker, b: Marker, c: Marker, d: Mar
     }
 }
 
+/// Whether this many entries were added, in all and by each thread.
+fn has_counted(tally: &Tally, count: u64, wanted: [u64; 8]) -> bool {
+    let by = tally.by;
+    tally.count == count && by == wanted
+}
+
 /// Counts what two and then eight threads add, each a thousand entries.
 fn counted_by_threads<R: Threads + Wait + Sync>(rt: &R, alloc: Global) -> Option<Tally> {
     let (gate, pass) = begun(alloc)?;
@@ -240,8 +246,8 @@ fn counted_by_threads<R: Threads + Wait + Sync>(rt: &R, alloc: Global) -> Option
 #[test]
 fn each_entry_of_each_thread_is_counted(rt: HostRuntime) -> Result<(), Fail> {
     let tally = counted_by_threads(&rt, rt.alloc()).ok_or("no memory")?;
-    assert!(rt; tally.count == 10_000);
-    assert!(rt; tally.by == [2000, 2000, 1000, 1000, 1000, 1000, 1000, 1000]);
+    let by = [2000, 2000, 1000, 1000, 1000, 1000, 1000, 1000];
+    assert!(rt; has_counted(&tally, 10_000, by));
     Ok(())
 }
 
@@ -260,7 +266,7 @@ fn counted_in_order<R: Wait>(rt: &R, alloc: Global, order: u8) -> Option<Tally> 
 fn first_wrong_order<R: Wait>(rt: &R, alloc: Global) -> Option<usize> {
     for order in 0..6u8 {
         match counted_in_order(rt, alloc, order) {
-            Some(tally) if tally.count == 9 && tally.by == [3, 0, 5, 0, 0, 0, 0, 1] => {}
+            Some(tally) if has_counted(&tally, 9, [3, 0, 5, 0, 0, 0, 0, 1]) => {}
             _ => return Some(usize::from(order)),
         }
     }

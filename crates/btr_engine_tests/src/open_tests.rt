@@ -123,16 +123,19 @@ fn new_entries(alloc: Global) -> Result<u64, Fail> {
     Ok(engine.entries())
 }
 
+/// Returns the results of those steps, and the latest version of stream 0 and the number of its points after them.
+fn stepped_and_found(alloc: Global) -> Result<([Stepped; 4], (u64, usize)), Fail> {
+    let (engine, stepped) = three_entries(alloc)?;
+    Ok((stepped, latest(alloc, &engine)?))
+}
+
 #[test]
 fn each_accepted_entry_has_its_receipt(rt: HostRuntime) -> Result<(), Fail> {
     let alloc = rt.alloc();
     assert!(rt; new_entries(alloc)? == 0);
-    let (engine, stepped) = three_entries(alloc)?;
-    let found = latest(alloc, &engine)?;
-    let [first, second, third, again] = stepped;
-    assert!(rt; (first, second) == (receipt(1, 0, 0), receipt(2, 1, 0)));
-    assert!(rt; third == receipt(3, 0, 1));
-    assert!(rt; again == Err(StepFault::Rejected(Rejection::StreamExists)));
+    let (stepped, found) = stepped_and_found(alloc)?;
+    let exists = Err(StepFault::Rejected(Rejection::StreamExists));
+    assert!(rt; stepped == [receipt(1, 0, 0), receipt(2, 1, 0), receipt(3, 0, 1), exists]);
     assert!(rt; found == (1, 3));
     Ok(())
 }
@@ -489,6 +492,12 @@ fn add(alloc: Global, engine: &mut Engine<MemDisk>, entry: &Entry) -> Result<(),
     }
 }
 
+/// Adds the entry at this index of that history.
+fn add_at(alloc: Global, engine: &mut Engine<MemDisk>, index: u32) -> Result<(), Fail> {
+    let entry = entry_at(alloc, index)?;
+    add(alloc, engine, &entry)
+}
+
 /// Returns a snapshot of an engine of those six entries.
 fn snapshot_of_six(alloc: Global) -> Result<Snapshot, Fail> {
     let capacity = Capacity {
@@ -497,7 +506,7 @@ fn snapshot_of_six(alloc: Global) -> Result<Snapshot, Fail> {
     };
     let mut engine = opened(alloc, whole_store(alloc, capacity)?)?;
     for index in 0..6 {
-        add(alloc, &mut engine, &entry_at(alloc, index)?)?;
+        add_at(alloc, &mut engine, index)?;
     }
     Ok(engine.admit()?)
 }
@@ -659,6 +668,12 @@ fn with_commits(alloc: Global, engine: Engine<MemDisk>, count: u32) -> Option<En
     Some(engine)
 }
 
+/// Adds a commit of three points.
+fn add_points(alloc: Global, engine: &mut Engine<MemDisk>) -> Result<(), Fail> {
+    let entry = insert(alloc, 3)?;
+    add(alloc, engine, &entry)
+}
+
 /// Returns an engine with a stream and a commit of three points. Its device keeps a record of many calls.
 fn one_commit(alloc: Global) -> Result<Engine<MemDisk>, Fail> {
     let capacity = Capacity {
@@ -667,7 +682,7 @@ fn one_commit(alloc: Global) -> Result<Engine<MemDisk>, Fail> {
     };
     let mut engine = opened(alloc, whole_store(alloc, capacity)?)?;
     add(alloc, &mut engine, &Entry::Create { id: 7 })?;
-    add(alloc, &mut engine, &insert(alloc, 3)?)?;
+    add_points(alloc, &mut engine)?;
     Ok(engine)
 }
 
@@ -753,11 +768,17 @@ fn derived_at(alloc: Global, index: u32) -> Result<Entry, Fail> {
     }
 }
 
+/// Adds the entry at this index of that history.
+fn add_derived(alloc: Global, engine: &mut Engine<MemDisk>, index: u32) -> Result<(), Fail> {
+    let entry = derived_at(alloc, index)?;
+    add(alloc, engine, &entry)
+}
+
 /// Returns an engine of that history. Its extents have two blocks each, from block 4 on.
 fn with_output(alloc: Global) -> Result<Engine<MemDisk>, Fail> {
     let mut engine = opened(alloc, whole_store(alloc, CAPACITY)?)?;
     for index in 0..6 {
-        add(alloc, &mut engine, &derived_at(alloc, index)?)?;
+        add_derived(alloc, &mut engine, index)?;
     }
     Ok(engine)
 }
@@ -872,14 +893,28 @@ fn step_user(alloc: Global, engine: &mut Engine<MemDisk>) -> Result<Stepped, Fai
     Ok(step(alloc, engine, &entry))
 }
 
-#[test]
-fn an_output_takes_the_next_distillate_alone(rt: HostRuntime) -> Result<(), Fail> {
-    let alloc = rt.alloc();
+/// Adds the distillates and the user's commit. Returns the engine, the number of the first distillate that is not rejected, and the result
+/// of the commit.
+fn refused(alloc: Global) -> Result<(Engine<MemDisk>, Option<usize>, Stepped), Fail> {
     let mut engine = with_output(alloc)?;
     let wrong = first_not_rejected(alloc, &mut engine)?;
     let user = step_user(alloc, &mut engine)?;
+    Ok((engine, wrong, user))
+}
+
+/// Returns whether an engine has the stream and the output.
+fn engine_has_output(alloc: Global, engine: Engine<MemDisk>) -> Result<bool, AllocError> {
+    let snapshot = engine.admit()?;
+    has_output(alloc, &snapshot)
+}
+
+#[test]
+fn an_output_takes_the_next_distillate_alone(rt: HostRuntime) -> Result<(), Fail> {
+    let alloc = rt.alloc();
+    let (engine, wrong, user) = refused(alloc)?;
+    let has_output = engine_has_output(alloc, engine)?;
     assert!(rt; user == Err(StepFault::Rejected(Rejection::NotWritable)));
-    assert!(rt; has_output(alloc, &engine.admit()?)?);
+    assert!(rt; has_output);
     no_wrong(wrong)
 }
 

@@ -54,18 +54,24 @@ fn add(alloc: Global, board: &mut Board, entry: &Entry) -> Result<(), Fail> {
     }
 }
 
+/// Adds the entry at this index of a small history.
+fn add_at(alloc: Global, board: &mut Board, index: u32) -> Result<(), Fail> {
+    let entry = match index {
+        0 => Entry::Create { id: 7 },
+        1 => output(8, Kernel::Sum, 10, 0, None),
+        2 => Entry::Create { id: 9 },
+        3 => output(10, Kernel::Minus, 0, 0, Some(2)),
+        _ => insert(alloc, 0, &[(0, 10), (10, 20), (20, 30)])?,
+    };
+    add(alloc, board, &entry)
+}
+
 /// Streams 0 and 2 are plain, stream 1 has the sums of stream 0 over 10 ns, and stream 3 has the differences of streams 0 and 2.
 /// Stream 0 has one commit, and the others have none.
 fn small(alloc: Global) -> Result<Board, Fail> {
     let mut board = Board::empty();
-    for entry in [
-        Entry::Create { id: 7 },
-        output(8, Kernel::Sum, 10, 0, None),
-        Entry::Create { id: 9 },
-        output(10, Kernel::Minus, 0, 0, Some(2)),
-        insert(alloc, 0, &[(0, 10), (10, 20), (20, 30)])?,
-    ] {
-        add(alloc, &mut board, &entry)?;
+    for index in 0..5 {
+        add_at(alloc, &mut board, index)?;
     }
     Ok(board)
 }
