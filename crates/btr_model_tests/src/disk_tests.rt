@@ -1,8 +1,8 @@
 //! The calls of the device in memory and of the fuse, and each generic function over them.
 ghost use Rattle.std.specs.Prelude.{◌≡◌, IfOk, length};
 
+use btr_disk::laws::{sync_and_write, write_elsewhere, write_sync_read, write_two, write_unsynced};
 use btr_disk::*;
-use btr_disk::{sync_and_write, write_elsewhere, write_sync_read, write_two, write_unsynced};
 use std::alloc::{AllocError, Global};
 use std::process::Abort;
 use std::test::Fail;
