@@ -1,6 +1,6 @@
 //! Trails and indexes against plain lists, also after later changes and while another thread makes them.
-use btr_board::Index;
-use btr_board::Trail;
+use super::fixture::{Row, all_hold};
+use btr_board::{Index, Trail};
 use std::alloc::{AllocError, Global};
 use std::test::Fail;
 use std::thread;
@@ -59,65 +59,106 @@ fn is_set(
     Ok(is_list(&changed, &other, other.len()) && is_list(trail, plain, plain.len()))
 }
 
+/// Whether each of a few sets changes a new trail alone.
+fn are_set(alloc: Global, trail: &Trail<u64>, plain: &[u64]) -> Result<bool, AllocError> {
+    let len = plain.len();
+    for place in [0, 31, len / 2, len.saturating_sub(1)] {
+        if place < len && !is_set(alloc, trail, plain, place)? {
+            return Ok(false);
+        }
+    }
+    Ok(true)
+}
+
 #[test]
 fn trails_and_plain_lists(rt: HostRuntime) -> Result<(), Fail> {
-    let alloc = rt.alloc();
-    let mut plain = Vec::new(alloc);
+    let mut plain = Vec::new(rt.alloc());
     let mut trail = Trail::empty();
-    let mut old = Vec::new(alloc);
     assert!(rt; is_list(&trail, &plain, 0));
     for len in LENGTHS {
-        trail = grown(alloc, trail, &mut plain, len)?;
-        assert!(rt; is_list(&trail, &plain, len), "{len}");
-        for place in [0, 31, len / 2, len.saturating_sub(1)] {
-            if place < len {
-                assert!(rt; is_set(alloc, &trail, &plain, place)?, "{place} of {len}");
-            }
-        }
-        old.push(trail.share()?)?;
-    }
-    for (trail, len) in old.iter().zip(LENGTHS) {
-        assert!(rt; is_list(trail, &plain, len), "{len}");
+        trail = grown(rt.alloc(), trail, &mut plain, len)?;
+        assert!(rt; is_list(&trail, &plain, len));
+        assert!(rt; are_set(rt.alloc(), &trail, &plain)?);
     }
     Ok(())
+}
+
+/// The trails of all lengths, each grown from the one before.
+fn trails(alloc: Global, plain: &mut Vec<u64>) -> Result<Vec<Trail<u64>>, Fail> {
+    let mut all = Vec::new(alloc);
+    let mut last = Trail::empty();
+    for len in LENGTHS {
+        last = grown(alloc, last, plain, len)?;
+        all.push(last.share()?)?;
+    }
+    Ok(all)
+}
+
+#[test]
+fn old_trails_stay(rt: HostRuntime) -> Result<(), Fail> {
+    let mut plain = Vec::new(rt.alloc());
+    let all = trails(rt.alloc(), &mut plain)?;
+    assert!(rt; all.len() == LENGTHS.len());
+    for (trail, len) in all.iter().zip(LENGTHS) {
+        assert!(rt; is_list(trail, &plain, len));
+    }
+    Ok(())
+}
+
+/// A trail of 1000 items, one that is shared with it, and a plain list for each.
+#[derive(Drop)]
+struct Shared {
+    trail: Trail<u64>,
+    plain: Vec<u64>,
+    old: Trail<u64>,
+    longer: Vec<u64>,
+}
+
+fn two_trails(alloc: Global) -> Result<Shared, Fail> {
+    let mut plain = Vec::new(alloc);
+    let trail = grown(alloc, Trail::empty(), &mut plain, 1000)?;
+    let longer = Vec::from_slice(alloc, &plain)?;
+    let old = trail.share()?;
+    Ok(Shared {
+        trail,
+        plain,
+        old,
+        longer,
+    })
+}
+
+/// Whether a trail that grows to 1100 items is set as a plain list is.
+fn is_grown_and_set(alloc: Global, trail: Trail<u64>, plain: Vec<u64>) -> Result<bool, AllocError> {
+    let mut plain = plain;
+    let new = grown(alloc, trail, &mut plain, 1100)?;
+    is_set(alloc, &new, &plain, 999)
 }
 
 #[test]
 fn an_old_trail_while_another_thread_pushes(rt: HostRuntime) -> Result<(), Fail> {
     let alloc = rt.alloc();
-    let mut plain = Vec::new(alloc);
-    let trail = grown(alloc, Trail::empty(), &mut plain, 1000)?;
-    let mut longer = Vec::from_slice(alloc, &plain)?;
-    let old = trail.share()?;
+    let Shared {
+        trail,
+        plain,
+        old,
+        longer,
+    } = two_trails(alloc)?;
     let (here, there) = thread::join(
         &rt,
         || is_list(&trail, &plain, 1000),
-        move || {
-            let new = grown(alloc, old, &mut longer, 1100)?;
-            is_set(alloc, &new, &longer, 999)
-        },
+        move || is_grown_and_set(alloc, old, longer),
     );
-    assert!(rt; here);
-    assert!(rt; there?);
+    assert!(rt; here && there?);
     assert!(rt; is_list(&trail, &plain, 1000));
     Ok(())
 }
 
-/// Ids: the i-th is `first + i * step` modulo 2^128.
+/// Ids: the i-th is the first number plus i times the second, modulo 2^128.
 #[derive(Clone, Copy)]
-struct Family {
-    first: u128,
-    step: u128,
-}
-
-fn ids_from(first: u128, step: u128) -> Family {
-    Family { first, step }
-}
+struct Family(u128, u128);
 
 fn id_of(family: Family, i: u32) -> u128 {
-    family
-        .first
-        .wrapping_add(family.step.wrapping_mul(u128::from(i)))
+    family.0.wrapping_add(family.1.wrapping_mul(u128::from(i)))
 }
 
 /// The number of the last pair with this id.
@@ -177,34 +218,56 @@ fn is_replaced(
     Ok(is_map(&changed, &other, family, count) && is_map(index, pairs, family, count))
 }
 
-#[test]
-fn indexes_and_plain_pairs(rt: HostRuntime) -> Result<(), Fail> {
-    let alloc = rt.alloc();
-    for family in [
-        // 1, 2, 3, ..
-        ids_from(1, 1),
-        // ids with the same 118 high bits, with the same 64 low bits, and with the same 112 low bits
-        ids_from(43981 << 112, 1),
-        ids_from(9, 1 << 64),
-        ids_from(9, 1 << 112),
-        // ids whose hashes have the same 118 high bits
-        ids_from(0, UNSCATTER),
-    ] {
-        let mut pairs = Vec::new(alloc);
-        let mut index = Index::empty();
+/// Whether an index that grows is as plain pairs are, and the one before stays.
+fn is_grown(
+    alloc: Global,
+    index: &Index,
+    pairs: &[(u128, u32)],
+    family: Family,
+    from: u32,
+    count: u32,
+) -> Result<bool, Fail> {
+    let mut longer = Vec::from_slice(alloc, pairs)?;
+    let new = inserted(alloc, index.share()?, &mut longer, family, from, count)?;
+    Ok(
+        is_map(&new, &longer, family, count)
+            && is_map(index, pairs, family, count)
+            && is_replaced(alloc, &new, &longer, family, count)?,
+    )
+}
+
+/// Whether an index of the first `from` ids can grow to `count`.
+fn can_grow(alloc: Global, family: Family, from: u32, count: u32) -> Result<bool, Fail> {
+    let mut pairs = Vec::new(alloc);
+    let index = inserted(alloc, Index::empty(), &mut pairs, family, 0, from)?;
+    is_grown(alloc, &index, &pairs, family, from, count)
+}
+
+impl Row for Family {
+    fn holds(&self, alloc: Global) -> Result<bool, Fail> {
         let mut from = 0;
         for count in COUNTS {
-            let before = index.share()?;
-            let plain = Vec::from_slice(alloc, &pairs)?;
-            index = inserted(alloc, index, &mut pairs, family, from, count)?;
-            assert!(rt; is_map(&index, &pairs, family, count), "{count}");
-            assert!(rt; is_map(&before, &plain, family, count), "{count}");
-            assert!(rt;
-                is_replaced(alloc, &index, &pairs, family, count)?,
-                "{count}"
-            );
+            if !can_grow(alloc, *self, from, count)? {
+                return Ok(false);
+            }
             from = count;
         }
+        Ok(true)
     }
-    Ok(())
+}
+
+const FAMILIES: &[Family] = &[
+    // 1, 2, 3, ..
+    Family(1, 1),
+    // ids with the same 118 high bits, with the same 64 low bits, and with the same 112 low bits
+    Family(43981 << 112, 1),
+    Family(9, 1 << 64),
+    Family(9, 1 << 112),
+    // ids whose hashes have the same 118 high bits
+    Family(0, UNSCATTER),
+];
+
+#[test]
+fn indexes_and_plain_pairs(rt: HostRuntime) -> Result<(), Fail> {
+    all_hold(rt.alloc(), FAMILIES)
 }

@@ -1,12 +1,20 @@
 //! Worked examples of the format, and bytes that are refused.
+ghost use Rattle.btr_entry.specs.Grammar.{IsWithinBounds};
 
-use btr_entry::decode;
-use btr_entry::{encode, spelling_length};
-use btr_entry::one_spelling;
-use btr_base::{Bag, END, FIRST, Point, Range, Ranges};
+use super::fixture::{Row, all_hold};
+use btr_base::{END, FIRST, Point};
+use btr_entry::{decode, encode, one_spelling, spelling_length};
 use btr_hist::{Entry, Kernel, Reads, Spec};
 use std::alloc::{AllocError, Global};
 use std::test::Fail;
+
+/// Bytes, and lists of bytes.
+type Bytes = &'static [u8];
+
+type Parts = &'static [&'static [u8]];
+
+/// Points as pairs of a time and a value, and ranges as pairs of bounds.
+type Pairs = &'static [(i64, i64)];
 
 /// The bytes of a create.
 const CREATE: [u8; 17] = [
@@ -31,7 +39,19 @@ const INSERT: [u8; 69] = [
     0, 0, 0, 0, 0, 0, 0, 4, 0xff, 0xff, 0xff, 0xff, 0xff, 0xff, 0xff, 0xfe,
 ];
 
-/// The bytes of the definition of an output: the sum over the last 10 ns of stream 0.
+/// The id of the output that `DEFINE` defines.
+const OUTPUT: u128 = 0x33333333_3333_4333_8333_333333333333;
+
+/// The sum over the last 10 ns of stream 0.
+const SUM: Spec = Spec {
+    kernel: Kernel::Sum,
+    lead: 10,
+    grain: 0,
+    first: 0,
+    second: None,
+};
+
+/// The bytes of the definition of `OUTPUT` as `SUM`.
 const DEFINE: [u8; 32] = [
     3, 0x33, 0x33, 0x33, 0x33, 0x33, 0x33, 0x43, 0x33, 0x83, 0x33, 0x33, 0x33, 0x33, 0x33, 0x33,
     0x33, // kind and id
@@ -39,6 +59,15 @@ const DEFINE: [u8; 32] = [
     0, 0, 0, 0, 0, 0, 0, 10, // lead
     0, // grain
     1, 0, 0, 0, 0, // inputs
+];
+
+/// The points of `DISTILLATE`.
+const DISTILLED: [Point; 2] = [
+    Point { time: 5, value: 11 },
+    Point {
+        time: 10,
+        value: 31,
+    },
 ];
 
 /// The bytes of a distillate of stream 1, from version 2 of its input, with one range and two points.
@@ -52,16 +81,50 @@ const DISTILLATE: [u8; 78] = [
     0, 0, 0, 0, 0, 0, 0, 10, 0, 0, 0, 0, 0, 0, 0, 31,
 ];
 
-/// Returns the bytes of a commit to stream 258 with these ranges and points, in this order.
-fn commit(
-    alloc: Global,
-    ranges: &[(i64, i64)],
-    points: &[(i64, i64)],
-) -> Result<Vec<u8>, AllocError> {
-    let mut bytes = Vec::from_slice(alloc, &[2, 0, 0, 1, 2])?;
-    push_pairs(&mut bytes, ranges)?;
-    push_pairs(&mut bytes, points)?;
-    Ok(bytes)
+/// Whether the spelling of an entry is these bytes.
+fn is_spelling(alloc: Global, entry: &Entry, bytes: &[u8]) -> Result<bool, AllocError>
+    requires { IsWithinBounds entry.now }
+{
+    let length = spelling_length(entry);
+    let again = encode(alloc, entry)?;
+    Ok(again.as_slice() == bytes && length == bytes.len() as u64)
+}
+
+/// Whether bytes are those of an entry whose spelling they are (if `is_entry`), or those of none.
+fn is_read(alloc: Global, bytes: &[u8], is_entry: bool) -> Result<bool, AllocError> {
+    match decode(alloc, bytes)? {
+        Some(entry) => Ok(is_entry && is_spelling(alloc, &entry, bytes)?),
+        None => Ok(!is_entry),
+    }
+}
+
+#[test]
+fn create_has_its_spelling(rt: HostRuntime) -> Result<(), Fail> {
+    let entry = Entry::Create {
+        id: 0x11111111_1111_4111_8111_111111111111,
+    };
+    assert!(rt; is_spelling(rt.alloc(), &entry, &CREATE)?);
+    assert!(rt; is_read(rt.alloc(), &CREATE, true)?);
+    one_spelling();
+    Ok(())
+}
+
+/// Whether an entry is the commit that adds `POINTS` to stream 0.
+fn is_insert(entry: &Entry) -> bool {
+    match entry {
+        Entry::Commit { stream, cut, added } => {
+            *stream == 0 && cut.as_slice().is_empty() && added.as_slice() == POINTS.as_slice()
+        }
+        _ => false,
+    }
+}
+
+#[test]
+fn insert_has_its_spelling(rt: HostRuntime) -> Result<(), Fail> {
+    let entry = decode(rt.alloc(), &INSERT)?;
+    assert!(rt; entry.is_some_and(|entry| is_insert(&entry)));
+    assert!(rt; is_read(rt.alloc(), &INSERT, true)?);
+    Ok(())
 }
 
 /// Appends the number of pairs and each pair.
@@ -74,143 +137,97 @@ fn push_pairs(bytes: &mut Vec<u8>, pairs: &[(i64, i64)]) -> Result<(), AllocErro
     Ok(())
 }
 
-/// Returns whether the bytes are those of no entry.
-fn is_refused(alloc: Global, bytes: &[u8]) -> Result<bool, AllocError> {
-    Ok(decode(alloc, bytes)?.is_none())
-}
+/// The ranges and the points of a commit to stream 258, in the order of its bytes, and whether it is an entry.
+struct Commit(Pairs, Pairs, bool);
 
-/// Returns whether the bytes are those of an entry whose spelling is these bytes.
-fn round_trips(alloc: Global, bytes: &[u8]) -> Result<bool, AllocError> {
-    match decode(alloc, bytes)? {
-        Some(entry) => {
-            let length = spelling_length(&entry);
-            let again = encode(alloc, &entry)?;
-            Ok(again.as_slice() == bytes && length == bytes.len() as u64)
-        }
-        None => Ok(false),
+impl Row for Commit {
+    fn holds(&self, alloc: Global) -> Result<bool, Fail> {
+        let mut bytes = Vec::from_slice(alloc, &[2, 0, 0, 1, 2])?;
+        push_pairs(&mut bytes, self.0)?;
+        push_pairs(&mut bytes, self.1)?;
+        Ok(is_read(alloc, &bytes, self.2)?)
     }
 }
 
-#[test]
-fn create_has_its_spelling(rt: HostRuntime) -> Result<(), Fail> {
-    let entry = Entry::Create {
-        id: 0x11111111_1111_4111_8111_111111111111,
-    };
-    let bytes = encode(rt.alloc(), &entry)?;
-    assert_eq!(rt; bytes.as_slice(), CREATE.as_slice());
-    assert_eq!(rt; spelling_length(&entry), 17);
-    assert!(rt; round_trips(rt.alloc(), &CREATE)?);
-    one_spelling();
-    Ok(())
-}
-
-#[test]
-fn insert_round_trips(rt: HostRuntime) -> Result<(), Fail> {
-    let entry = decode(rt.alloc(), &INSERT)?.ok_or("the bytes are no entry")?;
-    match &entry {
-        Entry::Commit { stream, cut, added } => {
-            assert_eq!(rt; *stream, 0);
-            assert!(rt; cut.as_slice().is_empty());
-            assert_eq!(rt; added.as_slice(), POINTS.as_slice());
-        }
-        _ => return Err("the bytes are no commit".into()),
-    }
-    assert!(rt; round_trips(rt.alloc(), &INSERT)?);
-    Ok(())
-}
+const COMMITS: &[Commit] = &[
+    Commit(&[(FIRST, END)], &[], true),
+    Commit(&[(0, 1), (2, 3)], &[(FIRST, 0), (END - 1, -1)], true),
+    Commit(&[], &[(7, 1), (7, 1), (7, 2)], true),
+];
 
 #[test]
 fn commits_at_the_bounds_are_read(rt: HostRuntime) -> Result<(), Fail> {
-    for (ranges, points) in [
-        ([(FIRST, END)].as_slice(), [].as_slice()),
-        (&[(0, 1), (2, 3)], &[(FIRST, 0), (END - 1, -1)]),
-        (&[], &[(7, 1), (7, 1), (7, 2)]),
-    ] {
-        let bytes = commit(rt.alloc(), ranges, points)?;
-        assert!(rt; round_trips(rt.alloc(), bytes.as_slice())?);
-    }
-    Ok(())
+    all_hold(rt.alloc(), COMMITS)
 }
+
+const NO_COMMITS: &[Commit] = &[
+    // Points out of order, by time and by value.
+    Commit(&[], &[(3, 7), (0, 5)], false),
+    Commit(&[], &[(3, 7), (3, 5)], false),
+    // Points outside the domain.
+    Commit(&[], &[(FIRST - 1, 0)], false),
+    Commit(&[], &[(END, 0)], false),
+    // Ranges that are empty, touch, are out of order or end after the domain.
+    Commit(&[(5, 5)], &[], false),
+    Commit(&[(0, 1), (1, 2)], &[], false),
+    Commit(&[(4, 5), (0, 1)], &[], false),
+    Commit(&[(0, END + 1)], &[], false),
+    // Nothing to do.
+    Commit(&[], &[], false),
+];
 
 #[test]
 fn commits_outside_the_grammar_are_refused(rt: HostRuntime) -> Result<(), Fail> {
-    for (ranges, points) in [
-        // Points out of order, by time and by value.
-        ([].as_slice(), [(3, 7), (0, 5)].as_slice()),
-        (&[], &[(3, 7), (3, 5)]),
-        // Points outside the domain.
-        (&[], &[(FIRST - 1, 0)]),
-        (&[], &[(END, 0)]),
-        // Ranges that are empty, touch, are out of order or end after the domain.
-        (&[(5, 5)], &[]),
-        (&[(0, 1), (1, 2)], &[]),
-        (&[(4, 5), (0, 1)], &[]),
-        (&[(0, END + 1)], &[]),
-        // Nothing to do.
-        (&[], &[]),
-    ] {
-        let bytes = commit(rt.alloc(), ranges, points)?;
-        assert!(rt; is_refused(rt.alloc(), bytes.as_slice())?);
+    all_hold(rt.alloc(), NO_COMMITS)
+}
+
+/// The id and the spec of the output that bytes define.
+fn defined(alloc: Global, bytes: &[u8]) -> Result<Option<(u128, Spec)>, AllocError> {
+    match decode(alloc, bytes)? {
+        Some(Entry::Define { id, spec }) => Ok(Some((id, spec))),
+        _ => Ok(None),
     }
-    Ok(())
 }
 
 #[test]
 fn definition_has_its_spelling(rt: HostRuntime) -> Result<(), Fail> {
-    let id = 0x33333333_3333_4333_8333_333333333333;
-    let spec = Spec {
-        kernel: Kernel::Sum,
-        lead: 10,
-        grain: 0,
-        first: 0,
-        second: None,
+    let entry = Entry::Define {
+        id: OUTPUT,
+        spec: SUM,
     };
-    let bytes = encode(rt.alloc(), &Entry::Define { id, spec })?;
-    assert_eq!(rt; bytes.as_slice(), DEFINE.as_slice());
-    match decode(rt.alloc(), &DEFINE)? {
-        Some(
-            Entry::Define {
-                id: found,
-                spec: read,
-            },
-        ) => {
-            assert_eq!(rt; found, id);
-            assert_eq!(rt; read, spec);
-        }
-        _ => return Err("the bytes define no output".into()),
-    }
-    assert!(rt; round_trips(rt.alloc(), &DEFINE)?);
+    assert!(rt; is_spelling(rt.alloc(), &entry, &DEFINE)?);
+    assert!(rt; defined(rt.alloc(), &DEFINE)? == Some((OUTPUT, SUM)));
+    assert!(rt; is_read(rt.alloc(), &DEFINE, true)?);
     Ok(())
+}
+
+/// Whether an entry is the distillate with the bytes `DISTILLATE`.
+fn is_distillate(entry: &Entry) -> bool {
+    match entry {
+        Entry::Distillate {
+            stream,
+            cut,
+            added,
+            reads,
+        } => {
+            let [range] = cut.as_slice() else {
+                return false;
+            };
+            *stream == 1
+                && (range.from, range.to) == (5, 16)
+                && added.as_slice() == DISTILLED.as_slice()
+                && (reads.first, reads.second) == (2, None)
+        }
+        _ => false,
+    }
 }
 
 #[test]
 fn distillate_has_its_spelling(rt: HostRuntime) -> Result<(), Fail> {
-    match decode(rt.alloc(), &DISTILLATE)? {
-        Some(
-            Entry::Distillate {
-                stream,
-                cut,
-                added,
-                reads,
-            },
-        ) => {
-            assert_eq!(rt; stream, 1);
-            let range = Range::new(5, 16).ok_or("no range")?;
-            assert_eq!(rt; cut.as_slice(), [range].as_slice());
-            let points = [
-                Point { time: 5, value: 11 },
-                Point {
-                    time: 10,
-                    value: 31,
-                },
-            ];
-            assert_eq!(rt; added.as_slice(), points.as_slice());
-            assert_eq!(rt; (reads.first, reads.second), (2, None));
-        }
-        _ => return Err("the bytes are no distillate".into()),
-    }
+    let entry = decode(rt.alloc(), &DISTILLATE)?;
+    assert!(rt; entry.is_some_and(|entry| is_distillate(&entry)));
     // and so the entry is written as these bytes
-    assert!(rt; round_trips(rt.alloc(), &DISTILLATE)?);
+    assert!(rt; is_read(rt.alloc(), &DISTILLATE, true)?);
     Ok(())
 }
 
@@ -246,67 +263,105 @@ const ONE: [u8; 5] = [1, 0, 0, 1, 2];
 
 const TWO: [u8; 9] = [2, 0, 0, 1, 2, 0, 0, 1, 2];
 
+/// The number of a kernel and whether it has two inputs: it is not read with the other number of inputs.
+struct Inputs(u8, bool);
+
+impl Row for Inputs {
+    fn holds(&self, alloc: Global) -> Result<bool, Fail> {
+        let one = define(alloc, &[&[self.0], &LEAD, &[62], &ONE])?;
+        let two = define(alloc, &[&[self.0], &LEAD, &[62], &TWO])?;
+        Ok(is_read(alloc, &one, !self.1)? && is_read(alloc, &two, self.1)?)
+    }
+}
+
+const INPUTS: &[Inputs] = &[
+    Inputs(2, false),
+    Inputs(3, false),
+    Inputs(4, false),
+    Inputs(5, false),
+    Inputs(6, false),
+    Inputs(7, false),
+    Inputs(8, true),
+    Inputs(9, true),
+    Inputs(10, true),
+];
+
 #[test]
 fn each_kernel_is_read_with_its_inputs(rt: HostRuntime) -> Result<(), Fail> {
-    for kernel in [2, 3, 4, 5, 6, 7] {
-        let one = define(rt.alloc(), &[&[kernel], &LEAD, &[62], &ONE])?;
-        assert!(rt; round_trips(rt.alloc(), one.as_slice())?, "at {kernel}");
-        let two = define(rt.alloc(), &[&[kernel], &LEAD, &[62], &TWO])?;
-        assert!(rt; is_refused(rt.alloc(), two.as_slice())?, "at {kernel}");
-    }
-    for kernel in [8, 9, 10] {
-        let two = define(rt.alloc(), &[&[kernel], &LEAD, &[62], &TWO])?;
-        assert!(rt; round_trips(rt.alloc(), two.as_slice())?, "at {kernel}");
-        let one = define(rt.alloc(), &[&[kernel], &LEAD, &[62], &ONE])?;
-        assert!(rt; is_refused(rt.alloc(), one.as_slice())?, "at {kernel}");
-    }
-    let affine = define(rt.alloc(), &[&AFFINE, &LEAD, &[62], &ONE])?;
-    assert!(rt; round_trips(rt.alloc(), affine.as_slice())?);
-    match decode(rt.alloc(), affine.as_slice())? {
-        Some(Entry::Define { spec, .. }) => {
-            let kernel = Kernel::Affine { a: -1, b: -2, d: 1 };
-            assert_eq!(rt; spec.kernel, kernel);
-            assert_eq!(rt; spec.lead, 1152921504606846976);
-            assert_eq!(rt; spec.grain, 62);
-            assert_eq!(rt; spec.first, 258);
-            assert_eq!(rt; spec.second, None);
-        }
-        _ => return Err("the bytes define no output".into()),
-    }
+    all_hold(rt.alloc(), INPUTS)
+}
+
+#[test]
+fn each_number_of_a_definition_is_read(rt: HostRuntime) -> Result<(), Fail> {
+    let bytes = define(rt.alloc(), &[&AFFINE, &LEAD, &[62], &ONE])?;
+    let spec = Spec {
+        kernel: Kernel::Affine { a: -1, b: -2, d: 1 },
+        lead: 1152921504606846976,
+        grain: 62,
+        first: 258,
+        second: None,
+    };
+    assert!(rt; is_read(rt.alloc(), &bytes, true)?);
+    assert!(rt; defined(rt.alloc(), &bytes)? == Some((OUTPUT, spec)));
     Ok(())
 }
+
+/// The parts of a spec that is none.
+struct NoSpec(Parts);
+
+impl Row for NoSpec {
+    fn holds(&self, alloc: Global) -> Result<bool, Fail> {
+        let bytes = define(alloc, self.0)?;
+        Ok(is_read(alloc, &bytes, false)?)
+    }
+}
+
+const NO_LEAD: [u8; 8] = [0; 8];
+
+const NO_SPECS: &[NoSpec] = &[
+    // Kernels that do not exist, and a divisor of 0.
+    NoSpec(&[&[0], &NO_LEAD, &[0], &ONE]),
+    NoSpec(&[&[11], &NO_LEAD, &[0], &ONE]),
+    NoSpec(&[&[255], &NO_LEAD, &[0], &ONE]),
+    NoSpec(&[&DIVISOR_0, &NO_LEAD, &[0], &ONE]),
+    // A lead and a grain that are too great.
+    NoSpec(&[&[2], &LONGER, &[0], &ONE]),
+    NoSpec(&[&[2], &NO_LEAD, &[63], &ONE]),
+    // No input, three inputs, and a byte too few or too many.
+    NoSpec(&[&[2], &NO_LEAD, &[0], &[0]]),
+    NoSpec(&[
+        &[8],
+        &NO_LEAD,
+        &[0],
+        &[3, 0, 0, 0, 0, 0, 0, 0, 0, 0, 0, 0, 0],
+    ]),
+    NoSpec(&[&[2], &NO_LEAD, &[0], &[1, 0, 0, 1]]),
+    NoSpec(&[&[8], &NO_LEAD, &[0], &[2, 0, 0, 1, 2, 0, 0, 1]]),
+    NoSpec(&[&[2], &NO_LEAD, &[0], &[1, 0, 0, 0, 0, 0]]),
+    NoSpec(&[&[2], &NO_LEAD, &[], &[]]),
+    NoSpec(&[&[1], &NO_LEAD, &[0], &[]]),
+    // No spec at all.
+    NoSpec(&[]),
+];
 
 #[test]
 fn definitions_outside_the_grammar_are_refused(rt: HostRuntime) -> Result<(), Fail> {
-    let none = [0; 8];
-    for parts in [
-        // Kernels that do not exist, and a divisor of 0.
-        [[0].as_slice(), &none, &[0], &ONE],
-        [&[11], &none, &[0], &ONE],
-        [&[255], &none, &[0], &ONE],
-        [&DIVISOR_0, &none, &[0], &ONE],
-        // A lead and a grain that are too great.
-        [&[2], &LONGER, &[0], &ONE],
-        [&[2], &none, &[63], &ONE],
-        // No input, three inputs, and a byte too few or too many.
-        [&[2], &none, &[0], &[0]],
-        [&[8], &none, &[0], &[3, 0, 0, 0, 0, 0, 0, 0, 0, 0, 0, 0, 0]],
-        [&[2], &none, &[0], &ONE[..4]],
-        [&[8], &none, &[0], &TWO[..8]],
-        [&[2], &none, &[0], &[1, 0, 0, 0, 0, 0]],
-        [&[2], &none, &[], &[]],
-        [&[1], &none, &[0], &[]],
-    ] {
-        let bytes = define(rt.alloc(), &parts)?;
-        assert!(rt; is_refused(rt.alloc(), bytes.as_slice())?);
+    assert!(rt; is_read(rt.alloc(), &DEFINE[..16], false)?);
+    all_hold(rt.alloc(), NO_SPECS)
+}
+
+/// The reads of a distillate of stream 1 with neither ranges nor points, and whether it is an entry.
+struct Distillate(Bytes, bool);
+
+impl Row for Distillate {
+    fn holds(&self, alloc: Global) -> Result<bool, Fail> {
+        let bytes = bytes_with(alloc, self.0)?;
+        Ok(is_read(alloc, &bytes, self.1)?)
     }
-    assert!(rt; is_refused(rt.alloc(), &DEFINE[..16])?);
-    assert!(rt; is_refused(rt.alloc(), &DEFINE[..17])?);
-    Ok(())
 }
 
 /// Returns the bytes of a distillate of stream 1 with these reads, and with neither ranges nor points.
-fn distillate(alloc: Global, reads: &[u8]) -> Result<Vec<u8>, AllocError> {
+fn bytes_with(alloc: Global, reads: &[u8]) -> Result<Vec<u8>, AllocError> {
     let mut bytes = Vec::from_slice(alloc, &DISTILLATE[..5])?;
     bytes.extend_from_slice(reads)?;
     push_pairs(&mut bytes, &[])?;
@@ -314,101 +369,115 @@ fn distillate(alloc: Global, reads: &[u8]) -> Result<Vec<u8>, AllocError> {
     Ok(bytes)
 }
 
-#[test]
-fn reads_have_one_version_or_two(rt: HostRuntime) -> Result<(), Fail> {
-    for reads in [
-        [1, 0, 0, 0, 0, 0, 0, 0, 0].as_slice(),
-        &[1, 0, 0, 0, 0, 0xff, 0xff, 0xff, 0xff],
+const READS: &[Distillate] = &[
+    Distillate(&[1, 0, 0, 0, 0, 0, 0, 0, 0], true),
+    Distillate(&[1, 0, 0, 0, 0, 0xff, 0xff, 0xff, 0xff], true),
+    Distillate(
         &[
             2, 0, 0, 0, 0, 0, 0, 0, 7, 0, 0, 0, 0, 0xff, 0xff, 0xff, 0xff,
         ],
-    ] {
-        let bytes = distillate(rt.alloc(), reads)?;
-        assert!(rt; round_trips(rt.alloc(), bytes.as_slice())?);
-    }
-    for reads in [
-        // No version, three versions, and versions that are too great.
-        [0].as_slice(),
-        &[0, 0, 0, 0, 0, 0, 0, 0, 0],
+        true,
+    ),
+    // No version, three versions, and versions that are too great.
+    Distillate(&[0], false),
+    Distillate(&[0, 0, 0, 0, 0, 0, 0, 0, 0], false),
+    Distillate(
         &[
             3, 0, 0, 0, 0, 0, 0, 0, 0, 0, 0, 0, 0, 0, 0, 0, 0, 0, 0, 0, 0, 0, 0, 0, 0,
         ],
-        &[1, 0, 0, 0, 1, 0, 0, 0, 0],
-        &[2, 0, 0, 0, 0, 0, 0, 0, 0, 0, 0, 0, 1, 0, 0, 0, 0],
-    ] {
-        let bytes = distillate(rt.alloc(), reads)?;
-        assert!(rt; is_refused(rt.alloc(), bytes.as_slice())?);
+        false,
+    ),
+    Distillate(&[1, 0, 0, 0, 1, 0, 0, 0, 0], false),
+    Distillate(&[2, 0, 0, 0, 0, 0, 0, 0, 0, 0, 0, 0, 1, 0, 0, 0, 0], false),
+];
+
+#[test]
+fn reads_have_one_version_or_two(rt: HostRuntime) -> Result<(), Fail> {
+    all_hold(rt.alloc(), READS)
+}
+
+/// The reads of the distillate with these bytes.
+fn reads_of(alloc: Global, bytes: &[u8]) -> Result<Option<Reads>, AllocError> {
+    match decode(alloc, bytes)? {
+        Some(Entry::Distillate { reads, .. }) => Ok(Some(reads)),
+        _ => Ok(None),
     }
-    match decode(
+}
+
+#[test]
+fn each_version_of_the_reads_is_read(rt: HostRuntime) -> Result<(), Fail> {
+    let bytes = bytes_with(
         rt.alloc(),
-        distillate(
-            rt.alloc(),
-            &[2, 0, 0, 0, 0, 0, 0, 0, 7, 0, 0, 0, 0, 0, 0, 0, 8],
-        )?
-        .as_slice(),
-    )? {
-        Some(Entry::Distillate { reads, .. }) => {
-            assert_eq!(rt; reads.first, 7);
-            assert_eq!(rt; reads.second, Some(8));
-        }
-        _ => return Err("the bytes are no distillate".into()),
-    }
+        &[2, 0, 0, 0, 0, 0, 0, 0, 7, 0, 0, 0, 0, 0, 0, 0, 8],
+    )?;
+    let want = Reads {
+        first: 7,
+        second: Some(8),
+    };
+    assert!(rt; reads_of(rt.alloc(), &bytes)? == Some(want));
     Ok(())
 }
+
+/// The bytes of an entry, the places of those that are other ones, and another length: they are those of no entry.
+struct Changed(Bytes, &'static [(usize, u8)], usize);
+
+impl Row for Changed {
+    fn holds(&self, alloc: Global) -> Result<bool, Fail> {
+        let mut bytes = Vec::from_slice(alloc, self.0)?;
+        for (place, byte) in self.1 {
+            *bytes.get_mut(*place).ok_or("a place")? = *byte;
+        }
+        bytes.resize(self.2, 0)?;
+        Ok(is_read(alloc, &bytes, false)?)
+    }
+}
+
+const OTHER_DISTILLATES: &[Changed] = &[
+    // one byte more
+    Changed(&DISTILLATE, &[], 79),
+    // points out of order, an empty range, times outside the domain, many ranges
+    Changed(&DISTILLATE, &[(53, 11)], 78),
+    Changed(&DISTILLATE, &[(37, 5)], 78),
+    Changed(&DISTILLATE, &[(46, 0x30), (62, 0x30)], 78),
+    Changed(&DISTILLATE, &[(17, 4)], 78),
+    // bytes that lack
+    Changed(&DISTILLATE, &[], 77),
+    Changed(&DISTILLATE, &[], 14),
+    Changed(&DISTILLATE, &[], 5),
+];
 
 #[test]
 fn other_distillates_are_refused(rt: HostRuntime) -> Result<(), Fail> {
-    let mut longer = Vec::from_slice(rt.alloc(), &DISTILLATE)?;
-    longer.push(0)?;
-    let mut out_of_order = DISTILLATE;
-    out_of_order[53] = 11;
-    let mut empty_range = DISTILLATE;
-    empty_range[37] = 5;
-    let mut outside = DISTILLATE;
-    outside[46] = 0x30;
-    outside[62] = 0x30;
-    let mut many_ranges = DISTILLATE;
-    many_ranges[17] = 4;
-    for bytes in [
-        longer.as_slice(),
-        &out_of_order,
-        &empty_range,
-        &outside,
-        &many_ranges,
-        &DISTILLATE[..77],
-        &DISTILLATE[..14],
-        &DISTILLATE[..5],
-    ] {
-        assert!(rt; is_refused(rt.alloc(), bytes)?);
-    }
-    Ok(())
+    all_hold(rt.alloc(), OTHER_DISTILLATES)
 }
+
+const OTHER_LENGTHS: &[Changed] = &[
+    Changed(&INSERT, &[], 70),
+    Changed(&INSERT, &[(20, 4)], 69),
+    Changed(&INSERT, &[(13, 0x10)], 69),
+    Changed(&INSERT, &[], 0),
+    Changed(&INSERT, &[], 68),
+];
 
 #[test]
 fn other_lengths_and_counts_are_refused(rt: HostRuntime) -> Result<(), Fail> {
-    let mut longer = Vec::from_slice(rt.alloc(), &INSERT)?;
-    longer.push(0)?;
-    let mut one_more = INSERT;
-    one_more[20] = 4;
-    let mut huge = INSERT;
-    huge[13] = 0x10;
-    for bytes in [longer.as_slice(), &one_more, &huge, &[], &INSERT[..68]] {
-        assert!(rt; is_refused(rt.alloc(), bytes)?);
-    }
-    Ok(())
+    all_hold(rt.alloc(), OTHER_LENGTHS)
 }
+
+const OTHER_KINDS: &[Changed] = &[
+    Changed(&CREATE, &[(0, 0)], 17),
+    Changed(&CREATE, &[(0, 2)], 17),
+    Changed(&CREATE, &[(0, 3)], 17),
+    Changed(&CREATE, &[(0, 4)], 17),
+    Changed(&CREATE, &[(0, 255)], 17),
+    Changed(&INSERT, &[(0, 0)], 69),
+    Changed(&INSERT, &[(0, 1)], 69),
+    Changed(&INSERT, &[(0, 3)], 69),
+    Changed(&INSERT, &[(0, 4)], 69),
+    Changed(&INSERT, &[(0, 255)], 69),
+];
 
 #[test]
 fn other_first_bytes_are_refused(rt: HostRuntime) -> Result<(), Fail> {
-    for first in [0, 2, 3, 4, 255] {
-        let mut bytes = CREATE;
-        bytes[0] = first;
-        assert!(rt; is_refused(rt.alloc(), &bytes)?);
-    }
-    for first in [0, 1, 3, 4, 255] {
-        let mut bytes = INSERT;
-        bytes[0] = first;
-        assert!(rt; is_refused(rt.alloc(), &bytes)?);
-    }
-    Ok(())
+    all_hold(rt.alloc(), OTHER_KINDS)
 }

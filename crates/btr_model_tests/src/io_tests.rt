@@ -3,10 +3,12 @@
 ghost use Rattle.std.specs.Prelude.{◌≡◌, ◌⊎◌, ◌++◌, [], ◌∷◌, None, IfOk, OnOk, OnErr, option_to_list};
 ghost use Rattle.btr_io.specs.Faults.{HasCause};
 
+use super::fixture::{Row, all_hold};
 use btr_io::*;
+use std::alloc::Global;
 use std::test::Fail;
 
-const FIVE: [u8; 5] = [1, 2, 3, 4, 5];
+type Bytes = &'static [u8];
 
 /// Reads one byte, or none at the end.
 fn next_byte<S: Source>(source: &mut S) -> Result<Option<u8>, Failed>
@@ -32,103 +34,127 @@ fn put_byte<K: Sink>(sink: &mut K, byte: u8) -> Result<(), Failed>
 }
 
 #[test]
-fn one_byte_at_a_time(rt: HostRuntime) -> Result<(), Fail> {
-    let alloc = rt.alloc();
-    let mut source = MemSource::new([7, 8].to_vec(alloc)?, 1, [1].to_vec(alloc)?);
-    assert_eq!(rt; next_byte(&mut source), Ok(Some(7)));
-    assert_eq!(rt; next_byte(&mut source), Err(Failed));
-    assert_eq!(rt; next_byte(&mut source), Ok(Some(8)));
-    assert_eq!(rt; next_byte(&mut source), Ok(None));
-
-    // the second flush is the fourth call
-    let mut sink = MemSink::new(alloc, 3, 1, [3].to_vec(alloc)?)?;
-    assert_eq!(rt; put_byte(&mut sink, 7), Ok(()));
-    assert_eq!(rt; put_byte(&mut sink, 8), Err(Failed));
-    assert_eq!(rt; put_byte(&mut sink, 9), Ok(()));
-    assert_eq!(rt; put_byte(&mut sink, 10), Err(Failed));
-    assert_eq!(rt; sink.written(), [7, 8, 9].as_slice());
+fn one_byte_is_read_at_a_time(rt: HostRuntime) -> Result<(), Fail> {
+    let bytes = [7, 8].to_vec(rt.alloc())?;
+    let failing = [1].to_vec(rt.alloc())?;
+    let mut source = MemSource::new(bytes, 1, failing);
+    let first = (next_byte(&mut source), next_byte(&mut source));
+    let second = (next_byte(&mut source), next_byte(&mut source));
+    assert!(rt; first == (Ok(Some(7)), Err(Failed)));
+    assert!(rt; second == (Ok(Some(8)), Ok(None)));
     Ok(())
 }
+
+#[test]
+fn one_byte_is_written_at_a_time(rt: HostRuntime) -> Result<(), Fail> {
+    // the second flush is the fourth call
+    let failing = [3].to_vec(rt.alloc())?;
+    let mut sink = MemSink::new(rt.alloc(), 3, 1, failing)?;
+    let first = (put_byte(&mut sink, 7), put_byte(&mut sink, 8));
+    let second = (put_byte(&mut sink, 9), put_byte(&mut sink, 10));
+    assert!(rt; first == (Ok(()), Err(Failed)));
+    assert!(rt; second == (Ok(()), Err(Failed)));
+    assert!(rt; sink.written() == [7, 8, 9].as_slice());
+    Ok(())
+}
+
+/// Whether bytes were read, or the fault is this one.
+fn is_read(read: Result<Vec<u8>, ReadAllFault>, want: Result<&[u8], ReadAllFault>) -> bool {
+    match read {
+        Ok(read) => want.is_ok_and(|want| read.as_slice() == want),
+        Err(fault) => want.is_err_and(|want| fault == want),
+    }
+}
+
+/// Bytes, bytes a call, failing calls, limit, answer, what is left.
+struct Reading(
+    Bytes,
+    usize,
+    &'static [u64],
+    u64,
+    Result<Bytes, ReadAllFault>,
+    Bytes,
+);
+
+impl Row for Reading {
+    fn holds(&self, alloc: Global) -> Result<bool, Fail> {
+        if self.1 == 0 {
+            return Ok(false);
+        }
+        let bytes = self.0.to_vec(alloc)?;
+        let failing = self.2.to_vec(alloc)?;
+        let mut source = MemSource::new(bytes, self.1, failing);
+        let is_as_wanted = is_read(read_all(alloc, &mut source, self.3), self.4);
+        let rest = read_all(alloc, &mut source, 9);
+        Ok(is_as_wanted && (self.3 >= 9 || is_read(rest, Ok(self.5))))
+    }
+}
+
+const FIVE: Bytes = &[1, 2, 3, 4, 5];
+
+const READINGS: &[Reading] = &[
+    Reading(FIVE, 2, &[], 5, Ok(FIVE), &[]),
+    Reading(FIVE, 2, &[], u64::MAX, Ok(FIVE), &[]),
+    Reading(FIVE, 100, &[], 6, Ok(FIVE), &[]),
+    Reading(FIVE, 2, &[], 4, Err(ReadAllFault::TooLong), &[]),
+    Reading(FIVE, 1, &[], 1, Err(ReadAllFault::TooLong), &[3, 4, 5]),
+    Reading(FIVE, 2, &[], 0, Err(ReadAllFault::TooLong), &[2, 3, 4, 5]),
+    Reading(&[], 2, &[], 0, Ok(&[]), &[]),
+    Reading(FIVE, 2, &[1], 9, Err(ReadAllFault::Fault), &[3, 4, 5]),
+    Reading(FIVE, 2, &[3], 9, Err(ReadAllFault::Fault), &[]),
+    Reading(FIVE, 2, &[4], 9, Ok(FIVE), &[]),
+];
 
 #[test]
 fn reads_all_or_says_why(rt: HostRuntime) -> Result<(), Fail> {
-    let alloc = rt.alloc();
-    let five: &[u8] = &FIVE;
-    let none: &[u8] = &[];
-    // bytes, bytes a call, failing calls, limit, answer, what is left
-    let cases: [(
-        &[u8],
-        usize,
-        &[u64],
-        u64,
-        Result<&[u8], ReadAllFault>,
-        &[u8],
-    ); 10] = [
-        (five, 2, &[], 5, Ok(five), none),
-        (five, 2, &[], u64::MAX, Ok(five), none),
-        (five, 100, &[], 6, Ok(five), none),
-        (five, 2, &[], 4, Err(ReadAllFault::TooLong), none),
-        (five, 1, &[], 1, Err(ReadAllFault::TooLong), &[3, 4, 5]),
-        (five, 2, &[], 0, Err(ReadAllFault::TooLong), &[2, 3, 4, 5]),
-        (none, 2, &[], 0, Ok(none), none),
-        (five, 2, &[1], 9, Err(ReadAllFault::Fault), &[3, 4, 5]),
-        (five, 2, &[3], 9, Err(ReadAllFault::Fault), none),
-        (five, 2, &[4], 9, Ok(five), none),
-    ];
-    for (bytes, piece, failing, limit, want, left) in cases {
-        let mut source = MemSource::new(bytes.to_vec(alloc)?, piece, failing.to_vec(alloc)?);
-        let read = read_all(alloc, &mut source, limit);
-        assert_eq!(rt;
-            read.as_deref().map_err(|fault| *fault),
-            want,
-            "{bytes:?} with limit {limit}"
-        );
-        if limit < 9 {
-            let rest = read_all(alloc, &mut source, 9);
-            assert_eq!(rt;
-                rest.as_deref().map_err(|fault| *fault),
-                Ok(left),
-                "after {bytes:?} with limit {limit}"
-            );
-        }
-    }
-    Ok(())
+    all_hold(rt.alloc(), READINGS)
 }
+
+/// Bytes, room, bytes a call, failing calls, answer, what was written.
+struct Writing(
+    Bytes,
+    usize,
+    usize,
+    &'static [u64],
+    Result<(), Failed>,
+    Bytes,
+);
+
+impl Row for Writing {
+    fn holds(&self, alloc: Global) -> Result<bool, Fail> {
+        if self.2 == 0 {
+            return Ok(false);
+        }
+        let failing = self.3.to_vec(alloc)?;
+        let mut sink = MemSink::new(alloc, self.1, self.2, failing)?;
+        let answer = write_all(&mut sink, self.0);
+        Ok(answer == self.4 && sink.written() == self.5)
+    }
+}
+
+const WRITINGS: &[Writing] = &[
+    Writing(FIVE, 5, 2, &[], Ok(()), FIVE),
+    Writing(FIVE, 9, 100, &[], Ok(()), FIVE),
+    Writing(&[], 0, 1, &[], Ok(()), &[]),
+    Writing(FIVE, 5, 2, &[1], Err(Failed), &[1, 2]),
+    Writing(FIVE, 4, 2, &[], Err(Failed), &[1, 2, 3, 4]),
+    Writing(FIVE, 3, 2, &[], Err(Failed), &[1, 2]),
+];
 
 #[test]
 fn writes_all_or_a_prefix(rt: HostRuntime) -> Result<(), Fail> {
-    let alloc = rt.alloc();
-    let five: &[u8] = &FIVE;
-    // bytes, room, bytes a call, failing calls, answer, what was written
-    let cases: [(&[u8], usize, usize, &[u64], Result<(), Failed>, &[u8]); 6] = [
-        (five, 5, 2, &[], Ok(()), five),
-        (five, 9, 100, &[], Ok(()), five),
-        (&[], 0, 1, &[], Ok(()), &[]),
-        (five, 5, 2, &[1], Err(Failed), &[1, 2]),
-        (five, 4, 2, &[], Err(Failed), &[1, 2, 3, 4]),
-        (five, 3, 2, &[], Err(Failed), &[1, 2]),
-    ];
-    for (bytes, room, piece, failing, want, written) in cases {
-        let mut sink = MemSink::new(alloc, room, piece, failing.to_vec(alloc)?)?;
-        assert_eq!(rt;
-            write_all(&mut sink, bytes),
-            want,
-            "{bytes:?} into room {room}"
-        );
-        assert_eq!(rt; sink.written(), written, "{bytes:?} into room {room}");
-    }
-    Ok(())
+    all_hold(rt.alloc(), WRITINGS)
 }
 
 #[test]
 fn reads_more_than_one_piece(rt: HostRuntime) -> Result<(), Fail> {
-    let alloc = rt.alloc();
-    let mut bytes = Vec::new(alloc);
+    let mut bytes = Vec::new(rt.alloc());
     for i in 0..200_000u32 {
         bytes.push((i % 251) as u8)?;
     }
-    let mut source = MemSource::new(bytes.to_vec(alloc)?, 100_000, Vec::new(alloc));
-    let read = read_all(alloc, &mut source, 200_000);
-    assert!(rt; read.is_ok_and(|read| read == bytes));
+    let copy = bytes.to_vec(rt.alloc())?;
+    let mut source = MemSource::new(copy, 100_000, Vec::new(rt.alloc()));
+    let read = read_all(rt.alloc(), &mut source, 200_000);
+    assert!(rt; is_read(read, Ok(&bytes)));
     Ok(())
 }

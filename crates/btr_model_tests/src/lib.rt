@@ -8,10 +8,12 @@ mod board_tests;
 #[cfg(test)]
 mod disk_tests;
 #[cfg(test)]
-mod io_tests;
+mod entry_tests;
 #[cfg(test)]
 mod feed_tests;
 #[cfg(test)]
+mod fixture;
+#[cfg(test)]
 mod hist_tests;
 #[cfg(test)]
-mod entry_tests;
+mod io_tests;

@@ -1,5 +1,8 @@
+//! Changes between two versions by their trees, and point by point.
+
+use super::fixture::{after, have_bounds, points_from, ranges_of};
+use btr_base::{Bag, END, FIRST, Point, Range};
 use btr_diff::changes;
-use btr_base::{Bag, END, FIRST, Point, Range, Ranges, are_in_domain};
 use btr_tree::{Steps, Tree};
 use std::alloc::{AllocError, Global};
 use std::test::Fail;
@@ -12,89 +15,35 @@ struct Version {
     nodes: u64,
 }
 
-/// What one commit adds and deletes.
-#[derive(Clone, Copy)]
-struct Change {
-    count: i64,
-    first: i64,
-    step: i64,
-    value: i64,
-    deleted: (i64, i64),
+/// A commit: the bounds that it cuts (none if they are equal), and the number of points that it adds, with the time and the
+/// value of the first and the step between times. Values rise by 1.
+struct Commit(i64, i64, i64, i64, i64, i64);
+
+/// The version after a commit.
+fn next(alloc: Global, last: &Version, commit: &Commit, version: u64) -> Result<Version, Fail> {
+    let Commit(from, to, count, first, step, value) = *commit;
+    let cut = ranges_of(alloc, &[(from, to)])?;
+    let added = Bag::from_points(points_from(alloc, first, step, count, value)?);
+    let bag = last.bag.outside(alloc, &cut)?.merge(alloc, &added)?;
+    let (tree, nodes) = after(alloc, &last.tree, &cut, &added, version)?;
+    Ok(Version { tree, bag, nodes })
 }
 
-/// Adds points at 0, 1, 2 and so on, with the values 0, 1, 2 and so on.
-fn adds(count: i64) -> Change {
-    Change {
-        count,
-        first: 0,
-        step: 1,
-        value: 0,
-        deleted: (0, 0),
-    }
-}
-
-impl Change {
-    fn from(self, first: i64) -> Change {
-        Change { first, ..self }
-    }
-
-    fn every(self, step: i64) -> Change {
-        Change { step, ..self }
-    }
-
-    fn valued(self, value: i64) -> Change {
-        Change { value, ..self }
-    }
-
-    fn deletes(self, from: i64, to: i64) -> Change {
-        Change {
-            deleted: (from, to),
-            ..self
-        }
-    }
-
-    fn points(self, alloc: Global) -> Result<Vec<Point>, AllocError> {
-        let mut points = Vec::new(alloc);
-        for i in 0..self.count {
-            points.push(Point {
-                time: self.first.wrapping_add(i.wrapping_mul(self.step)),
-                value: self.value.wrapping_add(i),
-            })?;
-        }
-        Ok(points)
-    }
-}
-
-/// The version of no commit.
-fn empty(alloc: Global) -> Version {
-    Version {
+/// The versions of a stream, from the empty one on.
+fn versions_after(alloc: Global, commits: &[Commit]) -> Result<Vec<Version>, Fail> {
+    let mut versions = Vec::new(alloc);
+    let mut last = Version {
         tree: Tree::empty(),
         bag: Bag::from_points(Vec::new(alloc)),
         nodes: 0,
+    };
+    for commit in commits {
+        let version = next(alloc, &last, commit, versions.len() as u64 + 1)?;
+        versions.push(last)?;
+        last = version;
     }
-}
-
-/// The version after a commit.
-fn after(alloc: Global, last: &Version, change: Change, version: u64) -> Result<Version, Fail> {
-    let added = Bag::from_points(change.points(alloc)?);
-    if !are_in_domain(added.as_slice()) {
-        return Err("a time outside the domain".into());
-    }
-    let mut cut = Ranges::none(alloc);
-    if let Some(range) = Range::new(change.deleted.0, change.deleted.1) {
-        cut.add(range)?;
-    }
-    let mut steps = Steps::new(alloc);
-    let applied = last
-        .tree
-        .apply(alloc, &cut, &added, version, &mut steps)
-        .ok()
-        .ok_or("applied")?;
-    Ok(Version {
-        tree: applied.tree,
-        bag: last.bag.outside(alloc, &cut)?.merge(alloc, &added)?,
-        nodes: applied.nodes.len() as u64,
-    })
+    versions.push(last)?;
+    Ok(versions)
 }
 
 /// How often a point is in a list.
@@ -162,15 +111,16 @@ fn nodes_of(versions: &[Version]) -> u64 {
     nodes
 }
 
-/// The starts of the changed slots between two versions by their trees, and point by point, and how many nodes were
-/// visited.
-fn both_ways(
+/// Whether the changed slots between two versions by their trees are those point by point, after visits of at most this many
+/// nodes.
+fn are_changed(
     alloc: Global,
     old: &Version,
     new: &Version,
     since: u64,
     p: u8,
-) -> Result<(Vec<i64>, Vec<i64>, u64), Fail> {
+    most: u64,
+) -> Result<bool, Fail> {
     if p > 62 {
         return Err("slots wider than the domain".into());
     }
@@ -179,78 +129,91 @@ fn both_ways(
     let found = changes(alloc, &old.tree, &new.tree, since, p, &mut steps)?;
     let starts = starts_of(alloc, found.as_slice(), width)?;
     let plain = plain_starts(alloc, old.bag.as_slice(), new.bag.as_slice(), width)?;
-    Ok((starts, plain, steps.count()))
+    Ok(starts == plain && steps.count() <= most)
 }
 
-/// The versions of a stream, from the empty one on.
-fn versions_after(alloc: Global, changes: &[Change]) -> Result<Vec<Version>, Fail> {
-    let mut versions = Vec::new(alloc);
-    let mut last = empty(alloc);
-    for change in changes {
-        let next = after(alloc, &last, *change, versions.len() as u64 + 1)?;
-        versions.push(last)?;
-        last = next;
+/// Whether they are for each width.
+fn widths_agree(alloc: Global, versions: &[Version], older: usize) -> Result<bool, Fail> {
+    let [old, rest @ ..] = versions else {
+        return Ok(false);
+    };
+    let Some(new) = rest.last() else {
+        return Ok(true);
+    };
+    let most = nodes_of(rest).saturating_add(1);
+    for p in [0, 2, 10, 62] {
+        if !are_changed(alloc, old, new, older as u64, p, most)? {
+            return Ok(false);
+        }
     }
-    versions.push(last)?;
-    Ok(versions)
+    Ok(true)
+}
+
+/// One leaf, an inner node at each height down to 1, and more of them far away; the same points again, one of them twice, and
+/// one moved far away; few points left, in one leaf, then none, and some.
+const COMMITS: &[Commit] = &[
+    Commit(0, 0, 252, 0, 1, 0),
+    Commit(0, 0, 1, 252, 1, 0),
+    Commit(0, 0, 260, 1 << 40, 1 << 30, 0),
+    Commit(0, 50, 50, 0, 1, 0),
+    Commit(0, 0, 1, 7, 1, 7),
+    Commit(60, 61, 1, 1 << 50, 1, 60),
+    Commit(100, END, 0, 0, 1, 0),
+    Commit(FIRST, END, 0, 0, 1, 0),
+    Commit(0, 0, 9, 3, 5, 1),
+];
+
+/// Whether the changes from each version to the last one are right.
+fn older_agree(alloc: Global, versions: &[Version]) -> Result<bool, Fail> {
+    for older in 0..versions.len() {
+        if !widths_agree(alloc, &versions[older..], older)? {
+            return Ok(false);
+        }
+    }
+    Ok(true)
 }
 
 #[test]
 fn changes_are_those_point_by_point(rt: HostRuntime) -> Result<(), Fail> {
-    let alloc = rt.alloc();
-    let versions = versions_after(
-        alloc,
-        &[
-            // one leaf, an inner node at each height down to 1, and more of them far away
-            adds(252),
-            adds(1).from(252),
-            adds(260).from(1 << 40).every(1 << 30),
-            // the same points again, one of them twice, and one moved far away
-            adds(50).deletes(0, 50),
-            adds(1).from(7).valued(7),
-            adds(1).from(1 << 50).valued(60).deletes(60, 61),
-            // few points left, in one leaf, then none, and some
-            adds(0).deletes(100, END),
-            adds(0).deletes(FIRST, END),
-            adds(9).from(3).every(5).valued(1),
-        ],
-    )?;
-    for (newer, new) in versions.iter().enumerate() {
-        for (older, old) in versions[..newer].iter().enumerate() {
-            let nodes = nodes_of(&versions[older + 1..newer + 1]);
-            for p in [0, 2, 10, 62] {
-                let (starts, plain, visited) = both_ways(alloc, old, new, older as u64, p)?;
-                assert_eq!(rt; starts, plain, "{older} {newer} {p}");
-                assert!(rt; visited <= nodes.saturating_add(1), "{older} {newer} {p}");
-            }
-        }
+    let versions = versions_after(rt.alloc(), COMMITS)?;
+    assert!(rt; versions.len() == 10);
+    for newer in 0..versions.len() {
+        assert!(rt; older_agree(rt.alloc(), &versions[..=newer])?);
     }
     Ok(())
 }
 
-/// The bounds of the only range.
-fn bounds(ranges: &Ranges) -> Option<(i64, i64)> {
-    match ranges.as_slice() {
-        [range] => Some((range.from, range.to)),
-        _ => None,
+/// Whether the changes between two versions are one range with these bounds.
+fn are_one_range(
+    alloc: Global,
+    old: &Version,
+    new: &Version,
+    p: u8,
+    bounds: (i64, i64),
+    steps: &mut Steps,
+) -> Result<bool, Fail> {
+    if p > 62 {
+        return Err("slots wider than the domain".into());
     }
+    let found = changes(alloc, &old.tree, &new.tree, 1, p, steps)?;
+    Ok(have_bounds(found.as_slice(), &[bounds]))
 }
+
+const THREE: &[Commit] = &[
+    Commit(0, 0, 5, 0, 1, 0),
+    Commit(3, 4, 0, 0, 1, 0),
+    Commit(0, 0, 1, 4, 1, 4),
+];
 
 #[test]
 fn changes_of_three_commits(rt: HostRuntime) -> Result<(), Fail> {
-    let alloc = rt.alloc();
-    let versions = versions_after(
-        alloc,
-        &[adds(5), adds(0).deletes(3, 4), adds(1).from(4).valued(4)],
-    )?;
+    let versions = versions_after(rt.alloc(), THREE)?;
     let [_, first, second, third] = versions.as_slice() else {
         return Err("four versions".into());
     };
-    let mut steps = Steps::new(alloc);
-    let found = changes(alloc, &first.tree, &third.tree, 1, 2, &mut steps)?;
-    assert_eq!(rt; bounds(&found), Some((0, 8)));
-    let found = changes(alloc, &first.tree, &second.tree, 1, 0, &mut steps)?;
-    assert_eq!(rt; bounds(&found), Some((3, 4)));
-    assert_eq!(rt; steps.count(), 2);
+    let mut steps = Steps::new(rt.alloc());
+    assert!(rt; are_one_range(rt.alloc(), first, third, 2, (0, 8), &mut steps)?);
+    assert!(rt; are_one_range(rt.alloc(), first, second, 0, (3, 4), &mut steps)?);
+    assert!(rt; steps.count() == 2);
     Ok(())
 }

@@ -1,79 +1,62 @@
+//! Plans of distillates by hand, and the entries that they are.
+
+use super::fixture::{Pairs, Row, after, all_hold, are_pairs, bag_of, have_bounds, ranges_of};
+use btr_base::{END, FIRST};
 use btr_distil::{Plan, Sight, plan};
-use btr_base::{Bag, END, FIRST, Point, Range, Ranges, are_in_domain};
 use btr_hist::{Entry, Kernel, Reads, Spec};
-use btr_tree::{Steps, Tree};
-use std::alloc::{AllocError, Global};
+use btr_tree::Tree;
+use std::alloc::Global;
 use std::test::Fail;
 
-/// Points as pairs of a time and a value, and ranges as pairs of bounds.
-type Pairs<'a> = &'a [(i64, i64)];
+/// The cut of a commit, and the points that it adds.
+struct Commit(Pairs, Pairs);
 
-fn points_of(alloc: Global, pairs: Pairs<'_>) -> Result<Bag, AllocError> {
-    let mut points = Vec::new(alloc);
-    for (time, value) in pairs {
-        points.push(Point {
-            time: *time,
-            value: *value,
-        })?;
-    }
-    Ok(Bag::from_points(points))
-}
-
-fn ranges_of(alloc: Global, pairs: Pairs<'_>) -> Result<Ranges, Fail> {
-    let mut ranges = Ranges::none(alloc);
-    for (from, to) in pairs {
-        ranges.add(Range::new(*from, *to).ok_or("a range")?)?;
-    }
-    Ok(ranges)
-}
-
-fn point_pairs(alloc: Global, bag: &Bag) -> Result<Vec<(i64, i64)>, AllocError> {
-    bag.as_slice()
-        .iter()
-        .map(|point| (point.time, point.value))
-        .collect(alloc)
-}
-
-fn range_pairs(alloc: Global, ranges: &Ranges) -> Result<Vec<(i64, i64)>, AllocError> {
-    ranges
-        .as_slice()
-        .iter()
-        .map(|range| (range.from, range.to))
-        .collect(alloc)
-}
+/// The versions of the inputs that were read: that of the first, and that of the second if there is one.
+type Versions = (u64, Option<u64>);
 
 /// The tree after one more commit.
-fn tree_after(
-    alloc: Global,
-    tree: &Tree,
-    version: u64,
-    cut: &Ranges,
-    added: &Bag,
-) -> Result<Tree, Fail> {
-    if !are_in_domain(added.as_slice()) {
-        return Err("a time outside the domain".into());
-    }
-    let mut steps = Steps::new(alloc);
-    let applied = tree
-        .apply(alloc, cut, added, version, &mut steps)
-        .ok()
-        .ok_or("applied")?;
-    Ok(applied.tree)
+fn next_tree(alloc: Global, last: &Tree, commit: &Commit, version: u64) -> Result<Tree, Fail> {
+    let cut = ranges_of(alloc, commit.0)?;
+    let added = bag_of(alloc, commit.1)?;
+    let (tree, _) = after(alloc, last, &cut, &added, version)?;
+    Ok(tree)
 }
 
-/// The trees of the versions of a stream, from the empty one on. Each commit is a cut and the points that it adds.
-fn versions(alloc: Global, commits: &[(Pairs<'_>, Pairs<'_>)]) -> Result<Vec<Tree>, Fail> {
+/// The trees of the versions of a stream, from the empty one on.
+fn trees_of(alloc: Global, commits: &[Commit]) -> Result<Vec<Tree>, Fail> {
     let mut trees = Vec::new(alloc);
     let mut last = Tree::empty();
-    for (cut, added) in commits {
-        let cut = ranges_of(alloc, cut)?;
-        let added = points_of(alloc, added)?;
-        let next = tree_after(alloc, &last, trees.len() as u64 + 1, &cut, &added)?;
+    for commit in commits {
+        let next = next_tree(alloc, &last, commit, trees.len() as u64 + 1)?;
         trees.push(last)?;
         last = next;
     }
     trees.push(last)?;
     Ok(trees)
+}
+
+/// Stream 0 is (0, 10), (10, 20), (20, 30), then with (5, 1), then without the time 10. Stream 1 is (0, 3), then with (10, 5).
+/// Stream 2 is at both ends of the domain, then has one point more at each.
+const STREAMS: &[&[Commit]] = &[
+    &[
+        Commit(&[], &[(0, 10), (10, 20), (20, 30)]),
+        Commit(&[], &[(5, 1)]),
+        Commit(&[(10, 11)], &[]),
+    ],
+    &[Commit(&[], &[(0, 3)]), Commit(&[], &[(10, 5)])],
+    &[
+        Commit(&[], &[(FIRST + 3, 1), (END - 4, 2)]),
+        Commit(&[], &[(FIRST, 5), (END - 1, 6)]),
+    ],
+];
+
+/// The trees of the versions of each stream.
+fn streams(alloc: Global) -> Result<Vec<Vec<Tree>>, Fail> {
+    let mut streams = Vec::new(alloc);
+    for commits in STREAMS {
+        streams.push(trees_of(alloc, commits)?)?;
+    }
+    Ok(streams)
 }
 
 /// The tree of the version of a stream that was read.
@@ -95,18 +78,25 @@ fn second_at<'a>(
     }
 }
 
+fn reads_of(versions: Versions) -> Reads {
+    Reads {
+        first: versions.0,
+        second: versions.1,
+    }
+}
+
+/// The trees of the first input before and after, and those of the second.
+type Inputs<'a> = (&'a Tree, &'a Tree, Option<&'a Tree>, Option<&'a Tree>);
+
 /// The plan for an output of stream 7, after its version 3.
-fn planned(
+fn plan_over(
     alloc: Global,
     spec: Spec,
     old: Reads,
     new: Reads,
-    trees: &[Vec<Tree>],
+    inputs: Inputs<'_>,
 ) -> Result<Option<Plan>, Fail> {
-    let old_first = tree_at(trees, spec.first, old.first)?;
-    let new_first = tree_at(trees, spec.first, new.first)?;
-    let old_second = second_at(trees, spec.second, old.second)?;
-    let new_second = second_at(trees, spec.second, new.second)?;
+    let (old_first, new_first, old_second, new_second) = inputs;
     let has_second = spec.second.is_some();
     if !spec.is_good()
         || old.second.is_some() != has_second
@@ -114,159 +104,201 @@ fn planned(
         || old_second.is_some() != has_second
         || new_second.is_some() != has_second
     {
-        return Err("a spec with its inputs".into());
+        return Err("no spec with its inputs".into());
     }
     let sight = Sight::new(
         spec, 7, 3, old, new, old_first, new_first, old_second, new_second,
     );
     if sight.base() != 3 {
-        return Err("the version of the output".into());
+        return Err("another version of the output".into());
     }
     Ok(plan(alloc, &sight)?)
 }
 
-fn one(first: u64) -> Reads {
-    Reads {
-        first,
-        second: None,
+/// The plan for an output of stream 7, after its version 3, from the versions that it had read to others.
+fn planned(alloc: Global, spec: Spec, old: Versions, new: Versions) -> Result<Option<Plan>, Fail> {
+    let trees = streams(alloc)?;
+    let inputs = (
+        tree_at(&trees, spec.first, old.0)?,
+        tree_at(&trees, spec.first, new.0)?,
+        second_at(&trees, spec.second, old.1)?,
+        second_at(&trees, spec.second, new.1)?,
+    );
+    plan_over(alloc, spec, reads_of(old), reads_of(new), inputs)
+}
+
+const SUM: Spec = Spec {
+    kernel: Kernel::Sum,
+    lead: 10,
+    grain: 0,
+    first: 0,
+    second: None,
+};
+
+const WIDE_SUM: Spec = Spec {
+    kernel: Kernel::Sum,
+    lead: 10,
+    grain: 4,
+    first: 0,
+    second: None,
+};
+
+const MINUS: Spec = Spec {
+    kernel: Kernel::Minus,
+    lead: 0,
+    grain: 0,
+    first: 0,
+    second: Some(1),
+};
+
+/// Of one stream as both inputs.
+const OWN: Spec = Spec {
+    kernel: Kernel::Minus,
+    lead: 0,
+    grain: 0,
+    first: 0,
+    second: Some(0),
+};
+
+const HOLD: Spec = Spec {
+    kernel: Kernel::Hold,
+    lead: 10,
+    grain: 0,
+    first: 0,
+    second: Some(0),
+};
+
+/// Of the stream at the ends of the domain.
+const ENDS: Spec = Spec {
+    kernel: Kernel::Count,
+    lead: 10,
+    grain: 0,
+    first: 2,
+    second: None,
+};
+
+/// A spec, the versions that were read before, those that are read, and the cut and the points of the plan.
+struct PlanOf(Spec, Versions, Versions, Pairs, Pairs);
+
+impl Row for PlanOf {
+    fn holds(&self, alloc: Global) -> Result<bool, Fail> {
+        let Some(plan) = planned(alloc, self.0, self.1, self.2)? else {
+            return Ok(false);
+        };
+        Ok(
+            have_bounds(plan.cut().as_slice(), self.3)
+                && are_pairs(plan.added().as_slice(), self.4)
+                && plan.reads() == reads_of(self.2),
+        )
     }
 }
 
-fn two(first: u64, second: u64) -> Reads {
-    Reads {
-        first,
-        second: Some(second),
-    }
-}
-
-fn spec(kernel: Kernel, lead: u64, grain: u8, first: u32, second: Option<u32>) -> Spec {
-    Spec {
-        kernel,
-        lead,
-        grain,
-        first,
-        second,
-    }
-}
-
-/// Stream 0 is (0, 10), (10, 20), (20, 30), then with (5, 1), then without the time 10. Stream 1 is (0, 3), then with (10, 5).
-/// Stream 2 is at both ends of the domain, then has one point more at each.
-fn streams(alloc: Global) -> Result<Vec<Vec<Tree>>, Fail> {
-    let mut trees = Vec::new(alloc);
-    trees.push(versions(
-        alloc,
-        &[
-            (&[], &[(0, 10), (10, 20), (20, 30)]),
-            (&[], &[(5, 1)]),
-            (&[(10, 11)], &[]),
-        ],
-    )?)?;
-    trees.push(versions(alloc, &[(&[], &[(0, 3)]), (&[], &[(10, 5)])])?)?;
-    trees.push(versions(
-        alloc,
-        &[
-            (&[], &[(FIRST + 3, 1), (END - 4, 2)]),
-            (&[], &[(FIRST, 5), (END - 1, 6)]),
-        ],
-    )?)?;
-    Ok(trees)
-}
+const PLANNED: &[PlanOf] = &[
+    // nothing was read before
+    PlanOf(
+        SUM,
+        (0, None),
+        (1, None),
+        &[(0, 31)],
+        &[(0, 10), (10, 30), (20, 50)],
+    ),
+    PlanOf(SUM, (1, None), (2, None), &[(5, 16)], &[(5, 11), (10, 31)]),
+    // over both commits at once
+    PlanOf(SUM, (1, None), (3, None), &[(5, 21)], &[(5, 11), (20, 30)]),
+    // wider slots
+    PlanOf(
+        WIDE_SUM,
+        (1, None),
+        (2, None),
+        &[(0, 26)],
+        &[(0, 10), (5, 11), (10, 31), (20, 50)],
+    ),
+    // the second input alone
+    PlanOf(MINUS, (1, Some(1)), (1, Some(2)), &[(10, 11)], &[(10, 15)]),
+    // both inputs: the commits of the first are at 5 and 10, that of the second at 10
+    PlanOf(MINUS, (1, Some(1)), (3, Some(2)), &[(5, 6), (10, 11)], &[]),
+    PlanOf(
+        MINUS,
+        (0, Some(0)),
+        (2, Some(2)),
+        &[(0, 1), (5, 6), (10, 11), (20, 21)],
+        &[(0, 7), (10, 15)],
+    ),
+    // one stream as both inputs
+    PlanOf(OWN, (1, Some(1)), (2, Some(2)), &[(5, 6)], &[(5, 0)]),
+    PlanOf(
+        HOLD,
+        (1, Some(1)),
+        (2, Some(2)),
+        &[(5, 16)],
+        &[(5, 0), (10, 0)],
+    ),
+    // the same stream, but only what the second input reads is later
+    PlanOf(
+        HOLD,
+        (1, Some(1)),
+        (1, Some(3)),
+        &[(5, 21)],
+        &[(10, 19), (20, 0)],
+    ),
+    // at the ends of the domain
+    PlanOf(
+        ENDS,
+        (1, None),
+        (2, None),
+        &[(FIRST, FIRST + 11), (END - 1, END)],
+        &[(FIRST, 1), (FIRST + 3, 2), (END - 1, 2)],
+    ),
+];
 
 #[test]
 fn plans_of_small_changes(rt: HostRuntime) -> Result<(), Fail> {
-    let alloc = rt.alloc();
-    let trees = streams(alloc)?;
-    let sum = spec(Kernel::Sum, 10, 0, 0, None);
-    let minus = spec(Kernel::Minus, 0, 0, 0, Some(1));
-    let hold = spec(Kernel::Hold, 10, 0, 0, Some(0));
-    let own = spec(Kernel::Minus, 0, 0, 0, Some(0));
-    let ends = spec(Kernel::Count, 10, 0, 2, None);
-    let cases: &[(Spec, Reads, Reads, Pairs<'_>, Pairs<'_>)] = &[
-        // nothing was read before
-        (
-            sum,
-            one(0),
-            one(1),
-            &[(0, 31)],
-            &[(0, 10), (10, 30), (20, 50)],
-        ),
-        (sum, one(1), one(2), &[(5, 16)], &[(5, 11), (10, 31)]),
-        // over both commits at once
-        (sum, one(1), one(3), &[(5, 21)], &[(5, 11), (20, 30)]),
-        // wider slots
-        (
-            spec(Kernel::Sum, 10, 4, 0, None),
-            one(1),
-            one(2),
-            &[(0, 26)],
-            &[(0, 10), (5, 11), (10, 31), (20, 50)],
-        ),
-        // the second input alone
-        (minus, two(1, 1), two(1, 2), &[(10, 11)], &[(10, 15)]),
-        // both inputs: the commits of the first are at 5 and 10, that of the second at 10
-        (minus, two(1, 1), two(3, 2), &[(5, 6), (10, 11)], &[]),
-        (
-            minus,
-            two(0, 0),
-            two(2, 2),
-            &[(0, 1), (5, 6), (10, 11), (20, 21)],
-            &[(0, 7), (10, 15)],
-        ),
-        // one stream as both inputs
-        (own, two(1, 1), two(2, 2), &[(5, 6)], &[(5, 0)]),
-        (hold, two(1, 1), two(2, 2), &[(5, 16)], &[(5, 0), (10, 0)]),
-        // the same stream, but only what the second input reads is later
-        (hold, two(1, 1), two(1, 3), &[(5, 21)], &[(10, 19), (20, 0)]),
-        // at the ends of the domain
-        (
-            ends,
-            one(1),
-            one(2),
-            &[(FIRST, FIRST + 11), (END - 1, END)],
-            &[(FIRST, 1), (FIRST + 3, 2), (END - 1, 2)],
-        ),
-    ];
-    for (i, (spec, old, new, cut, added)) in cases.iter().enumerate() {
-        let plan = planned(alloc, *spec, *old, *new, &trees)?.ok_or("a plan")?;
-        assert_eq!(rt; range_pairs(alloc, plan.cut())?.as_slice(), *cut, "{i}");
-        assert_eq!(rt; point_pairs(alloc, plan.added())?.as_slice(), *added, "{i}");
-        assert_eq!(rt; plan.reads(), *new, "{i}");
+    all_hold(rt.alloc(), PLANNED)
+}
+
+/// A spec, the versions that were read before and those that are read, and whether there is a plan.
+struct IsPlanned(Spec, Versions, Versions, bool);
+
+impl Row for IsPlanned {
+    fn holds(&self, alloc: Global) -> Result<bool, Fail> {
+        Ok(planned(alloc, self.0, self.1, self.2)?.is_some() == self.3)
     }
-    Ok(())
+}
+
+const IS_PLANNED: &[IsPlanned] = &[
+    IsPlanned(SUM, (2, None), (2, None), false),
+    IsPlanned(MINUS, (1, Some(1)), (1, Some(1)), false),
+    IsPlanned(MINUS, (1, Some(1)), (2, Some(1)), true),
+];
+
+#[test]
+fn nothing_is_planned_if_nothing_is_new(rt: HostRuntime) -> Result<(), Fail> {
+    all_hold(rt.alloc(), IS_PLANNED)
+}
+
+/// Whether an entry is the distillate of stream 7 with the second version of the sum.
+fn is_second_sum(entry: &Entry) -> bool {
+    match entry {
+        Entry::Distillate {
+            stream,
+            cut,
+            added,
+            reads,
+        } => {
+            *stream == 7
+                && *reads == reads_of((2, None))
+                && have_bounds(cut.as_slice(), &[(5, 16)])
+                && are_pairs(added.as_slice(), &[(5, 11), (10, 31)])
+        }
+        _ => false,
+    }
 }
 
 #[test]
-fn plans_as_entries(rt: HostRuntime) -> Result<(), Fail> {
-    let alloc = rt.alloc();
-    let trees = streams(alloc)?;
-    let sum = spec(Kernel::Sum, 10, 0, 0, None);
-    let minus = spec(Kernel::Minus, 0, 0, 0, Some(1));
-    assert!(rt; planned(alloc, sum, one(2), one(2), &trees)?.is_none());
-    assert!(rt; planned(alloc, minus, two(1, 1), two(1, 1), &trees)?.is_none());
-    assert!(rt; planned(alloc, minus, two(1, 1), two(2, 1), &trees)?.is_some());
-    let plan = planned(alloc, sum, one(1), one(2), &trees)?.ok_or("a plan")?;
-    assert_eq!(rt; plan.stream(), 7);
-    assert_eq!(rt; plan.base(), 3);
-    let Entry::Distillate { stream, reads, .. } = plan.entry() else {
-        return Err("a distillate".into());
-    };
-    assert_eq!(rt; *stream, 7);
-    assert_eq!(rt; *reads, one(2));
-    let Entry::Distillate {
-        stream,
-        cut,
-        added,
-        reads,
-    } = plan.into_entry()
-    else {
-        return Err("a distillate".into());
-    };
-    assert_eq!(rt; stream, 7);
-    assert_eq!(rt; reads, one(2));
-    assert_eq!(rt; range_pairs(alloc, &cut)?.as_slice(), [(5, 16)].as_slice());
-    assert_eq!(rt;
-        point_pairs(alloc, &added)?.as_slice(),
-        [(5, 11), (10, 31)].as_slice()
-    );
+fn plans_are_entries(rt: HostRuntime) -> Result<(), Fail> {
+    let plan = planned(rt.alloc(), SUM, (1, None), (2, None))?.ok_or("a plan")?;
+    assert!(rt; (plan.stream(), plan.base()) == (7, 3));
+    assert!(rt; is_second_sum(plan.entry()));
+    assert!(rt; is_second_sum(&plan.into_entry()));
     Ok(())
 }

@@ -2,14 +2,16 @@
 #![tactic(auto)]
 
 #[cfg(test)]
-mod tree_tests;
-#[cfg(test)]
-mod scan_tests;
-#[cfg(test)]
-mod window_tests;
-#[cfg(test)]
 mod diff_tests;
+#[cfg(test)]
+mod distil_tests;
+#[cfg(test)]
+mod fixture;
 #[cfg(test)]
 mod kernel_tests;
 #[cfg(test)]
-mod distil_tests;
+mod scan_tests;
+#[cfg(test)]
+mod tree_tests;
+#[cfg(test)]
+mod window_tests;

@@ -1,6 +1,8 @@
-use btr_scan::nearest;
-use btr_scan::range;
-use btr_base::{Bag, END, FIRST, Point, Range, Ranges, Toward, are_in_domain};
+//! Ranges and nearest points of trees of every shape, against plain lists.
+
+use super::fixture::{after, points_from, ranges_of};
+use btr_base::{Bag, END, FIRST, Point, Range, Toward};
+use btr_scan::{nearest, range};
 use btr_tree::{Steps, Tree};
 use std::alloc::{AllocError, Global};
 use std::test::Fail;
@@ -12,99 +14,44 @@ struct Version {
     kept: Bag,
 }
 
-/// Points `step` apart, from a time on, with values from 0 on.
-fn points_from(alloc: Global, first: i64, step: i64, count: i64) -> Result<Vec<Point>, AllocError> {
-    let mut points = Vec::new(alloc);
-    for i in 0..count {
-        points.push(Point {
-            time: first.wrapping_add(i.wrapping_mul(step)),
-            value: i,
-        })?;
-    }
-    Ok(points)
-}
+/// A commit: the number of points that it adds, with the time of the first and the step between times, the bounds of its cut
+/// (none if they are equal), and the number of points that are there after it.
+struct Commit(i64, i64, i64, i64, i64, usize);
 
-fn cut_of(alloc: Global, from: i64, to: i64) -> Result<Ranges, AllocError> {
-    let mut cut = Ranges::none(alloc);
-    if let Some(range) = Range::new(from, to) {
-        cut.add(range)?;
-    }
-    Ok(cut)
-}
-
-/// The version after a commit, if it then has `count` points.
-fn after(
-    alloc: Global,
-    old: &Version,
-    cut: &Ranges,
-    added: &Bag,
-    version: u64,
-    count: usize,
-) -> Result<Version, Fail> {
-    if !are_in_domain(added.as_slice()) {
-        return Err("a time outside the domain".into());
-    }
-    let mut steps = Steps::new(alloc);
-    let applied = old
-        .tree
-        .apply(alloc, cut, added, version, &mut steps)
-        .ok()
-        .ok_or("applied")?;
-    let kept = old.kept.outside(alloc, cut)?.merge(alloc, added)?;
-    if kept.as_slice().len() != count {
+/// The version after a commit, if it then has as many points as the commit says.
+fn next(alloc: Global, old: &Version, commit: &Commit, version: u64) -> Result<Version, Fail> {
+    let Commit(count, first, step, from, to, points) = *commit;
+    let cut = ranges_of(alloc, &[(from, to)])?;
+    let added = Bag::from_points(points_from(alloc, first, step, count, 0)?);
+    let kept = old.kept.outside(alloc, &cut)?.merge(alloc, &added)?;
+    if kept.as_slice().len() != points {
         return Err("another number of points".into());
     }
-    Ok(Version {
-        tree: applied.tree,
-        kept,
-    })
+    let (tree, _) = after(alloc, &old.tree, &cut, &added, version)?;
+    Ok(Version { tree, kept })
 }
 
-/// A commit of the table: the points that it adds, the bounds of its cut (none if they are equal), and the number of points
-/// that are there after it.
-#[derive(Clone, Copy)]
-struct Case {
-    version: u64,
-    first: i64,
-    step: i64,
-    added: i64,
-    from: i64,
-    to: i64,
-    points: usize,
-}
-
-/// A commit that does nothing.
-fn commit(version: u64) -> Case {
-    Case {
-        version,
-        first: 0,
-        step: 0,
-        added: 0,
-        from: 0,
-        to: 0,
-        points: 0,
-    }
-}
-
-impl Case {
-    /// Adds `added` points, `step` apart, from `first` on.
-    fn adds(self, first: i64, step: i64, added: i64) -> Case {
-        Case {
-            first,
-            step,
-            added,
-            ..self
-        }
-    }
-
-    fn cuts(self, from: i64, to: i64) -> Case {
-        Case { from, to, ..self }
-    }
-
-    fn leaves(self, points: usize) -> Case {
-        Case { points, ..self }
-    }
-}
+const COMMITS: &[Commit] = &[
+    Commit(1, 0, 1, 0, 0, 1),
+    // a full leaf, and nodes of all heights for one point more
+    Commit(251, 1, 1, 0, 0, 252),
+    Commit(1, 252, 1, 0, 0, 253),
+    // nodes of all heights in the next slot of the root too, which begins 2^56 after 0
+    Commit(253, 72057594037927937, 1, 0, 0, 506),
+    // a point twice
+    Commit(1, 0, 1, 0, 0, 507),
+    // the end of the one slot and the begin of the other removed, and then so many that a leaf is left
+    Commit(0, 0, 0, 100, 72057594037928037, 254),
+    Commit(0, 0, 0, 0, 50, 203),
+    // all
+    Commit(0, 0, 0, FIRST, END, 0),
+    // three levels: points 2^48 apart
+    Commit(300, 0, 281474976710656, 0, 0, 300),
+    // many points at one time, the last of the domain
+    Commit(252, END - 1, 0, 0, 0, 552),
+    // the first times of the domain, and a gap from 2^54 on
+    Commit(3, FIRST, 1, 18014398509481984, 72057594037927937, 362),
+];
 
 /// Versions of one stream, with a tree of each shape.
 fn versions(alloc: Global) -> Result<Vec<Version>, Fail> {
@@ -113,61 +60,54 @@ fn versions(alloc: Global) -> Result<Vec<Version>, Fail> {
         tree: Tree::empty(),
         kept: Bag::from_points(Vec::new(alloc)),
     };
-    for case in [
-        commit(1).adds(0, 1, 1).leaves(1),
-        // a full leaf, and nodes of all heights for one point more
-        commit(2).adds(1, 1, 251).leaves(252),
-        commit(3).adds(252, 1, 1).leaves(253),
-        // nodes of all heights in the next slot of the root too, which begins 2^56 after 0
-        commit(4).adds(72057594037927937, 1, 253).leaves(506),
-        // a point twice
-        commit(5).adds(0, 1, 1).leaves(507),
-        // the end of the one slot and the begin of the other removed, and then so many that a leaf is left
-        commit(6).cuts(100, 72057594037928037).leaves(254),
-        commit(7).cuts(0, 50).leaves(203),
-        // all
-        commit(8).cuts(FIRST, END).leaves(0),
-        // three levels: points 2^48 apart
-        commit(9).adds(0, 281474976710656, 300).leaves(300),
-        // many points at one time, the last of the domain
-        commit(10).adds(END - 1, 0, 252).leaves(552),
-        // the first times of the domain, and a gap from 2^54 on
-        commit(11)
-            .adds(FIRST, 1, 3)
-            .cuts(18014398509481984, 72057594037927937)
-            .leaves(362),
-    ] {
-        let cut = cut_of(alloc, case.from, case.to)?;
-        let added = Bag::from_points(points_from(alloc, case.first, case.step, case.added)?);
-        let next = after(alloc, &last, &cut, &added, case.version, case.points)?;
+    for commit in COMMITS {
+        let version = next(alloc, &last, commit, all.len() as u64 + 1)?;
         all.push(last)?;
-        last = next;
+        last = version;
     }
     all.push(last)?;
     Ok(all)
 }
 
-/// Times at, before and after the edges of spans, of cuts and of the domain.
-fn edges(alloc: Global) -> Result<Vec<i64>, AllocError> {
+/// Times at the edges of spans, of cuts and of the domain.
+const EDGES: [i64; 13] = [
+    i64::MIN,
+    FIRST,
+    0,
+    4,
+    100,
+    253,
+    256,
+    281474976710656,
+    18014398509481984,
+    72057594037927936,
+    72057594037928190,
+    END,
+    i64::MAX,
+];
+
+/// Appends a time, the one before and the one after.
+fn push_around(times: &mut Vec<i64>, time: i64) -> Result<(), AllocError> {
+    times.push(time.saturating_sub(1))?;
+    times.push(time)?;
+    times.push(time.saturating_add(1))?;
+    Ok(())
+}
+
+/// Times at, before and after edges.
+fn around_edges(alloc: Global) -> Result<Vec<i64>, AllocError> {
     let mut times = Vec::new(alloc);
-    for time in [
-        i64::MIN,
-        FIRST,
-        0,
-        4,
-        100,
-        253,
-        256,
-        281474976710656,
-        18014398509481984,
-        72057594037927936,
-        72057594037928190,
-        END,
-        i64::MAX,
-    ] {
-        times.push(time.saturating_sub(1))?;
-        times.push(time)?;
-        times.push(time.saturating_add(1))?;
+    for time in EDGES {
+        push_around(&mut times, time)?;
+    }
+    Ok(times)
+}
+
+/// Times at, before and after edges and points.
+fn around_points(alloc: Global, points: &[Point]) -> Result<Vec<i64>, AllocError> {
+    let mut times = around_edges(alloc)?;
+    for point in points {
+        push_around(&mut times, point.time)?;
     }
     Ok(times)
 }
@@ -206,48 +146,68 @@ fn plain_nearest(points: &[Point], time: i64, toward: Toward) -> Option<Point> {
     }
 }
 
-#[test]
-fn ranges_of_every_shape(rt: HostRuntime) -> Result<(), Fail> {
-    let alloc = rt.alloc();
-    let times = edges(alloc)?;
-    for version in &versions(alloc)? {
-        for from in &times {
-            for to in &times {
-                if let Some(bounds) = Range::new(*from, *to) {
-                    let rows = range(alloc, &version.tree, bounds)?;
-                    let want = plain_range(alloc, version.kept.as_slice(), *from, *to)?;
-                    assert!(rt; rows == want, "from {from} to {to}");
+/// Whether the points of a range are those of the list.
+fn is_range(alloc: Global, version: &Version, bounds: Range) -> Result<bool, AllocError> {
+    let rows = range(alloc, &version.tree, bounds)?;
+    let want = plain_range(alloc, version.kept.as_slice(), bounds.from, bounds.to)?;
+    Ok(rows == want)
+}
+
+/// Whether they are for each two times that are bounds of a range.
+fn are_ranges(alloc: Global, version: &Version, times: &[i64]) -> Result<bool, AllocError> {
+    for from in times {
+        for to in times {
+            if let Some(bounds) = Range::new(*from, *to) {
+                if !is_range(alloc, version, bounds)? {
+                    return Ok(false);
                 }
             }
         }
     }
+    Ok(true)
+}
+
+#[test]
+fn ranges_of_every_shape(rt: HostRuntime) -> Result<(), Fail> {
+    let times = around_edges(rt.alloc())?;
+    for version in &versions(rt.alloc())? {
+        assert!(rt; are_ranges(rt.alloc(), version, &times)?);
+    }
     Ok(())
+}
+
+/// The number of nodes that are visited for the nearest point, if it is that of the list and they are as few as may be.
+fn visited(alloc: Global, version: &Version, time: i64, toward: Toward) -> Option<u64> {
+    let mut steps = Steps::new(alloc);
+    let got = nearest(&version.tree, time, toward, &mut steps);
+    let count = steps.count();
+    let is_nearest = got == plain_nearest(version.kept.as_slice(), time, toward);
+    (is_nearest && count <= 21 && (got.is_none() || count >= 1)).then_some(count)
+}
+
+/// The greatest number of nodes that are visited for a nearest point, if each is right.
+fn most_visited(alloc: Global, version: &Version) -> Result<Option<u64>, AllocError> {
+    let times = around_points(alloc, version.kept.as_slice())?;
+    let mut most = 0;
+    for time in &times {
+        for toward in [Toward::Forward, Toward::Backward] {
+            let Some(count) = visited(alloc, version, *time, toward) else {
+                return Ok(None);
+            };
+            most = most.max(count);
+        }
+    }
+    Ok(Some(most))
 }
 
 #[test]
 fn nearest_of_every_shape(rt: HostRuntime) -> Result<(), Fail> {
-    let alloc = rt.alloc();
     let mut most = 0;
-    for version in &versions(alloc)? {
-        let points = version.kept.as_slice();
-        let mut times = edges(alloc)?;
-        for point in points {
-            times.push(point.time.saturating_sub(1))?;
-            times.push(point.time)?;
-            times.push(point.time.saturating_add(1))?;
-        }
-        for time in &times {
-            for toward in [Toward::Forward, Toward::Backward] {
-                let mut steps = Steps::new(alloc);
-                let got = nearest(&version.tree, *time, toward, &mut steps);
-                assert_eq!(rt; got, plain_nearest(points, *time, toward), "at {time}");
-                assert!(rt; steps.count() <= 21, "at {time}");
-                assert!(rt; got.is_none() || steps.count() >= 1, "at {time}");
-                most = most.max(steps.count());
-            }
-        }
+    for version in &versions(rt.alloc())? {
+        let count = most_visited(rt.alloc(), version)?;
+        most = most.max(count.ok_or("another point or too many nodes")?);
     }
     // down to a bottom span that has none, and down to another in the next slot of the root
-    assert_eq!(rt; most, 21);
+    assert!(rt; most == 21);
     Ok(())
 }

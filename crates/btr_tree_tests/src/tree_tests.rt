@@ -6,14 +6,10 @@
 //! aggregate in btr_base's `Agg`.
 ghost use Rattle.std.specs.Prelude.{◌≡◌, ◌-◌};
 
-use btr_tree::TreeFault;
-use btr_tree::visit;
-use btr_tree::{NewNode, NewSlots};
-use btr_tree::{Child, Node, Slot};
-use btr_tree::Slots;
-use btr_tree::Steps;
-use btr_tree::{Applied, Tree};
 use btr_base::{Bag, END, FIRST, Point, Range, Ranges, are_in_domain};
+use btr_tree::{
+    Applied, Child, NewNode, NewSlots, Node, Slot, Slots, Steps, Tree, TreeFault, visit,
+};
 use std::alloc::{AllocError, Global};
 use std::test::Fail;
 use std::thread;
@@ -38,7 +34,7 @@ const NEXT: i64 = 1513209474796486656;
 const STRIDE: i64 = 281474976710656;
 
 /// The times of a span.
-#[derive(Clone, Copy, Debug, PartialEq, Eq)]
+#[derive(Clone, Copy)]
 struct Part {
     start: i64,
     height: u8,
@@ -46,7 +42,7 @@ struct Part {
 }
 
 /// The aggregate of the points of a part.
-#[derive(Clone, Copy, Debug, PartialEq, Eq)]
+#[derive(Clone, Copy, PartialEq)]
 struct Summary {
     count: u64,
     sum: i128,
@@ -54,7 +50,7 @@ struct Summary {
 }
 
 /// A slot of an inner node.
-#[derive(Clone, Copy, Debug, PartialEq, Eq)]
+#[derive(Clone, Copy, PartialEq)]
 struct PlainSlot {
     summary: Summary,
     version: u64,
@@ -62,7 +58,7 @@ struct PlainSlot {
 }
 
 /// A node with its span.
-#[derive(Debug, Drop, PartialEq, Eq)]
+#[derive(Drop, PartialEq)]
 struct PlainNode {
     start: i64,
     height: u8,
@@ -447,27 +443,12 @@ fn applied_to(
 type Outcome = Result<(u64, usize), i64>;
 
 /// A commit of the table: its version, the points that it adds, the bounds of its cut, and its outcome, found by hand.
-#[derive(Clone, Copy)]
-struct Case<'a> {
-    version: u64,
-    added: &'a [(i64, i64, i64)],
-    cut: &'a [(i64, i64)],
-    outcome: Outcome,
-}
-
-fn row<'a>(
-    version: u64,
-    added: &'a [(i64, i64, i64)],
-    cut: &'a [(i64, i64)],
-    outcome: Outcome,
-) -> Case<'a> {
-    Case {
-        version,
-        added,
-        cut,
-        outcome,
-    }
-}
+struct Case(
+    u64,
+    &'static [(i64, i64, i64)],
+    &'static [(i64, i64)],
+    Outcome,
+);
 
 fn outcome_of(applied: &Result<Applied, TreeFault>) -> Option<Outcome> {
     match applied {
@@ -507,111 +488,155 @@ fn next_version(
     }))
 }
 
-#[test]
-fn commits_of_one_stream(rt: HostRuntime) -> Result<(), Fail> {
-    let alloc = rt.alloc();
-    let mut commits = Vec::new(alloc);
-    let mut last = Version {
-        tree: Tree::empty(),
-        points: Bag::from_points(Vec::new(alloc)),
-        nodes: Vec::new(alloc),
-    };
-    for case in [
-        // one point, a full leaf, and one point more, in another slot: an inner node with two leaves
-        row(1, &[(0, 0, 1)], &[], Ok((1, 1))),
-        row(2, &[(4, 4, 251)], &[], Ok((252, 1))),
-        row(3, &[(FIRST, 0, 1)], &[], Ok((253, 3))),
-        // a cut that covers no point, and a commit of nothing
-        row(5, &[], &[(2000, 3000), (1, 4)], Ok((253, 0))),
-        row(6, &[], &[], Ok((253, 0))),
-        // 252 points are left, in a leaf again
-        row(7, &[], &[(FIRST, -1)], Ok((252, 1))),
-        // one crowded bottom span, and two
-        row(8, &[(1, 0, 252)], &[], Err(0)),
-        row(8, &[(1000, 0, 260), (-7, 0, 253)], &[], Err(-8)),
-        // 253 points within 16 ns, up to the last time of the domain: nodes of all heights, and two bottom spans
-        row(
-            8,
-            &[(END - 16, 0, 128), (END - 1, 0, 125)],
-            &[],
-            Ok((505, 13)),
-        ),
-        // 25 more bottom spans, of which one goes again and two lose a point: their node of 256 ns stays an inner one
-        row(9, &[(END - 200, 1, 100)], &[], Ok((605, 35))),
-        row(
-            10,
-            &[],
-            &[(END - 196, END - 192), (END - 189, END - 187)],
-            Ok((599, 12)),
-        ),
-        // points cut and put again
-        row(11, &[(0, 0, 1), (4, 0, 1)], &[(0, 8)], Ok((599, 2))),
-        // a point twice more: 254 in the slot, whose leaves are 256 ns wide; and 252 again
-        row(12, &[(0, 0, 1), (0, 0, 1)], &[], Ok((601, 13))),
-        row(13, &[], &[(1000, 1005)], Ok((599, 2))),
-        // the first times of the domain
-        row(14, &[(FIRST, 1, 3)], &[], Ok((602, 2))),
-        // three levels: 256 points in one slot of the root and 44 in the next; and then 10 and 41, in leaves
-        row(15, &[(FAR, STRIDE, 300)], &[], Ok((902, 67))),
-        row(
-            16,
-            &[],
-            &[(FAR + 10 * STRIDE, NEXT + 3 * STRIDE)],
-            Ok((653, 3)),
-        ),
-        // all cut; and once more, for 253 points within 256 ns
-        row(17, &[], &[(FIRST, END)], Ok((0, 0))),
-        row(18, &[(END - 1, 0, 1)], &[], Ok((1, 1))),
-        row(19, &[(0, 1, 253)], &[(FIRST, END)], Ok((253, 74))),
-        // other values at the same times
-        row(20, &[(8, 1, 4)], &[(8, 12)], Ok((253, 11))),
-        // nodes of all heights go for one leaf, beside a new one
-        row(21, &[(-1, 0, 1)], &[(0, 1)], Ok((253, 3))),
-        // a bottom span that the cut makes room in, and then one point too many
-        row(22, &[(1, 0, 252)], &[(0, 4)], Ok((502, 74))),
-        row(23, &[(2, 0, 1)], &[], Err(0)),
-        // the greatest version
-        row(u64::MAX, &[(2, 0, 1)], &[(1, 2)], Ok((251, 1))),
-    ] {
-        let version = case.version;
-        let cut = cut_of(alloc, case.cut)?;
-        let added = points_of(alloc, case.added)?;
-        let applied = applied_to(alloc, &last.tree, &cut, &added, version)?;
-        assert_eq!(rt; outcome_of(&applied), Some(case.outcome), "{version}");
-        if let Ok(applied) = applied {
-            commits.push(Commit {
-                version,
-                cut,
-                added,
-                before: last,
-            })?;
-            last = next_version(alloc, &commits, applied)?.ok_or("other nodes")?;
-        }
-        assert!(rt; is_as_derived(alloc, &last)?, "{version}");
-        for commit in &commits {
-            assert!(rt; is_as_derived(alloc, &commit.before)?, "{version}");
+/// The commits of a stream, and its last version.
+#[derive(Drop)]
+struct Stream {
+    commits: Vec<Commit>,
+    last: Version,
+}
+
+/// The stream after one more commit, if it wrote the nodes of its version.
+fn committed(
+    alloc: Global,
+    stream: Stream,
+    version: u64,
+    cut: Ranges,
+    added: Bag,
+    applied: Applied,
+) -> Result<Stream, Fail> {
+    let Stream { mut commits, last } = stream;
+    commits.push(Commit {
+        version,
+        cut,
+        added,
+        before: last,
+    })?;
+    let last = next_version(alloc, &commits, applied)?.ok_or("other nodes")?;
+    Ok(Stream { commits, last })
+}
+
+/// The stream after a commit of the table, if it has the outcome that was found by hand.
+fn after(alloc: Global, stream: Stream, case: &Case) -> Result<Stream, Fail> {
+    let added = points_of(alloc, case.1)?;
+    let cut = cut_of(alloc, case.2)?;
+    let applied = applied_to(alloc, &stream.last.tree, &cut, &added, case.0)?;
+    if outcome_of(&applied) != Some(case.3) {
+        return Err(Fail::new(format_args!("another outcome at version {}", case.0)));
+    }
+    match applied {
+        Ok(applied) => committed(alloc, stream, case.0, cut, added, applied),
+        Err(_) => Ok(stream),
+    }
+}
+
+/// Whether all versions of a stream are as the plain program derives them.
+fn are_as_derived(alloc: Global, stream: &Stream) -> Result<bool, AllocError> {
+    for commit in &stream.commits {
+        if !is_as_derived(alloc, &commit.before)? {
+            return Ok(false);
         }
     }
+    is_as_derived(alloc, &stream.last)
+}
+
+const CASES: &[Case] = &[
+    // one point, a full leaf, and one point more, in another slot: an inner node with two leaves
+    Case(1, &[(0, 0, 1)], &[], Ok((1, 1))),
+    Case(2, &[(4, 4, 251)], &[], Ok((252, 1))),
+    Case(3, &[(FIRST, 0, 1)], &[], Ok((253, 3))),
+    // a cut that covers no point, and a commit of nothing
+    Case(5, &[], &[(2000, 3000), (1, 4)], Ok((253, 0))),
+    Case(6, &[], &[], Ok((253, 0))),
+    // 252 points are left, in a leaf again
+    Case(7, &[], &[(FIRST, -1)], Ok((252, 1))),
+    // one crowded bottom span, and two
+    Case(8, &[(1, 0, 252)], &[], Err(0)),
+    Case(8, &[(1000, 0, 260), (-7, 0, 253)], &[], Err(-8)),
+    // 253 points within 16 ns, up to the last time of the domain: nodes of all heights, and two bottom spans
+    Case(
+        8,
+        &[(END - 16, 0, 128), (END - 1, 0, 125)],
+        &[],
+        Ok((505, 13)),
+    ),
+    // 25 more bottom spans, of which one goes again and two lose a point: their node of 256 ns stays an inner one
+    Case(9, &[(END - 200, 1, 100)], &[], Ok((605, 35))),
+    Case(
+        10,
+        &[],
+        &[(END - 196, END - 192), (END - 189, END - 187)],
+        Ok((599, 12)),
+    ),
+    // points cut and put again
+    Case(11, &[(0, 0, 1), (4, 0, 1)], &[(0, 8)], Ok((599, 2))),
+    // a point twice more: 254 in the slot, whose leaves are 256 ns wide; and 252 again
+    Case(12, &[(0, 0, 1), (0, 0, 1)], &[], Ok((601, 13))),
+    Case(13, &[], &[(1000, 1005)], Ok((599, 2))),
+    // the first times of the domain
+    Case(14, &[(FIRST, 1, 3)], &[], Ok((602, 2))),
+    // three levels: 256 points in one slot of the root and 44 in the next; and then 10 and 41, in leaves
+    Case(15, &[(FAR, STRIDE, 300)], &[], Ok((902, 67))),
+    Case(
+        16,
+        &[],
+        &[(FAR + 10 * STRIDE, NEXT + 3 * STRIDE)],
+        Ok((653, 3)),
+    ),
+    // all cut; and once more, for 253 points within 256 ns
+    Case(17, &[], &[(FIRST, END)], Ok((0, 0))),
+    Case(18, &[(END - 1, 0, 1)], &[], Ok((1, 1))),
+    Case(19, &[(0, 1, 253)], &[(FIRST, END)], Ok((253, 74))),
+    // other values at the same times
+    Case(20, &[(8, 1, 4)], &[(8, 12)], Ok((253, 11))),
+    // nodes of all heights go for one leaf, beside a new one
+    Case(21, &[(-1, 0, 1)], &[(0, 1)], Ok((253, 3))),
+    // a bottom span that the cut makes room in, and then one point too many
+    Case(22, &[(1, 0, 252)], &[(0, 4)], Ok((502, 74))),
+    Case(23, &[(2, 0, 1)], &[], Err(0)),
+    // the greatest version
+    Case(u64::MAX, &[(2, 0, 1)], &[(1, 2)], Ok((251, 1))),
+];
+
+#[test]
+fn commits_of_one_stream(rt: HostRuntime) -> Result<(), Fail> {
+    let mut stream = Stream {
+        commits: Vec::new(rt.alloc()),
+        last: Version {
+            tree: Tree::empty(),
+            points: Bag::from_points(Vec::new(rt.alloc())),
+            nodes: Vec::new(rt.alloc()),
+        },
+    };
+    for case in CASES {
+        stream = after(rt.alloc(), stream, case)?;
+        assert!(rt; are_as_derived(rt.alloc(), &stream)?);
+    }
     Ok(())
+}
+
+/// The tree of 253 points within one slot.
+fn tall_tree(alloc: Global) -> Result<Tree, Fail> {
+    let none = Ranges::none(alloc);
+    let added = points_of(alloc, &[(0, 1, 253)])?;
+    match applied_to(alloc, &Tree::empty(), &none, &added, 1)? {
+        Ok(applied) => Ok(applied.tree),
+        Err(_) => Err("no commit".into()),
+    }
 }
 
 #[test]
 fn one_tree_in_two_threads(rt: HostRuntime) -> Result<(), Fail> {
     let alloc = rt.alloc();
-    let none = Ranges::none(alloc);
-    let added = points_of(alloc, &[(0, 1, 253)])?;
-    let applied = applied_to(alloc, &Tree::empty(), &none, &added, 1)?
-        .ok()
-        .ok_or("applied")?;
-    let tree = applied.tree.share()?;
+    let one = tall_tree(alloc)?;
+    let other = one.share()?;
     let (here, there) = thread::join(
         &rt,
-        || (applied.tree.count(), nodes_in(alloc, &applied.tree)),
-        move || (tree.count(), nodes_in(alloc, &tree)),
+        || (one.count(), nodes_in(alloc, &one)),
+        move || (other.count(), nodes_in(alloc, &other)),
     );
-    assert_eq!(rt; (here.0, there.0), (253, 253));
+    assert!(rt; (here.0, there.0) == (253, 253));
     let nodes = here.1?;
-    assert_eq!(rt; nodes.len(), 74);
+    assert!(rt; nodes.len() == 74);
     assert!(rt; nodes == there.1?);
     Ok(())
 }

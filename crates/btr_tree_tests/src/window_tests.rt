@@ -1,12 +1,15 @@
-use btr_window::{aggregate, aligned, windows};
-use btr_base::{Bag, Cell, END, FIRST, MAX_WIDTH, Point, Range, Ranges, are_in_domain};
+//! Windows and aggregates of trees of every shape, against plain lists, and by hand.
+
+use super::fixture::{Pairs, Row, after, all_hold, bag_of, ranges_of};
+use btr_base::{Bag, Cell, END, FIRST, MAX_WIDTH, Point, Range, Ranges};
 use btr_tree::{Steps, Tree};
+use btr_window::{aggregate, aligned, windows};
 use std::alloc::{AllocError, Global};
 use std::test::Fail;
 
 /// A window and the aggregate of its points.
-#[derive(Clone, Copy, Debug, PartialEq, Eq)]
-struct Row {
+#[derive(Clone, Copy, PartialEq)]
+struct Window {
     start: i128,
     count: u64,
     sum: i128,
@@ -14,10 +17,10 @@ struct Row {
     greatest: i64,
 }
 
-impl Row {
+impl Window {
     /// The row of one point.
-    fn of(start: i128, value: i64) -> Row {
-        Row {
+    fn of(start: i128, value: i64) -> Window {
+        Window {
             start,
             count: 1,
             sum: i128::from(value),
@@ -27,8 +30,8 @@ impl Row {
     }
 
     /// The row with one more value.
-    fn with(self, value: i64) -> Row {
-        Row {
+    fn with(self, value: i64) -> Window {
+        Window {
             start: self.start,
             count: self.count.saturating_add(1),
             sum: self.sum.wrapping_add(i128::from(value)),
@@ -38,98 +41,36 @@ impl Row {
     }
 }
 
-/// Points of one tree: how many, the first time and the step between two, and a range that is deleted afterwards.
-#[derive(Clone, Copy)]
-struct Shape {
-    count: i64,
-    first: i64,
-    step: i64,
-    deleted: (i64, i64),
-}
+/// Points of one tree: how many, the time of the first and the step between two, and the bounds that are cut afterwards (none
+/// if they are equal). Values are from -8 to 8.
+struct Shape(i64, i64, i64, i64, i64);
 
-/// Points at 0, 1, 2 and so on.
-fn points_of(count: i64) -> Shape {
-    Shape {
-        count,
-        first: 0,
-        step: 1,
-        deleted: (0, 0),
-    }
-}
-
-impl Shape {
-    fn from(self, first: i64) -> Shape {
-        Shape { first, ..self }
-    }
-
-    fn every(self, step: i64) -> Shape {
-        Shape { step, ..self }
-    }
-
-    fn without(self, from: i64, to: i64) -> Shape {
-        Shape {
-            deleted: (from, to),
-            ..self
-        }
-    }
-
-    /// The points, with values from -8 to 8.
-    fn points(self, alloc: Global) -> Result<Bag, AllocError> {
-        let mut points = Vec::new(alloc);
-        for i in 0..self.count {
-            points.push(Point {
-                time: self.first.wrapping_add(i.wrapping_mul(self.step)),
-                value: (i.wrapping_mul(31) % 17).wrapping_sub(8),
-            })?;
-        }
-        Ok(Bag::from_points(points))
-    }
-
-    /// The range that is deleted, if there is one.
-    fn cut(self, alloc: Global) -> Result<Ranges, AllocError> {
-        let mut cut = Ranges::none(alloc);
-        if let Some(range) = Range::new(self.deleted.0, self.deleted.1) {
-            cut.add(range)?;
-        }
-        Ok(cut)
-    }
-}
-
-/// The tree after one more commit.
-fn after(
-    alloc: Global,
-    tree: &Tree,
-    cut: &Ranges,
-    added: &Bag,
-    version: u64,
-) -> Result<Tree, Fail> {
-    if !are_in_domain(added.as_slice()) {
-        return Err("a time outside the domain".into());
-    }
-    let applied = tree.apply(alloc, cut, added, version, &mut Steps::new(alloc));
-    Ok(applied.ok().ok_or("applied")?.tree)
-}
-
-/// The tree of points, each by its time and value.
-fn tree_of(alloc: Global, points: &[(i64, i64)]) -> Result<Tree, Fail> {
-    let mut list = Vec::new(alloc);
-    for (time, value) in points {
-        list.push(Point {
-            time: *time,
-            value: *value,
+fn points_of(alloc: Global, shape: &Shape) -> Result<Bag, AllocError> {
+    let mut points = Vec::new(alloc);
+    for i in 0..shape.0 {
+        points.push(Point {
+            time: shape.1.wrapping_add(i.wrapping_mul(shape.2)),
+            value: (i.wrapping_mul(31) % 17).wrapping_sub(8),
         })?;
     }
-    let added = Bag::from_points(list);
-    after(alloc, &Tree::empty(), &Ranges::none(alloc), &added, 1)
+    Ok(Bag::from_points(points))
+}
+
+/// The tree of a shape, after its cut.
+fn tree_of(alloc: Global, added: &Bag, cut: &Ranges) -> Result<Tree, Fail> {
+    let (whole, _) = after(alloc, &Tree::empty(), &Ranges::none(alloc), added, 1)?;
+    let none = Bag::from_points(Vec::new(alloc));
+    let (tree, _) = after(alloc, &whole, cut, &none, 2)?;
+    Ok(tree)
 }
 
 /// The rows of windows.
-fn rows_of(alloc: Global, cells: &[Cell]) -> Result<Vec<Row>, Fail> {
+fn rows_of(alloc: Global, cells: &[Cell]) -> Result<Vec<Window>, Fail> {
     let mut rows = Vec::new(alloc);
     for cell in cells {
         let agg = cell.agg;
         let (least, greatest) = agg.ends.ok_or("a point")?;
-        rows.push(Row {
+        rows.push(Window {
             start: i128::from(cell.start),
             count: agg.count,
             sum: agg.sum,
@@ -149,9 +90,9 @@ fn plain_rows(
     width: u64,
     low: i128,
     high: i128,
-) -> Result<Vec<Row>, AllocError> {
+) -> Result<Vec<Window>, AllocError> {
     let width = i128::from(width);
-    let mut rows: Vec<Row> = Vec::new(alloc);
+    let mut rows: Vec<Window> = Vec::new(alloc);
     for point in points {
         let offset = i128::from(point.time).wrapping_sub(i128::from(first));
         let number = offset.checked_div(width).unwrap_or(0);
@@ -159,7 +100,7 @@ fn plain_rows(
         if offset < 0 || start < low || start.wrapping_add(width) > high {
             continue;
         }
-        let mut row = Row::of(start, point.value);
+        let mut row = Window::of(start, point.value);
         if let Some(last) = rows.pop() {
             if last.start == start {
                 row = last.with(point.value);
@@ -176,11 +117,11 @@ fn plain_rows(
 fn aggregate_agrees(alloc: Global, tree: &Tree, points: &[Point], range: Range) -> bool {
     let mut steps = Steps::new(alloc);
     let agg = aggregate(tree, range, &mut steps);
-    let mut all: Option<Row> = None;
+    let mut all: Option<Window> = None;
     for point in points {
         if range.from <= point.time && point.time < range.to {
             all = match all {
-                None => Some(Row::of(0, point.value)),
+                None => Some(Window::of(0, point.value)),
                 Some(row) => Some(row.with(point.value)),
             };
         }
@@ -196,107 +137,197 @@ fn aggregate_agrees(alloc: Global, tree: &Tree, points: &[Point], range: Range) 
     same && steps.count() <= 21
 }
 
-/// Whether the windows of a range are those of its points, one by one.
-fn windows_agree(alloc: Global, tree: &Tree, points: &[Point], range: Range) -> Result<bool, Fail> {
-    let from = i128::from(range.from);
-    let to = i128::from(range.to);
-    let mut same = true;
+/// Whether the aligned windows of a range are those of its points, one by one.
+fn aligned_agree(
+    alloc: Global,
+    tree: &Tree,
+    points: &[Point],
+    range: Range,
+    p: u8,
+) -> Result<bool, Fail> {
+    let p = p.min(62);
+    let width = 1u64 << u32::from(p);
+    let around = i128::from(width).wrapping_sub(1);
+    let low = i128::from(range.from).wrapping_sub(around);
+    let high = i128::from(range.to).wrapping_add(around);
+    let rows = rows_of(alloc, &aligned(alloc, tree, range, p)?)?;
+    Ok(rows == plain_rows(alloc, points, FIRST, width, low, high)?)
+}
+
+/// Whether the windows of a width are.
+fn windows_agree(
+    alloc: Global,
+    tree: &Tree,
+    points: &[Point],
+    range: Range,
+    width: u64,
+) -> Result<bool, Fail> {
+    let width = width.clamp(1, 4611686018427387904);
+    let low = i128::from(range.from);
+    let high = i128::from(range.to);
+    let rows = rows_of(alloc, &windows(alloc, tree, range, width)?)?;
+    Ok(rows == plain_rows(alloc, points, range.from, width, low, high)?)
+}
+
+/// Whether the aggregate and all windows of a range are.
+fn range_agrees(alloc: Global, tree: &Tree, points: &[Point], range: Range) -> Result<bool, Fail> {
+    let mut same = aggregate_agrees(alloc, tree, points, range);
     for p in [0u8, 2, 5, 33, 62] {
-        let p = p.min(62);
-        let width = 1u64 << u32::from(p);
-        let rows = rows_of(alloc, &aligned(alloc, tree, range, p)?)?;
-        let around = i128::from(width).wrapping_sub(1);
-        let low = from.wrapping_sub(around);
-        let high = to.wrapping_add(around);
-        same = same && rows == plain_rows(alloc, points, FIRST, width, low, high)?;
+        same = same && aligned_agree(alloc, tree, points, range, p)?;
     }
     for width in [1u64, 3, 4, 1000, MAX_WIDTH] {
-        let width = width.clamp(1, 4611686018427387904);
-        let rows = rows_of(alloc, &windows(alloc, tree, range, width)?)?;
-        same = same && rows == plain_rows(alloc, points, range.from, width, from, to)?;
+        same = same && windows_agree(alloc, tree, points, range, width)?;
     }
     Ok(same)
 }
 
-#[test]
-fn trees_of_every_shape(rt: HostRuntime) -> Result<(), Fail> {
-    let alloc = rt.alloc();
-    for shape in [
-        points_of(0),
-        points_of(5).from(3),
-        points_of(252),
-        points_of(253),
-        points_of(400).from(-40).every(13),
-        points_of(300).without(100, 200),
-        points_of(300).without(FIRST, END),
-        points_of(252).from(5).every(0),
-        points_of(2).from(FIRST).every(4611686018427387903),
-        points_of(256).from(FIRST).every(18014398509481984),
-    ] {
-        let added = shape.points(alloc)?;
-        let cut = shape.cut(alloc)?;
-        let none = Bag::from_points(Vec::new(alloc));
-        let whole = after(alloc, &Tree::empty(), &Ranges::none(alloc), &added, 1)?;
-        let tree = after(alloc, &whole, &cut, &none, 2)?;
-        let kept = added.outside(alloc, &cut)?;
-        let points = kept.as_slice();
-        for from in [FIRST, -41, 0, 3, 5, 99, 252, END - 1] {
-            for to in [FIRST + 1, 1, 6, 101, 253, 299, 5000, END] {
-                if let Some(range) = Range::new(from, to) {
-                    assert!(rt;
-                        aggregate_agrees(alloc, &tree, points, range),
-                        "{from} {to}"
-                    );
-                    assert!(rt; windows_agree(alloc, &tree, points, range)?, "{from} {to}");
+/// Whether they are for each range of a few bounds.
+fn ranges_agree(alloc: Global, tree: &Tree, points: &[Point]) -> Result<bool, Fail> {
+    for from in [FIRST, -41, 0, 3, 5, 99, 252, END - 1] {
+        for to in [FIRST + 1, 1, 6, 101, 253, 299, 5000, END] {
+            if let Some(range) = Range::new(from, to) {
+                if !range_agrees(alloc, tree, points, range)? {
+                    return Ok(false);
                 }
             }
         }
     }
-    Ok(())
+    Ok(true)
 }
 
-/// A row by hand.
-fn by_hand(start: i128, count: u64, sum: i128, least: i64, greatest: i64) -> Row {
-    Row {
-        start,
-        count,
-        sum,
-        least,
-        greatest,
+impl Row for Shape {
+    fn holds(&self, alloc: Global) -> Result<bool, Fail> {
+        let added = points_of(alloc, self)?;
+        let cut = ranges_of(alloc, &[(self.3, self.4)])?;
+        let tree = tree_of(alloc, &added, &cut)?;
+        let kept = added.outside(alloc, &cut)?;
+        ranges_agree(alloc, &tree, kept.as_slice())
     }
 }
 
+const SHAPES: &[Shape] = &[
+    Shape(0, 0, 1, 0, 0),
+    Shape(5, 3, 1, 0, 0),
+    Shape(252, 0, 1, 0, 0),
+    Shape(253, 0, 1, 0, 0),
+    Shape(400, -40, 13, 0, 0),
+    Shape(300, 0, 1, 100, 200),
+    Shape(300, 0, 1, FIRST, END),
+    Shape(252, 5, 0, 0, 0),
+    Shape(2, FIRST, 4611686018427387903, 0, 0),
+    Shape(256, FIRST, 18014398509481984, 0, 0),
+];
+
+#[test]
+fn trees_of_every_shape(rt: HostRuntime) -> Result<(), Fail> {
+    all_hold(rt.alloc(), SHAPES)
+}
+
+/// The tree of points by their times and values.
+fn tree_by_hand(alloc: Global, pairs: &[(i64, i64)]) -> Result<Tree, Fail> {
+    let added = bag_of(alloc, pairs)?;
+    let (tree, _) = after(alloc, &Tree::empty(), &Ranges::none(alloc), &added, 1)?;
+    Ok(tree)
+}
+
+/// Windows of 2^p ns, or of a width.
+enum Asked {
+    Aligned(u8),
+    Windows(u64),
+}
+
+/// Points, the bounds of a range, its windows, and their rows.
+struct ByHand(Pairs, i64, i64, Asked, &'static [Window]);
+
+impl Row for ByHand {
+    fn holds(&self, alloc: Global) -> Result<bool, Fail> {
+        let range = Range::new(self.1, self.2).ok_or("a range")?;
+        let tree = tree_by_hand(alloc, self.0)?;
+        let cells = match self.3 {
+            Asked::Aligned(p) => aligned(alloc, &tree, range, p.min(62))?,
+            Asked::Windows(width) => {
+                windows(alloc, &tree, range, width.clamp(1, 4611686018427387904))?
+            }
+        };
+        Ok(rows_of(alloc, &cells)?.as_slice() == self.4)
+    }
+}
+
+const POINTS: Pairs = &[(0, 5), (3, 7), (4, -2)];
+
+const BY_HAND: &[ByHand] = &[
+    ByHand(
+        POINTS,
+        0,
+        8,
+        Asked::Aligned(2),
+        &[
+            Window {
+                start: 0,
+                count: 2,
+                sum: 12,
+                least: 5,
+                greatest: 7,
+            },
+            Window {
+                start: 4,
+                count: 1,
+                sum: -2,
+                least: -2,
+                greatest: -2,
+            },
+        ],
+    ),
+    // a window from 7 on would end after the range
+    ByHand(
+        POINTS,
+        1,
+        8,
+        Asked::Windows(3),
+        &[
+            Window {
+                start: 1,
+                count: 1,
+                sum: 7,
+                least: 7,
+                greatest: 7,
+            },
+            Window {
+                start: 4,
+                count: 1,
+                sum: -2,
+                least: -2,
+                greatest: -2,
+            },
+        ],
+    ),
+    // a sum above the greatest value
+    ByHand(
+        &[(0, i64::MAX), (1, i64::MAX)],
+        0,
+        1,
+        Asked::Aligned(62),
+        &[Window {
+            start: -1152921504606846976,
+            count: 2,
+            sum: 18446744073709551614,
+            least: i64::MAX,
+            greatest: i64::MAX,
+        }],
+    ),
+];
+
 #[test]
 fn rows_by_hand(rt: HostRuntime) -> Result<(), Fail> {
-    let alloc = rt.alloc();
-    let tree = tree_of(alloc, &[(0, 5), (3, 7), (4, -2)])?;
-    let range = Range::new(0, 8).ok_or("a range")?;
-    let rows = rows_of(alloc, &aligned(alloc, &tree, range, 2)?)?;
-    assert_eq!(rt;
-        rows.as_slice(),
-        [by_hand(0, 2, 12, 5, 7), by_hand(4, 1, -2, -2, -2)].as_slice()
-    );
-    // a window from 7 on would end after the range
+    all_hold(rt.alloc(), BY_HAND)
+}
+
+#[test]
+fn an_aggregate_by_hand(rt: HostRuntime) -> Result<(), Fail> {
+    let tree = tree_by_hand(rt.alloc(), POINTS)?;
     let range = Range::new(1, 8).ok_or("a range")?;
-    let rows = rows_of(alloc, &windows(alloc, &tree, range, 3)?)?;
-    assert_eq!(rt;
-        rows.as_slice(),
-        [by_hand(1, 1, 7, 7, 7), by_hand(4, 1, -2, -2, -2)].as_slice()
-    );
-    let mut steps = Steps::new(alloc);
-    assert_eq!(rt; aggregate(&tree, range, &mut steps).sum, 5);
-    assert_eq!(rt; steps.count(), 1);
-    // a sum above the greatest value
-    let tree = tree_of(alloc, &[(0, i64::MAX), (1, i64::MAX)])?;
-    let range = Range::new(0, 1).ok_or("a range")?;
-    let rows = rows_of(alloc, &aligned(alloc, &tree, range, 62)?)?;
-    let all = by_hand(
-        i128::from(FIRST),
-        2,
-        18446744073709551614,
-        i64::MAX,
-        i64::MAX,
-    );
-    assert_eq!(rt; rows.as_slice(), [all].as_slice());
+    let mut steps = Steps::new(rt.alloc());
+    assert!(rt; aggregate(&tree, range, &mut steps).sum == 5);
+    assert!(rt; steps.count() == 1);
     Ok(())
 }

@@ -1,466 +1,544 @@
 //! Outputs and distillates: the worked example, rejections with their boundaries and their order, and what is answered of outputs.
 
-use super::questions::shown;
-use super::{bag, cut, insert, many_ranges, runs, two_streams};
-use btr_hist::Entry;
-use btr_hist::History;
-use btr_hist::{Kernel, Reads, Spec};
-use btr_hist::{At, Query};
-use btr_hist::distillate_change_rejection;
-use btr_hist::Rejection;
-use btr_base::{END, FIRST, Ranges};
+use super::histories::{
+    Added, Next, Past, Put, TWO_STREAMS, bag_of, cut_of, entry_of, history_of, is_rejected, runs,
+};
+use super::questions::{Ask, Asked};
+use super::{many_ranges, streams};
+use crate::fixture::{Row, all_hold};
+use btr_base::{END, FIRST};
+use btr_hist::{At, Entry, History, Kernel, Reads, Rejection, Spec, distillate_change_rejection};
 use std::alloc::Global;
 use std::test::Fail;
 
 /// The sum of the first stream's points of the last 10 ns.
-fn sum_of_the_last() -> Spec {
-    Spec {
-        kernel: Kernel::Sum,
-        lead: 10,
-        grain: 0,
-        first: 0,
-        second: None,
-    }
-}
+const SUM_OF_THE_LAST: Spec = Spec {
+    kernel: Kernel::Sum,
+    lead: 10,
+    grain: 0,
+    first: 0,
+    second: None,
+};
 
-/// The first of two streams less the second, at the times that both have.
-fn difference(first: u32, second: Option<u32>) -> Spec {
-    Spec {
-        kernel: Kernel::Minus,
-        lead: 0,
-        grain: 0,
-        first,
-        second,
-    }
-}
+/// The first stream less the second, at the times that both have.
+const DIFFERENCE: Spec = Spec {
+    kernel: Kernel::Minus,
+    lead: 0,
+    grain: 0,
+    first: 0,
+    second: Some(1),
+};
 
-/// The reads of an output with one input.
-fn one(first: u64) -> Reads {
-    Reads {
-        first,
-        second: None,
-    }
-}
+/// What an output has read: the versions 1 and 2 of its input, and 2 and 1 of its two inputs.
+const FIRST_READ: Reads = Reads {
+    first: 1,
+    second: None,
+};
 
-/// The reads of an output with two inputs.
-fn two(first: u64, second: u64) -> Reads {
-    Reads {
-        first,
-        second: Some(second),
-    }
-}
+const SECOND_READ: Reads = Reads {
+    first: 2,
+    second: None,
+};
 
-/// A distillate of these ranges and points.
-fn distillate(
-    alloc: Global,
-    stream: u32,
-    ranges: &[(i64, i64)],
-    points: &[(i64, i64)],
-    reads: Reads,
-) -> Result<Entry, Fail> {
-    Ok(Entry::Distillate {
-        stream,
-        cut: cut(alloc, ranges)?,
-        added: bag(alloc, points)?,
-        reads,
-    })
-}
+const BOTH_READ: Reads = Reads {
+    first: 2,
+    second: Some(1),
+};
 
-/// A user's commit of these points to stream 0.
-fn insertion(alloc: Global, points: &[(i64, i64)]) -> Result<Entry, Fail> {
-    Ok(Entry::Commit {
-        stream: 0,
-        cut: Ranges::none(alloc),
-        added: bag(alloc, points)?,
-    })
-}
+/// The worked example: a stream, an output of its sums, and twice points and their distillate.
+const EXAMPLE: &[Put] = &[
+    Put::Create(10),
+    Put::Define(11, SUM_OF_THE_LAST),
+    Put::Commit(0, &[], Added::Points(&[(0, 10), (10, 20), (20, 30)])),
+    Put::Distillate(
+        1,
+        &[(0, 31)],
+        Added::Points(&[(0, 10), (10, 30), (20, 50)]),
+        FIRST_READ,
+    ),
+    Put::Commit(0, &[], Added::Points(&[(5, 1)])),
+    Put::Distillate(
+        1,
+        &[(5, 16)],
+        Added::Points(&[(5, 11), (10, 31)]),
+        SECOND_READ,
+    ),
+];
 
-/// The entries of the worked example: a stream, an output of its sums, and twice points and their distillate.
-fn worked_entries(alloc: Global) -> Result<[Entry; 6], Fail> {
-    let spec = sum_of_the_last();
-    Ok([
-        Entry::Create { id: 10 },
-        Entry::Define { id: 11, spec },
-        insertion(alloc, &[(0, 10), (10, 20), (20, 30)])?,
-        distillate(alloc, 1, &[(0, 31)], &[(0, 10), (10, 30), (20, 50)], one(1))?,
-        insertion(alloc, &[(5, 1)])?,
-        distillate(alloc, 1, &[(5, 16)], &[(5, 11), (10, 31)], one(2))?,
-    ])
-}
+const WORKED: Past = &[EXAMPLE];
 
-/// The history of the worked example.
-fn worked(alloc: Global) -> Result<History, Fail> {
+/// Fails with the first entry of the worked example that is rejected.
+fn each_is_allowed(alloc: Global) -> Result<(), Fail> {
     let mut history = History::empty(alloc);
-    for entry in worked_entries(alloc)? {
+    for put in EXAMPLE {
+        let entry = entry_of(alloc, put)?;
+        if history.rejection(alloc, &entry)?.is_some() {
+            return Err("a rejected entry".into());
+        }
         history.push(entry)?;
     }
-    Ok(history)
+    Ok(())
 }
 
-/// A question for all points of stream 1.
-fn points_of_the_output(at: At) -> Query {
-    Query::Points {
-        stream: 1,
-        from: FIRST,
-        to: END,
-        at,
-    }
-}
-
-fn info(stream: u32, at: At) -> Query {
-    Query::Info { stream, at }
-}
+const ANSWERS: &[Asked] = &[
+    Asked(WORKED, Ask::Points(1, FIRST, END, At::Number(0)), "0"),
+    Asked(
+        WORKED,
+        Ask::Points(1, FIRST, END, At::Number(1)),
+        "1 0:10 10:30 20:50",
+    ),
+    Asked(
+        WORKED,
+        Ask::Points(1, FIRST, END, At::Latest),
+        "2 0:10 5:11 10:31 20:50",
+    ),
+    Asked(WORKED, Ask::Info(1, At::Number(0)), "0 output(0 0)"),
+    Asked(
+        WORKED,
+        Ask::Info(1, At::Number(1)),
+        "1 output of 1(3 90 10 50)",
+    ),
+    Asked(
+        WORKED,
+        Ask::Info(1, At::Latest),
+        "2 output of 2(4 102 10 50)",
+    ),
+    Asked(WORKED, Ask::Info(0, At::Latest), "2(4 61 1 30)"),
+    Asked(
+        WORKED,
+        Ask::Info(1, At::Number(3)),
+        "no version 3, latest 2",
+    ),
+    Asked(WORKED, Ask::Streams, "6 10:2 11:2 output"),
+    Asked(
+        TWO_OUTPUTS,
+        Ask::Info(2, At::Latest),
+        "1 output of 2 and 1(0 0)",
+    ),
+    Asked(TWO_OUTPUTS, Ask::Streams, "8 10:2 11:2 output 12:1 output"),
+];
 
 #[test]
 fn the_worked_example_of_an_output(rt: HostRuntime) -> Result<(), Fail> {
-    let alloc = rt.alloc();
-    let mut history = History::empty(alloc);
-    for entry in worked_entries(alloc)? {
-        assert_eq!(rt; history.rejection(alloc, &entry)?, None, "{entry:?}");
-        history.push(entry)?;
-    }
-    let cases = [
-        (points_of_the_output(At::Number(0)), "0"),
-        (points_of_the_output(At::Number(1)), "1 0:10 10:30 20:50"),
-        (points_of_the_output(At::Latest), "2 0:10 5:11 10:31 20:50"),
-        (info(1, At::Number(0)), "0 output(0 0)"),
-        (info(1, At::Number(1)), "1 output of 1(3 90 10 50)"),
-        (info(1, At::Latest), "2 output of 2(4 102 10 50)"),
-        (info(0, At::Latest), "2(4 61 1 30)"),
-        (info(1, At::Number(3)), "NoVersion { asked: 3, latest: 2 }"),
-        (Query::Streams, "6 10:2 11:2 output"),
-    ];
-    for (query, want) in cases {
-        let found = shown(alloc, &history.answer(alloc, &query)?)?;
-        assert_eq!(rt; found.as_str(), want, "{query:?}");
-    }
-    Ok(())
+    each_is_allowed(rt.alloc())?;
+    all_hold(rt.alloc(), ANSWERS)
 }
 
-#[test]
-fn what_outputs_are_and_have_read(rt: HostRuntime) -> Result<(), Fail> {
-    let alloc = rt.alloc();
-    let mut history = worked(alloc)?;
-    history.push(Entry::Define {
-        id: 12,
-        spec: difference(0, Some(1)),
-    })?;
-    history.push(distillate(alloc, 2, &[], &[], two(2, 1))?)?;
-    for (stream, want) in [
-        (0, None),
-        (1, Some(sum_of_the_last())),
-        (2, Some(difference(0, Some(1)))),
-        (3, None),
-    ] {
-        assert_eq!(rt; history.spec(stream), want, "{stream}");
+/// The worked example, and an output of the stream and its sums.
+const TWO_OUTPUTS: Past = &[
+    EXAMPLE,
+    &[
+        Put::Define(12, DIFFERENCE),
+        Put::Distillate(2, &[], Added::Points(&[]), BOTH_READ),
+    ],
+];
+
+/// A stream of `TWO_OUTPUTS` and its spec.
+struct Output(u32, Option<Spec>);
+
+impl Row for Output {
+    fn holds(&self, alloc: Global) -> Result<bool, Fail> {
+        let history = history_of(alloc, TWO_OUTPUTS)?;
+        Ok(history.spec(self.0) == self.1)
     }
-    for (stream, version, want) in [
-        (0, 0, None),
-        (0, 1, None),
-        (0, 2, None),
-        (1, 0, None),
-        (1, 1, Some(one(1))),
-        (1, 2, Some(one(2))),
-        (1, 3, None),
-        (2, 1, Some(two(2, 1))),
-        (3, 0, None),
-        (3, 1, None),
-    ] {
-        assert_eq!(rt; history.reads(stream, version), want, "{stream} {version}");
-    }
-    let answer = history.answer(alloc, &info(2, At::Latest))?;
-    assert_eq!(rt; shown(alloc, &answer)?.as_str(), "1 output of 2 and 1(0 0)");
-    let answer = history.answer(alloc, &Query::Streams)?;
-    assert_eq!(rt;
-        shown(alloc, &answer)?.as_str(),
-        "8 10:2 11:2 output 12:1 output"
-    );
-    Ok(())
 }
+
+const OUTPUTS: &[Output] = &[
+    Output(0, None),
+    Output(1, Some(SUM_OF_THE_LAST)),
+    Output(2, Some(DIFFERENCE)),
+    Output(3, None),
+];
+
+#[test]
+fn what_outputs_are(rt: HostRuntime) -> Result<(), Fail> {
+    all_hold(rt.alloc(), OUTPUTS)
+}
+
+/// A stream of `TWO_OUTPUTS`, a version, and what it has read.
+struct Read(u32, u64, Option<Reads>);
+
+impl Row for Read {
+    fn holds(&self, alloc: Global) -> Result<bool, Fail> {
+        let history = history_of(alloc, TWO_OUTPUTS)?;
+        Ok(history.reads(self.0, self.1) == self.2)
+    }
+}
+
+const READ: &[Read] = &[
+    Read(0, 0, None),
+    Read(0, 1, None),
+    Read(0, 2, None),
+    Read(1, 0, None),
+    Read(1, 1, Some(FIRST_READ)),
+    Read(1, 2, Some(SECOND_READ)),
+    Read(1, 3, None),
+    Read(2, 1, Some(BOTH_READ)),
+    Read(3, 0, None),
+    Read(3, 1, None),
+];
+
+#[test]
+fn what_outputs_have_read(rt: HostRuntime) -> Result<(), Fail> {
+    all_hold(rt.alloc(), READ)
+}
+
+/// The inputs and the grain of a sum over 10 ns, or of a difference.
+enum Inputs {
+    Sum(u32, Option<u32>, u8),
+    Minus(u32, Option<u32>),
+}
+
+fn spec_of(inputs: &Inputs) -> Spec {
+    match *inputs {
+        Inputs::Sum(first, second, grain) => Spec {
+            kernel: Kernel::Sum,
+            lead: 10,
+            grain,
+            first,
+            second,
+        },
+        Inputs::Minus(first, second) => Spec {
+            kernel: Kernel::Minus,
+            lead: 0,
+            grain: 0,
+            first,
+            second,
+        },
+    }
+}
+
+/// The id and the inputs of an output that follows `TWO_STREAMS`, and the reason why it is rejected.
+struct Defined(u128, Inputs, Option<Rejection>);
+
+impl Row for Defined {
+    fn holds(&self, alloc: Global) -> Result<bool, Fail> {
+        let history = history_of(alloc, TWO_STREAMS)?;
+        let entry = Entry::Define {
+            id: self.0,
+            spec: spec_of(&self.1),
+        };
+        Ok(is_rejected(alloc, history, entry, self.2)?)
+    }
+}
+
+const DEFINED: &[Defined] = &[
+    // one input, the last stream, and itself
+    Defined(3, Inputs::Sum(0, None, 0), None),
+    Defined(3, Inputs::Sum(1, None, 0), None),
+    Defined(3, Inputs::Sum(2, None, 0), Some(Rejection::NoStream)),
+    // two inputs, one stream twice, itself second, and itself first of two
+    Defined(3, Inputs::Minus(0, Some(1)), None),
+    Defined(3, Inputs::Minus(1, Some(1)), None),
+    Defined(3, Inputs::Minus(0, Some(2)), Some(Rejection::NoStream)),
+    Defined(3, Inputs::Minus(2, Some(0)), Some(Rejection::NoStream)),
+    // no input and a taken id; no second input, a taken id and a bad spec
+    Defined(1, Inputs::Sum(2, None, 0), Some(Rejection::NoStream)),
+    Defined(1, Inputs::Sum(0, Some(2), 63), Some(Rejection::NoStream)),
+    // a taken id; and a bad spec too
+    Defined(1, Inputs::Sum(0, None, 0), Some(Rejection::StreamExists)),
+    Defined(2, Inputs::Sum(0, None, 63), Some(Rejection::StreamExists)),
+    // too coarse, an input too many, and an input too few
+    Defined(3, Inputs::Sum(0, None, 63), Some(Rejection::BadSpec)),
+    Defined(3, Inputs::Sum(0, Some(0), 0), Some(Rejection::BadSpec)),
+    Defined(3, Inputs::Minus(0, None), Some(Rejection::BadSpec)),
+];
 
 #[test]
 fn outputs_that_are_rejected(rt: HostRuntime) -> Result<(), Fail> {
-    let alloc = rt.alloc();
-    let history = two_streams(alloc)?;
-    let sum = |first, second, grain| Spec {
-        kernel: Kernel::Sum,
-        lead: 10,
-        grain,
-        first,
-        second,
-    };
-    let cases: [(&str, u128, Spec, Option<Rejection>); 14] = [
-        ("one input", 3, sum(0, None, 0), None),
-        ("the last stream", 3, sum(1, None, 0), None),
-        ("itself", 3, sum(2, None, 0), Some(Rejection::NoStream)),
-        ("two inputs", 3, difference(0, Some(1)), None),
-        ("one stream twice", 3, difference(1, Some(1)), None),
-        (
-            "itself second",
-            3,
-            difference(0, Some(2)),
-            Some(Rejection::NoStream),
-        ),
-        (
-            "itself first of two",
-            3,
-            difference(2, Some(0)),
-            Some(Rejection::NoStream),
-        ),
-        (
-            "no input, taken",
-            1,
-            sum(2, None, 0),
-            Some(Rejection::NoStream),
-        ),
-        (
-            "no second input, taken, bad",
-            1,
-            sum(0, Some(2), 63),
-            Some(Rejection::NoStream),
-        ),
-        ("taken", 1, sum(0, None, 0), Some(Rejection::StreamExists)),
-        (
-            "taken, bad",
-            2,
-            sum(0, None, 63),
-            Some(Rejection::StreamExists),
-        ),
-        ("too coarse", 3, sum(0, None, 63), Some(Rejection::BadSpec)),
-        (
-            "an input too many",
-            3,
-            sum(0, Some(0), 0),
-            Some(Rejection::BadSpec),
-        ),
-        (
-            "an input too few",
-            3,
-            difference(0, None),
-            Some(Rejection::BadSpec),
-        ),
-    ];
-    for (name, id, spec, want) in cases {
-        let entry = Entry::Define { id, spec };
-        assert_eq!(rt; history.rejection(alloc, &entry)?, want, "{name}");
-    }
-    Ok(())
+    all_hold(rt.alloc(), DEFINED)
 }
 
-/// A history of this many streams, with the ids from 0 on.
-fn streams(alloc: Global, count: u32) -> Result<History, Fail> {
-    let mut history = History::empty(alloc);
-    for id in 0..count {
-        history.push(Entry::Create { id: u128::from(id) })?;
+/// A history of 65535 streams with the ids from 0 on, and of an output with the id 65535 if there is to be one.
+fn many_streams(alloc: Global, has_output: bool) -> Result<History, Fail> {
+    let mut history = streams(alloc, 65535)?;
+    if has_output {
+        history.push(Entry::Define {
+            id: 65535,
+            spec: spec_of(&Inputs::Minus(0, Some(65534))),
+        })?;
     }
     Ok(history)
 }
 
+/// Whether the last stream is there, the id and the inputs of an output that follows, and the reason why it is rejected.
+struct AtTheLimit(bool, u128, Inputs, Option<Rejection>);
+
+impl Row for AtTheLimit {
+    fn holds(&self, alloc: Global) -> Result<bool, Fail> {
+        let history = many_streams(alloc, self.0)?;
+        let entry = Entry::Define {
+            id: self.1,
+            spec: spec_of(&self.2),
+        };
+        Ok(is_rejected(alloc, history, entry, self.3)?)
+    }
+}
+
+const AT_THE_LIMIT: &[AtTheLimit] = &[
+    AtTheLimit(false, 65535, Inputs::Minus(0, Some(65534)), None),
+    AtTheLimit(
+        true,
+        65536,
+        Inputs::Minus(0, Some(65534)),
+        Some(Rejection::StreamLimit),
+    ),
+    AtTheLimit(
+        true,
+        65536,
+        Inputs::Minus(0, None),
+        Some(Rejection::StreamLimit),
+    ),
+    AtTheLimit(
+        true,
+        65535,
+        Inputs::Minus(0, None),
+        Some(Rejection::StreamExists),
+    ),
+    AtTheLimit(
+        true,
+        65536,
+        Inputs::Minus(65536, None),
+        Some(Rejection::NoStream),
+    ),
+];
+
 #[test]
 fn outputs_up_to_the_limit_of_streams(rt: HostRuntime) -> Result<(), Fail> {
-    let alloc = rt.alloc();
-    let mut history = streams(alloc, 65535)?;
-    let good = difference(0, Some(65534));
-    let bad = difference(0, None);
-    let last = Entry::Define {
-        id: 65535,
-        spec: good,
-    };
-    assert_eq!(rt; history.rejection(alloc, &last)?, None);
-    history.push(last)?;
-    for (id, spec, want) in [
-        (65536, good, Rejection::StreamLimit),
-        (65536, bad, Rejection::StreamLimit),
-        (65535, bad, Rejection::StreamExists),
-        (65536, difference(65536, None), Rejection::NoStream),
-    ] {
-        let entry = Entry::Define { id, spec };
-        assert_eq!(rt; history.rejection(alloc, &entry)?, Some(want), "{entry:?}");
-    }
-    Ok(())
+    all_hold(rt.alloc(), AT_THE_LIMIT)
 }
+
+/// The kernel, the lead, the grain and the second input of a spec, and whether it is good.
+struct Good(Kernel, u64, u8, Option<u32>, bool);
+
+impl Row for Good {
+    fn holds(&self, _alloc: Global) -> Result<bool, Fail> {
+        let spec = Spec {
+            kernel: self.0,
+            lead: self.1,
+            grain: self.2,
+            first: 0,
+            second: self.3,
+        };
+        Ok(spec.is_good() == self.4)
+    }
+}
+
+const GOOD: &[Good] = &[
+    Good(Kernel::Sum, 1152921504606846976, 62, None, true),
+    Good(Kernel::Sum, 1152921504606846977, 62, None, false),
+    Good(Kernel::Sum, 1152921504606846976, 63, None, false),
+    Good(Kernel::Sum, 0, 0, None, true),
+    Good(Kernel::Sum, 0, 0, Some(0), false),
+    Good(Kernel::Mean, 0, 0, None, true),
+    Good(Kernel::Least, 0, 0, None, true),
+    Good(Kernel::Greatest, 0, 0, None, true),
+    Good(Kernel::Count, 0, 0, None, true),
+    Good(Kernel::Delta, 0, 0, None, true),
+    Good(Kernel::Delta, 0, 0, Some(0), false),
+    Good(Kernel::Minus, 0, 0, None, false),
+    Good(Kernel::Minus, 0, 0, Some(0), true),
+    Good(Kernel::Minus, 0, 63, Some(0), false),
+    Good(Kernel::Angle, 0, 0, None, false),
+    Good(Kernel::Angle, 0, 0, Some(0), true),
+    Good(Kernel::Hold, 0, 0, None, false),
+    Good(Kernel::Hold, 0, 0, Some(0), true),
+    Good(Kernel::Affine { a: 1, b: 0, d: 1 }, 0, 0, None, true),
+    Good(Kernel::Affine { a: 1, b: 0, d: 0 }, 0, 0, None, false),
+    Good(Kernel::Affine { a: 1, b: 0, d: -1 }, 0, 0, None, false),
+    Good(Kernel::Affine { a: 1, b: 0, d: 1 }, 0, 0, Some(0), false),
+];
 
 #[test]
 fn specs_that_are_good(rt: HostRuntime) -> Result<(), Fail> {
-    let affine = |d| Kernel::Affine { a: 1, b: 0, d };
-    let cases: [(Kernel, u64, u8, Option<u32>, bool); 22] = [
-        (Kernel::Sum, 1152921504606846976, 62, None, true),
-        (Kernel::Sum, 1152921504606846977, 62, None, false),
-        (Kernel::Sum, 1152921504606846976, 63, None, false),
-        (Kernel::Sum, 0, 0, None, true),
-        (Kernel::Sum, 0, 0, Some(0), false),
-        (Kernel::Mean, 0, 0, None, true),
-        (Kernel::Least, 0, 0, None, true),
-        (Kernel::Greatest, 0, 0, None, true),
-        (Kernel::Count, 0, 0, None, true),
-        (Kernel::Delta, 0, 0, None, true),
-        (Kernel::Delta, 0, 0, Some(0), false),
-        (Kernel::Minus, 0, 0, None, false),
-        (Kernel::Minus, 0, 0, Some(0), true),
-        (Kernel::Minus, 0, 63, Some(0), false),
-        (Kernel::Angle, 0, 0, None, false),
-        (Kernel::Angle, 0, 0, Some(0), true),
-        (Kernel::Hold, 0, 0, None, false),
-        (Kernel::Hold, 0, 0, Some(0), true),
-        (affine(1), 0, 0, None, true),
-        (affine(0), 0, 0, None, false),
-        (affine(-1), 0, 0, None, false),
-        (affine(1), 0, 0, Some(0), false),
-    ];
-    for (kernel, lead, grain, second, want) in cases {
-        let spec = Spec {
-            kernel,
-            lead,
-            grain,
-            first: 0,
-            second,
-        };
-        assert_eq!(rt; spec.is_good(), want, "{spec:?}");
-    }
-    Ok(())
+    all_hold(rt.alloc(), GOOD)
 }
+
+const COMMITS: &[Next] = &[
+    // to a plain stream
+    Next(WORKED, Put::Commit(0, &[], Added::Runs(&[(4, 1)])), None),
+    // to an output: points; none; and outside
+    Next(
+        WORKED,
+        Put::Commit(1, &[], Added::Runs(&[(4, 1)])),
+        Some(Rejection::NotWritable),
+    ),
+    Next(
+        WORKED,
+        Put::Commit(1, &[], Added::Runs(&[])),
+        Some(Rejection::NotWritable),
+    ),
+    Next(
+        WORKED,
+        Put::Commit(1, &[], Added::Runs(&[(END, 1)])),
+        Some(Rejection::NotWritable),
+    ),
+    // outside, to a plain stream and to none
+    Next(
+        WORKED,
+        Put::Commit(0, &[], Added::Runs(&[(END, 1)])),
+        Some(Rejection::OutOfDomain { time: END }),
+    ),
+    Next(
+        WORKED,
+        Put::Commit(2, &[], Added::Runs(&[(END, 1)])),
+        Some(Rejection::NoStream),
+    ),
+];
 
 #[test]
 fn users_do_not_commit_to_outputs(rt: HostRuntime) -> Result<(), Fail> {
-    let alloc = rt.alloc();
-    let history = worked(alloc)?;
-    let cases: [(&str, u32, &[(i64, u32)], Option<Rejection>); 6] = [
-        ("plain", 0, &[(4, 1)], None),
-        ("output", 1, &[(4, 1)], Some(Rejection::NotWritable)),
-        ("output, empty", 1, &[], Some(Rejection::NotWritable)),
-        (
-            "output, outside",
-            1,
-            &[(END, 1)],
-            Some(Rejection::NotWritable),
-        ),
-        (
-            "plain, outside",
-            0,
-            &[(END, 1)],
-            Some(Rejection::OutOfDomain { time: END }),
-        ),
-        ("no stream", 2, &[(END, 1)], Some(Rejection::NoStream)),
-    ];
-    for (name, stream, added, want) in cases {
-        let entry = insert(alloc, stream, added)?;
-        assert_eq!(rt; history.rejection(alloc, &entry)?, want, "{name}");
-    }
-    Ok(())
+    all_hold(rt.alloc(), COMMITS)
 }
+
+/// The worked example, and two outputs of the stream and its sums, of which the first has a version.
+const FOUR_STREAMS: Past = &[
+    EXAMPLE,
+    &[
+        Put::Define(12, DIFFERENCE),
+        Put::Define(13, DIFFERENCE),
+        Put::Distillate(
+            2,
+            &[],
+            Added::Points(&[]),
+            Reads {
+                first: 1,
+                second: Some(1),
+            },
+        ),
+    ],
+];
+
+/// A stream of `FOUR_STREAMS`, the versions that a distillate of it has read, and whether it may follow.
+struct MayRead(u32, u64, Option<u64>, bool);
+
+impl Row for MayRead {
+    fn holds(&self, alloc: Global) -> Result<bool, Fail> {
+        let history = history_of(alloc, FOUR_STREAMS)?;
+        let reads = Reads {
+            first: self.1,
+            second: self.2,
+        };
+        let entry = Entry::Distillate {
+            stream: self.0,
+            cut: cut_of(alloc, &[(0, 1)])?,
+            added: bag_of(alloc, &[(0, 1)])?,
+            reads,
+        };
+        let want = (!self.3).then_some(Rejection::NotWritable);
+        Ok(is_rejected(alloc, history, entry, want)?)
+    }
+}
+
+const MAY_READ: &[MayRead] = &[
+    // the same; the first falls; the first is not there; a second without an input; a plain stream
+    MayRead(1, 2, None, true),
+    MayRead(1, 1, None, false),
+    MayRead(1, 3, None, false),
+    MayRead(1, 2, Some(0), false),
+    MayRead(0, 0, None, false),
+    // two; the same two; only the first rises; only the second rises
+    MayRead(2, 2, Some(2), true),
+    MayRead(2, 1, Some(1), true),
+    MayRead(2, 2, Some(1), true),
+    MayRead(2, 1, Some(2), true),
+    // the first of two falls; the second falls; the first of two is not there; the second is not there; no second
+    MayRead(2, 0, Some(2), false),
+    MayRead(2, 2, Some(0), false),
+    MayRead(2, 3, Some(2), false),
+    MayRead(2, 2, Some(3), false),
+    MayRead(2, 2, None, false),
+    // at first: version 0 of each; no second; too late
+    MayRead(3, 0, Some(0), true),
+    MayRead(3, 0, None, false),
+    MayRead(3, 3, Some(0), false),
+];
 
 #[test]
 fn reads_that_are_rejected(rt: HostRuntime) -> Result<(), Fail> {
-    let alloc = rt.alloc();
-    let mut history = worked(alloc)?;
-    for id in [12, 13] {
-        history.push(Entry::Define {
-            id,
-            spec: difference(0, Some(1)),
-        })?;
-    }
-    history.push(distillate(alloc, 2, &[], &[], two(1, 1))?)?;
-    let cases = [
-        ("the same", 1, one(2), true),
-        ("the first falls", 1, one(1), false),
-        ("the first is not there", 1, one(3), false),
-        ("a second without an input", 1, two(2, 0), false),
-        ("a plain stream", 0, one(0), false),
-        ("two", 2, two(2, 2), true),
-        ("the same two", 2, two(1, 1), true),
-        ("only the first rises", 2, two(2, 1), true),
-        ("only the second rises", 2, two(1, 2), true),
-        ("the first of two falls", 2, two(0, 2), false),
-        ("the second falls", 2, two(2, 0), false),
-        ("the first of two is not there", 2, two(3, 2), false),
-        ("the second is not there", 2, two(2, 3), false),
-        ("no second", 2, one(2), false),
-        ("version 0 of each", 3, two(0, 0), true),
-        ("no second at first", 3, one(0), false),
-        ("too late at first", 3, two(3, 0), false),
-    ];
-    for (name, stream, reads, may) in cases {
-        let entry = distillate(alloc, stream, &[(0, 1)], &[(0, 1)], reads)?;
-        let want = if may {
-            None
-        } else {
-            Some(Rejection::NotWritable)
-        };
-        assert_eq!(rt; history.rejection(alloc, &entry)?, want, "{name}");
-    }
-    Ok(())
+    all_hold(rt.alloc(), MAY_READ)
 }
+
+const DISTILLATES: &[Next] = &[
+    // no change
+    Next(
+        WORKED,
+        Put::Distillate(1, &[], Added::Runs(&[]), SECOND_READ),
+        None,
+    ),
+    // outside; and reads that fall; and a plain stream; and no stream
+    Next(
+        WORKED,
+        Put::Distillate(1, &[], Added::Runs(&[(END, 1)]), SECOND_READ),
+        Some(Rejection::OutOfDomain { time: END }),
+    ),
+    Next(
+        WORKED,
+        Put::Distillate(1, &[], Added::Runs(&[(END, 1)]), FIRST_READ),
+        Some(Rejection::NotWritable),
+    ),
+    Next(
+        WORKED,
+        Put::Distillate(0, &[], Added::Runs(&[(END, 1)]), SECOND_READ),
+        Some(Rejection::NotWritable),
+    ),
+    Next(
+        WORKED,
+        Put::Distillate(2, &[], Added::Runs(&[(END, 1)]), FIRST_READ),
+        Some(Rejection::NoStream),
+    ),
+    // outside and crowded
+    Next(
+        WORKED,
+        Put::Distillate(1, &[], Added::Runs(&[(END, 253)]), SECOND_READ),
+        Some(Rejection::OutOfDomain { time: END }),
+    ),
+    // as many as a leaf has; one more; more than a user may add
+    Next(
+        WORKED,
+        Put::Distillate(1, &[], Added::Runs(&[(40, 252)]), SECOND_READ),
+        None,
+    ),
+    Next(
+        WORKED,
+        Put::Distillate(1, &[], Added::Runs(&[(40, 253)]), SECOND_READ),
+        Some(Rejection::Crowded { start: 40 }),
+    ),
+    Next(
+        WORKED,
+        Put::Distillate(1, &[], Added::Runs(&[(40, 65537)]), SECOND_READ),
+        Some(Rejection::Crowded { start: 40 }),
+    ),
+];
 
 #[test]
 fn distillates_that_are_rejected(rt: HostRuntime) -> Result<(), Fail> {
-    let alloc = rt.alloc();
-    let history = worked(alloc)?;
-    let outside = Some(Rejection::OutOfDomain { time: END });
-    let cases: [(&str, u32, u64, &[(i64, u32)], Option<Rejection>); 9] = [
-        ("no change", 1, 2, &[], None),
-        ("outside", 1, 2, &[(END, 1)], outside),
-        (
-            "outside, reads that fall",
-            1,
-            1,
-            &[(END, 1)],
-            Some(Rejection::NotWritable),
-        ),
-        (
-            "outside, plain stream",
-            0,
-            2,
-            &[(END, 1)],
-            Some(Rejection::NotWritable),
-        ),
-        (
-            "no stream, reads that fall",
-            2,
-            1,
-            &[(END, 1)],
-            Some(Rejection::NoStream),
-        ),
-        ("outside, crowded", 1, 2, &[(END, 253)], outside),
-        ("as many as a leaf has", 1, 2, &[(40, 252)], None),
-        (
-            "crowded",
-            1,
-            2,
-            &[(40, 253)],
-            Some(Rejection::Crowded { start: 40 }),
-        ),
-        (
-            "more than a user may add, crowded",
-            1,
-            2,
-            &[(40, 65537)],
-            Some(Rejection::Crowded { start: 40 }),
-        ),
-    ];
-    for (name, stream, first, added, want) in cases {
-        let entry = Entry::Distillate {
-            stream,
-            cut: Ranges::none(alloc),
-            added: runs(alloc, added)?,
-            reads: one(first),
-        };
-        assert_eq!(rt; history.rejection(alloc, &entry)?, want, "{name}");
-    }
-    Ok(())
+    all_hold(rt.alloc(), DISTILLATES)
 }
+
+/// Points that a distillate adds, with 65537 ranges and with none, and the reason why the change is rejected.
+struct Change(&'static [(i64, u32)], Option<Rejection>);
+
+impl Row for Change {
+    fn holds(&self, alloc: Global) -> Result<bool, Fail> {
+        let ranges = many_ranges(alloc, 65537)?;
+        let added = runs(alloc, self.0)?;
+        let with_ranges = distillate_change_rejection(ranges.as_slice(), added.as_slice());
+        let without = distillate_change_rejection(&[], added.as_slice());
+        Ok(with_ranges == self.1 && without == self.1)
+    }
+}
+
+const CHANGES: &[Change] = &[
+    Change(&[], None),
+    Change(&[(40, 65537)], None),
+    Change(
+        &[(END, 65537), (FIRST - 1, 1)],
+        Some(Rejection::OutOfDomain { time: FIRST - 1 }),
+    ),
+];
 
 #[test]
 fn a_distillate_may_change_more_than_a_user(rt: HostRuntime) -> Result<(), Fail> {
-    let alloc = rt.alloc();
-    let ranges = many_ranges(alloc, 65537)?;
-    let points = runs(alloc, &[(END, 65537), (FIRST - 1, 1)])?;
-    let none = runs(alloc, &[])?;
-    let many = runs(alloc, &[(40, 65537)])?;
-    let outside = Some(Rejection::OutOfDomain { time: FIRST - 1 });
-    for (added, want) in [(&none, None), (&many, None), (&points, outside)] {
-        let found = distillate_change_rejection(ranges.as_slice(), added.as_slice());
-        assert_eq!(rt; found, want);
-        assert_eq!(rt; distillate_change_rejection(&[], added.as_slice()), want);
-    }
-    Ok(())
+    all_hold(rt.alloc(), CHANGES)
 }
