@@ -1,6 +1,6 @@
 //! Changes between two versions by their trees, and point by point.
 
-use super::fixture::{after, have_bounds, points_from, ranges_of};
+use super::fixture::{Counts, after, have_bounds, points_from, ranges_of};
 use btr_base::{Bag, END, FIRST, Point, Range};
 use btr_diff::changes;
 use btr_tree::{Steps, Tree};
@@ -125,8 +125,15 @@ fn are_changed(
         return Err("slots wider than the domain".into());
     }
     let width = 1 << p;
-    let mut steps = Steps::new(alloc);
-    let found = changes(alloc, &old.tree, &new.tree, since, p, &mut steps)?;
+    let mut steps = Steps::<Counts>::new();
+    let found = changes(
+        alloc,
+        old.tree.uncounted::<Counts>(),
+        &new.tree,
+        since,
+        p,
+        &mut steps,
+    )?;
     let starts = starts_of(alloc, found.as_slice(), width)?;
     let plain = plain_starts(alloc, old.bag.as_slice(), new.bag.as_slice(), width)?;
     Ok(starts == plain && steps.count() <= most)
@@ -190,12 +197,19 @@ fn are_one_range(
     new: &Version,
     p: u8,
     bounds: (i64, i64),
-    steps: &mut Steps,
+    steps: &mut Steps<Counts>,
 ) -> Result<bool, Fail> {
     if p > 62 {
         return Err("slots wider than the domain".into());
     }
-    let found = changes(alloc, &old.tree, &new.tree, 1, p, steps)?;
+    let found = changes(
+        alloc,
+        old.tree.uncounted::<Counts>(),
+        &new.tree,
+        1,
+        p,
+        steps,
+    )?;
     Ok(have_bounds(found.as_slice(), &[bounds]))
 }
 
@@ -211,7 +225,7 @@ fn changes_of_three_commits(rt: HostRuntime) -> Result<(), Fail> {
     let [_, first, second, third] = versions.as_slice() else {
         return Err("four versions".into());
     };
-    let mut steps = Steps::new(rt.alloc());
+    let mut steps = Steps::<Counts>::new();
     assert!(rt; are_one_range(rt.alloc(), first, third, 2, (0, 8), &mut steps)?);
     assert!(rt; are_one_range(rt.alloc(), first, second, 0, (3, 4), &mut steps)?);
     assert!(rt; steps.count() == 2);

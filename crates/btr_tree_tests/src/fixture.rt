@@ -1,9 +1,14 @@
 //! Tables of tests, and trees after commits.
 
 use btr_base::{Bag, Point, Range, Ranges, are_in_domain};
-use btr_tree::{Steps, Tree};
+use btr_tree::{Label, Steps, Tree};
 use std::alloc::{AllocError, Global};
 use std::test::Fail;
+
+/// The label of the counters of these tests.
+pub(crate) struct Counts;
+
+impl Label for Counts {}
 
 /// Points as pairs of a time and a value, and ranges as pairs of bounds.
 pub(crate) type Pairs = &'static [(i64, i64)];
@@ -97,7 +102,7 @@ pub(crate) fn after(
     if !are_in_domain(added.as_slice()) {
         return Err("a time outside the domain".into());
     }
-    match tree.apply(alloc, cut, added, version, &mut Steps::new(alloc)) {
+    match tree.apply(alloc, cut, added, version, &mut Steps::<Counts>::new()) {
         Ok(applied) => Ok((applied.tree, applied.nodes.len() as u64)),
         Err(_) => Err("no commit".into()),
     }

@@ -1,6 +1,6 @@
 //! Ranges and nearest points of trees of every shape, against plain lists.
 
-use super::fixture::{after, points_from, ranges_of};
+use super::fixture::{Counts, after, points_from, ranges_of};
 use btr_base::{Bag, END, FIRST, Point, Range, Toward};
 use btr_scan::{nearest, range};
 use btr_tree::{Steps, Tree};
@@ -178,7 +178,7 @@ fn ranges_of_every_shape(rt: HostRuntime) -> Result<(), Fail> {
 
 /// The number of nodes that are visited for the nearest point, if it is that of the list and they are as few as may be.
 fn visited(alloc: Global, version: &Version, time: i64, toward: Toward) -> Option<u64> {
-    let mut steps = Steps::new(alloc);
+    let mut steps = Steps::<Counts>::new();
     let got = nearest(&version.tree, time, toward, &mut steps);
     let count = steps.count();
     let is_nearest = got == plain_nearest(version.kept.as_slice(), time, toward);

@@ -6,6 +6,7 @@
 //! aggregate in btr_base's `Agg`.
 ghost use Rattle.std.specs.Prelude.{◌≡◌, ◌-◌};
 
+use super::fixture::Counts;
 use btr_base::{Bag, END, FIRST, Point, Range, Ranges, are_in_domain};
 use btr_tree::{
     Applied, Child, NewNode, NewSlots, Node, Slot, Slots, Steps, Tree, TreeFault, visit,
@@ -335,7 +336,7 @@ fn walk(
     part: Part,
     nodes: &mut Vec<PlainNode>,
 ) -> Result<(), AllocError> {
-    let mut steps = Steps::new(alloc);
+    let mut steps = Steps::<Counts>::new();
     let Some(node) = visit(child, &mut steps) else {
         return Ok(());
     };
@@ -429,7 +430,7 @@ fn applied_to(
     if !are_in_domain(added.as_slice()) {
         return Err("a time outside the domain".into());
     }
-    let mut steps = Steps::new(alloc);
+    let mut steps = Steps::<Counts>::new();
     let applied = tree.apply(alloc, cut, added, version, &mut steps);
     if let Ok(applied) = &applied {
         if steps.count() != applied.nodes.len() as u64 {

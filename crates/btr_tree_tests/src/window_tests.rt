@@ -1,6 +1,6 @@
 //! Windows and aggregates of trees of every shape, against plain lists, and by hand.
 
-use super::fixture::{Pairs, Row, after, all_hold, bag_of, ranges_of};
+use super::fixture::{Counts, Pairs, Row, after, all_hold, bag_of, ranges_of};
 use btr_base::{Bag, Cell, END, FIRST, MAX_WIDTH, Point, Range, Ranges};
 use btr_tree::{Steps, Tree};
 use btr_window::{aggregate, aligned, windows};
@@ -115,7 +115,7 @@ fn plain_rows(
 
 /// Whether the aggregate of a range is that of its points, one by one, and visits at most 21 nodes.
 fn aggregate_agrees(alloc: Global, tree: &Tree, points: &[Point], range: Range) -> bool {
-    let mut steps = Steps::new(alloc);
+    let mut steps = Steps::<Counts>::new();
     let agg = aggregate(tree, range, &mut steps);
     let mut all: Option<Window> = None;
     for point in points {
@@ -326,7 +326,7 @@ fn rows_by_hand(rt: HostRuntime) -> Result<(), Fail> {
 fn an_aggregate_by_hand(rt: HostRuntime) -> Result<(), Fail> {
     let tree = tree_by_hand(rt.alloc(), POINTS)?;
     let range = Range::new(1, 8).ok_or("a range")?;
-    let mut steps = Steps::new(rt.alloc());
+    let mut steps = Steps::<Counts>::new();
     assert!(rt; aggregate(&tree, range, &mut steps).sum == 5);
     assert!(rt; steps.count() == 1);
     Ok(())
