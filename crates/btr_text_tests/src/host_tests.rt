@@ -1,8 +1,8 @@
 //! What no contract can say: a file and a pipe hold what was written to them, and a locked file is refused.
 ghost use Rattle.std.specs.Prelude.{◌≡◌, ◌+◌, ◌*◌, ◌^◌, ◌<◌, ◌≤◌, IfOk, vec_len};
 
-use btr_host::*;
 use btr_disk::Disk;
+use btr_host::*;
 use btr_io::{ReadAllFault, Sink, Source, read_all, write_all};
 use std::alloc::{AllocError, Global};
 use std::io::{ErrorKind, Read, Write};
@@ -53,21 +53,34 @@ fn path_for(rt: &HostRuntime, name: &str) -> io::Result<String> {
     Ok(format!(in rt.alloc(); "{}/btr_host_{}_{}", folder.as_str(), process, name)?)
 }
 
+/// Makes a file and writes two blocks to it.
+fn is_written(rt: &HostRuntime, path: &str) -> Result<bool, Fail> {
+    let mut disk = FileDisk::open(rt, path, Lock::Exclusive)?;
+    Ok(write_two(rt.alloc(), &mut disk)?)
+}
+
+/// What a file has in the four blocks from 0 on: the numbers of bytes 7 and 0, and the place of the first byte 7.
+fn first_blocks(rt: &HostRuntime, path: &str) -> Result<(usize, usize, Option<usize>), Fail> {
+    let mut disk = FileDisk::open(rt, path, Lock::Shared)?;
+    let four = read_blocks(rt.alloc(), &mut disk, 0, 4)?;
+    let place = four.iter().position(|byte| *byte == 7);
+    Ok((count(&four, 7), count(&four, 0), place))
+}
+
+/// The number of bytes 0 in the last block of a file.
+fn zeros_at_the_end(rt: &HostRuntime, path: &str) -> Result<usize, Fail> {
+    let mut disk = FileDisk::open(rt, path, Lock::Shared)?;
+    let last = read_blocks(rt.alloc(), &mut disk, 4294967295, 1)?;
+    Ok(count(&last, 0))
+}
+
 /// A file keeps blocks until a second opening, and reads as zeros past its end.
 #[test]
 fn a_file_keeps_blocks(rt: HostRuntime) -> Result<(), Fail> {
-    let alloc = rt.alloc();
     let path = path_for(&rt, "blocks")?;
-
-    let mut disk = FileDisk::open(&rt, &path, Lock::Exclusive)?;
-    assert!(rt; write_two(alloc, &mut disk)?);
-    drop(disk);
-    let mut again = FileDisk::open(&rt, &path, Lock::Shared)?;
-    let four = read_blocks(alloc, &mut again, 0, 4)?;
-    assert_eq!(rt; (count(&four, 7), count(&four, 0)), (8192, 8192));
-    assert_eq!(rt; four.iter().position(|byte| *byte == 7), Some(4096));
-    let last = read_blocks(alloc, &mut again, 4294967295, 1)?;
-    assert_eq!(rt; count(&last, 0), 4096);
+    assert!(rt; is_written(&rt, &path)?);
+    assert!(rt; first_blocks(&rt, &path)? == (8192, 8192, Some(4096)));
+    assert!(rt; zeros_at_the_end(&rt, &path)? == 4096);
     fs::remove_file(&rt, &path)?;
     Ok(())
 }
@@ -84,19 +97,10 @@ fn opens_beside(rt: &HostRuntime, path: &str, first: Lock, second: Lock) -> io::
 #[test]
 fn a_locked_file_is_refused(rt: HostRuntime) -> Result<(), Fail> {
     let path = path_for(&rt, "lock")?;
-    assert_eq!(rt; opens_beside(&rt, &path, Lock::Shared, Lock::Shared)?, true);
-    assert_eq!(rt;
-        opens_beside(&rt, &path, Lock::Shared, Lock::Exclusive)?,
-        false
-    );
-    assert_eq!(rt;
-        opens_beside(&rt, &path, Lock::Exclusive, Lock::Shared)?,
-        false
-    );
-    assert_eq!(rt;
-        opens_beside(&rt, &path, Lock::Exclusive, Lock::Exclusive)?,
-        false
-    );
+    assert!(rt; opens_beside(&rt, &path, Lock::Shared, Lock::Shared)?);
+    assert!(rt; !opens_beside(&rt, &path, Lock::Shared, Lock::Exclusive)?);
+    assert!(rt; !opens_beside(&rt, &path, Lock::Exclusive, Lock::Shared)?);
+    assert!(rt; !opens_beside(&rt, &path, Lock::Exclusive, Lock::Exclusive)?);
     fs::remove_file(&rt, &path)?;
     Ok(())
 }
@@ -113,27 +117,29 @@ fn what_is_no_file_is_refused(rt: HostRuntime) -> Result<(), Fail> {
 
 /// Each call on the missing device fails.
 #[test]
-fn no_disk_fails_each_call(rt: HostRuntime) -> Result<(), Fail> {
+fn no_disk_fails_each_call(rt: HostRuntime) {
     let mut disk = NoDisk::new();
     let mut block = [0; 4096];
-    assert_eq!(rt; disk.blocks(), 4294967296);
-    assert!(rt; disk.read(0, &mut block).is_err());
-    assert!(rt; disk.write(0, &block).is_err());
-    assert!(rt; disk.sync().is_err());
-    Ok(())
+    assert!(rt; disk.blocks() == 4294967296);
+    let read = disk.read(0, &mut block).is_err();
+    let write = disk.write(0, &block).is_err();
+    assert!(rt; read && write && disk.sync().is_err());
+}
+
+/// Whether a text goes into a sink and is passed on.
+fn is_sent<K: Sink>(sink: &mut K) -> bool {
+    write_all(sink, b"stream") == Ok(()) && sink.flush() == Ok(())
 }
 
 /// What a sink writes into a pipe, a source reads from it.
 #[test]
 fn a_pipe_from_end_to_end(rt: HostRuntime) -> Result<(), Fail> {
-    let alloc = rt.alloc();
     let (reader, writer) = io::pipe(&rt)?;
     let mut sink = StdSink::new(writer);
-    assert_eq!(rt; write_all(&mut sink, b"stream"), Ok(()));
-    assert_eq!(rt; sink.flush(), Ok(()));
+    assert!(rt; is_sent(&mut sink));
     drop(sink);
     let mut source = StdSource::new(reader);
-    let read = read_all(alloc, &mut source, 6);
+    let read = read_all(rt.alloc(), &mut source, 6);
     assert!(rt; read.is_ok_and(|read| read.as_slice() == b"stream".as_slice()));
     Ok(())
 }
@@ -158,15 +164,19 @@ impl Write for Broken {
     }
 }
 
-/// A source and a sink fail if their stream does.
+/// A source fails if its stream does.
 #[test]
-fn a_broken_stream_fails(rt: HostRuntime) -> Result<(), Fail> {
-    let alloc = rt.alloc();
+fn a_source_of_a_broken_stream_fails(rt: HostRuntime) {
     let mut source = StdSource::new(Broken);
-    assert!(rt; read_all(alloc, &mut source, 6).is_err_and(|fault| fault == ReadAllFault::Fault));
+    let read = read_all(rt.alloc(), &mut source, 6);
+    assert!(rt; read.is_err_and(|fault| fault == ReadAllFault::Fault));
+}
+
+/// A sink fails if its stream does.
+#[test]
+fn a_sink_of_a_broken_stream_fails(rt: HostRuntime) {
     let mut sink = StdSink::new(Broken);
-    assert_eq!(rt; sink.write(b"").is_ok(), true);
-    assert_eq!(rt; write_all(&mut sink, b"stream").is_err(), true);
-    assert_eq!(rt; sink.flush().is_err(), true);
-    Ok(())
+    let takes_nothing = sink.write(b"").is_ok();
+    let fails = write_all(&mut sink, b"stream").is_err();
+    assert!(rt; takes_nothing && fails && sink.flush().is_err());
 }

@@ -2,12 +2,14 @@
 #![tactic(auto)]
 
 #[cfg(test)]
-mod text_tests;
+mod fixture;
 #[cfg(test)]
-mod rows_tests;
+mod host_tests;
 #[cfg(test)]
 mod report_tests;
 #[cfg(test)]
-mod words_tests;
+mod rows_tests;
 #[cfg(test)]
-mod host_tests;
+mod text_tests;
+#[cfg(test)]
+mod words_tests;

@@ -1,262 +1,487 @@
+//! Words of command lines, and the commands that they give.
+
+use super::fixture::{Row, all_hold};
 use btr_words::{Command, read_words};
 use std::alloc::{AllocError, Global};
 use std::test::Fail;
 
+fn word_of(alloc: Global, text: &str) -> Result<String, AllocError> {
+    let mut word = String::new(alloc);
+    word.push_str(text)?;
+    Ok(word)
+}
+
 fn words_of(alloc: Global, line: &[&str]) -> Result<Vec<String>, AllocError> {
     let mut words = Vec::new(alloc);
     for text in line {
-        let mut word = String::new(alloc);
-        word.push_str(text)?;
-        words.push(word)?;
+        words.push(word_of(alloc, text)?)?;
     }
     Ok(words)
 }
 
-fn format(blocks: u64) -> Option<Command> {
-    Some(Command::Format { blocks })
+/// The words of a line, and the command that they give, if any.
+struct Words(&'static [&'static str], Option<Command>);
+
+impl Row for Words {
+    fn holds(&self, alloc: Global) -> Result<bool, Fail> {
+        let words = words_of(alloc, self.0)?;
+        Ok(read_words(alloc, &words)? == self.1)
+    }
 }
 
-fn live(batch: u32, materialize: bool) -> Option<Command> {
-    Some(Command::Live { batch, materialize })
-}
-
-fn load(workers: u8, batch: u32) -> Option<Command> {
-    Some(Command::Load { workers, batch })
-}
-
-fn distil(workers: u8) -> Option<Command> {
-    Some(Command::Distil { workers })
-}
-
-fn sample(number: u32, streams: u32, points: u32) -> Option<Command> {
-    Some(Command::Sample {
-        number,
-        streams,
-        points,
-    })
-}
+const COMMANDS: &[Words] = &[
+    Words(&["ask"], Some(Command::Ask)),
+    Words(&["ask", "--"], Some(Command::Ask)),
+    Words(
+        &["live"],
+        Some(Command::Live {
+            batch: 4096,
+            materialize: false,
+        }),
+    ),
+    Words(
+        &["live", "--"],
+        Some(Command::Live {
+            batch: 4096,
+            materialize: false,
+        }),
+    ),
+    Words(
+        &["live", "--batch", "1"],
+        Some(Command::Live {
+            batch: 1,
+            materialize: false,
+        }),
+    ),
+    Words(
+        &["live", "--batch", "65536"],
+        Some(Command::Live {
+            batch: 65536,
+            materialize: false,
+        }),
+    ),
+    Words(
+        &["live", "--batch=7"],
+        Some(Command::Live {
+            batch: 7,
+            materialize: false,
+        }),
+    ),
+    Words(
+        &["live", "--batch=+07", "--"],
+        Some(Command::Live {
+            batch: 7,
+            materialize: false,
+        }),
+    ),
+    Words(
+        &["live", "--materialize"],
+        Some(Command::Live {
+            batch: 4096,
+            materialize: true,
+        }),
+    ),
+    Words(
+        &["live", "--materialize", "--"],
+        Some(Command::Live {
+            batch: 4096,
+            materialize: true,
+        }),
+    ),
+    Words(
+        &["live", "--materialize", "--batch", "8"],
+        Some(Command::Live {
+            batch: 8,
+            materialize: true,
+        }),
+    ),
+    Words(
+        &["live", "--materialize", "--batch=8"],
+        Some(Command::Live {
+            batch: 8,
+            materialize: true,
+        }),
+    ),
+    Words(
+        &["live", "--batch", "8", "--materialize"],
+        Some(Command::Live {
+            batch: 8,
+            materialize: true,
+        }),
+    ),
+    Words(
+        &["live", "--batch=8", "--materialize"],
+        Some(Command::Live {
+            batch: 8,
+            materialize: true,
+        }),
+    ),
+    Words(
+        &["live", "--batch=8", "--materialize", "--"],
+        Some(Command::Live {
+            batch: 8,
+            materialize: true,
+        }),
+    ),
+    Words(
+        &["format", "--blocks", "8"],
+        Some(Command::Format { blocks: 8 }),
+    ),
+    Words(
+        &["format", "--blocks", "64"],
+        Some(Command::Format { blocks: 64 }),
+    ),
+    Words(
+        &["format", "--blocks=64"],
+        Some(Command::Format { blocks: 64 }),
+    ),
+    Words(
+        &["format", "--blocks", "4294967296"],
+        Some(Command::Format { blocks: 4294967296 }),
+    ),
+    Words(
+        &["format", "--blocks", "008"],
+        Some(Command::Format { blocks: 8 }),
+    ),
+    Words(
+        &[
+            "format",
+            "--blocks",
+            "00000000000000000000000000000000000064",
+        ],
+        Some(Command::Format { blocks: 64 }),
+    ),
+    Words(
+        &["format", "--blocks", "+8"],
+        Some(Command::Format { blocks: 8 }),
+    ),
+    Words(
+        &["format", "--blocks=+0064"],
+        Some(Command::Format { blocks: 64 }),
+    ),
+    Words(
+        &["format", "--blocks", "8", "--"],
+        Some(Command::Format { blocks: 8 }),
+    ),
+    Words(
+        &["format", "--blocks=8", "--"],
+        Some(Command::Format { blocks: 8 }),
+    ),
+    Words(
+        &["load"],
+        Some(Command::Load {
+            workers: 1,
+            batch: 4096,
+        }),
+    ),
+    Words(
+        &["load", "--"],
+        Some(Command::Load {
+            workers: 1,
+            batch: 4096,
+        }),
+    ),
+    Words(
+        &["load", "--workers", "16"],
+        Some(Command::Load {
+            workers: 16,
+            batch: 4096,
+        }),
+    ),
+    Words(
+        &["load", "--workers=2"],
+        Some(Command::Load {
+            workers: 2,
+            batch: 4096,
+        }),
+    ),
+    Words(
+        &["load", "--batch", "65536"],
+        Some(Command::Load {
+            workers: 1,
+            batch: 65536,
+        }),
+    ),
+    Words(
+        &["load", "--batch=1", "--"],
+        Some(Command::Load {
+            workers: 1,
+            batch: 1,
+        }),
+    ),
+    Words(
+        &["load", "--workers", "2", "--batch", "5"],
+        Some(Command::Load {
+            workers: 2,
+            batch: 5,
+        }),
+    ),
+    Words(
+        &["load", "--batch", "5", "--workers", "2"],
+        Some(Command::Load {
+            workers: 2,
+            batch: 5,
+        }),
+    ),
+    Words(
+        &["load", "--workers=2", "--batch=5"],
+        Some(Command::Load {
+            workers: 2,
+            batch: 5,
+        }),
+    ),
+    Words(
+        &["load", "--batch=5", "--workers", "2"],
+        Some(Command::Load {
+            workers: 2,
+            batch: 5,
+        }),
+    ),
+    Words(
+        &["load", "--batch", "5", "--workers=2", "--"],
+        Some(Command::Load {
+            workers: 2,
+            batch: 5,
+        }),
+    ),
+    Words(
+        &["load", "--workers", "+02", "--batch=0005"],
+        Some(Command::Load {
+            workers: 2,
+            batch: 5,
+        }),
+    ),
+    Words(&["distil"], Some(Command::Distil { workers: 1 })),
+    Words(&["distil", "--"], Some(Command::Distil { workers: 1 })),
+    Words(
+        &["distil", "--workers", "1"],
+        Some(Command::Distil { workers: 1 }),
+    ),
+    Words(
+        &["distil", "--workers=16"],
+        Some(Command::Distil { workers: 16 }),
+    ),
+    Words(
+        &["sample", "1", "1", "3"],
+        Some(Command::Sample {
+            number: 1,
+            streams: 1,
+            points: 3,
+        }),
+    ),
+    Words(
+        &["sample", "0", "1", "1000000"],
+        Some(Command::Sample {
+            number: 0,
+            streams: 1,
+            points: 1000000,
+        }),
+    ),
+    Words(
+        &["sample", "2147483647", "1000", "1000"],
+        Some(Command::Sample {
+            number: 2147483647,
+            streams: 1000,
+            points: 1000,
+        }),
+    ),
+    Words(
+        &["sample", "+1", "01", "3"],
+        Some(Command::Sample {
+            number: 1,
+            streams: 1,
+            points: 3,
+        }),
+    ),
+    Words(
+        &["sample", "--", "1", "1", "3"],
+        Some(Command::Sample {
+            number: 1,
+            streams: 1,
+            points: 3,
+        }),
+    ),
+    Words(
+        &["sample", "1", "1", "--", "3"],
+        Some(Command::Sample {
+            number: 1,
+            streams: 1,
+            points: 3,
+        }),
+    ),
+    Words(
+        &["sample", "1", "1", "3", "--"],
+        Some(Command::Sample {
+            number: 1,
+            streams: 1,
+            points: 3,
+        }),
+    ),
+];
 
 #[test]
 fn lines_that_give_a_command(rt: HostRuntime) -> Result<(), Fail> {
-    let alloc = rt.alloc();
-    let lines: [(&[&str], Option<Command>); 48] = [
-        (&["ask"], Some(Command::Ask)),
-        (&["ask", "--"], Some(Command::Ask)),
-        (&["live"], live(4096, false)),
-        (&["live", "--"], live(4096, false)),
-        (&["live", "--batch", "1"], live(1, false)),
-        (&["live", "--batch", "65536"], live(65536, false)),
-        (&["live", "--batch=7"], live(7, false)),
-        (&["live", "--batch=+07", "--"], live(7, false)),
-        (&["live", "--materialize"], live(4096, true)),
-        (&["live", "--materialize", "--"], live(4096, true)),
-        (&["live", "--materialize", "--batch", "8"], live(8, true)),
-        (&["live", "--materialize", "--batch=8"], live(8, true)),
-        (&["live", "--batch", "8", "--materialize"], live(8, true)),
-        (&["live", "--batch=8", "--materialize"], live(8, true)),
-        (&["live", "--batch=8", "--materialize", "--"], live(8, true)),
-        (&["format", "--blocks", "8"], format(8)),
-        (&["format", "--blocks", "64"], format(64)),
-        (&["format", "--blocks=64"], format(64)),
-        (&["format", "--blocks", "4294967296"], format(4294967296)),
-        (&["format", "--blocks", "008"], format(8)),
-        (
-            &[
-                "format",
-                "--blocks",
-                "00000000000000000000000000000000000064",
-            ],
-            format(64),
-        ),
-        (&["format", "--blocks", "+8"], format(8)),
-        (&["format", "--blocks=+0064"], format(64)),
-        (&["format", "--blocks", "8", "--"], format(8)),
-        (&["format", "--blocks=8", "--"], format(8)),
-        (&["load"], load(1, 4096)),
-        (&["load", "--"], load(1, 4096)),
-        (&["load", "--workers", "16"], load(16, 4096)),
-        (&["load", "--workers=2"], load(2, 4096)),
-        (&["load", "--batch", "65536"], load(1, 65536)),
-        (&["load", "--batch=1", "--"], load(1, 1)),
-        (&["load", "--workers", "2", "--batch", "5"], load(2, 5)),
-        (&["load", "--batch", "5", "--workers", "2"], load(2, 5)),
-        (&["load", "--workers=2", "--batch=5"], load(2, 5)),
-        (&["load", "--batch=5", "--workers", "2"], load(2, 5)),
-        (&["load", "--batch", "5", "--workers=2", "--"], load(2, 5)),
-        (&["load", "--workers", "+02", "--batch=0005"], load(2, 5)),
-        (&["distil"], distil(1)),
-        (&["distil", "--"], distil(1)),
-        (&["distil", "--workers", "1"], distil(1)),
-        (&["distil", "--workers=16"], distil(16)),
-        (&["sample", "1", "1", "3"], sample(1, 1, 3)),
-        (&["sample", "0", "1", "1000000"], sample(0, 1, 1000000)),
-        (
-            &["sample", "2147483647", "1000", "1000"],
-            sample(2147483647, 1000, 1000),
-        ),
-        (&["sample", "+1", "01", "3"], sample(1, 1, 3)),
-        (&["sample", "--", "1", "1", "3"], sample(1, 1, 3)),
-        (&["sample", "1", "1", "--", "3"], sample(1, 1, 3)),
-        (&["sample", "1", "1", "3", "--"], sample(1, 1, 3)),
-    ];
-    for (line, want) in lines {
-        assert!(rt; read_words(alloc, &words_of(alloc, line)?)? == want);
-    }
-    Ok(())
+    all_hold(rt.alloc(), COMMANDS)
 }
+
+const NO_COMMANDS: &[Words] = &[
+    // no command, or another word in its place
+    Words(&[], None),
+    Words(&[""], None),
+    Words(&["--"], None),
+    Words(&["-"], None),
+    Words(&["--", "ask"], None),
+    Words(&["ASK"], None),
+    Words(&["ask "], None),
+    Words(&["as"], None),
+    Words(&["form", "--blocks", "64"], None),
+    Words(&["lively"], None),
+    Words(&["--blocks", "64", "format"], None),
+    Words(&["--blocks=64"], None),
+    Words(&["--batch", "8", "live"], None),
+    // help and versions
+    Words(&["--help"], None),
+    Words(&["-h"], None),
+    Words(&["help"], None),
+    Words(&["help", "format"], None),
+    Words(&["format", "--help"], None),
+    Words(&["format", "--blocks", "64", "--help"], None),
+    Words(&["live", "-h"], None),
+    Words(&["ask", "--help"], None),
+    Words(&["--version"], None),
+    Words(&["-V"], None),
+    Words(&["ask", "--version"], None),
+    // options that lack, are broken or are of another command
+    Words(&["format"], None),
+    Words(&["format", "--"], None),
+    Words(&["format", "64"], None),
+    Words(&["format", "--blocks"], None),
+    Words(&["format", "--blocks="], None),
+    Words(&["format", "--blocks", ""], None),
+    Words(&["format", "--blocks", "--", "64"], None),
+    Words(&["format", "--", "--blocks", "64"], None),
+    Words(&["format", "--block", "64"], None),
+    Words(&["format", "--b=64"], None),
+    Words(&["format", "--Blocks", "64"], None),
+    Words(&["format", "-b", "64"], None),
+    Words(&["format", "-blocks", "64"], None),
+    Words(&["format", "--batch", "64"], None),
+    Words(&["live", "--blocks", "64"], None),
+    Words(&["live", "--batch"], None),
+    Words(&["live", "--bat", "8"], None),
+    Words(&["ask", "--batch", "8"], None),
+    // twice, and words after
+    Words(&["format", "--blocks", "64", "--blocks", "64"], None),
+    Words(&["format", "--blocks=64", "--blocks=65"], None),
+    Words(&["format", "--blocks", "64", "64"], None),
+    Words(&["live", "--batch", "8", "--batch", "8"], None),
+    Words(&["live", "8"], None),
+    Words(&["live", "--batch", "8", "--", "8"], None),
+    Words(&["live", "--", "--"], None),
+    Words(&["ask", ""], None),
+    Words(&["ask", "ask"], None),
+    // the flag with a text, twice, in part, after the end of options, or where a number is wanted
+    Words(&["live", "--materialize=true"], None),
+    Words(&["live", "--materialize=false"], None),
+    Words(&["live", "--materialize=1"], None),
+    Words(&["live", "--materialize="], None),
+    Words(&["live", "--materialize", "true"], None),
+    Words(&["live", "--materialize", "8"], None),
+    Words(&["live", "--materialize", ""], None),
+    Words(&["live", "--materialize", "--materialize"], None),
+    Words(
+        &["live", "--materialize", "--batch", "8", "--materialize"],
+        None,
+    ),
+    Words(
+        &["live", "--materialize", "--batch", "8", "--batch", "8"],
+        None,
+    ),
+    Words(&["live", "--mat"], None),
+    Words(&["live", "--m"], None),
+    Words(&["live", "--materializ"], None),
+    Words(&["live", "--materialized"], None),
+    Words(&["live", "--Materialize"], None),
+    Words(&["live", "-materialize"], None),
+    Words(&["live", "-m"], None),
+    Words(&["live", "materialize"], None),
+    Words(&["live", "--", "--materialize"], None),
+    Words(&["live", "--batch", "8", "--", "--materialize"], None),
+    Words(&["live", "--materialize", "--", "--batch", "8"], None),
+    Words(&["live", "--batch", "--materialize"], None),
+    Words(&["live", "--batch", "--materialize", "8"], None),
+    Words(&["live", "--batch=", "--materialize"], None),
+    Words(&["live", "--materialize", "--batch"], None),
+    Words(&["live", "--materialize", "--batch", "0"], None),
+    Words(&["--materialize", "live"], None),
+    Words(&["load", "--materialize"], None),
+    Words(&["format", "--blocks", "64", "--materialize"], None),
+    Words(&["ask", "--materialize"], None),
+    Words(&["distil", "--materialize"], None),
+    Words(&["sample", "1", "1", "3", "--materialize"], None),
+    // numbers
+    Words(&["format", "--blocks", "7"], None),
+    Words(&["format", "--blocks", "4294967297"], None),
+    Words(&["format", "--blocks", "18446744073709551616"], None),
+    Words(&["format", "--blocks", "-8"], None),
+    Words(&["format", "--blocks=-8"], None),
+    Words(&["format", "--blocks", "8.0"], None),
+    Words(&["format", "--blocks", "0x10"], None),
+    Words(&["format", "--blocks", "++8"], None),
+    Words(&["live", "--batch", "0"], None),
+    Words(&["live", "--batch", "65537"], None),
+    Words(&["live", "--batch", " 8"], None),
+    // options of rows
+    Words(&["load", "--workers"], None),
+    Words(&["load", "--workers", "0"], None),
+    Words(&["load", "--workers", "17"], None),
+    Words(&["load", "--workers="], None),
+    Words(&["load", "--workers", "--batch", "5"], None),
+    Words(&["load", "--workers", "--", "2"], None),
+    Words(&["load", "--workers", "2", "--batch"], None),
+    Words(&["load", "--workers", "2", "--batch", "0"], None),
+    Words(&["load", "--workers", "2", "--batch=65537"], None),
+    Words(&["load", "--workers", "2", "--workers", "2"], None),
+    Words(
+        &["load", "--workers=2", "--batch", "5", "--workers=2"],
+        None,
+    ),
+    Words(&["load", "--batch=5", "--batch=5"], None),
+    Words(&["load", "--workers", "2", "5"], None),
+    Words(&["load", "2"], None),
+    Words(&["load", "--", "--workers", "2"], None),
+    Words(&["load", "--workers", "2", "--", "--batch", "5"], None),
+    Words(&["load", "--workers", "2", "--", "--"], None),
+    Words(&["load", "--worker", "2"], None),
+    Words(&["load", "-w", "2"], None),
+    Words(&["load", "--blocks", "8"], None),
+    Words(&["load", "--help"], None),
+    Words(&["loads"], None),
+    Words(&["distil", "--batch", "5"], None),
+    Words(&["distil", "--workers", "17"], None),
+    Words(&["distil", "2"], None),
+    // a sample
+    Words(&["sample"], None),
+    Words(&["sample", "1", "1"], None),
+    Words(&["sample", "1", "1", "3", "3"], None),
+    Words(&["sample", "-1", "1", "3"], None),
+    Words(&["sample", "--", "-1", "1", "3"], None),
+    Words(&["sample", "1", "1", "-3"], None),
+    Words(&["sample", "-", "1", "3"], None),
+    Words(&["sample", "", "1", "3"], None),
+    Words(&["sample", "2147483648", "1", "3"], None),
+    Words(&["sample", "1", "0", "3"], None),
+    Words(&["sample", "1", "1001", "3"], None),
+    Words(&["sample", "1", "1", "0"], None),
+    Words(&["sample", "1", "1", "1000001"], None),
+    Words(&["sample", "1", "1000", "1001"], None),
+    Words(&["sample", "1", "3", "333334"], None),
+    Words(&["sample", "1", "--", "1", "--", "3"], None),
+    Words(&["sample", "--number", "1", "1", "3"], None),
+    Words(&["sample", "--number=1", "1", "3"], None),
+];
 
 #[test]
 fn lines_that_give_none(rt: HostRuntime) -> Result<(), Fail> {
-    let alloc = rt.alloc();
-    let lines: [&[&str]; 137] = [
-        // no command, or another word in its place
-        &[],
-        &[""],
-        &["--"],
-        &["-"],
-        &["--", "ask"],
-        &["ASK"],
-        &["ask "],
-        &["as"],
-        &["form", "--blocks", "64"],
-        &["lively"],
-        &["--blocks", "64", "format"],
-        &["--blocks=64"],
-        &["--batch", "8", "live"],
-        // help and versions
-        &["--help"],
-        &["-h"],
-        &["help"],
-        &["help", "format"],
-        &["format", "--help"],
-        &["format", "--blocks", "64", "--help"],
-        &["live", "-h"],
-        &["ask", "--help"],
-        &["--version"],
-        &["-V"],
-        &["ask", "--version"],
-        // options that lack, are broken or are of another command
-        &["format"],
-        &["format", "--"],
-        &["format", "64"],
-        &["format", "--blocks"],
-        &["format", "--blocks="],
-        &["format", "--blocks", ""],
-        &["format", "--blocks", "--", "64"],
-        &["format", "--", "--blocks", "64"],
-        &["format", "--block", "64"],
-        &["format", "--b=64"],
-        &["format", "--Blocks", "64"],
-        &["format", "-b", "64"],
-        &["format", "-blocks", "64"],
-        &["format", "--batch", "64"],
-        &["live", "--blocks", "64"],
-        &["live", "--batch"],
-        &["live", "--bat", "8"],
-        &["ask", "--batch", "8"],
-        // twice, and words after
-        &["format", "--blocks", "64", "--blocks", "64"],
-        &["format", "--blocks=64", "--blocks=65"],
-        &["format", "--blocks", "64", "64"],
-        &["live", "--batch", "8", "--batch", "8"],
-        &["live", "8"],
-        &["live", "--batch", "8", "--", "8"],
-        &["live", "--", "--"],
-        &["ask", ""],
-        &["ask", "ask"],
-        // the flag with a text, twice, in part, after the end of options, or where a number is wanted
-        &["live", "--materialize=true"],
-        &["live", "--materialize=false"],
-        &["live", "--materialize=1"],
-        &["live", "--materialize="],
-        &["live", "--materialize", "true"],
-        &["live", "--materialize", "8"],
-        &["live", "--materialize", ""],
-        &["live", "--materialize", "--materialize"],
-        &["live", "--materialize", "--batch", "8", "--materialize"],
-        &["live", "--materialize", "--batch", "8", "--batch", "8"],
-        &["live", "--mat"],
-        &["live", "--m"],
-        &["live", "--materializ"],
-        &["live", "--materialized"],
-        &["live", "--Materialize"],
-        &["live", "-materialize"],
-        &["live", "-m"],
-        &["live", "materialize"],
-        &["live", "--", "--materialize"],
-        &["live", "--batch", "8", "--", "--materialize"],
-        &["live", "--materialize", "--", "--batch", "8"],
-        &["live", "--batch", "--materialize"],
-        &["live", "--batch", "--materialize", "8"],
-        &["live", "--batch=", "--materialize"],
-        &["live", "--materialize", "--batch"],
-        &["live", "--materialize", "--batch", "0"],
-        &["--materialize", "live"],
-        &["load", "--materialize"],
-        &["format", "--blocks", "64", "--materialize"],
-        &["ask", "--materialize"],
-        &["distil", "--materialize"],
-        &["sample", "1", "1", "3", "--materialize"],
-        // numbers
-        &["format", "--blocks", "7"],
-        &["format", "--blocks", "4294967297"],
-        &["format", "--blocks", "18446744073709551616"],
-        &["format", "--blocks", "-8"],
-        &["format", "--blocks=-8"],
-        &["format", "--blocks", "8.0"],
-        &["format", "--blocks", "0x10"],
-        &["format", "--blocks", "++8"],
-        &["live", "--batch", "0"],
-        &["live", "--batch", "65537"],
-        &["live", "--batch", " 8"],
-        // options of rows
-        &["load", "--workers"],
-        &["load", "--workers", "0"],
-        &["load", "--workers", "17"],
-        &["load", "--workers="],
-        &["load", "--workers", "--batch", "5"],
-        &["load", "--workers", "--", "2"],
-        &["load", "--workers", "2", "--batch"],
-        &["load", "--workers", "2", "--batch", "0"],
-        &["load", "--workers", "2", "--batch=65537"],
-        &["load", "--workers", "2", "--workers", "2"],
-        &["load", "--workers=2", "--batch", "5", "--workers=2"],
-        &["load", "--batch=5", "--batch=5"],
-        &["load", "--workers", "2", "5"],
-        &["load", "2"],
-        &["load", "--", "--workers", "2"],
-        &["load", "--workers", "2", "--", "--batch", "5"],
-        &["load", "--workers", "2", "--", "--"],
-        &["load", "--worker", "2"],
-        &["load", "-w", "2"],
-        &["load", "--blocks", "8"],
-        &["load", "--help"],
-        &["loads"],
-        &["distil", "--batch", "5"],
-        &["distil", "--workers", "17"],
-        &["distil", "2"],
-        // a sample
-        &["sample"],
-        &["sample", "1", "1"],
-        &["sample", "1", "1", "3", "3"],
-        &["sample", "-1", "1", "3"],
-        &["sample", "--", "-1", "1", "3"],
-        &["sample", "1", "1", "-3"],
-        &["sample", "-", "1", "3"],
-        &["sample", "", "1", "3"],
-        &["sample", "2147483648", "1", "3"],
-        &["sample", "1", "0", "3"],
-        &["sample", "1", "1001", "3"],
-        &["sample", "1", "1", "0"],
-        &["sample", "1", "1", "1000001"],
-        &["sample", "1", "1000", "1001"],
-        &["sample", "1", "3", "333334"],
-        &["sample", "1", "--", "1", "--", "3"],
-        &["sample", "--number", "1", "1", "3"],
-        &["sample", "--number=1", "1", "3"],
-    ];
-    for line in lines {
-        assert!(rt; read_words(alloc, &words_of(alloc, line)?)? == None);
-    }
-    Ok(())
+    all_hold(rt.alloc(), NO_COMMANDS)
 }

@@ -1,12 +1,20 @@
 //! Rows that are refused, each for its first reason.
-use super::fixture::{are_refused, are_rows, is_refused, point, refused};
+use super::fixture::{Text, each_is_refused, is_list, is_refused};
+use crate::fixture::{Row, all_hold};
 use btr_rows::{RowReason, read_rows};
+use std::alloc::{AllocError, Global};
 use std::test::Fail;
+
+const FIELDS: &[Text] = &[
+    Text("\"<U>,0,5\n<V>,1,6\n", &[], &[(1, RowReason::Fields)]),
+    Text("<U>,0,5,6\n", &[], &[(1, RowReason::Fields)]),
+    Text("<U>,\"0\"\n", &[], &[(1, RowReason::Fields)]),
+];
 
 #[test]
 fn rows_without_three_fields(rt: HostRuntime) -> Result<(), Fail> {
-    are_refused(
-        &rt,
+    each_is_refused(
+        rt.alloc(),
         RowReason::Fields,
         "<U>\n\
          <U>,0\n\
@@ -19,15 +27,13 @@ fn rows_without_three_fields(rt: HostRuntime) -> Result<(), Fail> {
          \"<U>,0,5\"\n\
          \"<U>,0,5",
     )?;
-    is_refused(&rt, RowReason::Fields, "\"<U>,0,5\n<V>,1,6\n")?;
-    is_refused(&rt, RowReason::Fields, "<U>,0,5,6\n")?;
-    is_refused(&rt, RowReason::Fields, "<U>,\"0\"\n")
+    all_hold(rt.alloc(), FIELDS)
 }
 
 #[test]
 fn rows_without_an_id(rt: HostRuntime) -> Result<(), Fail> {
-    are_refused(
-        &rt,
+    each_is_refused(
+        rt.alloc(),
         RowReason::Id,
         "id,time,value\n\
          ,,\n\
@@ -54,80 +60,147 @@ fn rows_without_an_id(rt: HostRuntime) -> Result<(), Fail> {
     )
 }
 
-#[test]
-fn rows_without_a_time_or_a_value(rt: HostRuntime) -> Result<(), Fail> {
-    let numbers = "\n-\n--5\n5-\n+5\n5.0\n1e3\n0x1\n 5\n5 \nfive\n5\"\n\"5\"\"\"\n\
+/// Texts that are no numbers, in lines.
+const NO_NUMBERS: &str = "\n-\n--5\n5-\n+5\n5.0\n1e3\n0x1\n 5\n5 \nfive\n5\"\n\"5\"\"\"\n\
         9223372036854775808\n-9223372036854775809\n18446744073709551621\n\
         99999999999999999999999999999999999999\n-99999999999999999999999999999999999999";
-    for number in numbers.split('\n') {
-        let time = format!(in rt.alloc(); "<U>,{number},5\n")?;
-        is_refused(&rt, RowReason::Time, time.as_str())?;
-        let both = format!(in rt.alloc(); "<U>,{number},{number}\n")?;
-        is_refused(&rt, RowReason::Time, both.as_str())?;
-        let value = format!(in rt.alloc(); "<U>,5,{number}\n")?;
-        is_refused(&rt, RowReason::Value, value.as_str())?;
-        let outside = format!(in rt.alloc(); "<U>,9223372036854775807,{number}")?;
-        is_refused(&rt, RowReason::Value, outside.as_str())?;
+
+/// A text in which `<N>` is short for a text that is no number, and the reason why its row is refused.
+const WITHOUT_NUMBERS: &[(&str, RowReason)] = &[
+    ("<U>,<N>,5\n", RowReason::Time),
+    ("<U>,<N>,<N>\n", RowReason::Time),
+    ("<U>,5,<N>\n", RowReason::Value),
+    ("<U>,9223372036854775807,<N>", RowReason::Value),
+];
+
+/// Whether a text with this number is refused for this reason.
+fn is_refused_with(
+    alloc: Global,
+    number: &str,
+    text: &str,
+    reason: RowReason,
+) -> Result<bool, AllocError> {
+    let text = text.replace(alloc, "<N>", number)?;
+    is_refused(alloc, reason, text.as_str())
+}
+
+/// Whether each text of `WITHOUT_NUMBERS` with this number is refused.
+fn are_refused_with(alloc: Global, number: &str) -> Result<bool, AllocError> {
+    for (text, reason) in WITHOUT_NUMBERS {
+        if !is_refused_with(alloc, number, text, *reason)? {
+            return Ok(false);
+        }
+    }
+    Ok(true)
+}
+
+#[test]
+fn rows_without_a_time_or_a_value(rt: HostRuntime) -> Result<(), Fail> {
+    for number in NO_NUMBERS.split('\n') {
+        if !are_refused_with(rt.alloc(), number)? {
+            return Err(Fail::new(format_args!("with {number}")));
+        }
     }
     Ok(())
 }
+
+const OUTSIDE: &[Text] = &[
+    Text(
+        "<U>,-1152921504606846977,5\n",
+        &[],
+        &[(
+            1,
+            RowReason::Domain {
+                time: -1152921504606846977,
+            },
+        )],
+    ),
+    Text(
+        "<U>,3458764513820540928,5\n",
+        &[],
+        &[(
+            1,
+            RowReason::Domain {
+                time: 3458764513820540928,
+            },
+        )],
+    ),
+    Text(
+        "<U>,9223372036854775807,5\n",
+        &[],
+        &[(1, RowReason::Domain { time: i64::MAX })],
+    ),
+    Text(
+        "<U>,-9223372036854775808,5\n",
+        &[],
+        &[(1, RowReason::Domain { time: i64::MIN })],
+    ),
+    Text(
+        "\"<U>\",\"3458764513820540928\",\"5\"",
+        &[],
+        &[(
+            1,
+            RowReason::Domain {
+                time: 3458764513820540928,
+            },
+        )],
+    ),
+];
 
 #[test]
 fn times_outside_the_domain(rt: HostRuntime) -> Result<(), Fail> {
-    for (text, time) in [
-        ("<U>,-1152921504606846977,5\n", -1152921504606846977),
-        ("<U>,3458764513820540928,5\n", 3458764513820540928),
-        ("<U>,9223372036854775807,5\n", i64::MAX),
-        ("<U>,-9223372036854775808,5\n", i64::MIN),
-        ("\"<U>\",\"3458764513820540928\",\"5\"", 3458764513820540928),
-    ] {
-        is_refused(&rt, RowReason::Domain { time }, text)?;
-    }
-    Ok(())
+    all_hold(rt.alloc(), OUTSIDE)
 }
+
+/// Bytes that are one row, and the reason why it is refused.
+struct Bytes(&'static [u8], RowReason);
+
+impl Row for Bytes {
+    fn holds(&self, alloc: Global) -> Result<bool, Fail> {
+        let list = read_rows(alloc, self.0)?;
+        Ok(is_list(&list, &[], &[(1, self.1)]))
+    }
+}
+
+const BYTES: &[Bytes] = &[
+    Bytes(
+        b"\xff1111111-1111-4111-8111-111111111111,0,5\n",
+        RowReason::Id,
+    ),
+    Bytes(
+        b"11111111-1111-4111-8111-11111111111\xc3\xa9,0,5\n",
+        RowReason::Id,
+    ),
+    Bytes(
+        b"11111111-1111-4111-8111-111111111111,\xff,5\n",
+        RowReason::Time,
+    ),
+    Bytes(
+        b"11111111-1111-4111-8111-111111111111,5\xb2,5\n",
+        RowReason::Time,
+    ),
+    Bytes(
+        b"11111111-1111-4111-8111-111111111111,0,\x80",
+        RowReason::Value,
+    ),
+    Bytes(
+        b"\"11111111-1111-4111-8111-111111111111\",0,\"5\xff\"\n",
+        RowReason::Value,
+    ),
+];
 
 #[test]
 fn bytes_that_are_not_text(rt: HostRuntime) -> Result<(), Fail> {
-    let texts: [(&[u8], RowReason); 6] = [
-        (
-            b"\xff1111111-1111-4111-8111-111111111111,0,5\n",
-            RowReason::Id,
-        ),
-        (
-            b"11111111-1111-4111-8111-11111111111\xc3\xa9,0,5\n",
-            RowReason::Id,
-        ),
-        (
-            b"11111111-1111-4111-8111-111111111111,\xff,5\n",
-            RowReason::Time,
-        ),
-        (
-            b"11111111-1111-4111-8111-111111111111,5\xb2,5\n",
-            RowReason::Time,
-        ),
-        (
-            b"11111111-1111-4111-8111-111111111111,0,\x80",
-            RowReason::Value,
-        ),
-        (
-            b"\"11111111-1111-4111-8111-111111111111\",0,\"5\xff\"\n",
-            RowReason::Value,
-        ),
-    ];
-    for (text, reason) in texts {
-        let list = read_rows(rt.alloc(), text)?;
-        assert_eq!(rt; list.streams().len(), 0);
-        assert_eq!(rt; list.refused(), [refused(1, reason)].as_slice());
-    }
-    Ok(())
+    all_hold(rt.alloc(), BYTES)
 }
+
+const HEADER: &[Text] = &[Text(
+    "id,time,value\n<U>,0,5\n",
+    &[(2, 0, 5)],
+    &[(1, RowReason::Id)],
+)];
 
 #[test]
 fn a_header_is_one_refused_row(rt: HostRuntime) -> Result<(), Fail> {
-    are_rows(
-        &rt,
-        "id,time,value\n<U>,0,5\n",
-        &[point(2, 0, 5)],
-        &[refused(1, RowReason::Id)],
-    )
+    all_hold(rt.alloc(), HEADER)
 }

@@ -1,89 +1,59 @@
 //! Commits, the list of streams, and how the input is cut into lines.
-use super::fixture::{ID, fit_no_form, read_one};
-use btr_text::{Line, Script, read_script};
-use btr_base::Point;
+use super::fixture::{Said, Says, fit_no_form};
+use crate::fixture::{Row, all_hold};
+use btr_text::{Script, ScriptLine, read_script};
+use std::alloc::Global;
 use std::test::Fail;
 
-fn point(time: i64, value: i64) -> Point {
-    Point { time, value }
-}
+const INSERTS: &[Said] = &[
+    Said("insert ID 1 2", Says::Insert(&[(1, 2)])),
+    Said(
+        "insert ID 3 1 1 2 3 0 1 2",
+        Says::Insert(&[(1, 2), (1, 2), (3, 0), (3, 1)]),
+    ),
+    Said(" @0  insert   ID  01  0002 ", Says::Insert(&[(1, 2)])),
+    Said("insert ID -0 007", Says::Insert(&[(0, 7)])),
+    Said(
+        "insert ID -9223372036854775808 9223372036854775807",
+        Says::Insert(&[(i64::MIN, i64::MAX)]),
+    ),
+    Said(
+        "feed ID 3 1 1 2 3 0 1 2",
+        Says::Feed(&[(1, 2), (1, 2), (3, 0), (3, 1)]),
+    ),
+];
 
 #[test]
 fn points_of_an_insert_are_read_and_sorted(rt: HostRuntime) -> Result<(), Fail> {
-    let ordered = [point(1, 2), point(1, 2), point(3, 0), point(3, 1)];
-    for (line, want) in [
-        ("insert ID 1 2", &ordered[..1]),
-        ("insert ID 3 1 1 2 3 0 1 2", &ordered[..]),
-        (" @0  insert   ID  01  0002 ", &ordered[..1]),
-        ("insert ID -0 007", &[point(0, 7)]),
-        (
-            "insert ID -9223372036854775808 9223372036854775807",
-            &[point(i64::MIN, i64::MAX)],
-        ),
-        ("feed ID 3 1 1 2 3 0 1 2", &ordered[..]),
-    ] {
-        match read_one(&rt, line)? {
-            Some(Line::Insert { id, added }) => {
-                assert_eq!(rt; id, ID, "at {line}");
-                assert_eq!(rt; added.as_slice(), want, "at {line}");
-                assert!(rt; !line.starts_with("feed"), "at {line}");
-            }
-            Some(Line::Feed { id, added }) => {
-                assert_eq!(rt; id, ID, "at {line}");
-                assert_eq!(rt; added.as_slice(), want, "at {line}");
-                assert!(rt; line.starts_with("feed"), "at {line}");
-            }
-            _ => assert!(rt; false, "no insert at {line}"),
-        }
-    }
-    Ok(())
+    all_hold(rt.alloc(), INSERTS)
 }
+
+const OTHERS: &[Said] = &[
+    Said("create ID", Says::Create(5)),
+    Said("@0 create ID", Says::Create(5)),
+    Said(" @0  create   ID ", Says::Create(5)),
+    Said("flush ID", Says::Flush),
+    Said(" @0  discard   ID ", Says::Discard),
+    Said("delete ID -5 7", Says::Delete(-5, 7)),
+    Said("delete ID 7 -5", Says::Delete(7, -5)),
+    Said(
+        "delete ID -9223372036854775808 9223372036854775807",
+        Says::Delete(i64::MIN, i64::MAX),
+    ),
+    Said("streams", Says::Streams),
+    Said("@0 streams", Says::Streams),
+    Said("  streams  ", Says::Streams),
+];
 
 #[test]
 fn creates_deletes_and_streams_are_read(rt: HostRuntime) -> Result<(), Fail> {
-    for line in ["create ID", "@0 create ID", " @0  create   ID "] {
-        assert!(rt;
-            matches!(read_one(&rt, line)?, Some(Line::Create { id: 5 })),
-            "at {line}"
-        );
-    }
-    for (line, is_flush) in [("flush ID", true), (" @0  discard   ID ", false)] {
-        let fits = match read_one(&rt, line)? {
-            Some(Line::Flush { id }) => is_flush && id == ID,
-            Some(Line::Discard { id }) => !is_flush && id == ID,
-            _ => false,
-        };
-        assert!(rt; fits, "at {line}");
-    }
-    for (line, bounds) in [
-        ("delete ID -5 7", (-5, 7)),
-        ("delete ID 7 -5", (7, -5)),
-        (
-            "delete ID -9223372036854775808 9223372036854775807",
-            (i64::MIN, i64::MAX),
-        ),
-    ] {
-        match read_one(&rt, line)? {
-            Some(Line::Delete { id, from, to }) => {
-                assert_eq!(rt; id, ID, "at {line}");
-                assert_eq!(rt; (from, to), bounds, "at {line}");
-            }
-            _ => assert!(rt; false, "no delete at {line}"),
-        }
-    }
-    for line in ["streams", "@0 streams", "  streams  "] {
-        assert!(rt;
-            matches!(read_one(&rt, line)?, Some(Line::Streams)),
-            "at {line}"
-        );
-    }
-    Ok(())
+    all_hold(rt.alloc(), OTHERS)
 }
 
 #[test]
 fn a_line_that_fits_no_form_has_none(rt: HostRuntime) -> Result<(), Fail> {
     fit_no_form(
-        &rt,
+        rt.alloc(),
         "create\n\
          create 5\n\
          create 0000000000000000000000000000000\n\
@@ -139,100 +109,121 @@ fn a_line_that_fits_no_form_has_none(rt: HostRuntime) -> Result<(), Fail> {
     )
 }
 
+const IDS: &[Said] = &[
+    Said(
+        "create 00112233445566778899aabbccddeeff",
+        Says::Create(0x00112233445566778899aabbccddeeff),
+    ),
+    Said(
+        "create 00112233445566778899AABBCCDDEEFF",
+        Says::Create(0x00112233445566778899aabbccddeeff),
+    ),
+    Said(
+        "create 00112233-4455-6677-8899-aabbccddeeff",
+        Says::Create(0x00112233445566778899aabbccddeeff),
+    ),
+    Said(
+        "create 00112233-4455-6677-8899-AaBbCcDdEeFf",
+        Says::Create(0x00112233445566778899aabbccddeeff),
+    ),
+    Said(
+        "create {00112233-4455-6677-8899-aabbccddeeff}",
+        Says::Create(0x00112233445566778899aabbccddeeff),
+    ),
+    Said(
+        "create urn:uuid:00112233-4455-6677-8899-aabbccddeeff",
+        Says::Create(0x00112233445566778899aabbccddeeff),
+    ),
+    Said(
+        "create URN:UUID:00112233-4455-6677-8899-AABBCCDDEEFF",
+        Says::Create(0x00112233445566778899aabbccddeeff),
+    ),
+];
+
 #[test]
 fn each_text_of_an_id_is_read(rt: HostRuntime) -> Result<(), Fail> {
-    for text in [
-        "create 00112233445566778899aabbccddeeff",
-        "create 00112233445566778899AABBCCDDEEFF",
-        "create 00112233-4455-6677-8899-aabbccddeeff",
-        "create 00112233-4455-6677-8899-AaBbCcDdEeFf",
-        "create {00112233-4455-6677-8899-aabbccddeeff}",
-        "create urn:uuid:00112233-4455-6677-8899-aabbccddeeff",
-        "create URN:UUID:00112233-4455-6677-8899-AABBCCDDEEFF",
-    ] {
-        match read_one(&rt, text)? {
-            Some(Line::Create { id }) => assert_eq!(rt; id, 0x00112233445566778899aabbccddeeff),
-            _ => assert!(rt; false, "no create at {text}"),
-        }
-    }
-    Ok(())
+    all_hold(rt.alloc(), IDS)
 }
+
+/// An input, and for each line with a reply its lane and whether it fits a form.
+struct Lanes(&'static [u8], &'static [(u8, bool)]);
+
+impl Row for Lanes {
+    fn holds(&self, alloc: Global) -> Result<bool, Fail> {
+        let script = read_script(alloc, self.0)?;
+        Ok(are_said(script.as_slice(), self.1))
+    }
+}
+
+/// Whether lines have these lanes, and fit a form or none.
+fn are_said(lines: &[ScriptLine], want: &[(u8, bool)]) -> bool {
+    lines.len() == want.len()
+        && lines.iter().zip(want).all(|(said, want)| said.lane == want.0
+            && said.line.is_some() == want.1)
+}
+
+const INPUTS: &[Lanes] = &[
+    Lanes(b"\r\n \n#\xff\n# x\n#@1 streams\n\r", &[]),
+    Lanes(b"streams \xff\n\xfe", &[(0, false), (0, false)]),
+    Lanes(b"streams\r\nstreams\r", &[(0, true), (0, true)]),
+    Lanes(b"streams\r\r\nstream\rs\n", &[(0, false), (0, false)]),
+    Lanes(
+        b"\n\nstreams\r\n#\nx\n\nstreams",
+        &[(0, true), (0, false), (0, true)],
+    ),
+];
 
 #[test]
 fn the_input_is_cut_into_lines(rt: HostRuntime) -> Result<(), Fail> {
-    // An input, and for each line with a reply whether it fits a form.
-    for (input, want) in [
-        (
-            b"\r\n \n#\xff\n# x\n#@1 streams\n\r".as_slice(),
-            [].as_slice(),
-        ),
-        (b"streams \xff\n\xfe", &[false, false]),
-        (b"streams\r\nstreams\r", &[true, true]),
-        (b"streams\r\r\nstream\rs\n", &[false, false]),
-        (b"\n\nstreams\r\n#\nx\n\nstreams", &[true, false, true]),
-    ] {
-        let script = read_script(rt.alloc(), input)?;
-        assert_eq!(rt; script.as_slice().len(), want.len());
-        for (said, fits) in script.as_slice().iter().zip(want) {
-            assert_eq!(rt; said.line.is_some(), *fits);
-        }
-    }
-    Ok(())
+    all_hold(rt.alloc(), INPUTS)
 }
 
 #[test]
 fn a_script_gives_its_lines_back(rt: HostRuntime) -> Result<(), Fail> {
-    let script = read_script(rt.alloc(), b"x\ny z\n")?;
-    let lines = script.into_lines();
-    assert_eq!(rt; lines.len(), 2);
-    assert_eq!(rt; Script::from_lines(lines).as_slice().len(), 2);
+    let lines = read_script(rt.alloc(), b"x\ny z\n")?.into_lines();
+    assert!(rt; lines.len() == 2);
+    assert!(rt; Script::from_lines(lines).as_slice().len() == 2);
     Ok(())
 }
 
+const LANES: &[Lanes] = &[
+    Lanes(b"streams", &[(0, true)]),
+    Lanes(b"@0 streams", &[(0, true)]),
+    Lanes(b"@1 streams", &[(1, true)]),
+    Lanes(b"@2 streams", &[(2, true)]),
+    Lanes(b"@3 streams", &[(3, true)]),
+    Lanes(b"@4 streams", &[(4, true)]),
+    Lanes(b"@5 streams", &[(5, true)]),
+    Lanes(b"@6 streams", &[(6, true)]),
+    Lanes(b"@7 streams", &[(7, true)]),
+    Lanes(b"@8 streams", &[(0, false)]),
+    Lanes(b"@9 streams", &[(0, false)]),
+    Lanes(b"@ streams", &[(0, false)]),
+    Lanes(b"@ 1 streams", &[(0, false)]),
+    Lanes(b"@01 streams", &[(0, false)]),
+    Lanes(b"@10 streams", &[(0, false)]),
+    Lanes(b"@-1 streams", &[(0, false)]),
+    Lanes(b"@a streams", &[(0, false)]),
+    Lanes(b"1 streams", &[(0, false)]),
+    Lanes(b" #@1 streams", &[(0, false)]),
+    Lanes(b" @1 create 00000000000000000000000000000005", &[(1, true)]),
+    Lanes(b"   @7    streams   ", &[(7, true)]),
+    Lanes(b"@1", &[(1, false)]),
+    Lanes(b" @3 ", &[(3, false)]),
+    Lanes(b"@1 #x", &[(1, false)]),
+    Lanes(b"@1 @2 streams", &[(1, false)]),
+    Lanes(b"streams @1", &[(0, false)]),
+    Lanes(b"@1 \xff", &[(1, false)]),
+    Lanes(b"@6 streams \xff", &[(6, false)]),
+    Lanes(b"@1\xff streams", &[(0, false)]),
+    Lanes(b"\xff @1 streams", &[(0, false)]),
+    Lanes(b"@1\tstreams", &[(0, false)]),
+    Lanes(b"\t@1 streams", &[(0, false)]),
+    Lanes(b"@1 \tstreams", &[(1, false)]),
+    Lanes(b"@2 streams\r", &[(2, true)]),
+];
+
 #[test]
 fn a_first_word_names_the_lane(rt: HostRuntime) -> Result<(), Fail> {
-    // A line, its lane, and whether it fits a form.
-    for (line, lane, fits) in [
-        (b"streams".as_slice(), 0, true),
-        (b"@0 streams", 0, true),
-        (b"@1 streams", 1, true),
-        (b"@2 streams", 2, true),
-        (b"@3 streams", 3, true),
-        (b"@4 streams", 4, true),
-        (b"@5 streams", 5, true),
-        (b"@6 streams", 6, true),
-        (b"@7 streams", 7, true),
-        (b"@8 streams", 0, false),
-        (b"@9 streams", 0, false),
-        (b"@ streams", 0, false),
-        (b"@ 1 streams", 0, false),
-        (b"@01 streams", 0, false),
-        (b"@10 streams", 0, false),
-        (b"@-1 streams", 0, false),
-        (b"@a streams", 0, false),
-        (b"1 streams", 0, false),
-        (b" #@1 streams", 0, false),
-        (b" @1 create 00000000000000000000000000000005", 1, true),
-        (b"   @7    streams   ", 7, true),
-        (b"@1", 1, false),
-        (b" @3 ", 3, false),
-        (b"@1 #x", 1, false),
-        (b"@1 @2 streams", 1, false),
-        (b"streams @1", 0, false),
-        (b"@1 \xff", 1, false),
-        (b"@6 streams \xff", 6, false),
-        (b"@1\xff streams", 0, false),
-        (b"\xff @1 streams", 0, false),
-        (b"@1\tstreams", 0, false),
-        (b"\t@1 streams", 0, false),
-        (b"@1 \tstreams", 1, false),
-        (b"@2 streams\r", 2, true),
-    ] {
-        let lines = read_script(rt.alloc(), line)?.into_lines();
-        assert_eq!(rt; lines.len(), 1);
-        for said in lines {
-            assert_eq!(rt; (said.lane, said.line.is_some()), (lane, fits));
-        }
-    }
-    Ok(())
+    all_hold(rt.alloc(), LANES)
 }

@@ -1,169 +1,139 @@
 //! Lines that define outputs and bring them up to date.
-use super::fixture::{ID, fit_no_form, read_one};
-use btr_text::Line;
+use super::fixture::{Said, Says, fit_no_form};
+use crate::fixture::all_hold;
 use btr_hist::Kernel;
-use std::process::Abort;
 use std::test::Fail;
 
-/// Asserts that each line defines the output 5 by this kernel, lead and grain, and these inputs.
-fn are_defined(
-    rt: &(impl Abort + AllocGlobal),
-    table: &[(&str, (Kernel, u64, u8), (u128, Option<u128>))],
-) -> Result<(), Fail> {
-    for (line, shape, inputs) in table {
-        match read_one(rt, line)? {
-            Some(
-                Line::Distiller {
-                    id,
-                    kernel,
-                    lead,
-                    grain,
-                    first,
-                    second,
-                },
-            ) => {
-                assert_eq!(rt; id, ID, "at {line}");
-                assert_eq!(rt; (kernel, lead, grain), *shape, "at {line}");
-                assert_eq!(rt; (first, second), *inputs, "at {line}");
-            }
-            _ => assert!(rt; false, "no distiller at {line}"),
-        }
-    }
-    Ok(())
-}
+const KERNELS: &[Said] = &[
+    Said(
+        "distiller ID sum 0 1 ONE",
+        Says::Distiller(Kernel::Sum, 0, 1, 1, None),
+    ),
+    Said(
+        "distiller ID mean 2 3 ONE",
+        Says::Distiller(Kernel::Mean, 2, 3, 1, None),
+    ),
+    Said(
+        "distiller ID least 4 5 ONE",
+        Says::Distiller(Kernel::Least, 4, 5, 1, None),
+    ),
+    Said(
+        "distiller ID greatest 6 7 ONE",
+        Says::Distiller(Kernel::Greatest, 6, 7, 1, None),
+    ),
+    Said(
+        "distiller ID count 8 9 ONE",
+        Says::Distiller(Kernel::Count, 8, 9, 1, None),
+    ),
+    Said(
+        "distiller ID delta 1 0 ONE",
+        Says::Distiller(Kernel::Delta, 1, 0, 1, None),
+    ),
+    Said(
+        "distiller ID minus 3 2 ONE TWO",
+        Says::Distiller(Kernel::Minus, 3, 2, 1, Some(2)),
+    ),
+    Said(
+        "distiller ID angle 5 4 TWO ONE",
+        Says::Distiller(Kernel::Angle, 5, 4, 2, Some(1)),
+    ),
+    Said(
+        "distiller ID hold 7 6 TWO TWO",
+        Says::Distiller(Kernel::Hold, 7, 6, 2, Some(2)),
+    ),
+    Said(
+        "distiller ID affine 2 3 4 5 6 ONE",
+        Says::Distiller(Kernel::Affine { a: 2, b: 3, d: 4 }, 5, 6, 1, None),
+    ),
+    Said(
+        "distiller ID affine -7 -8 -9 10 11 TWO",
+        Says::Distiller(
+            Kernel::Affine {
+                a: -7,
+                b: -8,
+                d: -9,
+            },
+            10,
+            11,
+            2,
+            None,
+        ),
+    ),
+];
 
 #[test]
 fn each_kernel_is_read(rt: HostRuntime) -> Result<(), Fail> {
-    are_defined(
-        &rt,
-        &[
-            ("distiller ID sum 0 1 ONE", (Kernel::Sum, 0, 1), (1, None)),
-            ("distiller ID mean 2 3 ONE", (Kernel::Mean, 2, 3), (1, None)),
-            (
-                "distiller ID least 4 5 ONE",
-                (Kernel::Least, 4, 5),
-                (1, None),
-            ),
-            (
-                "distiller ID greatest 6 7 ONE",
-                (Kernel::Greatest, 6, 7),
-                (1, None),
-            ),
-            (
-                "distiller ID count 8 9 ONE",
-                (Kernel::Count, 8, 9),
-                (1, None),
-            ),
-            (
-                "distiller ID delta 1 0 ONE",
-                (Kernel::Delta, 1, 0),
-                (1, None),
-            ),
-            (
-                "distiller ID minus 3 2 ONE TWO",
-                (Kernel::Minus, 3, 2),
-                (1, Some(2)),
-            ),
-            (
-                "distiller ID angle 5 4 TWO ONE",
-                (Kernel::Angle, 5, 4),
-                (2, Some(1)),
-            ),
-            (
-                "distiller ID hold 7 6 TWO TWO",
-                (Kernel::Hold, 7, 6),
-                (2, Some(2)),
-            ),
-            (
-                "distiller ID affine 2 3 4 5 6 ONE",
-                (Kernel::Affine { a: 2, b: 3, d: 4 }, 5, 6),
-                (1, None),
-            ),
-            (
-                "distiller ID affine -7 -8 -9 10 11 TWO",
-                (
-                    Kernel::Affine {
-                        a: -7,
-                        b: -8,
-                        d: -9,
-                    },
-                    10,
-                    11,
-                ),
-                (2, None),
-            ),
-        ],
-    )
+    all_hold(rt.alloc(), KERNELS)
 }
+
+const BOUNDS: &[Said] = &[
+    Said(
+        "distiller ID sum 18446744073709551615 255 ONE",
+        Says::Distiller(Kernel::Sum, u64::MAX, 255, 1, None),
+    ),
+    Said(
+        "distiller ID affine 9223372036854775807 -9223372036854775808 0 0018446744073709551615 000255 ONE",
+        Says::Distiller(
+            Kernel::Affine {
+                a: i64::MAX,
+                b: i64::MIN,
+                d: 0,
+            },
+            u64::MAX,
+            255,
+            1,
+            None,
+        ),
+    ),
+    Said(
+        " @0  distiller   ID  affine  -0  007 1 00  0  ONE   TWO ",
+        Says::Distiller(Kernel::Affine { a: 0, b: 7, d: 1 }, 0, 0, 1, Some(2)),
+    ),
+    // These fit the form, although no output can have them: too many inputs, too few, the output itself.
+    Said(
+        "distiller ID sum 0 0 ONE TWO",
+        Says::Distiller(Kernel::Sum, 0, 0, 1, Some(2)),
+    ),
+    Said(
+        "distiller ID minus 0 0 ONE",
+        Says::Distiller(Kernel::Minus, 0, 0, 1, None),
+    ),
+    Said(
+        "distiller ID count 0 0 ID",
+        Says::Distiller(Kernel::Count, 0, 0, 5, None),
+    ),
+    Said(
+        "distiller ID hold 0 0 {00112233-4455-6677-8899-AABBCCDDEEFF} urn:uuid:00000000-0000-0000-0000-000000000001",
+        Says::Distiller(
+            Kernel::Hold,
+            0,
+            0,
+            0x00112233445566778899aabbccddeeff,
+            Some(1),
+        ),
+    ),
+];
 
 #[test]
 fn bounds_of_a_distiller_are_read(rt: HostRuntime) -> Result<(), Fail> {
-    are_defined(
-        &rt,
-        &[
-            (
-                "distiller ID sum 18446744073709551615 255 ONE",
-                (Kernel::Sum, u64::MAX, 255),
-                (1, None),
-            ),
-            (
-                "distiller ID affine 9223372036854775807 -9223372036854775808 0 0018446744073709551615 000255 ONE",
-                (
-                    Kernel::Affine {
-                        a: i64::MAX,
-                        b: i64::MIN,
-                        d: 0,
-                    },
-                    u64::MAX,
-                    255,
-                ),
-                (1, None),
-            ),
-            (
-                " @0  distiller   ID  affine  -0  007 1 00  0  ONE   TWO ",
-                (Kernel::Affine { a: 0, b: 7, d: 1 }, 0, 0),
-                (1, Some(2)),
-            ),
-            // These fit the form, although no output can have them: too many inputs, too few, the output itself.
-            (
-                "distiller ID sum 0 0 ONE TWO",
-                (Kernel::Sum, 0, 0),
-                (1, Some(2)),
-            ),
-            (
-                "distiller ID minus 0 0 ONE",
-                (Kernel::Minus, 0, 0),
-                (1, None),
-            ),
-            (
-                "distiller ID count 0 0 ID",
-                (Kernel::Count, 0, 0),
-                (5, None),
-            ),
-            (
-                "distiller ID hold 0 0 {00112233-4455-6677-8899-AABBCCDDEEFF} urn:uuid:00000000-0000-0000-0000-000000000001",
-                (Kernel::Hold, 0, 0),
-                (0x00112233445566778899aabbccddeeff, Some(1)),
-            ),
-        ],
-    )
+    all_hold(rt.alloc(), BOUNDS)
 }
+
+const REFRESHES: &[Said] = &[
+    Said("refresh ID", Says::Refresh),
+    Said("@0 refresh ID", Says::Refresh),
+    Said(" @0  refresh   ID ", Says::Refresh),
+];
 
 #[test]
 fn refreshes_are_read(rt: HostRuntime) -> Result<(), Fail> {
-    for line in ["refresh ID", "@0 refresh ID", " @0  refresh   ID "] {
-        assert!(rt;
-            matches!(read_one(&rt, line)?, Some(Line::Refresh { id: 5 })),
-            "at {line}"
-        );
-    }
-    Ok(())
+    all_hold(rt.alloc(), REFRESHES)
 }
 
 #[test]
 fn a_line_on_an_output_that_fits_no_form_has_none(rt: HostRuntime) -> Result<(), Fail> {
     fit_no_form(
-        &rt,
+        rt.alloc(),
         "distiller\n\
          distiller ID\n\
          distiller sum\n\

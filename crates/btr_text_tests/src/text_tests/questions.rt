@@ -1,119 +1,195 @@
 //! Questions about one stream.
-use super::fixture::{ID, fit_no_form, read_one};
-use btr_text::Line;
+use super::fixture::{Said, Says, fit_no_form};
+use crate::fixture::all_hold;
 use btr_base::Toward;
 use btr_hist::{At, StreamQuery};
-use std::process::Abort;
 use std::test::Fail;
 
-fn points(from: i64, to: i64, at: At) -> StreamQuery {
-    StreamQuery::Points { from, to, at }
-}
-
-fn nearest(time: i64, toward: Toward, at: At) -> StreamQuery {
-    StreamQuery::Nearest { time, toward, at }
-}
-
-fn aligned(from: i64, to: i64, p: u8, at: At) -> StreamQuery {
-    StreamQuery::Aligned { from, to, p, at }
-}
-
-fn windows(from: i64, to: i64, width: u64, at: At) -> StreamQuery {
-    StreamQuery::Windows {
-        from,
-        to,
-        width,
-        at,
-    }
-}
-
-fn changes(old: u64, new: u64, p: u8) -> StreamQuery {
-    StreamQuery::Changes { old, new, p }
-}
-
-/// Asserts that each line is this question about the stream 5.
-fn are_read(rt: &(impl Abort + AllocGlobal), table: &[(&str, StreamQuery)]) -> Result<(), Fail> {
-    for (line, want) in table {
-        match read_one(rt, line)? {
-            Some(Line::Ask { id, query }) => {
-                assert_eq!(rt; id, ID, "at {line}");
-                assert_eq!(rt; query, *want, "at {line}");
-            }
-            _ => assert!(rt; false, "no question at {line}"),
-        }
-    }
-    Ok(())
-}
+const FORMS: &[Said] = &[
+    Said(
+        "range ID -5 7 latest",
+        Says::Ask(StreamQuery::Points {
+            from: -5,
+            to: 7,
+            at: At::Latest,
+        }),
+    ),
+    Said(
+        "range ID 7 -5 0",
+        Says::Ask(StreamQuery::Points {
+            from: 7,
+            to: -5,
+            at: At::Number(0),
+        }),
+    ),
+    Said(
+        "  range   ID  0  1 2   ",
+        Says::Ask(StreamQuery::Points {
+            from: 0,
+            to: 1,
+            at: At::Number(2),
+        }),
+    ),
+    Said(
+        "@0 range ID 0 1 2",
+        Says::Ask(StreamQuery::Points {
+            from: 0,
+            to: 1,
+            at: At::Number(2),
+        }),
+    ),
+    Said(
+        "nearest ID -3 next latest",
+        Says::Ask(StreamQuery::Nearest {
+            time: -3,
+            toward: Toward::Forward,
+            at: At::Latest,
+        }),
+    ),
+    Said(
+        "nearest ID 3 prev 4",
+        Says::Ask(StreamQuery::Nearest {
+            time: 3,
+            toward: Toward::Backward,
+            at: At::Number(4),
+        }),
+    ),
+    Said(
+        "aligned ID -5 7 2 latest",
+        Says::Ask(StreamQuery::Aligned {
+            from: -5,
+            to: 7,
+            p: 2,
+            at: At::Latest,
+        }),
+    ),
+    Said(
+        "aligned ID 7 -5 63 0",
+        Says::Ask(StreamQuery::Aligned {
+            from: 7,
+            to: -5,
+            p: 63,
+            at: At::Number(0),
+        }),
+    ),
+    Said(
+        "windows ID -5 7 3 latest",
+        Says::Ask(StreamQuery::Windows {
+            from: -5,
+            to: 7,
+            width: 3,
+            at: At::Latest,
+        }),
+    ),
+    Said(
+        "windows ID 7 -5 0 1",
+        Says::Ask(StreamQuery::Windows {
+            from: 7,
+            to: -5,
+            width: 0,
+            at: At::Number(1),
+        }),
+    ),
+    Said(
+        "changes ID 1 3 2",
+        Says::Ask(StreamQuery::Changes {
+            old: 1,
+            new: 3,
+            p: 2,
+        }),
+    ),
+    Said(
+        "changes ID 3 1 63",
+        Says::Ask(StreamQuery::Changes {
+            old: 3,
+            new: 1,
+            p: 63,
+        }),
+    ),
+    Said(
+        "info ID latest",
+        Says::Ask(StreamQuery::Info { at: At::Latest }),
+    ),
+    Said(
+        " @0  info  ID  0 ",
+        Says::Ask(StreamQuery::Info { at: At::Number(0) }),
+    ),
+];
 
 #[test]
 fn each_form_of_a_question_is_read(rt: HostRuntime) -> Result<(), Fail> {
-    let latest = At::Latest;
-    are_read(
-        &rt,
-        &[
-            ("range ID -5 7 latest", points(-5, 7, latest)),
-            ("range ID 7 -5 0", points(7, -5, At::Number(0))),
-            ("  range   ID  0  1 2   ", points(0, 1, At::Number(2))),
-            ("@0 range ID 0 1 2", points(0, 1, At::Number(2))),
-            (
-                "nearest ID -3 next latest",
-                nearest(-3, Toward::Forward, latest),
-            ),
-            (
-                "nearest ID 3 prev 4",
-                nearest(3, Toward::Backward, At::Number(4)),
-            ),
-            ("aligned ID -5 7 2 latest", aligned(-5, 7, 2, latest)),
-            ("aligned ID 7 -5 63 0", aligned(7, -5, 63, At::Number(0))),
-            ("windows ID -5 7 3 latest", windows(-5, 7, 3, latest)),
-            ("windows ID 7 -5 0 1", windows(7, -5, 0, At::Number(1))),
-            ("changes ID 1 3 2", changes(1, 3, 2)),
-            ("changes ID 3 1 63", changes(3, 1, 63)),
-            ("info ID latest", StreamQuery::Info { at: latest }),
-            (" @0  info  ID  0 ", StreamQuery::Info { at: At::Number(0) }),
-        ],
-    )
+    all_hold(rt.alloc(), FORMS)
 }
+
+const BOUNDS: &[Said] = &[
+    Said(
+        "range ID -9223372036854775808 9223372036854775807 18446744073709551615",
+        Says::Ask(StreamQuery::Points {
+            from: i64::MIN,
+            to: i64::MAX,
+            at: At::Number(u64::MAX),
+        }),
+    ),
+    Said(
+        "nearest ID -9223372036854775808 next 0018446744073709551615",
+        Says::Ask(StreamQuery::Nearest {
+            time: i64::MIN,
+            toward: Toward::Forward,
+            at: At::Number(u64::MAX),
+        }),
+    ),
+    Said(
+        "aligned ID -9223372036854775808 9223372036854775807 255 18446744073709551615",
+        Says::Ask(StreamQuery::Aligned {
+            from: i64::MIN,
+            to: i64::MAX,
+            p: 255,
+            at: At::Number(u64::MAX),
+        }),
+    ),
+    Said(
+        "aligned ID 0 1 000255 0",
+        Says::Ask(StreamQuery::Aligned {
+            from: 0,
+            to: 1,
+            p: 255,
+            at: At::Number(0),
+        }),
+    ),
+    Said(
+        "windows ID -0 007 18446744073709551615 0",
+        Says::Ask(StreamQuery::Windows {
+            from: 0,
+            to: 7,
+            width: u64::MAX,
+            at: At::Number(0),
+        }),
+    ),
+    Said(
+        "changes ID 18446744073709551615 18446744073709551614 255",
+        Says::Ask(StreamQuery::Changes {
+            old: u64::MAX,
+            new: u64::MAX - 1,
+            p: 255,
+        }),
+    ),
+    Said(
+        "info ID 18446744073709551615",
+        Says::Ask(StreamQuery::Info {
+            at: At::Number(u64::MAX),
+        }),
+    ),
+];
 
 #[test]
 fn greatest_and_least_numbers_of_questions_are_read(rt: HostRuntime) -> Result<(), Fail> {
-    let last = At::Number(u64::MAX);
-    are_read(
-        &rt,
-        &[
-            (
-                "range ID -9223372036854775808 9223372036854775807 18446744073709551615",
-                points(i64::MIN, i64::MAX, last),
-            ),
-            (
-                "nearest ID -9223372036854775808 next 0018446744073709551615",
-                nearest(i64::MIN, Toward::Forward, last),
-            ),
-            (
-                "aligned ID -9223372036854775808 9223372036854775807 255 18446744073709551615",
-                aligned(i64::MIN, i64::MAX, 255, last),
-            ),
-            ("aligned ID 0 1 000255 0", aligned(0, 1, 255, At::Number(0))),
-            (
-                "windows ID -0 007 18446744073709551615 0",
-                windows(0, 7, u64::MAX, At::Number(0)),
-            ),
-            (
-                "changes ID 18446744073709551615 18446744073709551614 255",
-                changes(u64::MAX, u64::MAX - 1, 255),
-            ),
-            (
-                "info ID 18446744073709551615",
-                StreamQuery::Info { at: last },
-            ),
-        ],
-    )
+    all_hold(rt.alloc(), BOUNDS)
 }
 
 #[test]
 fn a_question_that_fits_no_form_has_none(rt: HostRuntime) -> Result<(), Fail> {
     fit_no_form(
-        &rt,
+        rt.alloc(),
         "range\n\
          range ID 1 2\n\
          range ID 1 latest\n\
