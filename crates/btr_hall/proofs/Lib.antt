@@ -5,4 +5,3 @@ mod TurnLemmas
 mod StoreLemmas
 pub mod LandLemmas
 pub mod CrossingLemmas
-mod TestLemmas
