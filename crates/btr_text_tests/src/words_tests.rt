@@ -324,7 +324,7 @@ fn lines_that_give_a_command(rt: HostRuntime) -> Result<(), Fail> {
     all_hold(rt.alloc(), COMMANDS)
 }
 
-const NO_COMMANDS: &[Words] = &[
+const NO_COMMAND: &[Words] = &[
     // no command, or another word in its place
     Words(&[], None),
     Words(&[""], None),
@@ -351,6 +351,14 @@ const NO_COMMANDS: &[Words] = &[
     Words(&["--version"], None),
     Words(&["-V"], None),
     Words(&["ask", "--version"], None),
+];
+
+#[test]
+fn lines_without_a_command_give_none(rt: HostRuntime) -> Result<(), Fail> {
+    all_hold(rt.alloc(), NO_COMMAND)
+}
+
+const WRONG_OPTIONS: &[Words] = &[
     // options that lack, are broken or are of another command
     Words(&["format"], None),
     Words(&["format", "--"], None),
@@ -380,6 +388,14 @@ const NO_COMMANDS: &[Words] = &[
     Words(&["live", "--", "--"], None),
     Words(&["ask", ""], None),
     Words(&["ask", "ask"], None),
+];
+
+#[test]
+fn wrong_options_give_none(rt: HostRuntime) -> Result<(), Fail> {
+    all_hold(rt.alloc(), WRONG_OPTIONS)
+}
+
+const WRONG_FLAGS: &[Words] = &[
     // the flag with a text, twice, in part, after the end of options, or where a number is wanted
     Words(&["live", "--materialize=true"], None),
     Words(&["live", "--materialize=false"], None),
@@ -419,6 +435,14 @@ const NO_COMMANDS: &[Words] = &[
     Words(&["ask", "--materialize"], None),
     Words(&["distil", "--materialize"], None),
     Words(&["sample", "1", "1", "3", "--materialize"], None),
+];
+
+#[test]
+fn wrong_flags_give_none(rt: HostRuntime) -> Result<(), Fail> {
+    all_hold(rt.alloc(), WRONG_FLAGS)
+}
+
+const WRONG_NUMBERS: &[Words] = &[
     // numbers
     Words(&["format", "--blocks", "7"], None),
     Words(&["format", "--blocks", "4294967297"], None),
@@ -431,6 +455,14 @@ const NO_COMMANDS: &[Words] = &[
     Words(&["live", "--batch", "0"], None),
     Words(&["live", "--batch", "65537"], None),
     Words(&["live", "--batch", " 8"], None),
+];
+
+#[test]
+fn wrong_numbers_give_none(rt: HostRuntime) -> Result<(), Fail> {
+    all_hold(rt.alloc(), WRONG_NUMBERS)
+}
+
+const WRONG_ROWS: &[Words] = &[
     // options of rows
     Words(&["load", "--workers"], None),
     Words(&["load", "--workers", "0"], None),
@@ -460,6 +492,14 @@ const NO_COMMANDS: &[Words] = &[
     Words(&["distil", "--batch", "5"], None),
     Words(&["distil", "--workers", "17"], None),
     Words(&["distil", "2"], None),
+];
+
+#[test]
+fn wrong_options_of_rows_give_none(rt: HostRuntime) -> Result<(), Fail> {
+    all_hold(rt.alloc(), WRONG_ROWS)
+}
+
+const WRONG_SAMPLES: &[Words] = &[
     // a sample
     Words(&["sample"], None),
     Words(&["sample", "1", "1"], None),
@@ -482,6 +522,6 @@ const NO_COMMANDS: &[Words] = &[
 ];
 
 #[test]
-fn lines_that_give_none(rt: HostRuntime) -> Result<(), Fail> {
-    all_hold(rt.alloc(), NO_COMMANDS)
+fn wrong_words_of_a_sample_give_none(rt: HostRuntime) -> Result<(), Fail> {
+    all_hold(rt.alloc(), WRONG_SAMPLES)
 }
