@@ -1,8 +1,8 @@
 //! The calls of the device in memory and of the fuse, and each generic function over them.
 ghost use Rattle.std.specs.Prelude.{◌≡◌, IfOk, length};
 
-use btr_disk::{BLOCK, Capacity, Disk, FuseDisk, MemDisk, publish};
 use btr_disk::laws::{sync_and_write, write_elsewhere, write_sync_read, write_two, write_unsynced};
+use btr_disk::{BLOCK, Capacity, Disk, Fill, FuseDisk, MemDisk, publish};
 use std::alloc::{AllocError, Global};
 use std::process::Abort;
 use std::test::Fail;
@@ -33,15 +33,15 @@ fn what_is_written_is_read(rt: HostRuntime) -> Result<(), Fail> {
     let mut buf = block(alloc, 0)?;
     let written = write_sync_read(&mut disk, 3, &block(alloc, 7)?, &mut buf);
     assert!(rt; written.is_ok());
-    assert_eq!(rt; disk.blocks(), 8);
-    assert_eq!(rt; disk.calls(), 3);
-    assert_eq!(rt; disk.faults(), 0);
-    assert_eq!(rt; buf[4095], 7);
+    assert!(rt; disk.blocks() == 8);
+    assert!(rt; disk.calls() == 3);
+    assert!(rt; disk.faults() == 0);
+    assert!(rt; buf[4095] == 7);
     let bytes = disk.into_bytes();
-    assert_eq!(rt; bytes.len(), 32768);
-    assert_eq!(rt; bytes[12287], 0);
-    assert_eq!(rt; bytes[12288], 7);
-    assert_eq!(rt; bytes[16384], 0);
+    assert!(rt; bytes.len() == 32768);
+    assert!(rt; bytes[12287] == 0);
+    assert!(rt; bytes[12288] == 7);
+    assert!(rt; bytes[16384] == 0);
     Ok(())
 }
 
@@ -53,17 +53,17 @@ fn the_calls_of_the_list_fail(rt: HostRuntime) -> Result<(), Fail> {
     let mut buf = block(alloc, 9)?;
     // The failed write changed nothing that is read.
     assert!(rt; disk.write(1, &seven).is_err());
-    assert_eq!(rt; disk.faults(), 1);
+    assert!(rt; disk.faults() == 1);
     assert!(rt; disk.read(1, &mut buf).is_ok());
-    assert_eq!(rt; buf[0], 0);
+    assert!(rt; buf[0] == 0);
     assert!(rt; disk.sync().is_err());
-    assert_eq!(rt; disk.faults(), 2);
+    assert!(rt; disk.faults() == 2);
     assert!(rt; disk.write(1, &seven).is_ok());
     assert!(rt; disk.sync().is_ok());
     assert!(rt; disk.read(1, &mut buf).is_ok());
-    assert_eq!(rt; buf[0], 7);
-    assert_eq!(rt; disk.faults(), 2);
-    assert_eq!(rt; disk.calls(), 6);
+    assert!(rt; buf[0] == 7);
+    assert!(rt; disk.faults() == 2);
+    assert!(rt; disk.calls() == 6);
     Ok(())
 }
 
@@ -83,9 +83,9 @@ fn a_call_beyond_the_capacity_fails(rt: HostRuntime) -> Result<(), Fail> {
     assert!(rt; disk.write(1, &seven).is_err());
     assert!(rt; disk.read(1, &mut buf).is_err());
     assert!(rt; disk.sync().is_err());
-    assert_eq!(rt; buf[0], 0);
-    assert_eq!(rt; disk.faults(), 3);
-    assert_eq!(rt; disk.calls(), 4);
+    assert!(rt; buf[0] == 0);
+    assert!(rt; disk.faults() == 3);
+    assert!(rt; disk.calls() == 4);
     Ok(())
 }
 
@@ -97,7 +97,7 @@ fn the_laws_hold_of_a_device_in_memory(rt: HostRuntime) -> Result<(), Fail> {
     assert!(rt; write_two(&mut disk, 1, &seven, 2, &seven).is_ok());
     assert!(rt; sync_and_write(&mut disk, 3, &seven).is_ok());
     assert!(rt; write_elsewhere(&mut disk, 3, &seven).is_ok());
-    assert_eq!(rt; disk.calls(), 5);
+    assert!(rt; disk.calls() == 5);
     Ok(())
 }
 
@@ -117,9 +117,9 @@ fn published(rt: &impl Abort, alloc: Global, failing: Vec<u64>) -> Result<(u8, u
     let body = vec![in alloc; 3; 8192]?;
     let outcome = publish(&mut disk, 1, &body, 0, &block(alloc, 2)?);
     let faults = disk.faults();
-    assert_eq!(rt; outcome.is_ok(), faults == 0);
+    assert!(rt; outcome.is_ok() == (faults == 0));
     let bytes = disk.into_bytes();
-    assert_eq!(rt; bytes.len(), 32768);
+    assert!(rt; bytes.len() == 32768);
     Ok((bytes[0], bytes[4096], bytes[8192], faults))
 }
 
@@ -136,11 +136,7 @@ const PUBLISHED: [(u64, (u8, u8, u8, u64)); 5] = [
 fn a_body_is_published_before_its_gate(rt: HostRuntime) -> Result<(), Fail> {
     let alloc = rt.alloc();
     for (call, want) in PUBLISHED {
-        assert_eq!(rt;
-            published(&rt, alloc, vec![in alloc; call]?)?,
-            want,
-            "{call}"
-        );
+        assert!(rt; published(&rt, alloc, vec![in alloc; call]?)? == want);
     }
     Ok(())
 }
@@ -177,5 +173,82 @@ fn a_fuse_passes_its_calls_and_then_fails(rt: HostRuntime) -> Result<(), Fail> {
     assert!(rt; after_the_fuse(alloc, 5, false)? == (true, 7, 2, 0));
     // A write that fails reaches the other device.
     assert!(rt; after_the_fuse(alloc, 5, true)? == (true, 5, 3, 0));
+    Ok(())
+}
+
+/// A device whose block 2 has threes that are synced, and then sevens that are not.
+fn unsynced(alloc: Global) -> Result<MemDisk, AllocError>
+    ensures { IfOk result (λ disk. ⟦<MemDisk as Disk>⟧.size disk ≡ 8) }
+{
+    let three = block(alloc, 3)?;
+    let seven = block(alloc, 7)?;
+    let mut disk = disk(alloc, Vec::new(alloc))?;
+    let _ = disk.write(2, &three);
+    let _ = disk.sync();
+    let _ = disk.write(2, &seven);
+    Ok(disk)
+}
+
+/// The byte before block 2, its first and its last, of the image of that device.
+fn unsynced_image(alloc: Global, fill: Fill) -> Result<(u8, u8, u8), AllocError> {
+    let bytes = unsynced(alloc)?.image(alloc, fill)?.into_bytes();
+    Ok((bytes[8191], bytes[8192], bytes[12287]))
+}
+
+#[test]
+fn an_image_has_its_fill_where_a_write_is_unsynced(rt: HostRuntime) -> Result<(), Fail> {
+    let alloc = rt.alloc();
+    assert!(rt; unsynced_image(alloc, Fill::Written)? == (0, 7, 7));
+    assert!(rt; unsynced_image(alloc, Fill::Kept)? == (0, 3, 3));
+    assert!(rt; unsynced_image(alloc, Fill::Zeros)? == (0, 0, 0));
+    assert!(rt; unsynced_image(alloc, Fill::Ones)? == (0, 255, 255));
+    assert!(rt; unsynced_image(alloc, Fill::Gates)? == (0, 66, 255));
+    Ok(())
+}
+
+/// The first byte of each of two blocks of ones, of the image after a write of sevens to each. There is room
+/// to remember the first of them.
+fn torn_image(alloc: Global, fill: Fill) -> Result<(u8, u8), AllocError> {
+    let capacity = Capacity {
+        calls: 4,
+        blocks: 1,
+    };
+    let seven = block(alloc, 7)?;
+    let bytes = vec![in alloc; 1; 8192]?;
+    let mut disk = MemDisk::from_bytes(alloc, bytes, capacity, Vec::new(alloc))?;
+    let _ = disk.write(0, &seven);
+    let _ = disk.write(1, &seven);
+    let bytes = disk.image(alloc, fill)?.into_bytes();
+    Ok((bytes[0], bytes[4096]))
+}
+
+#[test]
+fn an_image_has_its_fill_where_a_write_had_no_room(rt: HostRuntime) -> Result<(), Fail> {
+    let alloc = rt.alloc();
+    assert!(rt; torn_image(alloc, Fill::Written)? == (7, 1));
+    assert!(rt; torn_image(alloc, Fill::Kept)? == (1, 1));
+    assert!(rt; torn_image(alloc, Fill::Ones)? == (255, 255));
+    Ok(())
+}
+
+/// The byte before block 1, its first and its last, of the image of what is under a fuse that passed a write of
+/// sevens and a sync on, and then cut a write of fives off.
+fn cut_off_image(alloc: Global, fill: Fill) -> Result<(u8, u8, u8), AllocError> {
+    let seven = block(alloc, 7)?;
+    let five = block(alloc, 5)?;
+    let mut fuse = fuse(alloc)?;
+    let _ = fuse.write(1, &seven);
+    let _ = fuse.sync();
+    let _ = fuse.write(1, &five);
+    let bytes = fuse.into_disk().image(alloc, fill)?.into_bytes();
+    Ok((bytes[4095], bytes[4096], bytes[8191]))
+}
+
+#[test]
+fn a_write_that_the_fuse_cut_off_is_unsynced(rt: HostRuntime) -> Result<(), Fail> {
+    let alloc = rt.alloc();
+    assert!(rt; cut_off_image(alloc, Fill::Written)? == (0, 5, 5));
+    assert!(rt; cut_off_image(alloc, Fill::Kept)? == (0, 7, 7));
+    assert!(rt; cut_off_image(alloc, Fill::Ones)? == (0, 255, 255));
     Ok(())
 }
