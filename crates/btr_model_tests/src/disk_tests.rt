@@ -26,22 +26,29 @@ fn disk(alloc: Global, failing: Vec<u64>) -> Result<MemDisk, AllocError>
     MemDisk::new(alloc, 8, CAPACITY, failing)
 }
 
+/// The bytes of a device at some addresses, and how many it has.
+fn bytes_of(disk: MemDisk, at: [usize; 3]) -> (usize, [Option<u8>; 3]) {
+    let bytes = disk.into_bytes();
+    let [first, second, third] = at;
+    let found = [
+        bytes.get(first).copied(),
+        bytes.get(second).copied(),
+        bytes.get(third).copied(),
+    ];
+    (bytes.len(), found)
+}
+
 #[test]
 fn what_is_written_is_read(rt: HostRuntime) -> Result<(), Fail> {
     let alloc = rt.alloc();
     let mut disk = disk(alloc, Vec::new(alloc))?;
     let mut buf = block(alloc, 0)?;
-    let written = write_sync_read(&mut disk, 3, &block(alloc, 7)?, &mut buf);
-    assert!(rt; written.is_ok());
-    assert!(rt; disk.blocks() == 8);
-    assert!(rt; disk.calls() == 3);
-    assert!(rt; disk.faults() == 0);
-    assert!(rt; buf[4095] == 7);
-    let bytes = disk.into_bytes();
-    assert!(rt; bytes.len() == 32768);
-    assert!(rt; bytes[12287] == 0);
-    assert!(rt; bytes[12288] == 7);
-    assert!(rt; bytes[16384] == 0);
+    let seven = block(alloc, 7)?;
+    let is_done = write_sync_read(&mut disk, 3, &seven, &mut buf).is_ok();
+    let read = buf[4095];
+    assert!(rt; (is_done, read) == (true, 7));
+    assert!(rt; (disk.blocks(), disk.calls(), disk.faults()) == (8, 3, 0));
+    assert!(rt; bytes_of(disk, [12287, 12288, 16384]) == (32768, [Some(0), Some(7), Some(0)]));
     Ok(())
 }
 
@@ -52,18 +59,14 @@ fn the_calls_of_the_list_fail(rt: HostRuntime) -> Result<(), Fail> {
     let seven = block(alloc, 7)?;
     let mut buf = block(alloc, 9)?;
     // The failed write changed nothing that is read.
-    assert!(rt; disk.write(1, &seven).is_err());
-    assert!(rt; disk.faults() == 1);
-    assert!(rt; disk.read(1, &mut buf).is_ok());
-    assert!(rt; buf[0] == 0);
-    assert!(rt; disk.sync().is_err());
-    assert!(rt; disk.faults() == 2);
-    assert!(rt; disk.write(1, &seven).is_ok());
-    assert!(rt; disk.sync().is_ok());
-    assert!(rt; disk.read(1, &mut buf).is_ok());
-    assert!(rt; buf[0] == 7);
-    assert!(rt; disk.faults() == 2);
-    assert!(rt; disk.calls() == 6);
+    let fails = disk.write(1, &seven).is_err() && disk.faults() == 1;
+    let reads = disk.read(1, &mut buf).is_ok() && buf[0] == 0;
+    let is_unsynced = disk.sync().is_err() && disk.faults() == 2;
+    let is_synced = disk.write(1, &seven).is_ok() && disk.sync().is_ok();
+    let reads_again = disk.read(1, &mut buf).is_ok() && buf[0] == 7;
+    assert!(rt; (fails, reads, is_unsynced) == (true, true, true));
+    assert!(rt; (is_synced, reads_again) == (true, true));
+    assert!(rt; (disk.faults(), disk.calls()) == (2, 6));
     Ok(())
 }
 
@@ -78,14 +81,14 @@ fn a_call_beyond_the_capacity_fails(rt: HostRuntime) -> Result<(), Fail> {
     let mut disk = MemDisk::from_bytes(alloc, bytes, capacity, Vec::new(alloc))?;
     let seven = block(alloc, 7)?;
     let mut buf = block(alloc, 0)?;
-    assert!(rt; disk.write(0, &seven).is_ok());
+    let fits = disk.write(0, &seven).is_ok();
     // A second block is beyond the capacity, and so is each later call.
-    assert!(rt; disk.write(1, &seven).is_err());
-    assert!(rt; disk.read(1, &mut buf).is_err());
-    assert!(rt; disk.sync().is_err());
-    assert!(rt; buf[0] == 0);
-    assert!(rt; disk.faults() == 3);
-    assert!(rt; disk.calls() == 4);
+    let writes = disk.write(1, &seven).is_ok();
+    let reads = disk.read(1, &mut buf).is_ok();
+    let syncs = disk.sync().is_ok();
+    let read = buf[0];
+    assert!(rt; (fits, writes, reads, syncs, read) == (true, false, false, false, 0));
+    assert!(rt; (disk.faults(), disk.calls()) == (3, 4));
     Ok(())
 }
 

@@ -76,5 +76,5 @@ module _ {S D : Type 0} (source : SourceGhosts S) (disk : Ghosts D) (batch : ℕ
   benign_load e why =
       ⊎_elim
       (λ unread. benign_input source given rest source_works (λ exceeds. not_too_long exceeds) e unread.0)
-      (λ (read : (input : List ℕ) × HasRead source input given rest × AreDistinct (list_of (rows_of input)).streams × RowsCause disk batch (list_of (rows_of input)) old new e). benign_rows read.0 read.1 e read.3)
+      (λ (read : (input : List ℕ) × HasRead source input given rest × (AreDistinct (list_of (rows_of input)).streams × RowsCause disk batch (list_of (rows_of input)) old new e)). benign_rows read.0 read.1 e read.2.1)
       why
