@@ -9,6 +9,9 @@ use Rattle.btr_top.proofs.bulk.run_load.Goals as goal
 
 pub returns-in-Ok-clause-cause : goal.returns-in-Ok-clause-cause
 returns-in-Ok-clause-cause g c =
-    inr (c.in-Ok.input.items, c.in-Ok.ensures.read,
-    subst (λ (bytes : List ℕ). AreDistinct (list_of (rows_of bytes)).streams × RowsCause g.D.Disk c.args.batch (list_of (rows_of bytes)) c.args.disk c.load_input.result.disk c.load_input.result.ending)
-    c.deref.ensures.value (c.load_input.ensures.distinct, c.load_input.ensures.cause))
+    inr (
+      c.in-Ok.input.items,
+      c.in-Ok.ensures.read,
+      subst (λ (bytes : List ℕ). AreDistinct (list_of (rows_of bytes)).streams × RowsCause g.D.Disk c.args.batch (list_of (rows_of bytes)) c.args.disk c.load_input.result.disk c.load_input.result.ending)
+          c.deref.ensures.value (c.load_input.ensures.distinct, c.load_input.ensures.cause),
+    )
