@@ -7,7 +7,7 @@ use std::sync::Wait;
 use std::test::Fail;
 use std::thread::Threads;
 
-// lanes that do not touch what the others do; a lane is named by one of eight words; a lane has feeds of its own
+// lanes that do not touch what the others do; a lane is named by one of eight words, and in `ask` by none; a lane has feeds of its own
 const LANES: &str = "\
 $ format --blocks 64
 < formatted 64
@@ -51,11 +51,13 @@ $ live --batch 3
 < 4 4
 = 1
 $ ask
+> range U 0 9 latest
+> @0 range U 0 9 latest
 > @3 range U 0 9 latest
 > @8 range U 0 9 latest
-> @2 create X
 < ok 1 1
 < 1 1
+< no line
 < no line
 < no line
 = 1
