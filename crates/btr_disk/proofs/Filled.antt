@@ -8,16 +8,16 @@ use Rattle.btr_disk.specs.Replay.{WasAtLastSync}
 use Rattle.btr_disk.proofs.ByteLemmas.{Same-is, SameBut-at, cases_range}
 use Rattle.btr_disk.specs.declared.call_record.Call.{Call}
 use Rattle.btr_disk.specs.declared.call_record.Call.TheVariants.{Nothing, Wrote, Synced}
-use Rattle.btr_disk.specs.Fill.{IsFilled, IsLooseAt, HasFill}
+use Rattle.btr_disk.specs.Fill.{FillsWhere, IsLooseAt, HasFill}
 use Rattle.btr_disk.specs.declared.call_record.CallRecord.{CallRecord}
 use Rattle.btr_disk.specs.declared.image.Fill.{Fill}
 use Rattle.btr_disk.specs.declared.image.Fill.TheVariants.{Written, Kept, Zeros, Ones, Gates}
 
-module _ (fill : Fill) (made : CallRecord) (old new : List ℕ) (it : IsFilled fill (IsLooseAt made) old new) where
+module _ (fill : Fill) (made : CallRecord) (old new : List ℕ) (it : FillsWhere fill (IsLooseAt made) old new) where
   pub filled_left : AreBytes (contents_of new) → MayLeave (contents_of old) (newest_first made) made.torn.flags.items (contents_of new)
   filled_left are = record { bytes = are; synced = λ k no whole. it.rest k (⊎_elim no whole) }
 
-pub filled_has : (fill : Fill) (made : CallRecord) (old new : List ℕ) → (fill ≡ Written → ⊥) → (fill ≡ Kept → ⊥) → IsFilled fill (IsLooseAt made) old new → HasFill fill (contents_of old) made (length old) (contents_of new)
+pub filled_has : (fill : Fill) (made : CallRecord) (old new : List ℕ) → (fill ≡ Written → ⊥) → (fill ≡ Kept → ⊥) → FillsWhere fill (IsLooseAt made) old new → HasFill fill (contents_of old) made (length old) (contents_of new)
 filled_has Written made old new not nor it = absurd (not cc)
 filled_has Kept made old new not nor it = absurd (nor cc)
 filled_has Zeros made old new not nor it = it.filled

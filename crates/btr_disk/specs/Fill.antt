@@ -19,7 +19,7 @@ fill_byte Ones k = 255
 fill_byte Gates k = slice_index_or mark (k % 4096) 255
 
 -- The addresses with P have the byte of the fill, and the others are as before.
-pub record IsFilled (fill : Fill) (P : ℕ → Type 0) (old new : List ℕ) : Type 0 where
+pub record FillsWhere (fill : Fill) (P : ℕ → Type 0) (old new : List ℕ) : Type 0 where
   pub same_length : length new ≡ length old
   pub filled : (k : ℕ) → k < length old → P k → slice_index new k ≡ fill_byte fill k
   pub rest : (k : ℕ) → (P k → ⊥) → slice_index new k ≡ slice_index old k
@@ -27,8 +27,8 @@ pub record IsFilled (fill : Fill) (P : ℕ → Type 0) (old new : List ℕ) : Ty
   pub stays : (k : ℕ) → slice_index old k ≡ fill_byte fill k → slice_index new k ≡ fill_byte fill k
 
 -- The address is one of the n from this one on.
-abbrev pub IsInside : ℕ → ℕ → ℕ → Type 0
-IsInside address n k = (address ≤ k) × (k < address + n)
+abbrev pub IsAddressIn : ℕ → ℕ → ℕ → Type 0
+IsAddressIn address n k = (address ≤ k) × (k < address + n)
 
 -- A crash may leave any byte at the address: it is unsynced, or in a torn block.
 abbrev pub IsLooseAt : CallRecord → ℕ → Type 0

@@ -33,7 +33,7 @@ pub(crate) struct CallRecord {
 
 impl CallRecord {
     ghost use Rattle.std.specs.Prelude.{◌*◌};
-    ghost use Rattle.btr_disk.specs.Fill.{IsFilled, IsLooseAt, HasFill};
+    ghost use Rattle.btr_disk.specs.Fill.{FillsWhere, IsLooseAt, HasFill};
     ghost use Rattle.btr_disk.specs.Bytes.{AreBytes};
     ghost use Rattle.btr_disk.specs.Replay.{WasAtLastSync, is_replayable};
     ghost use Rattle.btr_disk.specs.CallRecord.{contents_of, newest_first, MayLeaveNow};
@@ -101,7 +101,7 @@ impl CallRecord {
     /// Fills each address where a crash may leave any byte.
     fn fill(&self, bytes: &mut [u8], fill: Fill)
         requires { length bytes.old ≡ 4096 * length self.now.torn.flags.items }
-        ensures { IsFilled fill (IsLooseAt self.now) bytes.old bytes.new }
+        ensures { FillsWhere fill (IsLooseAt self.now) bytes.old bytes.new }
     {
         fill_calls(bytes, &self.calls, fill);
         self.torn.fill(bytes, fill);

@@ -4,7 +4,7 @@ ghost use Rattle.btr_disk.specs.Bytes.{Has, SameBut};
 ghost use Rattle.btr_disk.specs.CallRecord.{IsUnsyncedAt, contents_of};
 ghost use Rattle.btr_disk.specs.Replay.{WasAtLastSync, is_replayable};
 ghost use Rattle.btr_disk.specs.Torn.{IsTornAt};
-ghost use Rattle.btr_disk.specs.Fill.{IsFilled, IsInside, fill_byte};
+ghost use Rattle.btr_disk.specs.Fill.{FillsWhere, IsAddressIn, fill_byte};
 
 use crate::call_record::Call;
 use crate::{BLOCK, GATE_MARK};
@@ -39,7 +39,7 @@ fn byte_of(fill: Fill, at: usize) -> u8
 
 /// Fills the `n` bytes from the address `at` on, those that there are.
 fn fill_range(bytes: &mut [u8], at: usize, n: usize, fill: Fill)
-    ensures { IsFilled fill (IsInside at n) bytes.old bytes.new }
+    ensures { FillsWhere fill (IsAddressIn at n) bytes.old bytes.new }
 {
     let end = at.saturating_add(n).min(bytes.len());
     for k in at..end {
@@ -49,7 +49,7 @@ fn fill_range(bytes: &mut [u8], at: usize, n: usize, fill: Fill)
 
 /// Fills what these calls wrote since the last sync.
 pub(crate) fn fill_calls(bytes: &mut [u8], calls: &[Call], fill: Fill)
-    ensures { IsFilled fill (IsUnsyncedAt (reverse calls.now)) bytes.old bytes.new }
+    ensures { FillsWhere fill (IsUnsyncedAt (reverse calls.now)) bytes.old bytes.new }
 {
     let Some((call, earlier)) = calls.split_last() else {
         return;
@@ -99,7 +99,7 @@ fn put_back(bytes: &mut [u8], at: usize, part: &[u8])
 /// Fills the torn blocks.
 pub(crate) fn fill_torn(bytes: &mut [u8], torn: &[bool], fill: Fill)
     requires { length bytes.old ≡ 4096 * length torn.now }
-    ensures { IsFilled fill (IsTornAt torn.now) bytes.old bytes.new }
+    ensures { FillsWhere fill (IsTornAt torn.now) bytes.old bytes.new }
 {
     for (block, is_torn) in torn.iter().enumerate() {
         fill_block(bytes, block, *is_torn, fill);
@@ -109,7 +109,7 @@ pub(crate) fn fill_torn(bytes: &mut [u8], torn: &[bool], fill: Fill)
 /// Fills a block if it is torn.
 fn fill_block(bytes: &mut [u8], block: usize, is_torn: bool, fill: Fill)
     requires { 4096 * block + 4096 ≤ length bytes.old }
-    ensures { IsFilled fill (λ k. (is_torn ≡ true) × IsInside (4096 * block) 4096 k) bytes.old bytes.new }
+    ensures { FillsWhere fill (λ k. (is_torn ≡ true) × IsAddressIn (4096 * block) 4096 k) bytes.old bytes.new }
 {
     if is_torn {
         fill_range(bytes, BLOCK * block, BLOCK, fill);

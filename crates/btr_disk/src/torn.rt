@@ -15,7 +15,7 @@ pub(crate) struct TornBlocks {
 impl TornBlocks {
     ghost use Rattle.std.specs.Prelude.{◌*◌};
     ghost use Rattle.btr_disk.specs.Torn.{IsTornAt};
-    ghost use Rattle.btr_disk.specs.Fill.{IsFilled};
+    ghost use Rattle.btr_disk.specs.Fill.{FillsWhere};
 
     /// No torn block, of `blocks` blocks.
     pub(crate) fn new(alloc: Global, blocks: usize) -> Result<TornBlocks, AllocError>
@@ -38,7 +38,7 @@ impl TornBlocks {
     /// Fills the torn blocks.
     pub(crate) fn fill(&self, bytes: &mut [u8], fill: Fill)
         requires { length bytes.old ≡ 4096 * length self.now.flags.items }
-        ensures { IsFilled fill (IsTornAt self.now.flags.items) bytes.old bytes.new }
+        ensures { FillsWhere fill (IsTornAt self.now.flags.items) bytes.old bytes.new }
     {
         fill_torn(bytes, &self.flags, fill);
     }

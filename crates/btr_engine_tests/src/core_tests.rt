@@ -1,13 +1,10 @@
 //! Tests of the machine: events of several actors in tables, each with the reply that it has to get.
-use crate::fixture::no_wrong;
+use crate::fixture::{Pairs, insert, no_wrong};
 use btr_base::{Bag, Point, Ranges};
 use btr_core::*;
 use btr_hist::{Answer, At, Entry, Kernel, Query, Reads, Refusal, Rejection, Rows, Spec};
 use std::alloc::{AllocError, Global};
 use std::test::Fail;
-
-/// Points as pairs of a time and a value.
-type Pairs<'a> = &'a [(i64, i64)];
 
 /// What an actor does, in a table.
 #[derive(Clone, Copy)]
@@ -67,22 +64,6 @@ enum Wanted<'a> {
 
 /// An actor, what it does, and the reply.
 type Row<'a> = (u16, Act<'a>, Wanted<'a>);
-
-/// Returns a commit of these points to a stream.
-fn insert(alloc: Global, stream: u32, pairs: Pairs<'_>) -> Result<Entry, AllocError> {
-    let mut points = Vec::new(alloc);
-    for (time, value) in pairs {
-        points.push(Point {
-            time: *time,
-            value: *value,
-        })?;
-    }
-    Ok(Entry::Commit {
-        stream,
-        cut: Ranges::none(alloc),
-        added: Bag::from_points(points),
-    })
-}
 
 /// Returns a distillate of no ranges and no points.
 fn distillate(alloc: Global, stream: u32) -> Entry {

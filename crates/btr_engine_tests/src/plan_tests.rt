@@ -1,30 +1,11 @@
 //! Tests of sights and plans over small histories. The expected plans are worked out by hand.
-use crate::fixture::no_wrong;
-use btr_base::{Bag, Point, Ranges};
+use crate::fixture::{Pairs, insert, no_wrong};
+use btr_base::{Bag, Ranges};
 use btr_engine::{Board, Snapshot};
 use btr_hist::{Entry, Kernel, Reads, Spec};
 use btr_plan::{Next, next_plan, sight};
 use std::alloc::{AllocError, Global};
 use std::test::Fail;
-
-/// Points as pairs of a time and a value, and ranges as pairs of bounds.
-type Pairs<'a> = &'a [(i64, i64)];
-
-/// A commit that adds points to a stream.
-fn insert(alloc: Global, stream: u32, pairs: Pairs<'_>) -> Result<Entry, AllocError> {
-    let mut points = Vec::new(alloc);
-    for (time, value) in pairs {
-        points.push(Point {
-            time: *time,
-            value: *value,
-        })?;
-    }
-    Ok(Entry::Commit {
-        stream,
-        cut: Ranges::none(alloc),
-        added: Bag::from_points(points),
-    })
-}
 
 /// An output. Changes of its inputs are looked for in slots of one nanosecond.
 fn output(id: u128, kernel: Kernel, lead: u64, first: u32, second: Option<u32>) -> Entry {

@@ -1,6 +1,6 @@
 use Rattle.std.proofs.Common.{◌<◌, ◌≤◌}
-use Rattle.btr_disk.specs.Fill.{IsFilled}
+use Rattle.btr_disk.specs.Fill.{FillsWhere}
 use Rattle.btr_disk.proofs.image.fill_range.Given as goal
 
 abbrev pub invariant-loop-k : goal.invariant-loop-k
-invariant-loop-k l = IsFilled l.fill (λ k. (l.at ≤ k) × (k < l.k)) l.initial.bytes l.bytes
+invariant-loop-k l = FillsWhere l.fill (λ k. (l.at ≤ k) × (k < l.k)) l.initial.bytes l.bytes
