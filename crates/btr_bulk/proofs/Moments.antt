@@ -15,11 +15,11 @@ use Rattle.btr_engine.specs.declared.step.StepFault.{StepFault}
 use Rattle.btr_engine.specs.declared.step.StepFault.TheVariants.{DeviceFault}
 use Rattle.btr_engine.specs.Engine.{device, IsAtRest}
 use Rattle.btr_engine.specs.Holds.{HoldsHistory}
-use Rattle.btr_engine.specs.Step.{IsBeforeOrAfter, CanStep, IsStepped, StopsByFault}
+use Rattle.btr_engine.specs.Step.{IsBeforeOrAfter, CanStep, IsStep, IsStepped, StopsByFault}
 use Rattle.btr_engine.proofs.EngineLemmas.{holds_in}
 use Rattle.btr_hall.specs.declared.item.Item.{Item}
 use Rattle.btr_hall.specs.declared.item.Item.TheVariants.{Earlier, Added, Halted}
-use Rattle.btr_hall.specs.Trace.{IsStep, IsTrace, engine_after, entries_in}
+use Rattle.btr_hall.specs.Trace.{IsTrace, engine_after, entries_in}
 use Rattle.btr_hall.specs.StoreLaws.{ends_stopped}
 use Rattle.btr_jobs.specs.Course.{Course, failed_in}
 use Rattle.btr_bulk.specs.Work.{HoldsPrefix, HoldsCourse, Keeps, EndsAt, KeepsEach}

@@ -12,7 +12,7 @@ use Rattle.btr_hist.specs.declared.entry.Entry.{Entry}
 use Rattle.btr_hist.specs.Legal.{Legal, Follows, Allowed}
 use Rattle.btr_hist.specs.Laws.{Right}
 use Rattle.btr_engine.specs.Holds.{HoldsHistory, HoldsHistoryTo}
-use Rattle.btr_engine.specs.Step.{IsBeforeOrAfter}
+use Rattle.btr_engine.specs.Step.{IsBeforeOrAfter, calls_of_step}
 use Rattle.btr_gate.specs.Numbers.{one, times, given}
 use Rattle.btr_gate.specs.Prefixes.{StartsWith}
 use Rattle.btr_hall.specs.Commit.{needs_of}
@@ -68,19 +68,19 @@ module _ {D : Type 0} (disk : Ghosts D) where
     pub since : Leaves disk.calls disk.images_since d new (HoldsPrefix (disk.size new) (length h) course)
 
   -- What was done to the device after the last entry, with which the history was `h`: nothing; or, if the device failed in the step of
-  -- an entry, one to four calls, in which a crash leaves the history without that entry, or with it.
+  -- an entry, one call or more and at most those of a step, in which a crash leaves the history without that entry, or with it.
   abbrev pub EndsAt : Option Entry → D → D → List Entry → Type 0
   EndsAt None new d h = new ≡ d
   EndsAt (Some e) new d h =
-      Rose (disk.calls d) (disk.calls new) × (disk.calls new ≤ disk.calls d + 4)
+      Rose (disk.calls d) (disk.calls new) × (disk.calls new ≤ disk.calls d + calls_of_step)
       × Leaves disk.calls disk.images_since d new (IsBeforeOrAfter (disk.size new) h e)
 
-  -- There is a device after each of these entries, which were added after the history `h` and the device `d`. Four calls commit an
-  -- entry. A crash in them leaves the history without the entry, or with it. From then on a crash keeps the entry.
+  -- There is a device after each of these entries, which were added after the history `h` and the device `d`. The calls of a
+  -- step commit an entry. A crash in them leaves the history without the entry, or with it. From then on a crash keeps the entry.
   abbrev pub KeepsEach : Course → D → D → List Entry → List Entry → Type 0
   KeepsEach course new d h [] = Keeps course new d h × EndsAt course.failed new d h
   KeepsEach course new d h (e ∷ more) =
-      Keeps course new d h × (c : D) × CountedTimes 4 (disk.calls d) (disk.calls c)
+      Keeps course new d h × (c : D) × CountedTimes calls_of_step (disk.calls d) (disk.calls c)
       × Leaves disk.calls disk.images_since d c (IsBeforeOrAfter (disk.size new) h e) × KeepsEach course new c (h ++ e ∷ []) more
 
   -- What a crash leaves of work from the device `old` to the device `new`, which began with `first` and went on to this course.

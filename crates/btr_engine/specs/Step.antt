@@ -1,6 +1,6 @@
 -- What a step promises: when each result comes, and what the engine is then.
 use Rattle.std.specs.Prelude.{◌≡◌, ◌⊎◌, ℕ, ◌+◌, ◌<◌, ◌≤◌, false, true, List, [], ◌∷◌, ◌++◌, length}
-use Rattle.std.specs.Prelude.{Some, None, IsTrue, IsFalse, Result, Ok, Err}
+use Rattle.std.specs.Prelude.{Some, None, IsTrue, IsFalse, Result, Ok, Err, IfOk, IfErr, OnOk}
 use Rattle.btr_disk.specs.declared.disk.Disk.{Ghosts}
 use Rattle.btr_disk.specs.Bytes.{Image}
 use Rattle.btr_disk.specs.Causes.{Rose, CountedTimes}
@@ -13,7 +13,12 @@ use Rattle.btr_engine.specs.declared.step.StepFault.TheVariants.{Stopped, Reject
 use Rattle.btr_engine.specs.Stage.{MayLackMemory, IsReceipt}
 use Rattle.btr_engine.specs.Body.{need_of}
 use Rattle.btr_engine.specs.Holds.{HoldsHistory}
-use Rattle.btr_engine.specs.Engine.{device, board_of, entries_of, tail_of, room_of, is_stopped, IsEngineOf}
+use Rattle.btr_engine.specs.Engine.{device, board_of, entries_of, tail_of, room_of, is_stopped}
+use Rattle.btr_engine.specs.Engine.{IsEngineOf, IsAtRest, IsDurable, EngineLeaves, KeepsOpening}
+
+-- The calls of the device that commit an entry: a write and a sync for its extent, then a write and a sync for the gate before it.
+abbrev pub calls_of_step : ℕ
+calls_of_step = 4
 
 -- An image at a moment of a step holds the history, or the history with this entry.
 abbrev pub IsBeforeOrAfter : ℕ → List Entry → Entry → Image → Type 0
@@ -36,20 +41,20 @@ module _ {D : Type 0} {disk : Ghosts D} where
     pub allowed : rejection h e ≡ None
     pub fits : need_of e ≤ room_of engine
 
-  -- The engine, which was of this history, is of the history with this entry at its end. It is not stopped, and the device was
-  -- called four times.
+  -- The engine, which was of this history, is of the history with this entry at its end. It is not stopped, and the
+  -- device counted the calls of a step.
   pub record IsStepped (h : List Entry) (old new : Engine D disk) (e : Entry) (receipt : Receipt) : Type 0 where
     pub could : CanStep h old e
     pub of : IsEngineOf (h ++ e ∷ []) new
     pub tail : tail_of new ≡ tail_of old + need_of e
     pub runs : is_stopped new ≡ false
-    pub called : CountedTimes 4 (disk.calls (device old)) (disk.calls (device new))
+    pub called : CountedTimes calls_of_step (disk.calls (device old)) (disk.calls (device new))
     pub is_receipt : IsReceipt h e receipt
 
-  -- The device has failed, in one of at most four calls, and the engine is stopped. Its board is as before.
+  -- The device has failed, within the calls of a step, and the engine is stopped. Its board is as before.
   pub record StopsByFault (old new : Engine D disk) : Type 0 where
     pub called : Rose (disk.calls (device old)) (disk.calls (device new))
-    pub at_most : disk.calls (device new) ≤ disk.calls (device old) + 4
+    pub at_most : disk.calls (device new) ≤ disk.calls (device old) + calls_of_step
     pub rose : Rose (disk.faults (device old)) (disk.faults (device new))
     pub stopped : is_stopped new ≡ true
     pub board : board_of new ≡ board_of old
@@ -72,3 +77,18 @@ module _ {D : Type 0} {disk : Ghosts D} where
       IsFalse (is_stopped old) × (rejection h e ≡ None)
       × (need ≡ need_of e) × (left ≡ room_of old) × (left < need) × (new ≡ old)
   StepCause h old new e DeviceFault = CanStep h old e × StopsByFault old new
+
+  -- The second engine is the first one after a step with this entry, which returned this.
+  pub record IsStep (old new : Engine D disk) (e : Entry) (result : Result Receipt StepFault) : Type 0 where
+    pub stopped : IsTrue (is_stopped old) → StaysStopped old new result
+    pub cause : (h : List Entry) → IsEngineOf h old → IfErr result (StepCause h old new e)
+    pub stepped : (h : List Entry) → IsEngineOf h old → IfOk result (IsStepped h old new e)
+    pub kept : KeepsOpening old new
+    pub at_rest : disk.is_observable → (h : List Entry) → IsAtRest h old → OnOk result (IsAtRest (h ++ e ∷ []) new)
+    pub moments : disk.is_observable → (h : List Entry) → IsAtRest h old
+        → EngineLeaves old new (IsBeforeOrAfter (disk.size (device old)) h e)
+    pub acknowledged : disk.is_observable → (h : List Entry) → IsAtRest h old
+        → OnOk result (IsDurable (h ++ e ∷ []) (disk.calls (device new)) (length h + 1) new [])
+    pub durable : disk.is_observable → (h more : List Entry) (calls entries : ℕ)
+        → (is_stopped old ≡ false → IsAtRest h old) → IsDurable h calls entries old more
+        → IsDurable (history_after result h e) calls entries new (in_flight_after result more e)

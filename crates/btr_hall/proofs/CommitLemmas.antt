@@ -15,7 +15,7 @@ use Rattle.btr_engine.specs.declared.step.StepFault.{StepFault}
 use Rattle.btr_engine.specs.declared.step.StepFault.TheVariants.{Stopped, Rejected, Want, DeviceFull, DeviceFault}
 use Rattle.btr_engine.specs.Stage.{IsReceipt}
 use Rattle.btr_engine.specs.Engine.{entries_of, is_stopped, room_of, IsEngineOf}
-use Rattle.btr_engine.specs.Step.{IsStepped}
+use Rattle.btr_engine.specs.Step.{IsStep, IsStepped}
 use Rattle.btr_gate.specs.Numbers.{one}
 use Rattle.btr_gate.specs.Prefixes.{StartsWith}
 use Rattle.btr_gate.specs.Views.{with_entry, with_number}
@@ -24,7 +24,7 @@ use Rattle.btr_hall.specs.declared.item.Item.TheVariants.{Added, Halted}
 use Rattle.btr_hall.specs.declared.store.Store.{Store}
 use Rattle.btr_hall.specs.declared.session.Hall.{Hall}
 use Rattle.btr_hall.specs.declared.session.Session.{Session}
-use Rattle.btr_hall.specs.Trace.{IsStep, IsTraceOf, engine_after, entries_in, has_halt, stopped_in, history_of}
+use Rattle.btr_hall.specs.Trace.{IsTraceOf, engine_after, entries_in, has_halt, stopped_in, history_of}
 use Rattle.btr_hall.specs.Store.{IsStoreOf}
 use Rattle.btr_hall.specs.Session.{IsAlone, opening_of, seen_of, mine_of, engine_of}
 use Rattle.btr_hall.specs.Commit.{shown, needs_of, has_failed, number_by, item_by, Adds, Replies, Commits}

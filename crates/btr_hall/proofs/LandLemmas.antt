@@ -21,7 +21,7 @@ use Rattle.btr_engine.specs.declared.step.StepFault.{StepFault}
 use Rattle.btr_engine.specs.declared.step.StepFault.TheVariants as steps
 use Rattle.btr_engine.specs.Board.{latest_of}
 use Rattle.btr_engine.specs.Engine.{is_stopped, IsEngineOf}
-use Rattle.btr_engine.specs.Step.{IsStepped}
+use Rattle.btr_engine.specs.Step.{IsStep, IsStepped}
 use Rattle.btr_gate.specs.Prefixes.{StartsWith}
 use Rattle.btr_gate.specs.Views.{with_entry, with_number}
 use Rattle.btr_hall.specs.declared.item.Item.{Item}
@@ -30,7 +30,7 @@ use Rattle.btr_hall.specs.declared.land.LandFault.TheVariants as faults
 use Rattle.btr_hall.specs.declared.store.Store.{Store}
 use Rattle.btr_hall.specs.declared.session.Hall.{Hall}
 use Rattle.btr_hall.specs.declared.session.Session.{Session}
-use Rattle.btr_hall.specs.Trace.{IsStep, IsTraceOf, engine_after, entries_in, stopped_in, history_of}
+use Rattle.btr_hall.specs.Trace.{IsTraceOf, engine_after, entries_in, stopped_in, history_of}
 use Rattle.btr_hall.specs.Store.{IsStoreOf}
 use Rattle.btr_hall.specs.Session.{IsAlone, opening_of, seen_of, mine_of, engine_of}
 use Rattle.btr_hall.specs.Commit.{Adds, item_by}

@@ -13,12 +13,12 @@ use Rattle.btr_engine.specs.declared.step.StepFault.TheVariants.{Stopped, Reject
 use Rattle.btr_engine.specs.Board.{IsBoardOf}
 use Rattle.btr_engine.specs.Body.{need_of}
 use Rattle.btr_engine.specs.Engine.{device, entries_of, blocks_of, tail_of, room_of, is_stopped, IsEngineOf, IsAtRest, IsDurable, KeepsOpening}
-use Rattle.btr_engine.specs.Step.{CanStep, IsStepped, StopsByFault}
+use Rattle.btr_engine.specs.Step.{CanStep, IsStep, IsStepped, StopsByFault}
 use Rattle.btr_gate.specs.Numbers.{one}
 use Rattle.btr_gate.specs.Prefixes.{StartsWith}
 use Rattle.btr_hall.specs.declared.item.Item.{Item}
 use Rattle.btr_hall.specs.declared.item.Item.TheVariants.{Earlier, Added, Halted}
-use Rattle.btr_hall.specs.Trace.{IsStep, IsTrace, IsTraceOf, engine_after, entries_in, has_halt, in_flight_in, stopped_in, history_of}
+use Rattle.btr_hall.specs.Trace.{IsTrace, IsTraceOf, engine_after, entries_in, has_halt, in_flight_in, stopped_in, history_of}
 use Rattle.btr_hall.specs.StoreLaws.{stopped_accepts, stopped_fails, ends_stopped, trace_length, engine_earlier, halt_earlier}
 use Rattle.btr_hall.specs.Commit.{needs_of, has_failed, item_by}
 

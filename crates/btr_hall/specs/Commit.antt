@@ -13,13 +13,14 @@ use Rattle.btr_engine.specs.declared.step.StepFault.TheVariants.{Stopped, Reject
 use Rattle.btr_engine.specs.Body.{need_of}
 use Rattle.btr_engine.specs.Engine.{room_of, IsEngineOf}
 use Rattle.btr_engine.specs.Stage.{MayLackMemory, IsReceipt}
+use Rattle.btr_engine.specs.Step.{IsStep}
 use Rattle.btr_gate.specs.Prefixes.{StartsWith}
 use Rattle.btr_hall.specs.declared.item.Item.{Item}
 use Rattle.btr_hall.specs.declared.item.Item.TheVariants.{Added, Halted}
 use Rattle.btr_hall.specs.declared.store.Store.{Store}
 use Rattle.btr_hall.specs.declared.session.Hall.{Hall}
 use Rattle.btr_hall.specs.declared.session.Session.{Session}
-use Rattle.btr_hall.specs.Trace.{IsStep, IsTraceOf, engine_after, entries_in, stopped_in, history_of}
+use Rattle.btr_hall.specs.Trace.{IsTraceOf, engine_after, entries_in, stopped_in, history_of}
 use Rattle.btr_hall.specs.Session.{IsAlone, opening_of, seen_of, mine_of, engine_of}
 
 -- A value, as an item has it.

@@ -8,12 +8,12 @@ use Rattle.btr_engine.specs.declared.engine.Engine.{Engine}
 use Rattle.btr_engine.specs.declared.board.Receipt.{Receipt}
 use Rattle.btr_engine.specs.declared.step.StepFault.TheVariants.{DeviceFault}
 use Rattle.btr_engine.specs.Engine.{entries_of, is_stopped, IsEngineOf}
-use Rattle.btr_engine.specs.Step.{IsStepped, CanStep, StopsByFault}
+use Rattle.btr_engine.specs.Step.{IsStep, IsStepped, CanStep, StopsByFault}
 use Rattle.btr_gate.specs.Numbers.{one}
 use Rattle.btr_hall.specs.declared.item.Item.{Item}
 use Rattle.btr_hall.specs.declared.item.Item.TheVariants.{Earlier, Added, Halted}
 use Rattle.btr_hall.specs.declared.store.Store.{Store}
-use Rattle.btr_hall.specs.Trace.{IsStep, IsTrace, engine_after, has_halt}
+use Rattle.btr_hall.specs.Trace.{IsTrace, engine_after, has_halt}
 use Rattle.btr_hall.specs.Store.{IsStoreOf}
 
 -- A store never lends.

@@ -1,33 +1,16 @@
 -- The list of a hall: each entry that was added since the hall began, with the engine after its step.
-use Rattle.std.specs.Prelude.{◌≡◌, ℕ, ◌+◌, Bool, true, false, ◌||◌, List, [], ◌∷◌, ◌++◌, length}
-use Rattle.std.specs.Prelude.{IsTrue, Result, Ok, Err, IfOk, IfErr, OnOk, replicate}
+use Rattle.std.specs.Prelude.{◌≡◌, Bool, true, false, ◌||◌, List, [], ◌∷◌, ◌++◌, Ok, Err, replicate}
 use Rattle.btr_disk.specs.declared.disk.Disk.{Ghosts}
 use Rattle.btr_hist.specs.declared.entry.Entry.{Entry}
 use Rattle.btr_engine.specs.declared.engine.Engine.{Engine}
 use Rattle.btr_engine.specs.declared.board.Receipt.{Receipt}
-use Rattle.btr_engine.specs.declared.step.StepFault.{StepFault}
 use Rattle.btr_engine.specs.declared.step.StepFault.TheVariants.{DeviceFault}
-use Rattle.btr_engine.specs.Engine.{device, entries_of, is_stopped, IsEngineOf, IsAtRest, IsDurable, EngineLeaves, KeepsOpening}
-use Rattle.btr_engine.specs.Step.{history_after, in_flight_after, IsBeforeOrAfter, IsStepped, StaysStopped, StepCause}
+use Rattle.btr_engine.specs.Engine.{entries_of, is_stopped}
+use Rattle.btr_engine.specs.Step.{IsStep}
 use Rattle.btr_hall.specs.declared.item.Item.{Item}
 use Rattle.btr_hall.specs.declared.item.Item.TheVariants.{Earlier, Added, Halted}
 
 module _ {D : Type 0} {disk : Ghosts D} where
-  -- The second engine is the first one after a step with this entry, which returned this.
-  pub record IsStep (old new : Engine D disk) (e : Entry) (result : Result Receipt StepFault) : Type 0 where
-    pub stopped : IsTrue (is_stopped old) → StaysStopped old new result
-    pub cause : (h : List Entry) → IsEngineOf h old → IfErr result (StepCause h old new e)
-    pub stepped : (h : List Entry) → IsEngineOf h old → IfOk result (IsStepped h old new e)
-    pub kept : KeepsOpening old new
-    pub at_rest : disk.is_observable → (h : List Entry) → IsAtRest h old → OnOk result (IsAtRest (h ++ e ∷ []) new)
-    pub moments : disk.is_observable → (h : List Entry) → IsAtRest h old
-        → EngineLeaves old new (IsBeforeOrAfter (disk.size (device old)) h e)
-    pub acknowledged : disk.is_observable → (h : List Entry) → IsAtRest h old
-        → OnOk result (IsDurable (h ++ e ∷ []) (disk.calls (device new)) (length h + 1) new [])
-    pub durable : disk.is_observable → (h more : List Entry) (calls entries : ℕ)
-        → (is_stopped old ≡ false → IsAtRest h old) → IsDurable h calls entries old more
-        → IsDurable (history_after result h e) calls entries new (in_flight_after result more e)
-
   -- The engine after the last item that has one, or the engine at the beginning.
   abbrev pub engine_after : Engine D disk → List (Item D disk) → Engine D disk
   engine_after x [] = x

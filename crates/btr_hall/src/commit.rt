@@ -1,6 +1,6 @@
 //! The turn of an entry.
 ghost use Rattle.std.specs.Prelude.{◌≡◌, false};
-ghost use Rattle.btr_hall.specs.Trace.{IsStep};
+ghost use Rattle.btr_engine.specs.Step.{IsStep};
 ghost use Rattle.btr_hall.specs.Session.{IsSessionOf, IsSame, IsAlone, engine_of};
 ghost use Rattle.btr_hall.specs.Commit.{is_distillate, shown, Commits, Adds};
 

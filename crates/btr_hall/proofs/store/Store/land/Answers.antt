@@ -1,6 +1,6 @@
 use Rattle.std.proofs.Common.{◌≡◌, subst, Err}
 use Rattle.btr_distil.specs.Plan.{entry_of}
-use Rattle.btr_hall.specs.Trace.{IsStep}
+use Rattle.btr_engine.specs.Step.{IsStep}
 use Rattle.btr_hall.proofs.LandLemmas.{may_land}
 use Rattle.btr_hall.proofs.store.Store.land.Goals as goal
 
