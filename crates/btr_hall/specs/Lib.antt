@@ -7,6 +7,5 @@ pub mod Session
 pub mod Found
 pub mod Commit
 pub mod Landing
-pub mod Sole
 -- what the private functions promise
 pub mod Superseded

@@ -36,23 +36,6 @@ impl<D: Disk> Session<D> {
         ensures commits { Commits hall.now self.old self.new entry.now result }
         ensures alone { IsAlone self.old → IsStep (engine_of hall.now self.old) (engine_of hall.now self.new) entry.now result }
     {
-        self.add(rt, alloc, hall, entry)
-    }
-
-    /// The same of any entry. Of a distillate it is not tested that it is the definition's.
-    pub(crate) fn add<R: Wait>(
-        &mut self,
-        rt: &R,
-        alloc: Global,
-        hall: &Hall<D>,
-        entry: &Entry,
-    ) -> Result<Receipt, StepFault>
-        requires session { IsSessionOf hall.now self.old }
-        ensures session { IsSessionOf hall.now self.new }
-        ensures same { IsSame self.old self.new }
-        ensures commits { Commits hall.now self.old self.new entry.now result }
-        ensures alone { IsAlone self.old → IsStep (engine_of hall.now self.old) (engine_of hall.now self.new) entry.now result }
-    {
         let mut turn = hall.gate.enter(rt, &mut self.pass);
         let (result, added) = turn.state.add(alloc, entry);
         turn.added = added;

@@ -16,12 +16,9 @@ mod commit;
 mod land;
 mod look;
 mod share;
-// one session alone
-mod sole;
 
 pub use item::Item;
 pub use land::LandFault;
 pub use look::Found;
 pub use session::{Hall, Session};
-pub use sole::Sole;
 pub use store::Store;

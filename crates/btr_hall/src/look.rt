@@ -1,7 +1,6 @@
 //! The turns that change nothing: snapshots, and questions about the store as it is.
 ghost use Rattle.std.specs.Prelude.{◌≡◌, List, length, IfOk, if◌then◌else◌};
 ghost use Rattle.btr_hist.specs.declared.entry.Entry.{Entry as EntrySpec};
-ghost use Rattle.btr_hist.specs.History.{spec_of};
 ghost use Rattle.btr_hist.specs.Answer.{answer};
 ghost use Rattle.btr_engine.specs.Engine.{entries_of, is_stopped, IsEngineOf};
 ghost use Rattle.btr_engine.specs.Snapshot.{IsSnapshotOf};
@@ -94,7 +93,7 @@ impl<D: Disk> Session<D> {
     }
 
     /// Returns whether the engine is stopped, and the number of entries.
-    pub(crate) fn standing<R: Wait>(&mut self, rt: &R, hall: &Hall<D>) -> (bool, u64)
+    fn standing<R: Wait>(&mut self, rt: &R, hall: &Hall<D>) -> (bool, u64)
         requires session { IsSessionOf hall.now self.old }
         ensures session { IsSessionOf hall.now self.new }
         ensures looks { Looks hall.now self.old self.new }
@@ -106,19 +105,6 @@ impl<D: Disk> Session<D> {
         let entries = turn.state.engine.entries();
         hall.gate.leave(&mut self.pass, turn);
         (stopped, entries)
-    }
-
-    /// Returns the spec of an output.
-    pub(crate) fn spec<R: Wait>(&mut self, rt: &R, hall: &Hall<D>, stream: u32) -> Option<Spec>
-        requires session { IsSessionOf hall.now self.old }
-        ensures session { IsSessionOf hall.now self.new }
-        ensures looks { Looks hall.now self.old self.new }
-        ensures spec { (h : List EntrySpec) → IsEngineOf h (engine_of hall.now self.new) → result ≡ spec_of h stream }
-    {
-        let turn = hall.gate.enter(rt, &mut self.pass);
-        let result = turn.state.engine.spec(stream);
-        hall.gate.leave(&mut self.pass, turn);
-        result
     }
 }
 

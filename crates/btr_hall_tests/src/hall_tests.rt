@@ -8,7 +8,6 @@ ghost use Rattle.btr_engine.specs.Engine.{IsEngineOf};
 ghost use Rattle.btr_hall.specs.Trace.{history_of};
 ghost use Rattle.btr_hall.specs.Session.{IsSessionOf, opening_of, seen_of, share_of};
 ghost use Rattle.btr_hall.specs.Commit.{is_distillate};
-ghost use Rattle.btr_hall.specs.Sole.{hall_of};
 
 use crate::fixture::{Place, User, begun_empty, close, points_of};
 use btr_base::{Bag, Ranges};
@@ -782,53 +781,62 @@ type Stepped = Result<Receipt, StepFault>;
 
 /// Makes a stream and adds a point by the only session of a hall.
 fn step_alone<R: Wait>(
+    rt: &R,
     alloc: Global,
-    alone: &mut Sole<'_, R, MemDisk>,
+    hall: &Place,
+    user: &mut User,
 ) -> Result<[Stepped; 2], AllocError>
-    ensures { hall_of alone.new ≡ hall_of alone.old }
+    requires { IsSessionOf hall.now user.old }
+    ensures own { IsSessionOf hall.now user.new }
+    ensures share { share_of user.new ≡ share_of user.old }
 {
     let entry = insert(alloc, 0, &[(3, 7)])?;
-    let created = alone.step(alloc, &Entry::Create { id: 7 });
-    let added = alone.step(alloc, &entry);
+    let created = commit(rt, alloc, hall, user, &Entry::Create { id: 7 });
+    let added = commit(rt, alloc, hall, user, &entry);
     Ok([created, added])
 }
 
-/// What the only session of a hall sees: the stream with the id 7, the spec of stream 0, the entries, whether the engine is stopped, and
-/// the latest version of stream 0.
-type SoleSight = (Option<u32>, Option<Spec>, u64, bool, Option<u64>);
+/// What the only session of a hall sees: the stream with the id 7 and its spec, the number of entries if the engine is stopped, and the
+/// entries and the latest version of stream 0 in a snapshot.
+type AloneSight = (Option<Found>, Option<u64>, u64, Option<u64>);
 
-fn sight_alone<R: Wait>(alone: &mut Sole<'_, R, MemDisk>) -> Result<SoleSight, AllocError>
-    ensures { hall_of alone.new ≡ hall_of alone.old }
+fn sight_alone<R: Wait>(rt: &R, hall: &Place, user: &mut User) -> Result<AloneSight, AllocError>
+    requires { IsSessionOf hall.now user.old }
+    ensures own { IsSessionOf hall.now user.new }
+    ensures share { share_of user.new ≡ share_of user.old }
 {
-    let found = alone.find(7);
-    let spec = alone.spec(0);
-    let entries = alone.entries();
-    let is_stopped = alone.stopped();
-    let latest = alone.admit()?.latest(0);
-    Ok((found, spec, entries, is_stopped, latest))
+    let found = user.find(rt, hall, 7);
+    let stopped = user.stopped(rt, hall);
+    let snapshot = user.admit(rt, hall)?;
+    Ok((found, stopped, snapshot.entries(), snapshot.latest(0)))
 }
 
 /// What the only session of a hall saw: the stream with the id 7 before, the steps, and the sight after them.
-type Alone = (Option<u32>, [Stepped; 2], SoleSight);
+type Alone = (Option<Found>, [Stepped; 2], AloneSight);
 
-/// Uses the only session of a hall as an engine.
-fn use_alone<R: Wait>(alloc: Global, alone: &mut Sole<'_, R, MemDisk>) -> Result<Alone, AllocError>
-    ensures { hall_of alone.new ≡ hall_of alone.old }
+/// Uses a hall by its only session.
+fn use_alone<R: Wait>(
+    rt: &R,
+    alloc: Global,
+    hall: &Place,
+    user: &mut User,
+) -> Result<Alone, AllocError>
+    requires { IsSessionOf hall.now user.old }
+    ensures own { IsSessionOf hall.now user.new }
+    ensures share { share_of user.new ≡ share_of user.old }
 {
-    let before = alone.find(7);
-    let stepped = step_alone(alloc, alone)?;
-    let after = sight_alone(alone)?;
+    let before = user.find(rt, hall, 7);
+    let stepped = step_alone(rt, alloc, hall, user)?;
+    let after = sight_alone(rt, hall, user)?;
     Ok((before, stepped, after))
 }
 
-/// Returns what the only session of a new hall saw, and the number of entries in the end.
-fn used_alone<R: Wait>(rt: &R, alloc: Global) -> Result<(Alone, u64), Fail> {
-    let (hall, user) = begun_empty(alloc, 64, &[])?;
-    let mut alone = Sole::of(rt, &hall, user);
-    let outcome = use_alone(alloc, &mut alone);
-    let user = alone.into_session();
+/// Returns what the only session of a new hall saw, and in the end the entries and whether the engine is stopped.
+fn used_alone<R: Wait>(rt: &R, alloc: Global) -> Result<(Alone, u64, bool), Fail> {
+    let (hall, mut user) = begun_empty(alloc, 64, &[])?;
+    let outcome = use_alone(rt, alloc, &hall, &mut user);
     let engine = close(hall, user);
-    Ok((outcome?, engine.entries()))
+    Ok((outcome?, engine.entries(), engine.stopped()))
 }
 
 /// The receipt of an entry.
@@ -842,10 +850,14 @@ fn receipt(number: u64, stream: u32, version: u64) -> Stepped {
 
 #[test]
 fn a_session_alone_is_used_as_an_engine(rt: HostRuntime) -> Result<(), Fail> {
-    let ((before, stepped, after), entries) = used_alone(&rt, rt.alloc())?;
+    let ((before, stepped, after), entries, is_stopped) = used_alone(&rt, rt.alloc())?;
+    let found = Found {
+        stream: 0,
+        spec: None,
+    };
     assert!(rt; before == None);
     assert!(rt; stepped == [receipt(1, 0, 0), receipt(2, 0, 1)]);
-    assert!(rt; after == (Some(0), None, 2, false, Some(1)));
-    assert!(rt; entries == 2);
+    assert!(rt; after == (Some(found), None, 2, Some(1)));
+    assert!(rt; entries == 2 && !is_stopped);
     Ok(())
 }

@@ -6,7 +6,7 @@ use Rattle.btr_hall.specs.Store.{IsStoreOf}
 use Rattle.btr_hall.specs.Commit.{Commits}
 use Rattle.btr_hall.proofs.CommitLemmas.{store_after, commits_of, alone_step}
 use Rattle.btr_hall.proofs.TurnLemmas.{state_in, state_out, mine_after_turn}
-use Rattle.btr_hall.proofs.session.Session.add.Goals as goal
+use Rattle.btr_hall.proofs.session.Session.commit.Goals as goal
 
 pub leave-requires-clause-of : goal.leave-requires-clause-of
 leave-requires-clause-of g c =
