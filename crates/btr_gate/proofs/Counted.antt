@@ -42,6 +42,7 @@ module _ {T E X : Type 0} (C : Ghosts T E X) where
     share = refl;
     setting = refl;
     start = refl;
+    turns = refl;
     carries = carries_again (C.lent turn.state) v.carries _;
     lent = λ e _. e;
   }

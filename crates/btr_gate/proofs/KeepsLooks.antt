@@ -15,7 +15,7 @@ use Rattle.btr_gate.specs.declared.view.Stage.TheVariants.{Waiting, InTurn}
 use Rattle.btr_gate.specs.declared.turn.Turn.{Turn}
 use Rattle.btr_gate.specs.Numbers.{one, times, Climbs}
 use Rattle.btr_gate.specs.Shares.{on_path}
-use Rattle.btr_gate.specs.Views.{at_stage, is_turn}
+use Rattle.btr_gate.specs.Views.{next_turn, is_turn}
 use Rattle.btr_gate.specs.Turns.{IsStateOf, Takes}
 use Rattle.btr_gate.specs.Rule.{Now, HasTicket, FitsStage, Fits, FitsSlot, IsInUse, Rule}
 use Rattle.btr_gate.specs.Steps.{Looks}
@@ -34,7 +34,7 @@ module _ {T E X : Type 0} (C : Ghosts T E X) where
 
   -- The view in its turn.
   abbrev pub turn_view : Now E X → V → V
-  turn_view now v = at_stage v (InTurn now.serve now.history now.lending)
+  turn_view now v = next_turn v (InTurn now.serve now.history now.lending)
 
   takes_turn : (s : St) (k : IsInUse C s) (id : ℕ) (v : V) (turn : Turn T E) → get_elem? s.views id ≡ some v → is_some v.setting ≡ true → FitsSlot C k.now s.views (some (Some turn)) → Takes C v (turn_view k.now v) turn
   takes_turn s k id v turn at live f = let l = live_at C s k id v at live in record {
@@ -66,7 +66,7 @@ module _ {T E X : Type 0} (C : Ghosts T E X) where
         began = k.began;
         state = (w, subst (λ j. get_elem? (set s.views id w) j ≡ some w) (sym f.2) here, now.serve, now.history, now.lending, refl);
         away = λ j u there turn. refl;
-        seats = place_set (Fits C now) s.views id w (inr (live_stage C now id v _ l (refl, f.1, f.2, refl, refl))) (λ j u ne there. k.seats j u there);
+        seats = place_set (Fits C now) s.views id w (inr (live_stage C now id v _ _ l (refl, f.1, f.2, refl, refl))) (λ j u ne there. k.seats j u there);
         whole = whole_stays C now s.views id v w at refl refl k.whole;
         waits = λ n from below. wait_stays C s.views id (now.owner n) n v w at (λ h. subst (λ stage. HasTicket stage n) waits h) (k.waits n from below);
         numbers = λ n. set_same (λ (u : V). times n u.mine) s.views id v w at refl ∙ k.numbers n;

@@ -216,7 +216,7 @@ module _ {T E X : Type 0} (C : Ghosts T E X) where
           began = r.began;
           state = slot_stays C now s.views later stays r.slot r.state;
           away = away_set r.slot s.views id w refl r.away;
-          seats = place_set (Fits C now) s.views id w (inr (live_stage C now id v Idle l tt)) (λ j u other here. r.seats j u here);
+          seats = place_set (Fits C now) s.views id w (inr (live_stage C now id v v.turns Idle l tt)) (λ j u other here. r.seats j u here);
           whole = whole_stays C now s.views id v w at refl refl r.whole;
           waits = waits_stay C now s.views later stays r.waits;
           numbers = λ n. set_same (λ (x : V). times n x.mine) s.views id v w at refl ∙ r.numbers n;

@@ -12,7 +12,7 @@ use Rattle.btr_gate.specs.declared.view.View.{View}
 use Rattle.btr_gate.specs.declared.view.Stage.{Stage}
 use Rattle.btr_gate.specs.declared.view.Stage.TheVariants.{Unopened, Placing, Idle}
 use Rattle.btr_gate.specs.declared.turn.Turn.{Turn}
-use Rattle.btr_gate.specs.Views.{blank, is_turn, at_stage}
+use Rattle.btr_gate.specs.Views.{blank, is_turn}
 use Rattle.btr_gate.specs.Rule.{Now, HasTicket, IsWaiting, FitsStage, IsLive, FitsSlot, IsInUse, Rule}
 
 -- One place has one view.
@@ -79,9 +79,9 @@ module _ {T E X : Type 0} (C : Ghosts T E X) where
   pub live_at : (s : State (Option (Turn T E)) (View E X)) (r : IsInUse C s) (id : ℕ) (v : View E X) → get_elem? s.views id ≡ some v → is_some v.setting ≡ true → IsLive C r.now id v
   live_at s r id v at live = ⊎_elim (λ spent. absurd (not_live v Idle live spent)) (λ l. l) (r.seats id v at)
 
-  -- A live view at another stage that fits.
-  pub live_stage : (now : Now E X) (id : ℕ) (v : View E X) (stage : Stage E) → IsLive C now id v → FitsStage C now id stage → IsLive C now id (at_stage v stage)
-  live_stage now id v stage l f = record {
+  -- A live view with another number of turns, at another stage that fits.
+  pub live_stage : (now : Now E X) (id : ℕ) (v : View E X) (turns : ℕ) (stage : Stage E) → IsLive C now id v → FitsStage C now id stage → IsLive C now id (record v { turns = turns; stage = stage })
+  live_stage now id v turns stage l f = record {
     setting = l.setting;
     start = l.start;
     seen = l.seen;

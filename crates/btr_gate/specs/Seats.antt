@@ -40,5 +40,6 @@ module _ {T E X : Type 0} (C : Ghosts T E X) where
     pub share : w.share ≡ v.share
     pub setting : w.setting ≡ v.setting
     pub start : w.start ≡ v.start
+    pub turns : w.turns ≡ v.turns
     pub carries : carries_after w (C.lent turn.state) ≡ carries_after v (C.lent turn.state)
     pub lent : turn_lent w ≡ true → w.carries ≡ false → C.lent turn.state ≡ true

@@ -7,7 +7,7 @@ use Rattle.btr_gate.specs.declared.view.Stage.{Stage}
 use Rattle.btr_gate.specs.declared.view.Stage.TheVariants.{Placing, Idle, Waiting, InTurn, Met}
 use Rattle.btr_gate.specs.declared.turn.Turn.{Turn}
 use Rattle.btr_gate.specs.Prefixes.{StartsWith}
-use Rattle.btr_gate.specs.Views.{blank, opened, at_stage, list_after, mine_after, carries_after}
+use Rattle.btr_gate.specs.Views.{blank, opened, at_stage, next_turn, list_after, mine_after, carries_after}
 use Rattle.btr_gate.specs.Turns.{Takes}
 
 -- A view, and the slots that are out with it.
@@ -47,7 +47,7 @@ module _ {T E X : Type 0} (C : Ghosts T E X) where
   -- The turn has come, and the slot is out.
   abbrev pub Served : Seated T E X → Seated T E X → Type 0
   Served m n = (t : ℕ) × (list : List E) × (lent : Bool) × (turn : Turn T E)
-      × (n ≡ (at_stage m.0 (InTurn t list lent), holding (Some turn))) × Takes C m.0 n.0 turn
+      × (n ≡ (next_turn m.0 (InTurn t list lent), holding (Some turn))) × Takes C m.0 n.0 turn
 
   -- The turn has come if the number found is the ticket.
   abbrev pub Looks : Step (Option (Turn T E)) → Seated T E X → ℕ → Seated T E X → Type 0

@@ -1,5 +1,5 @@
 -- What a turn, its end and the close of a gate promise: facts of a state, of the view before and of the view after.
-use Rattle.std.specs.Prelude.{◌≡◌, ℕ, Bool, true, false, List, length, Option, None, Some}
+use Rattle.std.specs.Prelude.{◌≡◌, ℕ, ◌+◌, Bool, true, false, List, length, Option, None, Some}
 use Rattle.btr_gate.specs.declared.chronicle.Chronicle.{Ghosts}
 use Rattle.btr_gate.specs.declared.view.View.{View}
 use Rattle.btr_gate.specs.declared.view.Stage.TheVariants.{Idle}
@@ -10,9 +10,10 @@ use Rattle.btr_gate.specs.Numbers.{times, given, Climbs}
 use Rattle.btr_gate.specs.Views.{has_turn, turn_list, turn_lent, list_after, mine_after, carries_after}
 
 module _ {E X : Type 0} where
-  -- The pass has its turn. Of what it knows nothing else changed.
+  -- The pass has its turn, which is one turn more. Of what it knows nothing else changed.
   pub record Enters (v w : View E X) : Type 0 where
     pub turn : has_turn w ≡ true
+    pub turns : w.turns ≡ v.turns + 1
     pub seen : w.seen ≡ v.seen
     pub mine : w.mine ≡ v.mine
     pub share : w.share ≡ v.share
@@ -27,6 +28,7 @@ module _ {E X : Type 0} where
     pub share : w.share ≡ v.share
     pub setting : w.setting ≡ v.setting
     pub start : w.start ≡ v.start
+    pub turns : w.turns ≡ v.turns
     pub carries : w.carries ≡ carries_after v lent
     pub idle : w.stage ≡ Idle
 

@@ -36,20 +36,25 @@ module _ {E : Type 0} where
 module _ {E X : Type 0} where
   -- A view that knows nothing, at a stage.
   abbrev pub blank : Stage E → View E X
-  blank stage = record { seen = []; mine = []; share = []; setting = None; start = 0; carries = false; stage = stage }
+  blank stage = record { seen = []; mine = []; share = []; setting = None; start = 0; turns = 0; carries = false; stage = stage }
 
   -- The view that is left of a pass that met another.
   abbrev pub spent_view : View E X
   spent_view = blank Idle
 
-  -- The view of the first pass: it has seen the entries of the state, has the whole share, and none of the entries are its own.
+  -- The view of the first pass: it has seen the entries of the state, has the whole share, none of the entries are its own, and it has
+  -- had no turn.
   abbrev pub opened : List E → X → View E X
   opened list setting =
-      record { seen = list; mine = []; share = [] ∷ []; setting = Some setting; start = length list; carries = false; stage = Idle }
+      record { seen = list; mine = []; share = [] ∷ []; setting = Some setting; start = length list; turns = 0; carries = false; stage = Idle }
 
   -- The view at another stage.
   abbrev pub at_stage : View E X → Stage E → View E X
   at_stage v stage = record v { stage = stage }
+
+  -- The view at another stage, with one turn more.
+  abbrev pub next_turn : View E X → Stage E → View E X
+  next_turn v stage = record v { turns = v.turns + 1; stage = stage }
 
   -- The pass has the turn.
   abbrev pub has_turn : View E X → Bool
@@ -79,11 +84,11 @@ module _ {E X : Type 0} where
   abbrev pub kept_view : View E X → View E X
   kept_view v = record v { share = kept_half v.share }
 
-  -- The view of the new pass of a split: the other half of the share, no numbers, and all else.
+  -- The view of the new pass of a split: the other half of the share, no numbers, no turns, and all else.
   abbrev pub other_view : View E X → View E X
-  other_view v = record v { mine = []; share = other_half v.share }
+  other_view v = record v { mine = []; share = other_half v.share; turns = 0 }
 
-  -- The view of a pass that met another: the longer list, the numbers and the words of both.
+  -- The view of a pass that met another: the longer list, the numbers and the words of both. The turns are those of the first.
   abbrev pub joined : View E X → View E X → View E X
   joined v u = record v { seen = longer v.seen u.seen; mine = merged v.mine u.mine; share = v.share ++ u.share }
 

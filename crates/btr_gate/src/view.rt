@@ -29,6 +29,8 @@ pub struct View<E, X> {
     pub setting: Option<X>,
     /// The number of entries when the gate was made.
     pub start: u64,
+    /// The number of turns that it has had.
+    pub turns: u64,
     /// It carries the part that the state has lent.
     pub carries: bool,
     /// What it is doing.

@@ -26,7 +26,7 @@ use Rattle.btr_hall.specs.declared.session.Hall.{Hall}
 use Rattle.btr_hall.specs.declared.session.Session.{Session}
 use Rattle.btr_hall.specs.Trace.{IsTraceOf, engine_after, entries_in, has_halt, stopped_in, history_of}
 use Rattle.btr_hall.specs.Store.{IsStoreOf}
-use Rattle.btr_hall.specs.Session.{IsAlone, opening_of, seen_of, mine_of, engine_of}
+use Rattle.btr_hall.specs.Session.{IsAlone, HasOneTurn, opening_of, seen_of, mine_of, engine_of}
 use Rattle.btr_hall.specs.Commit.{shown, needs_of, has_failed, number_by, item_by, Adds, Replies, Commits}
 use Rattle.btr_hall.proofs.TraceLemmas.{engine_append, halt_append, engine_of_list, stopped_of_list, length_of_list, room_of_list, item_engine, item_halt, list_push}
 
@@ -163,8 +163,9 @@ module _ {D : Type 0} {disk : Ghosts D} where
         ∙ number_is before (mine_of old) e t.engine result
         ∙ sym (ap (λ l. mine_of old ++ option_to_list (number_by result (length {A = Item D disk} l))) seen_here)
 
-    pub commits_of : StartsWith before (seen_of old) → (IsAlone old → before ≡ seen_of old) → mine_of new ≡ with_number (mine_of old) before added → Commits hall old new e result
-    commits_of grows alone mine = record {
+    pub commits_of : HasOneTurn old new → StartsWith before (seen_of old) → (IsAlone old → before ≡ seen_of old) → mine_of new ≡ with_number (mine_of old) before added → Commits hall old new e result
+    commits_of turn grows alone mine = record {
+      turn = turn;
       before = before;
       grows = grows;
       alone = alone;

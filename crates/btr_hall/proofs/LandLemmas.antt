@@ -32,7 +32,7 @@ use Rattle.btr_hall.specs.declared.session.Hall.{Hall}
 use Rattle.btr_hall.specs.declared.session.Session.{Session}
 use Rattle.btr_hall.specs.Trace.{IsTraceOf, engine_after, entries_in, stopped_in, history_of}
 use Rattle.btr_hall.specs.Store.{IsStoreOf}
-use Rattle.btr_hall.specs.Session.{IsAlone, opening_of, seen_of, mine_of, engine_of}
+use Rattle.btr_hall.specs.Session.{IsAlone, HasOneTurn, opening_of, seen_of, mine_of, engine_of}
 use Rattle.btr_hall.specs.Commit.{Adds, item_by}
 use Rattle.btr_hall.specs.Commit as commit
 use Rattle.btr_hall.specs.Landing.{step_fault, step_result, Replies, Lands}
@@ -167,13 +167,14 @@ module _ {D : Type 0} {disk : Ghosts D} where
 
   -- ---- the turn
 
-  module _ (hall : Hall D disk) (old new : Session D disk) (s t : Store D disk) (before : List (Item D disk)) (p : PlanValue) (added : Option (Item D disk)) (result : Result Receipt LandFault) (of : IsStoreOf s before (opening_of hall)) (plans : (h : List Entry) → IsEngineOf h (opening_of hall) → IsPlanOf (history_of h before) p) (grows : StartsWith before (seen_of old)) (alone : IsAlone old → before ≡ seen_of old) (seen : seen_of new ≡ with_entry before added) (mine : mine_of new ≡ with_number (mine_of old) before added) where
+  module _ (hall : Hall D disk) (old new : Session D disk) (s t : Store D disk) (before : List (Item D disk)) (p : PlanValue) (added : Option (Item D disk)) (result : Result Receipt LandFault) (of : IsStoreOf s before (opening_of hall)) (turn : HasOneTurn old new) (plans : (h : List Entry) → IsEngineOf h (opening_of hall) → IsPlanOf (history_of h before) p) (grows : StartsWith before (seen_of old)) (alone : IsAlone old → before ≡ seen_of old) (seen : seen_of new ≡ with_entry before added) (mine : mine_of new ≡ with_number (mine_of old) before added) where
     lands_passed : Passed s t p added result → Lands hall old new p result
     lands_passed passed =
         let x = opening_of hall in
         let nothing : step_result result ≡ Err steps.Want = ap step_result passed.is in
         let still : seen_of new ≡ before = seen ∙ ap (with_entry before) passed.none in
         record {
+          turn = turn;
           before = before;
           grows = grows;
           alone = alone;
@@ -200,6 +201,7 @@ module _ {D : Type 0} {disk : Ghosts D} where
         let step = new_step hall old new s t before e (step_result result) added of adds seen in
         let is = new_seen hall old new s t before e (step_result result) added of adds seen in
         record {
+          turn = turn;
           before = before;
           grows = grows;
           alone = alone;

@@ -60,6 +60,7 @@ module _ {D : Type 0} {disk : Ghosts D} where
         seen = long;
         start = ap (λ v. v.start) is ∙ long;
         mine = ap (λ v. v.mine) is;
+        turns = ap (λ v. v.turns) is;
         alone = ap (λ v. covers v.share) is;
       }
 

@@ -72,6 +72,7 @@ module _ {D : Type 0} {disk : Ghosts D} where
   looks_of hall old new w added lent s enters leaves none of begins alone =
       let seen = seen_after (view old.pass) w (view new.pass) added lent enters leaves none in
       record {
+        turn = leaves.turns ∙ enters.turns;
         same = same_after old new w added lent enters leaves;
         mine = mine_after_turn (view old.pass) w (view new.pass) added lent enters leaves ∙ ap (with_number (mine_of old) (turn_list w)) none;
         grows = subst (λ l. StartsWith l (seen_of old)) (sym seen) begins;

@@ -21,7 +21,7 @@ use Rattle.btr_hall.specs.declared.store.Store.{Store}
 use Rattle.btr_hall.specs.declared.session.Hall.{Hall}
 use Rattle.btr_hall.specs.declared.session.Session.{Session}
 use Rattle.btr_hall.specs.Trace.{IsTraceOf, engine_after, entries_in, stopped_in, history_of}
-use Rattle.btr_hall.specs.Session.{IsAlone, opening_of, seen_of, mine_of, engine_of}
+use Rattle.btr_hall.specs.Session.{IsAlone, HasOneTurn, opening_of, seen_of, mine_of, engine_of}
 
 -- A value, as an item has it.
 abbrev pub shown : {A : Type 0} → A → Snapshot A
@@ -76,9 +76,10 @@ module _ {D : Type 0} {disk : Ghosts D} where
       (rejection h e ≡ None) × (need ≡ need_of e) × (left + needs_of (entries_in before) ≡ room_of x) × (left < need)
   Replies x before h e (Err DeviceFault) = rejection h e ≡ None
 
-  -- The turn of an entry. `before` is the list when it began, which begins with all that the session had seen. The engine at its
-  -- end does the step. The session has then seen this list, and the item that the step added, whose number is one of its own.
+  -- The turn of an entry, which is the only one. `before` is the list when it began, which begins with all that the session had seen. The
+  -- engine at its end does the step. The session has then seen this list, and the item that the step added, whose number is its own.
   pub record Commits (hall : Hall D disk) (old new : Session D disk) (e : Entry) (result : Result Receipt StepFault) : Type 0 where
+    pub turn : HasOneTurn old new
     pub before : List (Item D disk)
     pub grows : StartsWith before (seen_of old)
     pub alone : IsAlone old → before ≡ seen_of old

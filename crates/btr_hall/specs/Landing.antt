@@ -24,7 +24,7 @@ use Rattle.btr_hall.specs.declared.land.LandFault.TheVariants as faults
 use Rattle.btr_hall.specs.declared.session.Hall.{Hall}
 use Rattle.btr_hall.specs.declared.session.Session.{Session}
 use Rattle.btr_hall.specs.Trace.{IsTraceOf, engine_after, entries_in, stopped_in, history_of}
-use Rattle.btr_hall.specs.Session.{IsAlone, opening_of, seen_of, mine_of, engine_of}
+use Rattle.btr_hall.specs.Session.{IsAlone, HasOneTurn, opening_of, seen_of, mine_of, engine_of}
 use Rattle.btr_hall.specs.Commit.{needs_of, item_by, number_by}
 
 -- The fault of the step of a landing. There was no step if the plan was superseded.
@@ -64,10 +64,11 @@ module _ {D : Type 0} {disk : Ghosts D} where
       × (left + needs_of (entries_in before) ≡ room_of x) × (left < need)
   Replies x before h p (Err faults.DeviceFault) = IsCurrent h p × (rejection h (entry_of p) ≡ None)
 
-  -- The turn of a plan. `before` is the list when it began, which begins with all that the session had seen. The session has then
-  -- seen this list, and the item that the turn added, whose number is one of its own. What an engine promises of a step holds of
-  -- this item, since the list is a trace.
+  -- The turn of a plan, which is the only one. `before` is the list when it began, which begins with all that the session had seen. The
+  -- session has then seen this list, and the item that the turn added, whose number is its own. What an engine promises of a step holds
+  -- of this item, since the list is a trace.
   pub record Lands (hall : Hall D disk) (old new : Session D disk) (p : PlanValue) (result : Result Receipt LandFault) : Type 0 where
+    pub turn : HasOneTurn old new
     pub before : List (Item D disk)
     pub grows : StartsWith before (seen_of old)
     pub alone : IsAlone old → before ≡ seen_of old

@@ -1,5 +1,5 @@
 -- What contracts see of a hall and a session: what the session has seen, which entries are its own, its share, and its engine.
-use Rattle.std.specs.Prelude.{◌≡◌, ℕ, Bool, true, List, [], ◌++◌, length, Option, Some, None, if◌then◌else◌}
+use Rattle.std.specs.Prelude.{◌≡◌, ℕ, ◌+◌, Bool, true, List, [], ◌++◌, length, Option, Some, None, if◌then◌else◌}
 use Rattle.btr_disk.specs.declared.disk.Disk.{Ghosts}
 use Rattle.btr_engine.specs.declared.engine.Engine.{Engine}
 use Rattle.btr_engine.specs.Engine.{entries_of, is_stopped}
@@ -38,6 +38,14 @@ module _ {D : Type 0} {disk : Ghosts D} where
   abbrev pub start_of : Session D disk → ℕ
   start_of s = (view s.pass).start
 
+  -- The number of turns that it has had.
+  abbrev pub turns_of : Session D disk → ℕ
+  turns_of s = (view s.pass).turns
+
+  -- The session has had one turn more.
+  abbrev pub HasOneTurn : Session D disk → Session D disk → Type 0
+  HasOneTurn old new = turns_of new ≡ turns_of old + 1
+
   -- The engine at the end of what the session has seen.
   abbrev pub engine_of : Hall D disk → Session D disk → Engine D disk
   engine_of hall s = engine_after (opening_of hall) (seen_of s)
@@ -60,28 +68,34 @@ module _ {D : Type 0} {disk : Ghosts D} where
     pub seen : length (seen_of s) ≡ entries_of x
     pub start : start_of s ≡ entries_of x
     pub mine : mine_of s ≡ []
+    pub turns : turns_of s ≡ 0
     pub alone : IsAlone s
 
-  -- A turn that adds nothing: the session has seen the list of the turn, which begins with all that it had seen.
+  -- One turn, which adds nothing: the session has seen the list of the turn, which begins with all that it had seen.
   pub record Looks (hall : Hall D disk) (old new : Session D disk) : Type 0 where
+    pub turn : HasOneTurn old new
     pub same : IsSame old new
     pub mine : mine_of new ≡ mine_of old
     pub grows : StartsWith (seen_of new) (seen_of old)
     pub trace : IsTraceOf (opening_of hall) (seen_of new)
     pub alone : IsAlone old → seen_of new ≡ seen_of old
 
-  -- A session is split: both have seen the same, and each has half of the share. The new one has no items of its own.
+  -- A session is split: both have seen the same, and each has half of the share. The new one has no items of its own, and has had no
+  -- turn.
   pub record Splits (old new other : Session D disk) : Type 0 where
     pub seen : seen_of new ≡ seen_of old
     pub mine : mine_of new ≡ mine_of old
     pub share : share_of new ≡ kept_half (share_of old)
     pub start : start_of new ≡ start_of old
+    pub turns : turns_of new ≡ turns_of old
     pub other_seen : seen_of other ≡ seen_of old
     pub other_mine : mine_of other ≡ []
     pub other_share : share_of other ≡ other_half (share_of old)
     pub other_start : start_of other ≡ start_of old
+    pub other_turns : turns_of other ≡ 0
 
-  -- A session takes in another: it has seen the longer list, with which neither is at odds, and has the items and the shares of both.
+  -- A session takes in another: it has seen the longer list, with which neither is at odds, and has the items and the shares of both. Its
+  -- turns are its own.
   pub record Meets (old other new : Session D disk) : Type 0 where
     pub seen : seen_of new ≡ longer (seen_of old) (seen_of other)
     pub this : StartsWith (seen_of new) (seen_of old)
@@ -89,6 +103,7 @@ module _ {D : Type 0} {disk : Ghosts D} where
     pub mine : mine_of new ≡ merged (mine_of old) (mine_of other)
     pub share : share_of new ≡ share_of old ++ share_of other
     pub start : start_of new ≡ start_of old
+    pub turns : turns_of new ≡ turns_of old
 
   -- The session has the number of each item that was added since the hall began, once, in rising order.
   pub record HasEachOnce (s : Session D disk) : Type 0 where

@@ -26,7 +26,8 @@ returns-clause-commits g c =
     let s = c.enter-turn.result.state in
     let takes = c.enter-turn.ensures.takes in
     let of = state_in s (turn_list w) (view old.pass).setting (opening_of hall) c.requires.session.set takes.state in
-    commits_of hall old _ s c.add-result.new.self (turn_list w) c.args.entry.now c.add-result.result.0 c.add-result.result.1 of c.add-result.ensures c.leave.ensures.leaves.seen takes.begins takes.alone
+    commits_of hall old _ s c.add-result.new.self (turn_list w) c.args.entry.now c.add-result.result.0 c.add-result.result.1 of c.add-result.ensures c.leave.ensures.leaves.seen
+    (c.leave.ensures.leaves.turns ∙ c.enter-turn.ensures.enters.turns) takes.begins takes.alone
     (mine_after_turn (view old.pass) w (view c.leave.new.pass) c.add-result.result.1 _ c.enter-turn.ensures.enters c.leave.ensures.leaves)
 
 pub returns-clause-alone : goal.returns-clause-alone

@@ -44,5 +44,6 @@ returns-clause-lands g c =
     let of = state_in s (turn_list w) (view old.pass).setting x c.requires.session.set takes.state in
     let mine = mine_after_turn (view old.pass) w (view c.leave.new.pass) c.land-result.result.1 _ c.enter-turn.ensures.enters c.leave.ensures.leaves in
     lands_of hall old _ s c.land-result.new.self (turn_list w) c.args.plan.now c.land-result.result.1 c.land-result.result.0 of
+    (c.leave.ensures.leaves.turns ∙ c.enter-turn.ensures.enters.turns)
     (λ h with_h. plan_later h x (turn_list w) (seen_of old) c.args.plan.now with_h of.trace takes.begins (c.requires.planned h with_h))
     takes.begins takes.alone c.leave.ensures.leaves.seen mine c.land-result.ensures
