@@ -2,6 +2,7 @@ pub mod AggLemmas
 pub mod ChangesLemmas
 pub mod CrowdedLemmas
 pub mod CutLemmas
+pub mod DigitLemmas
 pub mod Joining
 pub mod Last
 pub mod ListLemmas

@@ -12,5 +12,7 @@ pub mod Agg
 pub mod Nearest
 pub mod Windows
 pub mod Changes
+-- numbers as text
+pub mod Decimal
 -- what the definitions entail
 pub mod Laws

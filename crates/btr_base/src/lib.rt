@@ -4,7 +4,9 @@
 //! longest ranges. A commit removes the points inside ranges from a bag (`outside`) and adds others (`merge`). The crates above
 //! say what a version of a stream holds by these two calls alone.
 //!
-//! The crate has no streams, no versions and no bytes. The limits of all of them are constants here.
+//! [`read_decimal`] and [`read_signed_decimal`] read a whole number from text, as scripts and rows write it.
+//!
+//! The crate has no streams, no versions and no bytes of a device. The limits of all of them are constants here.
 #![tactic(auto)]
 
 mod limits;
@@ -22,12 +24,15 @@ mod cell;
 mod grid;
 mod span;
 mod toward;
+// numbers as text
+mod decimal;
 // what the definitions entail
 mod laws;
 
 pub use agg::Agg;
 pub use bag::{Bag, merged, parted, points_between, points_outside};
 pub use cell::Cell;
+pub use decimal::{MINUS, negative, read_decimal, read_signed_decimal};
 pub use grid::{Grid, slot_around};
 pub use laws::{limits_are_these, one_list_for_the_times};
 pub use limits::{

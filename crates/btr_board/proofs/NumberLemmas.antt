@@ -11,7 +11,7 @@ use Rattle.btr_board.specs.declared.index_node.IndexNode.TheOpen.{IndexNode-F}
 use Rattle.btr_board.specs.declared.index_node.IndexNode.TheViews.{out-roll-IndexNode}
 use Rattle.btr_board.specs.Put.{put_at}
 use Rattle.btr_board.specs.Places.{node_of}
-use Rattle.btr_board.specs.Numbers.{first, bit, entries_in, number_of_kind, number_in, IndexValue, number_of}
+use Rattle.btr_board.specs.Numbers.{first, bit, leaf_entries, number_of_kind, number_in, IndexValue, number_of}
 use Rattle.btr_board.proofs.PutLemmas.{put-other, put-alike}
 
 out-leaf : (es : Vec Entry Global) → out-IndexNode (Leaf es) ≡ IndexNode-F.Leaf es
@@ -23,14 +23,14 @@ out-inner zs os =
 
 pub number-leaf : (h : ℕ) (n : IndexNode) (es : Vec Entry Global) (j : ℕ) → n ≡ Leaf es → number_in h n j ≡ first es.items j
 unfolding number_in
-number-leaf zero n es j e = ap (λ m. first (entries_in m) j) (ap out-IndexNode e ∙ out-leaf es)
+number-leaf zero n es j e = ap (λ m. first (leaf_entries m) j) (ap out-IndexNode e ∙ out-leaf es)
 number-leaf (suc k) n es j e =
     ap (number_of_kind (λ m. number_in k m j) (bit k j) j) (ap out-IndexNode e ∙ out-leaf es)
 
 -- A node of height 0 has no halves.
 lowest-inner : (n : IndexNode) (zs os : Arc IndexNode Global) (j : ℕ) → n ≡ Inner zs os → number_in 0 n j ≡ None
 unfolding number_in
-lowest-inner n zs os j e = ap (λ m. first (entries_in m) j) (ap out-IndexNode e ∙ out-inner zs os)
+lowest-inner n zs os j e = ap (λ m. first (leaf_entries m) j) (ap out-IndexNode e ∙ out-inner zs os)
 
 pub number-lowest : (h : ℕ) (n : IndexNode) (zs os : Arc IndexNode Global) (j : ℕ) → h ≡ 0 → n ≡ Inner zs os → number_in h n j ≡ None
 number-lowest h n zs os j low e = ap (λ k. number_in k n j) low ∙ lowest-inner n zs os j e

@@ -15,9 +15,9 @@ unfoldable pub bit : ℕ → ℕ → Bool
 bit place id = (id * 210306068529402873165736369884012333109 % 2 ^ 128 / 2 ^ place % 2) == 1
 
 -- The entries of a leaf.
-abbrev pub entries_in : IndexNode-F IndexNode → List Entry
-entries_in (IndexNode-F.Leaf entries) = entries.items
-entries_in (IndexNode-F.Inner zeros ones) = []
+abbrev pub leaf_entries : IndexNode-F IndexNode → List Entry
+leaf_entries (IndexNode-F.Leaf entries) = entries.items
+leaf_entries (IndexNode-F.Inner zeros ones) = []
 
 -- The number that a leaf has for an id, or that the half with the id has for it, by the id's next bit.
 abbrev pub number_of_kind : (IndexNode → Option ℕ) → Bool → ℕ → IndexNode-F IndexNode → Option ℕ
@@ -27,7 +27,7 @@ number_of_kind number_of_half is_one id (IndexNode-F.Inner zeros ones) =
 
 -- The number that a node of this height has for an id, if it has one.
 unfoldable pub number_in : ℕ → IndexNode → ℕ → Option ℕ
-number_in zero n id = first (entries_in (out-IndexNode n)) id
+number_in zero n id = first (leaf_entries (out-IndexNode n)) id
 number_in (suc below) n id = number_of_kind (λ m. number_in below m id) (bit below id) id (out-IndexNode n)
 
 -- The root of an index. Its height is 128, the number of bits of an id.

@@ -10,7 +10,7 @@ use Rattle.btr_tree.specs.History.{Past, bag}
 use Rattle.btr_tree.specs.Root.{TreeValue}
 use Rattle.btr_tree.proofs.VersionLemmas.{bag-in_order}
 use Rattle.btr_hist.specs.Distil.{Inputs, AreBags, output_points}
-use Rattle.btr_kernel.specs.Sources.{IsSecond, second_points, AtEachInputs}
+use Rattle.btr_kernel.specs.Sources.{IsSecond, second_past_points, AtEachInputs}
 use Rattle.btr_kernel.proofs.SourceLemmas.{second-in_domain}
 use Rattle.btr_distil.specs.Sight.{SightValue, IsInput, IsSecondInput, IsSightOf}
 use Rattle.btr_distil.proofs.PlanLemmas.{added-is}
@@ -19,7 +19,7 @@ use Rattle.btr_distil.proofs.PlanLemmas.{added-is}
 record HasPast (new : Option TreeValue) (after : List Point) : Type 0 where
   past : Option Past
   tree : IsSecond past new
-  is : after ≡ second_points past
+  is : after ≡ second_past_points past
 
 second-past : (version : Option ℕ) (old new : Option TreeValue) (before after : List Point) → IsSecondInput version old new before after → HasPast new after
 second-past None None None before after h = record { past = None; tree = tt; is = h.1 }
@@ -34,7 +34,7 @@ pub at-new_inputs : (P : Inputs → Type 0) (s : SightValue) (old new : Inputs) 
 at-new_inputs P s old new h each =
     let first = h.first in
     let second = second-past s.old_reads.second s.old_second s.new_second old.second new.second h.second in
-    let same : record { first = bag first.past; second = second_points second.past } ≡ new = λ i. record { first = sym first.is i; second = sym second.is i } in
+    let same : record { first = bag first.past; second = second_past_points second.past } ≡ new = λ i. record { first = sym first.is i; second = sym second.is i } in
     subst P same (each first.past second.past first.newer second.tree)
 
 input-in_order : (version : ℕ) (old new : TreeValue) (before after : List Point) → IsInput version old new before after → IsInOrder after
@@ -43,7 +43,7 @@ input-in_order version old new before after h = subst IsInOrder (sym h.is) (bag-
 input-in_domain : (version : ℕ) (old new : TreeValue) (before after : List Point) → IsInput version old new before after → AreInDomain after
 input-in_domain version old new before after h = subst AreInDomain (sym h.is) h.newer.times
 
-second-in_order : (past : Option Past) → IsInOrder (second_points past)
+second-in_order : (past : Option Past) → IsInOrder (second_past_points past)
 second-in_order None = tt
 second-in_order (Some past) = bag-in_order past
 

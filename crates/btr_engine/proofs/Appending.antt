@@ -97,7 +97,7 @@ module _ {D : Type 0} {disk : Ghosts D} (h : List Entry) (old : Engine D disk) (
   pub moments : (after : Log D disk) → need_of e ≤ room_of old → IsAtRest h old → log.LogLeaves old.log after (append.IsMoment (disk.contents (device old)) (tail_of old) (bodies h) (append.body_in_run run)) → log.LogLeaves old.log after (IsBeforeOrAfter (disk.size (device old)) h e)
   moments after fits rest leaves =
       let contents = disk.contents (device old) in
-      weakens disk.calls disk.images_since (device old) (log.device after) (append.IsMoment contents (tail_of old) (bodies h) (append.body_in_run run)) (IsBeforeOrAfter (disk.size (device old)) h e)
+      weakens disk.calls disk.images_since (device old) (log.log_device after) (append.IsMoment contents (tail_of old) (bodies h) (append.body_in_run run)) (IsBeforeOrAfter (disk.size (device old)) h e)
       (before_or_after (disk.size (device old)) contents (blocks_of old) (tail_of old) h rest.holds e is.spelled is.allowed (inside fits) (append.body_in_run run) its_body)
       leaves
 
@@ -126,7 +126,7 @@ module _ {D : Type 0} {disk : Ghosts D} (h : List Entry) (old : Engine D disk) (
       is_receipt = is_receipt;
     }
 
-    pub at_rest : need_of e ≤ room_of old → log.KeepsBounds old.log new.log → IsAtRest h old → Published (disk.contents (device old)) (4096 * (tail_of old + 1)) run (4096 * tail_of old) gate_block (disk.contents (device new)) → log.IsAtRest new.log (bodies h ++ append.body_in_run run ∷ []) → IsAtRest (h ++ e ∷ []) new
+    pub at_rest : need_of e ≤ room_of old → log.KeepsBounds old.log new.log → IsAtRest h old → Published (disk.contents (device old)) (4096 * (tail_of old + 1)) run (4096 * tail_of old) gate_block (disk.contents (device new)) → log.IsLogAtRest new.log (bodies h ++ append.body_in_run run ∷ []) → IsAtRest (h ++ e ∷ []) new
     at_rest fits kept rest written log_rests =
         let size = disk.size (device old) in
         let now = disk.contents (device new) in
@@ -140,7 +140,7 @@ module _ {D : Type 0} {disk : Ghosts D} (h : List Entry) (old : Engine D disk) (
 
 -- The numbers of the engine with the new log and the new board.
 module _ {D : Type 0} {disk : Ghosts D} (old : Engine D disk) (e : Entry) (run : List ℕ) (number : ℕ) (bytes : run ≡ body_of number e ++ zeros 4096) (after : Log D disk) (appended : append.IsAppended old.log after run) where
-  pub ends_after : 2 * log.extents_of after + 4 ≤ log.tail_of after
+  pub ends_after : 2 * log.extents_of after + 4 ≤ log.log_tail after
   ends_after =
       omega (arith, appended.tail, needs number e run bytes, appended.extents, old.ends)
 

@@ -26,7 +26,7 @@ use Rattle.btr_hist.proofs.HistoryLemmas.{each-after}
 use Rattle.btr_hist.proofs.RejectionLemmas.{first_none, map_none, none_out_of_domain}
 use Rattle.btr_engine.specs.declared.board.PushFault.{PushFault}
 use Rattle.btr_engine.specs.Board.{HasPast, HasTrees, commits_to}
-use Rattle.btr_engine.specs.Stage.{PushCause, IsNext, change, version_rejection}
+use Rattle.btr_engine.specs.Stage.{PushCause, IsNextTree, change, version_rejection}
 use Rattle.btr_engine.proofs.BoardTrees.{made_by, bag-commits_to}
 use Rattle.btr_engine.proofs.Crowded.{room-allowed}
 
@@ -111,7 +111,7 @@ module _ (h : List Entry) (stream : ℕ) (trees : List TreeValue) (kept : HasTre
     pub next-bag : (version : ℕ) → tree.bag (next version) ≡ next_bag h stream c
     next-bag version = ap (λ b. sort (outside b c.cut ++ c.added)) (bag-commits_to h stream (latest h stream))
 
-    pub next-tree : (t : TreeValue) (version : ℕ) → version ≡ latest h stream + 1 → IsTree (next version) t → IsNext h stream c t
+    pub next-tree : (t : TreeValue) (version : ℕ) → version ≡ latest h stream + 1 → IsTree (next version) t → IsNextTree h stream c t
     next-tree t version same k = subst (λ v. IsTree (next v) t) same k
 
     module _ (few : latest h stream < MAX_VERSIONS) where

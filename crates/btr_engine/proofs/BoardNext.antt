@@ -19,7 +19,7 @@ use Rattle.btr_hist.specs.History.{ids, kinds, spec_of, commits, latest, recorde
 use Rattle.btr_hist.specs.Legal.{rejection}
 use Rattle.btr_hist.proofs.HistoryLemmas.{length-kinds, length-recorded, follows-push, unknown}
 use Rattle.btr_engine.specs.Board.{Versions, Kept, HasPast, with_commits, commits_to, HasTrees, reads_count, read_at, HasReads, IsStreamOf, IsBoardOf, IsGrown, IsWellFormed, place_of, ids_of}
-use Rattle.btr_engine.specs.Stage.{MakesStream, MakesVersion, IsNext, with_version}
+use Rattle.btr_engine.specs.Stage.{MakesStream, MakesVersion, IsNextTree, with_version}
 use Rattle.btr_engine.proofs.BoardStreams.{place-low, places-push, ids-more, kinds-more, commits-still, recorded-still, ids-still, kinds-still, commits-more, recorded-more, commits-other, recorded-other, unknown-recorded, read-none}
 use Rattle.btr_engine.proofs.BoardTrees.{made_by, with_commits-push}
 
@@ -48,7 +48,7 @@ module _ (g h : List Entry) (s : ℕ) where
         ∙ (let e : 0 + length (commits h s) + 1 ≡ latest h s + 1 = omega arith in ap (λ (v : ℕ). made_by v c ▷ with_commits 0 nothing (commits h s)) e)
         ∙ ap (λ cs. record { version = latest h s + 1; cut = c.cut; added = c.added } ▷ with_commits 0 nothing cs) (sym (take_all (latest h s) (commits h s) (omega arith)))
 
-    trees-push : (ts : List TreeValue) (t : TreeValue) → IsNext h s c t → HasTrees h s ts → HasTrees g s (ts ++ t ∷ [])
+    trees-push : (ts : List TreeValue) (t : TreeValue) → IsNextTree h s c t → HasTrees h s ts → HasTrees g s (ts ++ t ∷ [])
     trees-push ts t next has =
         let size : length (ts ++ t ∷ []) ≡ length ts + 1 = length-append ts (t ∷ []) in
         record {
@@ -191,7 +191,7 @@ module _ (h : List Entry) (b : Kept) (was : IsBoardOf h b) (e : Entry) (allowed 
       }
 
   -- The board with one version more of one stream.
-  pub push-version : (s : ℕ) (c : Change) (read : Option Reads) (kept : Versions) (t : TreeValue) (streams : List Versions) (entries : ℕ) → MakesVersion e s c read → is_some read ≡ is_some kept.spec → IsNext h s c t → slice_get b.streams s ≡ Some kept → streams ≡ slice_set b.streams s (with_version kept t read) → entries ≡ b.entries + 1 → IsBoardOf (h ++ e ∷ []) (record { streams = streams; entries = entries })
+  pub push-version : (s : ℕ) (c : Change) (read : Option Reads) (kept : Versions) (t : TreeValue) (streams : List Versions) (entries : ℕ) → MakesVersion e s c read → is_some read ≡ is_some kept.spec → IsNextTree h s c t → slice_get b.streams s ≡ Some kept → streams ≡ slice_set b.streams s (with_version kept t read) → entries ≡ b.entries + 1 → IsBoardOf (h ++ e ∷ []) (record { streams = streams; entries = entries })
   push-version s c read kept t streams entries makes kind next at set one =
       let g = h ++ e ∷ [] in
       let grown : Versions = with_version kept t read in

@@ -56,12 +56,12 @@ module _ {D : Type 0} {disk : Ghosts D} where
     counted = is_prop→PathP (λ j. (logs j).extents ≡ (boards j).entries) (λ j. ℕ_set (logs j).extents (boards j).entries) a.counted b.counted i;
     ends = is_prop→PathP (λ j. 2 * (logs j).extents + 4 ≤ (logs j).tail) (λ j. le_prop) a.ends b.ends i;
     began = is_prop→PathP (λ j. began j ≤ (logs j).extents) (λ j. le_prop) a.began b.began i;
-    called = is_prop→PathP (λ j. disk.calls (synced j).value ≤ disk.calls (log.device (logs j))) (λ j. le_prop) a.called b.called i;
+    called = is_prop→PathP (λ j. disk.calls (synced j).value ≤ disk.calls (log.log_device (logs j))) (λ j. le_prop) a.called b.called i;
     failed = is_prop→PathP (λ j. disk.faults (synced j).value ≤ log.faults_at (logs j)) (λ j. le_prop) a.failed b.failed i;
   }
 
   -- The device has the log of the bodies, at rest.
-  pub log_at_rest : (h : List Entry) (engine : Engine D disk) → IsAtRest h engine → log.IsAtRest engine.log (bodies h)
+  pub log_at_rest : (h : List Entry) (engine : Engine D disk) → IsAtRest h engine → log.IsLogAtRest engine.log (bodies h)
   log_at_rest h engine rest =
       record { extents = rest.holds.extents; closed = rest.holds.closed; only = rest.only }
 

@@ -17,7 +17,7 @@ use Rattle.btr_engine.specs.Holds.{HoldsHistoryTo, HoldsHistory}
 module _ {D : Type 0} {disk : Ghosts D} where
   -- The device.
   abbrev pub device : Engine D disk → D
-  device e = log.device e.log
+  device e = log.log_device e.log
 
   -- The board.
   abbrev pub board_of : Engine D disk → Kept
@@ -33,11 +33,11 @@ module _ {D : Type 0} {disk : Ghosts D} where
 
   -- The blocks of the store, from block 0 on.
   abbrev pub blocks_of : Engine D disk → ℕ
-  blocks_of e = log.blocks_of e.log
+  blocks_of e = log.log_blocks e.log
 
   -- The block of the gate after the last extent.
   abbrev pub tail_of : Engine D disk → ℕ
-  tail_of e = log.tail_of e.log
+  tail_of e = log.log_tail e.log
 
   -- The blocks after that gate.
   abbrev pub room_of : Engine D disk → ℕ
@@ -45,7 +45,7 @@ module _ {D : Type 0} {disk : Ghosts D} where
 
   -- Whether the device failed in a step.
   abbrev pub is_stopped : Engine D disk → Bool
-  is_stopped e = log.is_stopped e.log
+  is_stopped e = log.is_log_stopped e.log
 
   -- The device as the sync left it with which the engine was opened.
   abbrev pub synced_of : Engine D disk → D

@@ -71,8 +71,8 @@ version_rejection h stream c = first_some (
     ∷ [])
 
 -- The tree of the version that a commit makes.
-abbrev pub IsNext : List Entry → ℕ → Change → TreeValue → Type 0
-IsNext h stream c t =
+abbrev pub IsNextTree : List Entry → ℕ → Change → TreeValue → Type 0
+IsNextTree h stream c t =
     IsTree (record { version = latest h stream + 1; cut = c.cut; added = c.added } ▷ commits_to h stream (latest h stream)) t
 
 -- P holds of each stream of a history whose versions have these trees.

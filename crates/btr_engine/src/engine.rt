@@ -1,6 +1,6 @@
 //! The engine: the board of a history, and the log that holds its entries.
 ghost use Rattle.std.specs.Prelude.{◌≡◌, ◌+◌, ◌*◌, ◌≤◌};
-ghost use Rattle.btr_log.specs.Log.{device as device_of, tail_of, extents_of, faults_at};
+ghost use Rattle.btr_log.specs.Log.{log_device as device_of, log_tail, extents_of, faults_at};
 
 use crate::board::Board;
 use crate::snapshot::Snapshot;
@@ -24,7 +24,7 @@ pub struct Engine<D: Disk> {
     pub(crate) synced: State<D>,
     ghost counted: { extents_of log ≡ board.entries },
     // The first gate is block 4, and each extent has at least two blocks.
-    ghost ends: { 2 * extents_of log + 4 ≤ tail_of log },
+    ghost ends: { 2 * extents_of log + 4 ≤ log_tail log },
     ghost began: { opened_with ≤ extents_of log },
     ghost called: { D.calls synced.value ≤ D.calls (device_of log) },
     ghost failed: { D.faults synced.value ≤ faults_at log },
@@ -33,7 +33,7 @@ pub struct Engine<D: Disk> {
 impl<D: Disk> Engine<D> {
     ghost use Rattle.std.specs.Prelude.{◌≡◌, ◌+◌, ◌*◌, ◌≤◌, List, IfOk, IsTrue, length};
     ghost use Rattle.btr_disk.specs.Causes.{Rose};
-    ghost use Rattle.btr_log.specs.Log.{device as device_of, tail_of, extents_of, faults_at};
+    ghost use Rattle.btr_log.specs.Log.{log_device as device_of, log_tail, extents_of, faults_at};
     ghost use Rattle.btr_hist.specs.declared.entry.Entry.{Entry as EntrySpec};
     ghost use Rattle.btr_hist.specs.History.{stream_of, spec_of};
     ghost use Rattle.btr_engine.specs.Board.{latest_of};
@@ -44,7 +44,7 @@ impl<D: Disk> Engine<D> {
     /// It is for openings: it does not call the device, nor compare the board with it. It takes constant time and no memory.
     pub fn over(log: Log<D>, board: Board, synced: State<D>) -> Engine<D>
         requires counted { extents_of log ≡ board.entries }
-        requires ends { 2 * extents_of log + 4 ≤ tail_of log }
+        requires ends { 2 * extents_of log + 4 ≤ log_tail log }
         requires called { D.calls synced.value ≤ D.calls (device_of log) }
         requires failed { D.faults synced.value ≤ faults_at log }
         ensures { IsMadeOf log board synced.value result }

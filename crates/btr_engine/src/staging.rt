@@ -17,7 +17,7 @@ ghost use Rattle.btr_hist.specs.History.{latest, spec_of, reads};
 ghost use Rattle.btr_hist.specs.Legal.{rejection, points_rejection, has_inputs, is_stream, takes_reads, may_read, may_read_second};
 ghost use Rattle.btr_entry.specs.Grammar.{IsWithinBounds, AreVersions};
 ghost use Rattle.btr_engine.specs.Board.{IsBoardOf, IsStreamOf, IsGrown, HasPast, place_of, ids_of};
-ghost use Rattle.btr_engine.specs.Stage.{PushCause, IsReceipt, MakesStream, MakesVersion, IsNext, OfEachStream, change, version_rejection};
+ghost use Rattle.btr_engine.specs.Stage.{PushCause, IsReceipt, MakesStream, MakesVersion, IsNextTree, OfEachStream, change, version_rejection};
 ghost use Rattle.btr_engine.specs.Stage.{with_version};
 
 use crate::board::{Board, PushFault, Receipt, Staged, Stream, read_at};
@@ -243,7 +243,7 @@ impl Board {
         requires grown { HasPast tree }
         requires of_kind { is_some read ≡ is_some kept.now.spec }
         ensures next { (h : List EntrySpec) (e : EntrySpec) (c : Change) → IsBoardOf h self.now → MakesVersion e place c read
-            → IsNext h place c tree → rejection h e ≡ None → IfOk result (IsBoardOf (h ++ e ∷ [])) }
+            → IsNextTree h place c tree → rejection h e ≡ None → IfOk result (IsBoardOf (h ++ e ∷ [])) }
         ensures counted { IfOk result (λ b. b.entries ≡ self.now.entries + 1) }
     {
         let next = next_stream(alloc, kept, tree, read)?;
@@ -448,7 +448,7 @@ fn next_tree(
     requires grown { AllByRecursion HasPast trees.now }
     requires times { AreInDomain added.now }
     ensures allowed { OnOk result (OfEachStream trees.now (λ h stream. version_rejection h stream (change cut.now added.now) ≡ None)) }
-    ensures tree { IfOk result (λ t. OfEachStream trees.now (λ h stream. IsNext h stream (change cut.now added.now) t)) }
+    ensures tree { IfOk result (λ t. OfEachStream trees.now (λ h stream. IsNextTree h stream (change cut.now added.now) t)) }
     ensures cause { IfErr result (λ f. OfEachStream trees.now
         (λ h stream. PushCause (version_rejection h stream (change cut.now added.now)) f)) }
     ensures grown { IfOk result HasPast }

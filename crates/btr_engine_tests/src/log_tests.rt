@@ -2,7 +2,7 @@
 ghost use Rattle.std.specs.Prelude.{◌≡◌, ◌<◌, ◌≤◌, ◌^◌, length, IfOk};
 ghost use Rattle.btr_log.specs.Head.{content_blocks, IsHead};
 ghost use Rattle.btr_log.specs.Extents.{IsBody};
-ghost use Rattle.btr_log.specs.Log.{blocks_of};
+ghost use Rattle.btr_log.specs.Log.{log_blocks};
 ghost use Rattle.btr_log.specs.Append.{IsAppendRun};
 
 use crate::fixture::no_wrong;
@@ -90,7 +90,7 @@ fn entry(number: u64, n: u64, length: u64) -> Head
 fn log_of(alloc: Global, blocks: u64, failing: Vec<u64>) -> Result<Log<MemDisk>, AllocError>
     requires some { 5 ≤ blocks }
     requires few { blocks ≤ 2 ^ 10 }
-    ensures { IfOk result (λ log. blocks_of log ≡ blocks) }
+    ensures { IfOk result (λ log. log_blocks log ≡ blocks) }
 {
     let disk = MemDisk::new(alloc, blocks as usize, CAPACITY, failing)?;
     Ok(Log::at(disk, 4, blocks, 0))
@@ -107,7 +107,7 @@ fn state_of(log: &Log<MemDisk>) -> State {
 fn append(alloc: Global, log: &mut Log<MemDisk>, head: &Head) -> Result<(), Fail>
     requires head { IsHead head.now }
     requires few { head.now.n ≤ 2 ^ 20 }
-    ensures { blocks_of log.new ≡ blocks_of log.old }
+    ensures { log_blocks log.new ≡ log_blocks log.old }
 {
     match log.append(&run_of(alloc, head)?) {
         Ok(()) => Ok(()),
@@ -117,7 +117,7 @@ fn append(alloc: Global, log: &mut Log<MemDisk>, head: &Head) -> Result<(), Fail
 
 /// A log of 16 blocks with a body of one block, and what it says.
 fn one_appended(alloc: Global) -> Result<(Log<MemDisk>, State), Fail>
-    ensures { IfOk result (λ r. blocks_of r.0 ≡ 16) }
+    ensures { IfOk result (λ r. log_blocks r.0 ≡ 16) }
 {
     let mut log = log_of(alloc, 16, Vec::new(alloc))?;
     append(alloc, &mut log, &entry(1, 1, 4032))?;
@@ -127,7 +127,7 @@ fn one_appended(alloc: Global) -> Result<(Log<MemDisk>, State), Fail>
 
 /// The log with a second body, of two blocks, and what it says.
 fn two_appended(alloc: Global) -> Result<(Log<MemDisk>, State), Fail>
-    ensures { IfOk result (λ r. blocks_of r.0 ≡ 16) }
+    ensures { IfOk result (λ r. log_blocks r.0 ≡ 16) }
 {
     let (mut log, _) = one_appended(alloc)?;
     append(alloc, &mut log, &entry(2, 2, 4033))?;
@@ -160,9 +160,9 @@ fn is_extent(
     wanted: &Head,
     following: u64,
 ) -> bool
-    requires gate { gate < blocks_of log.old }
+    requires gate { gate < log_blocks log.old }
     requires few { wanted.now.n ≤ 2 ^ 20 }
-    ensures { blocks_of log.new ≡ blocks_of log.old }
+    ensures { log_blocks log.new ≡ log_blocks log.old }
 {
     match log.read_extent(alloc, gate) {
         Ok(Found::Extent { head, body, next }) => {
@@ -175,8 +175,8 @@ fn is_extent(
 
 /// Whether a gate is closed.
 fn is_closed(alloc: Global, log: &mut Log<MemDisk>, gate: u64) -> bool
-    requires gate { gate < blocks_of log.old }
-    ensures { blocks_of log.new ≡ blocks_of log.old }
+    requires gate { gate < log_blocks log.old }
+    ensures { log_blocks log.new ≡ log_blocks log.old }
 {
     matches!(log.read_extent(alloc, gate), Ok(Found::Closed))
 }

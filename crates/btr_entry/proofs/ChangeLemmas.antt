@@ -6,7 +6,7 @@ use Rattle.std.proofs.lemmas.List.{append-nil}
 use Rattle.btr_base.specs.declared.point.Point.{Point}
 use Rattle.btr_base.specs.Range.{RangeValue, IsCut, IsRange}
 use Rattle.btr_entry.specs.Grammar.{number, range, point, listed}
-use Rattle.btr_entry.specs.Fields.{IsItems, AreLists, PointFits, IsAdded, IsChange}
+use Rattle.btr_entry.specs.Fields.{IsItems, AreLists, PointFits, AreAddable, IsChange}
 use Rattle.btr_entry.proofs.FrameLemmas.{lists_once}
 use Rattle.btr_entry.proofs.ItemLemmas.{length-items, length-listed, length-range, length-point, items_once, range_item, point_item, each_room}
 
@@ -37,7 +37,7 @@ lists_from_change m n bytes cut added h = record {
 }
 
 -- The change of which these are the parts.
-pub change_from_lists : (m n : ℕ) (bytes ranges points : List ℕ) (cut : List RangeValue) (added : List Point) → AreLists m n bytes ranges points → IsCut cut → flat_map range cut ≡ ranges → IsAdded added → flat_map point added ≡ points → IsChange m n bytes cut added
+pub change_from_lists : (m n : ℕ) (bytes ranges points : List ℕ) (cut : List RangeValue) (added : List Point) → AreLists m n bytes ranges points → IsCut cut → flat_map range cut ≡ ranges → AreAddable added → flat_map point added ≡ points → IsChange m n bytes cut added
 change_from_lists m n bytes ranges points cut added h is_cut cut_is is_added added_is =
     let first = listed_from_counted range m cut bytes ranges h.after_ranges length-range cut_is h.ranges_are in
     let second = listed_from_counted point n added h.after_ranges points [] length-point added_is h.points_are in

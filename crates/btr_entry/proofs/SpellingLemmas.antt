@@ -11,7 +11,7 @@ use Rattle.btr_hist.specs.declared.kernel.Spec.{Spec}
 use Rattle.btr_hist.specs.declared.kernel.Reads.{Reads}
 use Rattle.btr_entry.specs.Grammar.{number, range, point, listed, spec_bytes, reads_bytes, spelling}
 use Rattle.btr_entry.specs.Grammar.{IsCommit, IsOutput, AreVersions, IsDistilled, IsSpelled, IsEntry}
-use Rattle.btr_entry.specs.Fields.{IsAdded, IsChange}
+use Rattle.btr_entry.specs.Fields.{AreAddable, IsChange}
 use Rattle.btr_entry.proofs.NumberLemmas.{number_once, wide32, wide64, wide128}
 use Rattle.btr_entry.proofs.FrameLemmas.{heads, tails}
 use Rattle.btr_entry.proofs.ItemLemmas.{length-listed, length-range, length-point}
@@ -81,7 +81,7 @@ after_id bytes e h n rest fits is =
 
 -- ---- commits
 
-pub added_from_commit : (stream : ℕ) (cut : List RangeValue) (added : List Point) → IsCommit stream cut added → IsAdded added
+pub added_from_commit : (stream : ℕ) (cut : List RangeValue) (added : List Point) → IsCommit stream cut added → AreAddable added
 added_from_commit stream cut added h = record { in_order = h.in_order; in_domain = h.bounded.in_domain; values_fit = h.values_fit }
 
 -- What a commit removes and adds, from the bytes after its stream.

@@ -27,7 +27,7 @@ pub record PointFits (p : Point) : Type 0 where
   pub value : FitsSigned w64 p.value
 
 -- Points that a commit can add.
-pub record IsAdded (added : List Point) : Type 0 where
+pub record AreAddable (added : List Point) : Type 0 where
   pub in_order : IsInOrder added
   pub in_domain : AreInDomain added
   pub values_fit : ValuesFit added
@@ -35,7 +35,7 @@ pub record IsAdded (added : List Point) : Type 0 where
 -- The bytes are those of what a commit removes and adds, with not more of each than the limits, and nothing follows.
 pub record IsChange (max_ranges max_points : ℕ) (bytes : List ℕ) (cut : List RangeValue) (added : List Point) : Type 0 where
   pub is_cut : IsCut cut
-  pub is_added : IsAdded added
+  pub is_added : AreAddable added
   pub few_ranges : length cut ≤ max_ranges
   pub few_points : length added ≤ max_points
   pub bytes_are : bytes ≡ listed range cut ++ listed point added

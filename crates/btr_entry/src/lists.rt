@@ -5,7 +5,7 @@ ghost use Rattle.btr_base.specs.Range.{RangeValue, IsRange, IsCut};
 ghost use Rattle.btr_base.specs.declared.point.Point.{Point as PointSpec};
 ghost use Rattle.btr_base.specs.Bag.{IsInOrder};
 ghost use Rattle.btr_entry.specs.Grammar.{range, point};
-ghost use Rattle.btr_entry.specs.Fields.{PointFits, IsAdded, IsChange, AreLists};
+ghost use Rattle.btr_entry.specs.Fields.{PointFits, AreAddable, IsChange, AreLists};
 
 use crate::fields::{read_i64, split_items};
 use btr_base::{Bag, Point, Range, Ranges, are_in_domain};
@@ -87,8 +87,8 @@ fn read_each_range(alloc: Global, bytes: &[u8]) -> Result<Option<Vec<Range>>, Al
 /// Reads the points that a commit adds. Returns `None` if no commit can add these points. An `Err` means out of memory.
 pub fn read_bag(alloc: Global, bytes: &[u8]) -> Result<Option<Bag>, AllocError>
     requires { length bytes.now % 16 ≡ 0 }
-    ensures found { IfOk result (λ o. IfSome o (λ b. IsAdded b × (flat_map point b ≡ bytes.now))) }
-    ensures none { IfOk result (λ o. IfNone o ((b : List PointSpec) → IsAdded b → flat_map point b ≡ bytes.now → ⊥)) }
+    ensures found { IfOk result (λ o. IfSome o (λ b. AreAddable b × (flat_map point b ≡ bytes.now))) }
+    ensures none { IfOk result (λ o. IfNone o ((b : List PointSpec) → AreAddable b → flat_map point b ≡ bytes.now → ⊥)) }
 {
     let points = read_points(alloc, bytes)?;
     if !are_in_order(&points) {

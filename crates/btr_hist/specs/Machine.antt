@@ -111,12 +111,12 @@ plan_reply h stream None = NotOutput
 plan_reply h stream (Some spec) = Planned (is_some (planned h stream spec))
 
 -- The distillate of a stream with this cut and these points.
-abbrev pub entry_of : ℕ → Change → Reads → Entry
-entry_of stream c new = entries.Distillate stream c.cut c.added new
+abbrev pub distillate_entry : ℕ → Change → Reads → Entry
+distillate_entry stream c new = entries.Distillate stream c.cut c.added new
 
 -- The distillate that lands a plan after h: it reads what was planned, and replaces what the latest version of the output has.
 abbrev pub landing : List Entry → Landing → Spec → Entry
-landing h p spec = entry_of p.stream
+landing h p spec = distillate_entry p.stream
     (distillate spec (inputs_at h spec (reads h p.stream spec (latest h p.stream))) (inputs_at h spec p.reads)) p.reads
 
 -- The reason why the output has no next version: it has as many as a stream can have.

@@ -13,12 +13,12 @@ IsSecond None (Some t) = ⊥
 IsSecond (Some h) None = ⊥
 
 -- The points of the second past, if there is one.
-abbrev pub second_points : Option Past → List Point
-second_points None = []
-second_points (Some h) = bag h
+abbrev pub second_past_points : Option Past → List Point
+second_past_points None = []
+second_past_points (Some h) = bag h
 
 -- P holds of the points of each two pasts whose trees these are.
 abbrev pub AtEachInputs : TreeValue → Option TreeValue → (Inputs → Type 0) → Type 0
 AtEachInputs first second P =
     (h : Past) (k : Option Past) → IsTree h first → IsSecond k second
-    → P (record { first = bag h; second = second_points k })
+    → P (record { first = bag h; second = second_past_points k })

@@ -8,7 +8,7 @@ ghost use Rattle.btr_base.specs.Range.{covered};
 ghost use Rattle.btr_tree.specs.History.{bag, Past};
 ghost use Rattle.btr_tree.specs.Root.{AtEachTree};
 ghost use Rattle.btr_kernel.specs.Past.{begun_earlier as earlier};
-ghost use Rattle.btr_kernel.specs.Sources.{IsSecond, second_points};
+ghost use Rattle.btr_kernel.specs.Sources.{IsSecond, second_past_points};
 
 use btr_base::{FIRST, Point, Range, Ranges};
 use btr_scan::range;
@@ -62,7 +62,7 @@ pub(crate) fn gather_second(
     ranges: &Ranges,
 ) -> Result<Vec<Point>, AllocError>
     ensures points { IfOk result (λ v. (k : Option Past) → IsSecond k (option_map (λ t. t.now) tree.entry)
-        → v.items ≡ filter (λ p. covered ranges.now p.time) (second_points k)) }
+        → v.items ≡ filter (λ p. covered ranges.now p.time) (second_past_points k)) }
     ensures order { IfOk result (λ v. IsInOrder v.items) }
 {
     match tree {

@@ -9,7 +9,7 @@ use Rattle.btr_log.specs.declared.log.Log.{Log}
 use Rattle.btr_log.specs.declared.append.AppendFault.{AppendFault}
 use Rattle.btr_log.specs.declared.append.AppendFault.TheVariants.{Full, Fault, Stopped}
 use Rattle.btr_log.specs.Extents.{IsBody, need, IsLog, first_gate}
-use Rattle.btr_log.specs.Log.{device, tail_of, room_of, extents_of, is_stopped}
+use Rattle.btr_log.specs.Log.{log_device, log_tail, log_room, extents_of, is_log_stopped}
 
 -- The body in a run: all but its last block.
 abbrev pub body_in_run : List ℕ → List ℕ
@@ -34,29 +34,29 @@ pub record IsMoment (old : Image) (tail : ℕ) (bodies : List (List ℕ)) (body 
 module _ {D : Type 0} {disk : Ghosts D} where
   -- There are fewer blocks after the tail than the run needs.
   abbrev pub IsTooLong : Log D disk → List ℕ → Type 0
-  IsTooLong log run = room_of log < need (body_in_run run)
+  IsTooLong log run = log_room log < need (body_in_run run)
 
   -- The device has failed, within one to four calls. The log is stopped, and has the extents that it had.
-  pub record StopsByFault (old new : Log D disk) : Type 0 where
-    pub rose : Rose (disk.faults (device old)) (disk.faults (device new))
-    pub called : Rose (disk.calls (device old)) (disk.calls (device new))
-    pub at_most : disk.calls (device new) ≤ disk.calls (device old) + 4
-    pub stopped : is_stopped new ≡ true
-    pub tail : tail_of new ≡ tail_of old
+  pub record LogStopsByFault (old new : Log D disk) : Type 0 where
+    pub rose : Rose (disk.faults (log_device old)) (disk.faults (log_device new))
+    pub called : Rose (disk.calls (log_device old)) (disk.calls (log_device new))
+    pub at_most : disk.calls (log_device new) ≤ disk.calls (log_device old) + 4
+    pub stopped : is_log_stopped new ≡ true
+    pub tail : log_tail new ≡ log_tail old
     pub extents : extents_of new ≡ extents_of old
 
   -- Why an append fails, and what the log is then.
   abbrev pub AppendCause : Log D disk → Log D disk → List ℕ → AppendFault → Type 0
   AppendCause old new run (Full needed room) =
-      IsFalse (is_stopped old) × IsTooLong old run × (needed ≡ need (body_in_run run)) × (room ≡ room_of old) × (new ≡ old)
-  AppendCause old new run Fault = IsFalse (is_stopped old) × StopsByFault old new
+      IsFalse (is_log_stopped old) × IsTooLong old run × (needed ≡ need (body_in_run run)) × (room ≡ log_room old) × (new ≡ old)
+  AppendCause old new run Fault = IsFalse (is_log_stopped old) × LogStopsByFault old new
   AppendCause old new run (Stopped extents) =
-      IsTrue (is_stopped old) × (extents ≡ extents_of old) × (new ≡ old)
+      IsTrue (is_log_stopped old) × (extents ≡ extents_of old) × (new ≡ old)
 
   -- The log has one more extent, by four calls of the device.
   pub record IsAppended (old new : Log D disk) (run : List ℕ) : Type 0 where
-    pub tail : tail_of new ≡ tail_of old + need (body_in_run run)
+    pub tail : log_tail new ≡ log_tail old + need (body_in_run run)
     pub extents : extents_of new ≡ extents_of old + 1
-    pub calls : CountedTimes 4 (disk.calls (device old)) (disk.calls (device new))
-    pub ran : is_stopped old ≡ false
-    pub runs : is_stopped new ≡ false
+    pub calls : CountedTimes 4 (disk.calls (log_device old)) (disk.calls (log_device new))
+    pub ran : is_log_stopped old ≡ false
+    pub runs : is_log_stopped new ≡ false

@@ -12,7 +12,7 @@ use Rattle.btr_log.specs.declared.found.ExtentFault.{ExtentFault}
 use Rattle.btr_log.specs.declared.found.ExtentFault.TheVariants.{Damaged, Fault, Want}
 use Rattle.btr_log.specs.Head.{head_bytes, IsHead}
 use Rattle.btr_log.specs.Extents.{IsBody}
-use Rattle.btr_log.specs.Log.{device, blocks_of}
+use Rattle.btr_log.specs.Log.{log_device, log_blocks}
 
 -- A body with its head, and the gate after it, which is inside the log's blocks.
 pub record IsWholeExtent (blocks gate : ℕ) (head : Head) (body : List ℕ) (next : ℕ) : Type 0 where
@@ -74,5 +74,5 @@ ReadCause before after Want = Unit {0}
 -- Why a log finds nothing at a gate.
 abbrev pub ExtentCause : {D : Type 0} {disk : Ghosts D} → Log D disk → Log D disk → ℕ → ExtentFault → Type 0
 ExtentCause {D} {disk} old new gate fault =
-    FindCause disk.is_observable (disk.contents (device old)) (blocks_of old) gate
-    (disk.faults (device old)) (disk.faults (device new)) fault
+    FindCause disk.is_observable (disk.contents (log_device old)) (log_blocks old) gate
+    (disk.faults (log_device old)) (disk.faults (log_device new)) fault

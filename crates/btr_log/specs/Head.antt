@@ -6,8 +6,8 @@ use Rattle.btr_disk.specs.Numbers.{u32_at, u64_at}
 use Rattle.btr_log.specs.declared.head.Head.{Head}
 
 -- ASCII `BTR-BODY`.
-abbrev pub mark : List ℕ
-mark = codes "BTR-BODY"
+abbrev pub head_mark : List ℕ
+head_mark = codes "BTR-BODY"
 
 -- The number of blocks that the head and a content of this many bytes fill, the last one filled up.
 abbrev pub content_blocks : ℕ → ℕ
@@ -51,7 +51,7 @@ entry_head number length = record {
 -- The 64 bytes of a head: the mark, the fields with the highest byte first, and zeros.
 unfoldable pub head_bytes : Head → List ℕ
 head_bytes head =
-    mark
+    head_mark
     ++ to_be_bytes w32 head.kind
     ++ to_be_bytes w32 head.format
     ++ to_be_bytes w64 head.number

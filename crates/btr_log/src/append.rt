@@ -3,7 +3,7 @@ ghost use Rattle.std.specs.Prelude.{◌≡◌, ◌+◌, ◌*◌, ◌++◌, ◌�
 ghost use Rattle.btr_disk.specs.Gate.{gate_block};
 ghost use Rattle.btr_disk.specs.Publish.{Published};
 ghost use Rattle.btr_log.specs.Extents.{need};
-ghost use Rattle.btr_log.specs.Log.{device, tail_of, room_of, extents_of, is_stopped, IsAtRest, LogLeaves, KeepsBounds};
+ghost use Rattle.btr_log.specs.Log.{log_device, log_tail, log_room, extents_of, is_log_stopped, IsLogAtRest, LogLeaves, KeepsBounds};
 ghost use Rattle.btr_log.specs.Append.{body_in_run, IsAppendRun, IsTooLong, IsMoment, AppendCause, IsAppended};
 
 use crate::Log;
@@ -35,21 +35,21 @@ impl<D: Disk> Log<D> {
     /// if one of them fails. It allocates no memory.
     pub fn append(&mut self, run: &[u8]) -> Result<(), AppendFault>
         requires { IsAppendRun run.now }
-        ensures stopped { IsTrue (is_stopped self.old)
+        ensures stopped { IsTrue (is_log_stopped self.old)
             → result ≡ Err (AppendFault.Stopped (extents_of self.old)) }
-        ensures full { IsFalse (is_stopped self.old) → IsTooLong self.old run.now
-            → result ≡ Err (AppendFault.Full (need (body_in_run run.now)) (room_of self.old)) }
+        ensures full { IsFalse (is_log_stopped self.old) → IsTooLong self.old run.now
+            → result ≡ Err (AppendFault.Full (need (body_in_run run.now)) (log_room self.old)) }
         ensures cause { IfErr result (AppendCause self.old self.new run.now) }
         ensures kept { KeepsBounds self.old self.new }
         ensures appended { OnOk result (IsAppended self.old self.new run.now) }
         ensures written { D.is_observable
-            → OnOk result (Published (D.contents (device self.old)) (4096 * (tail_of self.old + 1)) run.now
-            (4096 * tail_of self.old) gate_block (D.contents (device self.new))) }
+            → OnOk result (Published (D.contents (log_device self.old)) (4096 * (log_tail self.old + 1)) run.now
+            (4096 * log_tail self.old) gate_block (D.contents (log_device self.new))) }
         // Given that the log was at rest with these bodies.
-        ensures at_rest { D.is_observable → (bodies : List (List ℕ)) → IsAtRest self.old bodies
-            → OnOk result (IsAtRest self.new (bodies ++ body_in_run run.now ∷ [])) }
-        ensures moments { D.is_observable → (bodies : List (List ℕ)) → IsAtRest self.old bodies
-            → LogLeaves self.old self.new (IsMoment (D.contents (device self.old)) (tail_of self.old) bodies (body_in_run run.now)) }
+        ensures at_rest { D.is_observable → (bodies : List (List ℕ)) → IsLogAtRest self.old bodies
+            → OnOk result (IsLogAtRest self.new (bodies ++ body_in_run run.now ∷ [])) }
+        ensures moments { D.is_observable → (bodies : List (List ℕ)) → IsLogAtRest self.old bodies
+            → LogLeaves self.old self.new (IsMoment (D.contents (log_device self.old)) (log_tail self.old) bodies (body_in_run run.now)) }
     {
         if self.stopped {
             return Err(AppendFault::Stopped {

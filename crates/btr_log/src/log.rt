@@ -31,7 +31,7 @@ pub struct Log<D: Disk> {
 }
 
 impl<D: Disk> Log<D> {
-    ghost use Rattle.btr_log.specs.Log.{device, tail_of, room_of, extents_of, is_stopped, faults_at, IsMadeOf};
+    ghost use Rattle.btr_log.specs.Log.{log_device, log_tail, log_room, extents_of, is_log_stopped, faults_at, IsLogMadeOf};
 
     /// The log on this device whose gate at the end is `tail`, with `extents` extents before it and
     /// `blocks` blocks to use. It is not stopped. It makes no call of the device.
@@ -40,7 +40,7 @@ impl<D: Disk> Log<D> {
         requires extents { extents ≤ tail }
         requires blocks { blocks ≤ D.size disk }
         requires addressable { blocks ≤ 2 ^ 32 }
-        ensures { IsMadeOf disk tail blocks extents result }
+        ensures { IsLogMadeOf disk tail blocks extents result }
     {
         let at = Snapshot::of(&disk);
         Log {
@@ -55,14 +55,14 @@ impl<D: Disk> Log<D> {
 
     /// The block of the gate at the end.
     pub fn tail(&self) -> u64
-        ensures { result ≡ tail_of self.now }
+        ensures { result ≡ log_tail self.now }
     {
         self.tail
     }
 
     /// The number of blocks after the gate at the end. An append needs those of its body and one more.
     pub fn room(&self) -> u64
-        ensures { result ≡ room_of self.now }
+        ensures { result ≡ log_room self.now }
     {
         self.blocks - 1 - self.tail
     }
@@ -76,15 +76,15 @@ impl<D: Disk> Log<D> {
 
     /// Whether the device failed in an append. Then its count of faults is above the one when the log was made.
     pub fn stopped(&self) -> bool
-        ensures stopped { result ≡ is_stopped self.now }
-        ensures faulted { IsTrue result → Rose (faults_at self.now) (D.faults (device self.now)) }
+        ensures stopped { result ≡ is_log_stopped self.now }
+        ensures faulted { IsTrue result → Rose (faults_at self.now) (D.faults (log_device self.now)) }
     {
         self.stopped
     }
 
     /// The device, as the log's calls left it.
     pub fn into_disk(self) -> D
-        ensures { result ≡ device self }
+        ensures { result ≡ log_device self }
     {
         self.disk
     }

@@ -4,7 +4,7 @@ ghost use Rattle.btr_disk.specs.Bytes.{Has, IsBlockRange};
 ghost use Rattle.btr_log.specs.Head.{Spells, IsNoHead};
 ghost use Rattle.btr_disk.specs.Moments.{WroteNothing};
 ghost use Rattle.btr_disk.specs.Causes.{KeepsCounts};
-ghost use Rattle.btr_log.specs.Log.{device, blocks_of, KeepsLog, KeepsDevice, LogWroteNothing};
+ghost use Rattle.btr_log.specs.Log.{log_device, log_blocks, KeepsLog, KeepsDevice, LogWroteNothing};
 ghost use Rattle.btr_log.specs.Found.{IsWhole, MatchesDevice, FindCause, ReadCause, ExtentCause};
 
 use crate::{ExtentFault, Found, HEAD_BYTES, Head, Log};
@@ -20,13 +20,13 @@ impl<D: Disk> Log<D> {
     ///
     /// It makes at most two calls of the device.
     pub fn read_extent(&mut self, alloc: Global, gate: u64) -> Result<Found, ExtentFault>
-        requires { gate < blocks_of self.old }
+        requires { gate < log_blocks self.old }
         ensures kept { KeepsLog self.old self.new }
-        ensures device { KeepsDevice self.old self.new }
-        ensures calls { D.calls (device self.new) ≤ D.calls (device self.old) + 2 }
+        ensures log_device { KeepsDevice self.old self.new }
+        ensures calls { D.calls (log_device self.new) ≤ D.calls (log_device self.old) + 2 }
         ensures unwritten { D.is_observable → LogWroteNothing self.old self.new }
-        ensures whole { IfOk result (IsWhole (blocks_of self.old) gate) }
-        ensures matches { D.is_observable → IfOk result (MatchesDevice (D.contents (device self.old)) gate) }
+        ensures whole { IfOk result (IsWhole (log_blocks self.old) gate) }
+        ensures matches { D.is_observable → IfOk result (MatchesDevice (D.contents (log_device self.old)) gate) }
         ensures cause { IfErr result (ExtentCause self.old self.new gate) }
     {
         find_extent(alloc, &mut self.disk, self.blocks, gate)

@@ -1,9 +1,9 @@
-//! Ranges, bags, aggregates, grids and spans by hand.
+//! Ranges, bags, aggregates, grids, spans and decimal numbers by hand.
 
 use super::fixture::{Row, all_hold};
 use btr_base::{
     Agg, Bag, Cell, END, FIRST, Grid, Point, Range, Ranges, Span, are_in_domain, limits_are_these,
-    slot_around,
+    negative, read_decimal, read_signed_decimal, slot_around,
 };
 use std::alloc::{AllocError, Global};
 use std::test::Fail;
@@ -517,4 +517,41 @@ const PARTED: &[Parted] = &[
 #[test]
 fn slots_of_spans(rt: HostRuntime) -> Result<(), Fail> {
     all_hold(rt.alloc(), PARTED)
+}
+
+/// A text, the number up to 255 that it writes, and the number within `i64`.
+struct Decimal(&'static str, Option<u64>, Option<i64>);
+
+impl Row for Decimal {
+    fn holds(&self, _alloc: Global) -> Result<bool, Fail> {
+        let text = self.0.as_bytes();
+        Ok(read_decimal(text, 255) == self.1 && read_signed_decimal(text) == self.2)
+    }
+}
+
+const DECIMALS: &[Decimal] = &[
+    Decimal("0", Some(0), Some(0)),
+    Decimal("007", Some(7), Some(7)),
+    Decimal("255", Some(255), Some(255)),
+    Decimal("256", None, Some(256)),
+    Decimal("-1", None, Some(-1)),
+    Decimal("-0", None, Some(0)),
+    Decimal("+1", None, None),
+    Decimal("", None, None),
+    Decimal("-", None, None),
+    Decimal("--1", None, None),
+    Decimal("1-", None, None),
+    Decimal("1 ", None, None),
+    Decimal("1a", None, None),
+    Decimal("9223372036854775807", None, Some(i64::MAX)),
+    Decimal("9223372036854775808", None, None),
+    Decimal("-9223372036854775808", None, Some(i64::MIN)),
+    Decimal("-9223372036854775809", None, None),
+    Decimal("18446744073709551616", None, None),
+];
+
+#[test]
+fn numbers_in_text(rt: HostRuntime) -> Result<(), Fail> {
+    assert!(rt; negative(1 << 63) == i64::MIN);
+    all_hold(rt.alloc(), DECIMALS)
 }

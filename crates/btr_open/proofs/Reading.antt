@@ -9,7 +9,7 @@ use Rattle.btr_disk.proofs.MomentLemmas.{none_written, nothing_composes}
 use Rattle.btr_disk.specs.Gate.{IsOpen, IsClosed}
 use Rattle.btr_log.specs.declared.head.Head.{Head}
 use Rattle.btr_log.specs.declared.log.Log.{Log}
-use Rattle.btr_log.specs.Log.{device, blocks_of}
+use Rattle.btr_log.specs.Log.{log_device, log_blocks}
 use Rattle.btr_log.specs.Extents.{need, IsExtent, Extents, first_gate}
 use Rattle.btr_log.proofs.ExtentLemmas.{Extents-push}
 use Rattle.btr_log.specs.Found.{IsWholeExtent}
@@ -22,7 +22,7 @@ use Rattle.btr_open.specs.declared.opening.OpenCause.{OpenCause}
 use Rattle.btr_engine.specs.Body.{body_of, need_of, bodies}
 use Rattle.btr_engine.proofs.BodyLemmas.{need-body_of, bodies-push}
 use Rattle.btr_engine.specs.Board.{Kept, IsBoardOf}
-use Rattle.btr_open.specs.Reading.{IsStoreOf, IsReadTo, CauseBetween, LogCause, OnlyReads, ReadsLog, IsAdded, IsReadLog}
+use Rattle.btr_open.specs.Reading.{IsStoreOf, IsReadTo, CauseBetween, LogCause, OnlyReads, ReadsLog, AddsEntry, IsReadLog}
 use Rattle.btr_open.proofs.OpenCauses.{OpenCauseHolds-along}
 use Rattle.btr_open.proofs.Synced.{counts-trans}
 
@@ -66,7 +66,7 @@ module _ {D : Type 0} {disk : Ghosts D} where
       stopped = second.kept.stopped ∙ first.kept.stopped;
       faults = second.kept.faults ∙ first.kept.faults;
     };
-    reads = OnlyReads-trans (device old) (device mid) (device new) first.reads second.reads;
+    reads = OnlyReads-trans (log_device old) (log_device mid) (log_device new) first.reads second.reads;
   }
 
   -- These entries were read, in this number of extents, from the first gate to this one, and the board is of them.
@@ -75,17 +75,17 @@ module _ {D : Type 0} {disk : Ghosts D} where
     pub reads : ReadsLog old new
     pub counted : entries ≡ board.entries
     pub ends : 2 * entries + 4 ≤ gate
-    pub inside : gate < blocks_of old
+    pub inside : gate < log_blocks old
     pub spelled : AllByRecursion IsSpelled h
     pub follows : Follows h
-    pub extents : disk.is_observable → Extents (disk.contents (device old)) first_gate (bodies h) gate
+    pub extents : disk.is_observable → Extents (disk.contents (log_device old)) first_gate (bodies h) gate
 
   -- The entries of some history were read.
   abbrev pub HasRead : Log D disk → Log D disk → Kept → ℕ → ℕ → Type 0
   HasRead old new board gate entries = (h : List Entry) × IsRead old new board gate entries h
 
   -- At first none was read. `only_now` is the device's law.
-  pub none_read : (log : Log D disk) (board : Kept) → (disk.is_observable → (c : Image) → disk.images_since (device log) (disk.calls (device log)) c → disk.images_now (device log) c) → IsBoardOf [] board → 4 < blocks_of log → HasRead log log board 4 0
+  pub none_read : (log : Log D disk) (board : Kept) → (disk.is_observable → (c : Image) → disk.images_since (log_device log) (disk.calls (log_device log)) c → disk.images_now (log_device log) c) → IsBoardOf [] board → 4 < log_blocks log → HasRead log log board 4 0
   none_read log board only_now of least = (
     [],
     record {
@@ -94,7 +94,7 @@ module _ {D : Type 0} {disk : Ghosts D} where
         kept = record { tail = refl; blocks = refl; extents = refl; stopped = refl; faults = refl };
         reads = record {
           counts = record { same_size = refl; more_calls = omega arith; more_faults = omega arith };
-          nothing = λ told. none_written disk.calls disk.images_since disk.contents disk.images_now (device log) (only_now told);
+          nothing = λ told. none_written disk.calls disk.images_since disk.contents disk.images_now (log_device log) (only_now told);
         };
       };
       counted = sym of.entries;
@@ -107,12 +107,12 @@ module _ {D : Type 0} {disk : Ghosts D} where
   )
 
   module _ (old mid : Log D disk) (board : Kept) (gate entries : ℕ) (h : List Entry) (so_far : IsRead old mid board gate entries h) where
-    same_so_far : disk.is_observable → disk.contents (device mid) ≡ disk.contents (device old)
+    same_so_far : disk.is_observable → disk.contents (log_device mid) ≡ disk.contents (log_device old)
     same_so_far told =
-        Same-is (disk.contents (device old)) (disk.contents (device mid)) (so_far.reads.reads.nothing told).same
+        Same-is (disk.contents (log_device old)) (disk.contents (log_device mid)) (so_far.reads.reads.nothing told).same
 
     -- One entry more was read.
-    pub read_more : (new : Log D disk) → ReadsLog mid new → (e : Entry) (next : ℕ) (more : Kept) → IsAdded mid gate board more e next → HasRead old new more next (entries + 1)
+    pub read_more : (new : Log D disk) → ReadsLog mid new → (e : Entry) (next : ℕ) (more : Kept) → AddsEntry mid gate board more e next → HasRead old new more next (entries + 1)
     read_more new reads e next more added =
         let of = (added h so_far.of).0 in
         let found = (added h so_far.of).1 in (
@@ -126,7 +126,7 @@ module _ {D : Type 0} {disk : Ghosts D} where
             spelled = spelled-push h e so_far.spelled found.spelled;
             follows = follows-push h e so_far.follows found.allowed;
             extents = λ told.
-                let image = disk.contents (device old) in
+                let image = disk.contents (log_device old) in
                 let stands = found.extent told in
                 let here : IsExtent image gate (body_of (length h + 1) e) stands.0 = subst (λ i. IsExtent i gate (body_of (length h + 1) e) stands.0) (same_so_far told) stands.1 in
                 extents-push image gate next h e stands.0 (so_far.extents told) here found.after;
@@ -134,7 +134,7 @@ module _ {D : Type 0} {disk : Ghosts D} where
         )
 
     -- The gate at the end is closed: all were read.
-    pub read_all : (new : Log D disk) (last : Kept) → last ≡ board → ReadsLog mid new → (disk.is_observable → IsClosed (disk.contents (device mid)) gate) → ReadsLog old new × IsReadLog old last gate entries
+    pub read_all : (new : Log D disk) (last : Kept) → last ≡ board → ReadsLog mid new → (disk.is_observable → IsClosed (disk.contents (log_device mid)) gate) → ReadsLog old new × IsReadLog old last gate entries
     read_all new last same reads closed = (
       ReadsLog-trans old mid new so_far.reads reads,
       subst (λ b. IsReadLog old b gate entries) (sym same) (record {
@@ -151,19 +151,19 @@ module _ {D : Type 0} {disk : Ghosts D} where
     )
 
     -- Why the next one was not read.
-    pub cause_so_far : (new : Log D disk) → ReadsLog mid new → (cause : OpenCause) → CauseBetween disk (IsReadTo disk.is_observable (disk.size (device mid)) (disk.contents (device mid)) (blocks_of mid) gate h) (device mid) (device new) cause → LogCause disk (blocks_of old) (device old) (device new) cause
+    pub cause_so_far : (new : Log D disk) → ReadsLog mid new → (cause : OpenCause) → CauseBetween disk (IsReadTo disk.is_observable (disk.size (log_device mid)) (disk.contents (log_device mid)) (log_blocks mid) gate h) (log_device mid) (log_device new) cause → LogCause disk (log_blocks old) (log_device old) (log_device new) cause
     cause_so_far new reads cause is =
-        let d0 = device old in
-        let d1 = device mid in
+        let d0 = log_device old in
+        let d1 = log_device mid in
         let size : disk.size d1 ≡ disk.size d0 = so_far.reads.reads.counts.same_size in
-        OpenCauseHolds-along (IsReadTo disk.is_observable (disk.size d1) (disk.contents d1) (blocks_of mid) gate h) (disk.is_observable × IsStoreOf (disk.size d0) (disk.contents d0) (blocks_of old))
-        (disk.size d1) (disk.size d0) (disk.contents d1) (disk.contents d0) (disk.faults d0) (disk.faults d1) (disk.faults (device new)) (disk.faults (device new)) cause
+        OpenCauseHolds-along (IsReadTo disk.is_observable (disk.size d1) (disk.contents d1) (log_blocks mid) gate h) (disk.is_observable × IsStoreOf (disk.size d0) (disk.contents d0) (log_blocks old))
+        (disk.size d1) (disk.size d0) (disk.contents d1) (disk.contents d0) (disk.faults d0) (disk.faults d1) (disk.faults (log_device new)) (disk.faults (log_device new)) cause
         (λ r. (
           r.0,
           so_far.spelled,
           so_far.follows,
           subst (λ i. Extents i first_gate (bodies h) gate) (sym (same_so_far r.0)) (so_far.extents r.0),
-          subst (λ n. IsStoreOf n (disk.contents d1) (blocks_of mid)) (sym size)
-              (subst (λ i. IsStoreOf (disk.size d0) i (blocks_of mid)) (sym (same_so_far r.0)) (subst (IsStoreOf (disk.size d0) (disk.contents d0)) (sym so_far.reads.kept.blocks) r.1)),
+          subst (λ n. IsStoreOf n (disk.contents d1) (log_blocks mid)) (sym size)
+              (subst (λ i. IsStoreOf (disk.size d0) i (log_blocks mid)) (sym (same_so_far r.0)) (subst (IsStoreOf (disk.size d0) (disk.contents d0)) (sym so_far.reads.kept.blocks) r.1)),
         ))
         (λ r. (size, same_so_far r.0)) so_far.reads.reads.counts.more_faults (omega arith) is

@@ -62,19 +62,19 @@ module _ {D : Type 0} {disk : Ghosts D} where
   -- The log is as before, but for its device, on which nothing was written.
   pub record ReadsLog (old new : Log D disk) : Type 0 where
     pub kept : log.KeepsLog old new
-    pub reads : OnlyReads disk (log.device old) (log.device new)
+    pub reads : OnlyReads disk (log.log_device old) (log.log_device new)
 
   -- The entry that was read at this gate: it may follow these entries, and the next gate is after it.
   pub record IsNextEntry (l : Log D disk) (gate : ℕ) (h : List Entry) (e : Entry) (next : ℕ) : Type 0 where
     pub spelled : IsSpelled e
     pub allowed : rejection h e ≡ None
     pub after : next ≡ gate + need_of e
-    pub inside : next < log.blocks_of l
-    pub extent : disk.is_observable → (head : Head) × IsExtent (disk.contents (log.device l)) gate (body_of (length h + 1) e) head
+    pub inside : next < log.log_blocks l
+    pub extent : disk.is_observable → (head : Head) × IsExtent (disk.contents (log.log_device l)) gate (body_of (length h + 1) e) head
 
   -- For each history that the old board is of, the entry is the next one, and the new board is of the history with it.
-  abbrev pub IsAdded : Log D disk → ℕ → Kept → Kept → Entry → ℕ → Type 0
-  IsAdded l gate old new e next =
+  abbrev pub AddsEntry : Log D disk → ℕ → Kept → Kept → Entry → ℕ → Type 0
+  AddsEntry l gate old new e next =
       (h : List Entry) → IsBoardOf h old → IsBoardOf (h ++ e ∷ []) new × IsNextEntry l gate h e next
 
   -- The log has the entries of a history that the board is of, and the gate at its end is closed.
@@ -83,8 +83,8 @@ module _ {D : Type 0} {disk : Ghosts D} where
     pub of : IsBoardOf history board
     pub counted : entries ≡ board.entries
     pub ends : 2 * entries + 4 ≤ tail
-    pub inside : tail < log.blocks_of l
+    pub inside : tail < log.log_blocks l
     pub spelled : AllByRecursion IsSpelled history
     pub follows : Follows history
-    pub extents : disk.is_observable → Extents (disk.contents (log.device l)) first_gate (bodies history) tail
-    pub closed : disk.is_observable → IsClosed (disk.contents (log.device l)) tail
+    pub extents : disk.is_observable → Extents (disk.contents (log.log_device l)) first_gate (bodies history) tail
+    pub closed : disk.is_observable → IsClosed (disk.contents (log.log_device l)) tail

@@ -2,7 +2,7 @@
 ghost use Rattle.std.specs.Prelude.{◌≡◌, ℕ, ◌+◌, ◌<◌, ◌≤◌, ◌^◌, List, [], IfErr, IfOk, IfSome, IfNone};
 ghost use Rattle.btr_disk.specs.Causes.{KeepsCounts};
 ghost use Rattle.btr_disk.specs.Gate.{IsClosed};
-ghost use Rattle.btr_log.specs.Log.{device as disk_of, blocks_of};
+ghost use Rattle.btr_log.specs.Log.{log_device as disk_of, log_blocks};
 ghost use Rattle.btr_super.specs.Super.{IsSuper};
 ghost use Rattle.btr_super.specs.Choose.{IsChosen};
 ghost use Rattle.btr_hist.specs.declared.entry.Entry.{Entry as EntrySpec};
@@ -10,7 +10,7 @@ ghost use Rattle.btr_engine.specs.Board.{IsBoardOf};
 ghost use Rattle.btr_engine.specs.Holds.{HoldsHistory};
 ghost use Rattle.btr_open.specs.Opening.{KeepsDisk, SyncsFirst, IsOpened, IsOpenedOn, IsNotOpened};
 ghost use Rattle.btr_open.specs.Reading.{IsReadTo, CauseBetween, LogCause, OnlyReads};
-ghost use Rattle.btr_open.specs.Reading.{IsReadEngine, ReadsLog, IsAdded, IsReadLog};
+ghost use Rattle.btr_open.specs.Reading.{IsReadEngine, ReadsLog, AddsEntry, IsReadLog};
 
 use crate::decoding::decode_extent;
 use btr_disk::{Disk, Failed};
@@ -156,11 +156,11 @@ struct End {
 
 /// Reads the entries of a log into an empty board, from the first gate on up to the first closed gate.
 fn read_log<D: Disk>(alloc: Global, log: &mut Log<D>, board: &mut Board) -> Result<End, OpenCause>
-    requires least { 4 < blocks_of log.old }
+    requires least { 4 < log_blocks log.old }
     requires empty { IsBoardOf [] board.old }
     ensures reads { ReadsLog log.old log.new }
     ensures read { IfOk result (λ end. IsReadLog log.old board.new end.tail end.entries) }
-    ensures cause { IfErr result (LogCause ⟦<D as Disk>⟧ (blocks_of log.old) (disk_of log.old) (disk_of log.new)) }
+    ensures cause { IfErr result (LogCause ⟦<D as Disk>⟧ (log_blocks log.old) (disk_of log.old) (disk_of log.new)) }
 {
     let mut gate = LOG_START;
     let mut entries = 0;
@@ -183,14 +183,14 @@ fn read_next<D: Disk>(
     gate: u64,
     number: u64,
 ) -> Result<Option<u64>, OpenCause>
-    requires inside { gate < blocks_of log.old }
+    requires inside { gate < log_blocks log.old }
     requires number { number ≡ board.old.entries + 1 }
     ensures reads { ReadsLog log.old log.new }
     ensures same { IfOk result (λ o. IfNone o (board.new ≡ board.old)) }
     ensures closed { D.is_observable → IfOk result (λ o. IfNone o (IsClosed (D.contents (disk_of log.old)) gate)) }
-    ensures next { IfOk result (λ o. IfSome o (λ next. (e : EntrySpec) × IsAdded log.old gate board.old board.new e next)) }
+    ensures next { IfOk result (λ o. IfSome o (λ next. (e : EntrySpec) × AddsEntry log.old gate board.old board.new e next)) }
     ensures cause { (h : List EntrySpec) → IsBoardOf h board.old → IfErr result (CauseBetween ⟦<D as Disk>⟧
-        (IsReadTo D.is_observable (D.size (disk_of log.old)) (D.contents (disk_of log.old)) (blocks_of log.old) gate h)
+        (IsReadTo D.is_observable (D.size (disk_of log.old)) (D.contents (disk_of log.old)) (log_blocks log.old) gate h)
         (disk_of log.old) (disk_of log.new)) }
 {
     let found = match log.read_extent(alloc, gate) {

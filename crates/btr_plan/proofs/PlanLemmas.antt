@@ -207,7 +207,7 @@ current-change h p is current =
 
 -- If no other version has followed, the entry of the plan is the one that the model lands.
 pub plan-entry : (h : List Entry) (p : PlanValue) (is : IsPlanOf h p) → IsCurrent h p → entry_of p ≡ landing h (landing_of p) is.spec
-plan-entry h p is current = ap (λ (c : Change). machine.entry_of p.stream c p.reads) (current-change h p is current)
+plan-entry h p is current = ap (λ (c : Change). machine.distillate_entry p.stream c p.reads) (current-change h p is current)
 
 -- ---- why its entry may not follow
 

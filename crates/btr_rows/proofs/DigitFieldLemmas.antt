@@ -6,7 +6,7 @@ use Rattle.std.specs.Str.Parse.{digits_value, digits_value_after}
 use Rattle.std.proofs.lemmas.Bool.{and_parts, and_from, lt-ltb, le-leb}
 use Rattle.std.proofs.lemmas.Bool.Decides.{nat_tests}
 use Rattle.std.proofs.lemmas.List.{take_more}
-use Rattle.btr_rows.specs.Field.{number_up_to, signed_of}
+use Rattle.btr_base.specs.Decimal.{number_up_to, signed_of}
 use Rattle.btr_rows.specs.Reading.{ends_field, field_size}
 use Rattle.btr_rows.proofs.SmallLemmas.{one_more}
 

@@ -1,5 +1,4 @@
 mod DigitFieldLemmas
-mod DigitLemmas
 mod BuilderLemmas
 mod FieldLemmas
 mod PlainLemmas

@@ -4,10 +4,10 @@ use Rattle.std.specs.List.{flat_map, range_with_len}
 use Rattle.std.specs.Int.{to_be_bytes, w128}
 use Rattle.std.proofs.lemmas.List.{flat_map_more}
 use Rattle.uuid.specs.Text.{hyphenated_text, lower}
-use Rattle.btr_rows.specs.Sample.{id_text, next_state, state_at}
+use Rattle.btr_rows.specs.Sample.{row_id_text, next_state, state_at}
 
 -- The text of an id is the text of its bytes.
-pub text_of_id : (text bytes form : List ℕ) (id : ℕ) → text ≡ hyphenated_text lower form → form ≡ bytes → bytes ≡ to_be_bytes w128 id → text ≡ id_text id
+pub text_of_id : (text bytes form : List ℕ) (id : ℕ) → text ≡ hyphenated_text lower form → form ≡ bytes → bytes ≡ to_be_bytes w128 id → text ≡ row_id_text id
 text_of_id text bytes form id t f b = t ∙ ap (hyphenated_text lower) (f ∙ b)
 
 range-more : (a n : ℕ) → range_with_len a (n + 1) ≡ range_with_len a n ++ (a + n) ∷ []

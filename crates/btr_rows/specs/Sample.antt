@@ -20,8 +20,8 @@ abbrev pub draw : ℕ → ℕ → ℕ
 draw number n = state_at number n / 65536
 
 -- The text of an id, hyphenated and in lower case.
-abbrev pub id_text : ℕ → List ℕ
-id_text id = hyphenated_text lower (to_be_bytes w128 id)
+abbrev pub row_id_text : ℕ → List ℕ
+row_id_text id = hyphenated_text lower (to_be_bytes w128 id)
 
 -- The time of a point, in nanoseconds, and its value. An instant is 1,000 ns after the one before, and the number that was drawn
 -- moves the time by less than that.
@@ -34,7 +34,7 @@ sample_value drawn = pos (drawn % 2001) -ℤ pos 1000
 -- The row of a stream at an instant. Both count from 0, and the ids count from 1.
 abbrev pub sample_row : ℕ → ℕ → ℕ → List ℕ
 sample_row stream instant drawn =
-    id_text (stream + 1) ++ COMMA ∷ decimal (sample_time instant drawn) ++ COMMA ∷ signed_decimal (sample_value drawn) ++ LINE_FEED ∷ []
+    row_id_text (stream + 1) ++ COMMA ∷ decimal (sample_time instant drawn) ++ COMMA ∷ signed_decimal (sample_value drawn) ++ LINE_FEED ∷ []
 
 -- The rows of an instant, one of each stream, if `before` numbers were drawn before it.
 abbrev pub instant_rows : ℕ → ℕ → ℕ → ℕ → List ℕ

@@ -1,15 +1,17 @@
-ghost use Rattle.std.specs.Prelude.{◌≡◌, ◌≢◌, ◌≤◌, ◌<◌, ◌==◌, ◌-◌, ◌^◌, ℕ, nat_lt, true, Some, IfSome};
+ghost use Rattle.std.specs.Prelude.{◌≡◌, ◌≢◌, ◌≤◌, ◌<◌, ◌==◌, ◌-◌, ◌^◌, ℕ, nat_lt, pos, true, Some, IfSome};
 ghost use Rattle.std.specs.Prelude.{List, ◌∷◌, length, take, drop, slice_index};
 ghost use Rattle.std.specs.List.{list_all, prefix_len};
 ghost use Rattle.std.specs.Char.{is_ascii_digit};
-ghost use Rattle.btr_rows.specs.Field.{id_of, number_up_to, signed_of};
+ghost use Rattle.btr_base.specs.Decimal.{number_up_to, signed_of};
+ghost use Rattle.btr_rows.specs.Field.{row_id_of};
 ghost use Rattle.btr_rows.specs.Row.{row_of};
 ghost use Rattle.btr_rows.specs.Rows.{records_of};
 ghost use Rattle.btr_rows.specs.Reading.{ends_field, ends_line, field_size};
 
-use crate::field::{MINUS, negative, positive, read_id, read_signed};
+use crate::field::read_id;
 use crate::record::row_from;
 use crate::row::{Row, RowReason};
+use btr_base::{MINUS, negative, read_signed_decimal};
 
 /// The byte between two fields.
 pub const COMMA: u8 = b',';
@@ -53,7 +55,7 @@ pub fn plain_row(text: &[u8]) -> Option<(Result<Row, RowReason>, &[u8])>
 /// Reads the id that a text begins with, up to the end of its first field. Returns `None` if the text begins with a quote.
 fn id_field(text: &[u8]) -> Option<(Option<u128>, &[u8])>
     ensures quote { IfSome result (λ r. slice_index text.now 0 ≢ QUOTE) }
-    ensures value { IfSome result (λ r. r.0 ≡ id_of (take (field_size text.now) text.now)) }
+    ensures value { IfSome result (λ r. r.0 ≡ row_id_of (take (field_size text.now) text.now)) }
     ensures rest { IfSome result (λ r. r.1.now ≡ drop (field_size text.now) text.now) }
 {
     if begins_with(text, QUOTE) {
@@ -102,7 +104,7 @@ fn number_field(text: &[u8]) -> Option<(Option<i64>, &[u8])>
         return Some((Some(number), rest));
     }
     let (field, rest) = text.split_at(field_length(text));
-    Some((read_signed(field), rest))
+    Some((read_signed_decimal(field), rest))
 }
 
 /// Reads the number that a text begins with, if it is within `i64` by a good margin and another byte ends its field.
@@ -120,6 +122,14 @@ fn short_number(text: &[u8]) -> Option<(i64, &[u8])>
             Some((positive(number), rest))
         }
     }
+}
+
+/// Returns `size`.
+fn positive(size: u64) -> i64
+    requires { size < 2 ^ 63 }
+    ensures { result ≡ pos size }
+{
+    size as i64
 }
 
 /// Reads the digits that a text begins with, if there is one and a byte that ends a field follows them.

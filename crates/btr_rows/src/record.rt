@@ -2,9 +2,9 @@ ghost use Rattle.std.specs.Prelude.{◌≡◌};
 ghost use Rattle.csv.specs.Records.{fields_of};
 ghost use Rattle.btr_rows.specs.Row.{first_reason, row_of};
 
-use crate::field::{read_id, read_signed};
+use crate::field::read_id;
 use crate::row::{Row, RowReason};
-use btr_base::Point;
+use btr_base::{Point, read_signed_decimal};
 use csv::ByteRecord;
 
 /// Reads what a record of any number of fields says.
@@ -16,7 +16,11 @@ pub fn read_record(row: &ByteRecord) -> Result<Row, RowReason>
     }
     match (row.get(0), row.get(1), row.get(2)) {
         (Some(id), Some(time), Some(value)) => {
-            row_from(read_id(id), read_signed(time), read_signed(value))
+            row_from(
+                read_id(id),
+                read_signed_decimal(time),
+                read_signed_decimal(value),
+            )
         }
         _ => Err(RowReason::Fields),
     }

@@ -1,5 +1,5 @@
 ghost use Rattle.std.specs.Prelude.{◌≡◌, ◌+◌, ◌<◌, ◌^◌, ◌++◌, ◌≤◌, ℕ, [], ◌∷◌, length, OnOk, IfOk};
-ghost use Rattle.btr_rows.specs.Sample.{id_text, instant_rows, next_state, sample_row, sample_text, sample_time, sample_value, state_at};
+ghost use Rattle.btr_rows.specs.Sample.{row_id_text, instant_rows, next_state, sample_row, sample_text, sample_time, sample_value, state_at};
 
 use crate::plain::{COMMA, LINE_FEED};
 use itoa::Buffer;
@@ -106,7 +106,7 @@ fn sample_value(drawn: u64) -> i64
 /// Writes the text of an id into the buffer: hyphenated, in lower case.
 fn id_text(id: u128, buffer: &mut [u8]) -> &str
     requires { 36 ≤ length buffer.old }
-    ensures { result.now ≡ id_text id }
+    ensures { result.now ≡ row_id_text id }
 {
     Uuid::from_u128(id).hyphenated().encode_lower(buffer)
 }

@@ -6,7 +6,8 @@ use Rattle.std.specs.Option.{IfSome, option_map_or}
 use Rattle.std.specs.Prelude.{codes, nat_eq}
 use Rattle.std.specs.Str.Parse.{digits_value}
 use Rattle.std.proofs.lemmas.Bool.Decides.{nat_tests}
-use Rattle.btr_text.specs.Word.{lane_of, number_up_to, words_of}
+use Rattle.btr_base.specs.Decimal.{number_up_to}
+use Rattle.btr_text.specs.Word.{lane_of, words_of}
 use Rattle.btr_text.specs.Input.{HaveLanes, asked, in_lane, input_line, said}
 
 at_most_7 : (a : Bool) (n : ℕ) → IfSome (cond (a && leb n 7) (Some n) None) (λ lane. lane < 8)

@@ -1,10 +1,11 @@
 -- The forms of the lines on outputs: one that defines an output by a kernel, and one that brings it up to date.
 use Rattle.std.specs.Prelude.{ℕ, List, [], ◌∷◌, if◌then◌else◌, codes, bytes_eq, Option, Some, None, option_map, option_and_then}
+use Rattle.btr_base.specs.Decimal.{signed_of}
 use Rattle.btr_hist.specs.declared.kernel.Kernel.{Kernel}
 use Rattle.btr_hist.specs.declared.kernel.Kernel.TheVariants.{Affine, Sum, Mean, Least, Greatest, Count, Delta, Minus, Angle, Hold}
 use Rattle.btr_text.specs.declared.script.Line.{Line}
 use Rattle.btr_text.specs.declared.script.Line.TheVariants.{Distiller, Refresh}
-use Rattle.btr_text.specs.Word.{signed_of, unsigned_of, power_of, id_of}
+use Rattle.btr_text.specs.Word.{unsigned_of, power_of, id_of}
 
 -- The kernel that one word names. `affine` is not among them, since three numbers follow it.
 abbrev pub kernel_of : List ℕ → Option Kernel

@@ -2,12 +2,13 @@
 use Rattle.std.specs.Prelude.{ℕ, List, [], ◌∷◌, if◌then◌else◌, codes, bytes_eq, Option, Some, None, option_map, option_and_then}
 use Rattle.btr_base.specs.declared.point.Point.{Point}
 use Rattle.btr_base.specs.Bag.{sort}
+use Rattle.btr_base.specs.Decimal.{signed_of}
 use Rattle.btr_hist.specs.declared.query.StreamQuery.{StreamQuery}
 use Rattle.btr_hist.specs.declared.query.StreamQuery.TheVariants.{Points, Nearest, Aligned, Windows, Changes, Info}
 use Rattle.btr_text.specs.declared.script.Line.{Line}
 use Rattle.btr_text.specs.declared.script.Line.TheVariants.{Create, Insert, Delete, Feed, Flush, Discard, Ask, Streams}
 use Rattle.btr_text.specs.Distiller.{distiller_form, refresh_form}
-use Rattle.btr_text.specs.Word.{signed_of, unsigned_of, power_of, toward_of, id_of, at_of}
+use Rattle.btr_text.specs.Word.{unsigned_of, power_of, toward_of, id_of, at_of}
 
 -- ---- commits and feeds
 

@@ -5,7 +5,8 @@ ghost use Rattle.btr_text.specs.Distiller.{kernel_of, affine_of, second_of, inpu
 ghost use Rattle.btr_text.specs.Distiller.{distiller_form, refresh_form};
 
 use crate::script::Line;
-use crate::word::{next_word, read_id, read_power, read_signed, read_unsigned};
+use crate::word::{next_word, read_id, read_power, read_unsigned};
+use btr_base::read_signed_decimal;
 use btr_hist::Kernel;
 
 /// Reads `distiller ID KERNEL LEAD GRAIN ID [ID]`, after its name.
@@ -84,9 +85,9 @@ fn read_affine(a: &[u8], b: &[u8], d: &[u8]) -> Option<Kernel>
     ensures { result ≡ affine_of a.now b.now d.now }
 {
     Some(Kernel::Affine {
-        a: read_signed(a)?,
-        b: read_signed(b)?,
-        d: read_signed(d)?,
+        a: read_signed_decimal(a)?,
+        b: read_signed_decimal(b)?,
+        d: read_signed_decimal(d)?,
     })
 }
 

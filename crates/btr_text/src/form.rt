@@ -7,10 +7,8 @@ ghost use Rattle.btr_text.specs.Form.{query_form, ask_form, streams_form, line_o
 
 use crate::distiller_form::{read_distiller, read_refresh};
 use crate::script::Line;
-use crate::word::{
-    next_word, read_at, read_id, read_power, read_signed, read_toward, read_unsigned,
-};
-use btr_base::{Bag, Point};
+use crate::word::{next_word, read_at, read_id, read_power, read_toward, read_unsigned};
+use btr_base::{Bag, Point, read_signed_decimal};
 use btr_hist::StreamQuery;
 use std::alloc::{AllocError, Global};
 
@@ -77,8 +75,8 @@ fn read_delete(words: &[u8]) -> Option<Line>
     }
     Some(Line::Delete {
         id: read_id(id)?,
-        from: read_signed(from)?,
-        to: read_signed(to)?,
+        from: read_signed_decimal(from)?,
+        to: read_signed_decimal(to)?,
     })
 }
 
@@ -167,8 +165,8 @@ fn read_range(words: &[u8]) -> Option<StreamQuery>
         return None;
     }
     Some(StreamQuery::Points {
-        from: read_signed(from)?,
-        to: read_signed(to)?,
+        from: read_signed_decimal(from)?,
+        to: read_signed_decimal(to)?,
         at: read_at(at)?,
     })
 }
@@ -184,7 +182,7 @@ fn read_nearest(words: &[u8]) -> Option<StreamQuery>
         return None;
     }
     Some(StreamQuery::Nearest {
-        time: read_signed(time)?,
+        time: read_signed_decimal(time)?,
         toward: read_toward(toward)?,
         at: read_at(at)?,
     })
@@ -202,8 +200,8 @@ fn read_aligned(words: &[u8]) -> Option<StreamQuery>
         return None;
     }
     Some(StreamQuery::Aligned {
-        from: read_signed(from)?,
-        to: read_signed(to)?,
+        from: read_signed_decimal(from)?,
+        to: read_signed_decimal(to)?,
         p: read_power(power)?,
         at: read_at(at)?,
     })
@@ -221,8 +219,8 @@ fn read_windows(words: &[u8]) -> Option<StreamQuery>
         return None;
     }
     Some(StreamQuery::Windows {
-        from: read_signed(from)?,
-        to: read_signed(to)?,
+        from: read_signed_decimal(from)?,
+        to: read_signed_decimal(to)?,
         width: read_unsigned(width)?,
         at: read_at(at)?,
     })
@@ -299,7 +297,7 @@ fn read_point(time: &[u8], value: &[u8]) -> Option<Point>
     ensures { result ≡ point_of time.now value.now }
 {
     Some(Point {
-        time: read_signed(time)?,
-        value: read_signed(value)?,
+        time: read_signed_decimal(time)?,
+        value: read_signed_decimal(value)?,
     })
 }

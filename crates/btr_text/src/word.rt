@@ -1,9 +1,8 @@
-ghost use Rattle.std.specs.Prelude.{◌≡◌, ◌<◌, ◌≤◌, ◌^◌, pos, neg_ℤ, ◌==◌, not, [], ◌∷◌, length, MatchOption, IfSome};
+ghost use Rattle.std.specs.Prelude.{◌≡◌, ◌<◌, ◌≤◌, ◌==◌, not, [], ◌∷◌, length, MatchOption, IfSome};
 ghost use Rattle.std.specs.List.{prefix_len};
-ghost use Rattle.btr_text.specs.Word.{words_of, number_up_to, next_number, unsigned_of, power_of, toward_of, signed_of, id_of, at_of};
-ghost use Rattle.btr_text.specs.Word.{lane_of};
+ghost use Rattle.btr_text.specs.Word.{words_of, unsigned_of, power_of, toward_of, id_of, at_of, lane_of};
 
-use btr_base::Toward;
+use btr_base::{Toward, read_decimal};
 use btr_hist::At;
 use uuid::Uuid;
 
@@ -12,9 +11,6 @@ pub const LINE_FEED: u8 = b'\n';
 
 /// The byte that separates words.
 pub const SPACE: u8 = b' ';
-
-/// The sign of a number below 0.
-pub const MINUS: u8 = b'-';
 
 /// The byte before the number of a lane.
 pub const LANE_MARK: u8 = b'@';
@@ -62,14 +58,14 @@ fn word_length(line: &[u8]) -> usize
 pub fn read_unsigned(word: &[u8]) -> Option<u64>
     ensures { result ≡ unsigned_of word.now }
 {
-    read_number(word, u64::MAX)
+    read_decimal(word, u64::MAX)
 }
 
 /// Reads the exponent of a power of two: decimal digits, at most 255.
 pub fn read_power(word: &[u8]) -> Option<u8>
     ensures { result ≡ power_of word.now }
 {
-    Some(read_number(word, 255)? as u8)
+    Some(read_decimal(word, 255)? as u8)
 }
 
 /// Reads a direction: `next` is forward, `prev` is backward.
@@ -83,59 +79,6 @@ pub fn read_toward(word: &[u8]) -> Option<Toward>
     } else {
         None
     }
-}
-
-/// Reads a number within `i64`: decimal digits, with or without a minus in front.
-pub fn read_signed(word: &[u8]) -> Option<i64>
-    ensures { result ≡ signed_of word.now }
-{
-    let (first, rest) = word.split_first()?;
-    if *first == MINUS {
-        Some(negative(read_number(rest, 1 << 63)?))
-    } else {
-        Some(read_number(word, i64::MAX as u64)? as i64)
-    }
-}
-
-/// Returns minus `size`.
-fn negative(size: u64) -> i64
-    requires { size ≤ 2 ^ 63 }
-    ensures { result ≡ neg_ℤ (pos size) }
-{
-    if size == 1 << 63 {
-        i64::MIN
-    } else {
-        -(size as i64)
-    }
-}
-
-/// Reads a number of decimal digits and nothing else. Returns `None` if there is no digit or it is above `most`.
-fn read_number(word: &[u8], most: u64) -> Option<u64>
-    ensures number { result ≡ number_up_to most word.now }
-    ensures within { IfSome result (λ n. n ≤ most) }
-{
-    if word.is_empty() {
-        return None;
-    }
-    let mut number = 0;
-    for digit in word {
-        number = next_number(number, *digit, most)?;
-    }
-    Some(number)
-}
-
-/// Returns the number with one more digit. Returns `None` if the byte is no digit or the result is above `most`.
-fn next_number(number: u64, digit: u8, most: u64) -> Option<u64>
-    ensures { result ≡ next_number number digit most }
-{
-    if !digit.is_ascii_digit() {
-        return None;
-    }
-    let next = number.checked_mul(10)?.checked_add((digit - b'0') as u64)?;
-    if next > most {
-        return None;
-    }
-    Some(next)
 }
 
 /// Reads the id of a stream: the text of a UUID in any of its forms (RFC 9562).
@@ -166,5 +109,5 @@ pub fn read_lane(word: &[u8]) -> Option<u8>
     if *mark != LANE_MARK || number.len() != 1 {
         return None;
     }
-    Some(read_number(number, 7)? as u8)
+    Some(read_decimal(number, 7)? as u8)
 }

@@ -9,7 +9,7 @@ use Rattle.btr_base.specs.Bag.{IsInOrder, sort, outside}
 use Rattle.btr_base.proofs.PointLemmas.{sort-in_order, sort-of_order}
 use Rattle.btr_base.specs.Span.{width}
 use Rattle.btr_base.proofs.WithinLemmas.{within-after, within-in_order}
-use Rattle.btr_tree.specs.History.{Commit, Past, Opened, ◌▷◌, after, bag}
+use Rattle.btr_tree.specs.History.{Commit, Past, Opened, ◌▷◌, with_commit, bag}
 use Rattle.btr_tree.specs.Nodes.{points_of, has_points, touches, last_change, up_to}
 
 pub bag-in_order : (h : Past) → IsInOrder (bag h)
@@ -20,7 +20,7 @@ pub points-in_order : (k : ℕ) (s : ℤ) (h : Past) → IsInOrder (points_of k 
 points-in_order k s h = within-in_order s (s +ℤ pos (width k)) (bag h) (bag-in_order h)
 
 -- The points of a span after a commit.
-pub points-after : (k : ℕ) (s : ℤ) (c : Commit) (b : List Point) → points_of k s (after c b) ≡ sort (outside (points_of k s b) c.cut ++ points_of k s c.added)
+pub points-after : (k : ℕ) (s : ℤ) (c : Commit) (b : List Point) → points_of k s (with_commit c b) ≡ sort (outside (points_of k s b) c.cut ++ points_of k s c.added)
 points-after k s c b = within-after s (s +ℤ pos (width k)) b c.cut c.added
 
 pub no_points : (b : List Point) → has_points b ≡ false → b ≡ []

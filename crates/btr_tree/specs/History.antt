@@ -23,13 +23,13 @@ abbrev pub nothing : Past
 nothing = Opened [] (λ height start. 0)
 
 -- The points after a commit.
-abbrev pub after : Commit → List Point → List Point
-after c b = base.after b (record { cut = c.cut; added = c.added })
+abbrev pub with_commit : Commit → List Point → List Point
+with_commit c b = base.after b (record { cut = c.cut; added = c.added })
 
 -- The points after a past.
 abbrev pub bag : Past → List Point
 bag (Opened b dates) = sort b
-bag (c ▷ h) = after c (bag h)
+bag (c ▷ h) = with_commit c (bag h)
 
 -- Each version of a past is older than this one.
 abbrev pub IsBefore : ℕ → Past → Type 0

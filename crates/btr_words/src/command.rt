@@ -1,5 +1,5 @@
 /// What a run is to do.
-#[derive(Clone, Copy, Debug, PartialEq, Eq)]
+#[derive(Clone, Copy, PartialEq, Eq)]
 pub enum Command {
     /// `format --blocks N`: make an empty store of N blocks of 4096 bytes, from 8 to 4,294,967,296.
     Format {

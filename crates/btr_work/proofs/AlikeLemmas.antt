@@ -14,7 +14,7 @@ use Rattle.btr_hist.specs.declared.rejection.Rejection.TheVariants as rejections
 use Rattle.btr_hist.specs.Distil.{distillate}
 use Rattle.btr_hist.specs.History.{change_of, spec_of, commits, recorded, latest, latest_reads, reads, replay, bag, second_points, inputs_at}
 use Rattle.btr_hist.specs.Legal.{Legal, Follows, when}
-use Rattle.btr_hist.specs.Machine.{Landing, planned, plan_of, same_reads, landing, landing_rejection, landed, after_landing, committed, commit_reply, receipt, entry_of}
+use Rattle.btr_hist.specs.Machine.{Landing, planned, plan_of, same_reads, landing, landing_rejection, landed, after_landing, committed, commit_reply, receipt, distillate_entry}
 use Rattle.btr_hist.specs.Machine as machine
 use Rattle.btr_hist.specs.Machine.Reply.{Accepted, Rejected}
 use Rattle.btr_hist.proofs.HistoryLemmas.{commits-append, recorded-append, legal-prefix, legal-follows, follows-prefix}
@@ -57,7 +57,7 @@ other-append stream a e other = record {
 }
 
 -- A distillate is no commit of another stream.
-entry-other : (output : ℕ) (c : Change) (r : Reads) (stream : ℕ) → output ≢ stream → IsOther stream (entry_of output c r)
+entry-other : (output : ℕ) (c : Change) (r : Reads) (stream : ℕ) → output ≢ stream → IsOther stream (distillate_entry output c r)
 entry-other output c r stream differs =
     let no = ne_eqb output stream differs in
     record {
@@ -135,7 +135,7 @@ landed-same a b output spec in_a in_b same inputs =
     let new : inputs_at b spec (latest_reads b spec) ≡ inputs_at a spec (latest_reads a spec) =
     ap (inputs_at b spec) to_read ∙ inputs-same a b spec (latest_reads a spec) inputs in
     let entry : landing b (next b output spec) spec ≡ landing a (next a output spec) spec =
-    λ i. entry_of output (distillate spec (old i) (new i)) (to_read i) in
+    λ i. distillate_entry output (distillate spec (old i) (new i)) (to_read i) in
     let refused : landing_rejection b (next b output spec) ≡ landing_rejection a (next a output spec) =
     ap (λ n. when (nat_le MAX_VERSIONS n) rejections.VersionLimit) last in
     let current : is_current b output spec ≡ is_current a output spec = λ i. same_reads (has_read i) (to_read i) in

@@ -5,20 +5,20 @@ use Rattle.btr_base.specs.Bag.{IsInOrder, sort}
 use Rattle.btr_base.proofs.PointLemmas.{sort-of_order}
 use Rattle.btr_base.specs.Point.{AreInDomain}
 use Rattle.btr_entry.specs.Grammar.{point}
-use Rattle.btr_entry.specs.Fields.{PointFits, IsAdded}
+use Rattle.btr_entry.specs.Fields.{PointFits, AreAddable}
 use Rattle.btr_entry.proofs.ItemLemmas.{items_once, point_item, each_room, room-values}
 use Rattle.btr_entry.proofs.lists.read_bag.Goals as goal
 
-same_points : (v b : List Point) (bytes : List ℕ) → AllByRecursion PointFits v → flat_map point v ≡ bytes → IsAdded b → flat_map point b ≡ bytes → b ≡ v
+same_points : (v b : List Point) (bytes : List ℕ) → AllByRecursion PointFits v → flat_map point v ≡ bytes → AreAddable b → flat_map point b ≡ bytes → b ≡ v
 same_points v b bytes room is h same =
     items_once point PointFits point_item b v (each_room b h.in_domain h.values_fit) room (same ∙ sym is)
 
 -- The points that were read can be added, if they are in order and in the domain.
-good_points : (v bag : List Point) (bytes : List ℕ) → AllByRecursion PointFits v → flat_map point v ≡ bytes → IsInOrder v → AreInDomain v → bag ≡ sort v → IsAdded bag × (flat_map point bag ≡ bytes)
+good_points : (v bag : List Point) (bytes : List ℕ) → AllByRecursion PointFits v → flat_map point v ≡ bytes → IsInOrder v → AreInDomain v → bag ≡ sort v → AreAddable bag × (flat_map point bag ≡ bytes)
 good_points v bag bytes room is in_order in_domain sorted =
     let same : v ≡ bag = sym (sorted ∙ sort-of_order v in_order) in
-    let added : IsAdded v = record { in_order = in_order; in_domain = in_domain; values_fit = room-values v room } in
-    (subst IsAdded same added, ap (flat_map point) (sym same) ∙ is)
+    let added : AreAddable v = record { in_order = in_order; in_domain = in_domain; values_fit = room-values v room } in
+    (subst AreAddable same added, ap (flat_map point) (sym same) ∙ is)
 
 pub returns-then-not-are_in_order-clause-none : goal.returns-then-not-are_in_order-clause-none
 returns-then-not-are_in_order-clause-none c b h same =

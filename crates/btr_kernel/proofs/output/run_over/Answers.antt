@@ -5,7 +5,7 @@ use Rattle.btr_hist.specs.Kernel.{anchors}
 use Rattle.btr_hist.specs.Distil.{Inputs, value_of, points_from}
 use Rattle.btr_tree.specs.History.{bag}
 use Rattle.btr_kernel.specs.Swept.{IsAnchor}
-use Rattle.btr_kernel.specs.Sources.{second_points}
+use Rattle.btr_kernel.specs.Sources.{second_past_points}
 use Rattle.btr_kernel.proofs.KernelPointLemmas.{anchors-each, enough-earlier, kernel-part}
 use Rattle.btr_kernel.proofs.SourceLemmas.{second-in_domain}
 use Rattle.btr_kernel.proofs.output.run_over.Goals as goal
@@ -21,7 +21,7 @@ pub returns : goal.returns
 returns c h k tree second =
     let spec = c.args.spec.now in
     let rs = c.args.ranges.now in
-    let i : Inputs = record { first = bag h; second = second_points k } in
+    let i : Inputs = record { first = bag h; second = second_past_points k } in
     let j : Inputs = record { first = c.deref-3.result.now; second = c.deref-4.result.now } in
     let times = c.deref-2.ensures.value ∙ c.in_ok-times.ensures ∙ ap (λ l. filter (covered rs) (anchors l)) (c.deref.ensures.value ∙ sym c.deref-3.ensures.value) in
     c.in_ok-made.ensures

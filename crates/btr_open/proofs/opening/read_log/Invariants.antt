@@ -1,5 +1,5 @@
 use Rattle.std.specs.Prelude.{◌-◌}
-use Rattle.btr_log.specs.Log.{blocks_of}
+use Rattle.btr_log.specs.Log.{log_blocks}
 use Rattle.btr_open.proofs.Reading.{HasRead}
 use Rattle.btr_open.proofs.opening.read_log.Given as goal
 
@@ -7,4 +7,4 @@ abbrev pub invariant-loop-next : goal.invariant-loop-next
 invariant-loop-next g l = HasRead l.fn.log l.log l.board l.gate l.entries
 
 abbrev pub decreases-loop-next : goal.decreases-loop-next
-decreases-loop-next g l = blocks_of l.fn.log - l.gate
+decreases-loop-next g l = log_blocks l.fn.log - l.gate

@@ -1,8 +1,8 @@
 use Rattle.std.specs.Prelude.{◌≡◌, ◌+◌, [], ◌∷◌, ◌++◌, length, Some}
 use Rattle.std.specs.Option.{IfSome, IfNone}
 use Rattle.std.proofs.Common.{sym, ◌∙◌, ap, subst, inl}
-use Rattle.btr_log.specs.Log.{device as disk_of}
-use Rattle.btr_log.specs.Log.{blocks_of}
+use Rattle.btr_log.specs.Log.{log_device as disk_of}
+use Rattle.btr_log.specs.Log.{log_blocks}
 use Rattle.btr_log.specs.Found.{IsWhole, MatchesDevice}
 use Rattle.btr_hist.specs.Legal.{rejection}
 use Rattle.btr_entry.specs.Grammar.{IsSpelled}
@@ -22,7 +22,7 @@ returns-in-Err-clause-cause g c h of =
     let d1 = disk_of c.read_extent.new.self in
     let size = disk.size d0 in
     let image = disk.contents d0 in
-    let blocks = blocks_of c.args.log.now in
+    let blocks = log_blocks c.args.log.now in
     cause_along disk.is_observable (IsReadTo disk.is_observable size image blocks c.args.gate h) size image blocks c.args.gate (disk.faults d0) (disk.faults d1)
     (λ r. r.0)
     (λ r block damage. damaged_next size image blocks c.args.gate h block (inl damage) r.1 r.2 r.3 r.4)
@@ -34,7 +34,7 @@ returns-in_default-2-clause-cause g c h of r =
     let d0 = disk_of c.args.log.now in
     let size = disk.size d0 in
     let image = disk.contents d0 in
-    let blocks = blocks_of c.args.log.now in
+    let blocks = log_blocks c.args.log.now in
     let x = c.in-Extent in
     let none : IsNoEntryBody c.args.number c.deref.result.now = subst (λ o. IfNone o (IsNoEntryBody c.args.number c.deref.result.now)) c.in_default-2.is c.in_ok-entry.ensures.none in
     damaged_next size image blocks c.args.gate h _
@@ -48,7 +48,7 @@ pub returns-in-Ok-stage-clause-next : goal.returns-in-Ok-stage-clause-next
 returns-in-Ok-stage-clause-next g c =
     let disk = g.D.Disk in
     let image = disk.contents (disk_of c.args.log.now) in
-    let blocks = blocks_of c.args.log.now in
+    let blocks = log_blocks c.args.log.now in
     let x = c.in-Extent in
     let e = c.in-Some.entry in
     let found = subst (λ o. IfSome o (λ f. IsSpelled f × (c.deref.result.now ≡ body_of c.args.number f))) c.in-Some.is c.in_ok-entry.ensures.found in
@@ -73,7 +73,7 @@ returns-in-Err-Rejected-clause-cause g c h of r =
     let d0 = disk_of c.args.log.now in
     let size = disk.size d0 in
     let image = disk.contents d0 in
-    let blocks = blocks_of c.args.log.now in
+    let blocks = log_blocks c.args.log.now in
     let x = c.in-Extent in
     let e = c.in-Some.entry in
     let why = c.in-Err-Rejected.field-0-0 in

@@ -1,5 +1,5 @@
 use Rattle.std.proofs.Common.{◌≡◌, ◌∷◌, Some, ap, ◌∙◌, arith, to_z-of_z, take}
-use Rattle.btr_rows.specs.Field.{signed_of}
+use Rattle.btr_base.specs.Decimal.{signed_of}
 use Rattle.btr_rows.specs.Reading.{field_size}
 use Rattle.btr_rows.proofs.DigitFieldLemmas.{signed-minus, signed-plain}
 use Rattle.btr_rows.proofs.plain.short_number.Goals as goal

@@ -1,6 +1,7 @@
 use Rattle.std.proofs.Common.{◌∙◌, sym, ap, rules}
 use Rattle.csv.specs.Records.{fields_of}
-use Rattle.btr_rows.specs.Field.{id_of, signed_of}
+use Rattle.btr_base.specs.Decimal.{signed_of}
+use Rattle.btr_rows.specs.Field.{row_id_of}
 use Rattle.btr_rows.specs.Row.{row_of}
 use Rattle.btr_rows.proofs.FieldLemmas.{three_fields, field_there, same-reason}
 use Rattle.btr_rows.proofs.record.read_record.Goals as goal
@@ -9,8 +10,8 @@ pub returns-in-Some-Some-Some : goal.returns-in-Some-Some-Some
 returns-in-Some-Some-Some c =
     let w = c.in-Some-Some-Some in
     c.row_from.ensures
-    ∙ same-reason c.read_id.result (id_of w.id.now) c.read_signed.result (signed_of w.time.now) c.read_signed-in-Some-Some-Some.result (signed_of w.value.now)
-    c.read_id.ensures c.read_signed.ensures c.read_signed-in-Some-Some-Some.ensures
+    ∙ same-reason c.read_id.result (row_id_of w.id.now) c.read_signed_decimal.result (signed_of w.time.now) c.read_signed_decimal-in-Some-Some-Some.result (signed_of w.value.now)
+    c.read_id.ensures c.read_signed_decimal.ensures c.read_signed_decimal-in-Some-Some-Some.ensures
     ∙ ap row_of (sym (three_fields (fields_of c.args.row.now) w.id.now w.time.now w.value.now (search rules) w.ensures.value w.ensures'.value w.ensures''.value))
 
 pub returns-in_default : goal.returns-in_default

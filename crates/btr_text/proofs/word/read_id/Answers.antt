@@ -3,8 +3,8 @@ use Rattle.std.specs.Option.{option_map}
 use Rattle.std.specs.Int.{from_be_bytes, w128}
 use Rattle.std.proofs.lemmas.Bool.{false≢true}
 use Rattle.uuid.specs.Text.{parsed}
-use Rattle.btr_text.proofs.DigitLemmas.{nothing_parsed}
+use Rattle.btr_base.proofs.DigitLemmas.{none_if_no_value}
 use Rattle.btr_text.proofs.word.read_id.Goals as goal
 
 pub returns-in-Err : goal.returns-in-Err
-returns-in-Err c = sym (ap (option_map (from_be_bytes w128)) (nothing_parsed (parsed c.args.word.now) (λ p. false≢true (c.in-Err.ensures.ok.1 p))))
+returns-in-Err c = sym (ap (option_map (from_be_bytes w128)) (none_if_no_value (parsed c.args.word.now) (λ p. false≢true (c.in-Err.ensures.ok.1 p))))

@@ -6,7 +6,7 @@ use Rattle.std.specs.Str.Parse.{digits_value_after}
 use Rattle.std.proofs.lemmas.Bool.Decides.{nat_tests}
 use Rattle.std.proofs.lemmas.List.{at_drop_more}
 use Rattle.std.proofs.lemmas.Option.{cond_some}
-use Rattle.btr_rows.specs.Field.{next_number, number_up_to}
+use Rattle.btr_base.specs.Decimal.{next_number, number_up_to}
 
 -- The number that digits write after the number `n`, if there is nothing else and it is at most `most`.
 abbrev pub onward : ℕ → ℕ → List ℕ → Option ℕ
@@ -48,6 +48,6 @@ number-stuck most n i c w h e k s =
     number_up_to-onward most w (omega arith) ∙ sym k ∙ at_drop_more (onward most n) w i 0 h ∙ onward-stuck most n (get_or w i 0) (drop (i + 1) w) f
 
 -- An option that is no `Some` is `None`.
-pub nothing_parsed : {A : Type 0} (o : Option A) → (((a : A) × (o ≡ Some a)) → ⊥) → o ≡ None
-nothing_parsed None h = refl
-nothing_parsed (Some a) h = absurd (h (a, refl))
+pub none_if_no_value : {A : Type 0} (o : Option A) → (((a : A) × (o ≡ Some a)) → ⊥) → o ≡ None
+none_if_no_value None h = refl
+none_if_no_value (Some a) h = absurd (h (a, refl))
