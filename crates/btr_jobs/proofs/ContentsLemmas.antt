@@ -14,7 +14,7 @@ use Rattle.btr_gate.specs.Prefixes.{StartsWith}
 use Rattle.btr_hall.specs.Commit.{needs_of}
 use Rattle.btr_jobs.specs.Course.{Start, Course, GoesOn}
 use Rattle.btr_jobs.specs.Turns.{IsStopped, IsFull, Committed}
-use Rattle.btr_jobs.specs.Contents.{Contents, receipt_of, outcome_by, contents_by, outcome, contents_after, result_of, first_contents}
+use Rattle.btr_jobs.specs.Contents.{Contents, receipt_of, outcome_by, contents_by, outcome, contents_after, result_of, first_contents, RunsThrough}
 use Rattle.btr_jobs.specs.Contents.Outcome.{Taken, Rejected, Full}
 use Rattle.btr_jobs.proofs.TurnLemmas.{needs_append}
 
@@ -25,15 +25,19 @@ needs_prefix h p starts =
     let both = needs_append p starts.0 in
     omega (arith, all, both)
 
--- The device did not fail before the middle of a course in which it did not fail.
-pub middle_whole : (start : Start) (late middle : Course) → GoesOn start late middle → late.failed ≡ None → middle.failed ≡ None
-middle_whole start late middle on whole = none_left middle.failed refl
+-- What ran through to the end of a course did so up to its middle.
+pub middle_runs : (start : Start) (late middle : Course) → GoesOn start late middle → RunsThrough start late → RunsThrough start middle
+middle_runs start late middle on ran = record {
+  runs = ran.runs;
+  whole = none_left middle.failed refl;
+  fits = let least = needs_prefix late.history middle.history on.begins in let fits = ran.fits in omega (arith, least, fits);
+}
   where
     none_left : (o : Option Entry) → middle.failed ≡ o → middle.failed ≡ None
     none_left None is = is
     none_left (Some e) is =
         let same = on.ends (or_right start.stopped (is_some middle.failed) (ap is_some is)) in
-        let both : None ≡ Some e = sym whole ∙ ap (λ (c : Course). c.failed) same ∙ is in
+        let both : None ≡ Some e = sym ran.whole ∙ ap (λ (c : Course). c.failed) same ∙ is in
         absurd (cc)
 
 -- ---- what becomes of an entry
@@ -94,10 +98,10 @@ module _ (start : Start) where
         let short = full.short in
         (needed, omega (arith, here, room), omega (arith, here, room, needed, short))
 
-module _ (start : Start) (course : Course) (runs : start.stopped ≡ false) (whole : course.failed ≡ None) (fits : needs_of course.history ≤ start.left + needs_of start.history) where
+module _ (start : Start) (course : Course) (ran : RunsThrough start course) where
   pub never_stopped : (p : List Entry) (count : ℕ) → IsStopped start course p count → ⊥
   never_stopped p count is =
-      let both : (start.stopped || is_some course.failed) ≡ false = λ i. runs i || is_some (whole i) in
+      let both : (start.stopped || is_some course.failed) ≡ false = λ i. ran.runs i || is_some (ran.whole i) in
       let wrong : true ≡ false = sym is.stopped ∙ both in
       absurd (cc)
 
@@ -106,7 +110,7 @@ module _ (start : Start) (course : Course) (runs : start.stopped ≡ false) (who
   committed_plain c p e (Ok receipt) own next holds memory is =
       let added = is.2 in
       let allowed : rejection c.history e ≡ None = ap (λ h. rejection h e) holds.same ∙ is.0 in
-      let room = added_fits start c p e holds (let least = needs_prefix course.history (p ++ e ∷ []) added.follows in omega (arith, least, fits)) in
+      let room = added_fits start c p e holds (let least = needs_prefix course.history (p ++ e ∷ []) added.follows in let fits = ran.fits in omega (arith, least, fits)) in
       let taken = outcome_taken c e allowed room in
       let model : receipt ≡ receipt_of p e = λ i. record { number = is.1.number i; stream = is.1.stream i; version = is.1.version i } in
       let same : receipt ≡ receipt_of c.history e = model ∙ ap (λ h. receipt_of h e) (sym holds.same) in
@@ -121,5 +125,5 @@ module _ (start : Start) (course : Course) (runs : start.stopped ≡ false) (who
       let full = outcome_full c e (ap (λ h. rejection h e) holds.same ∙ is.0) room.2 in
       ((λ i. Err (steps.DeviceFull (room.0 i) (room.1 i))) ∙ sym (ap result_of full), holds_full start c p e holds next full is.2.next)
   committed_plain c p e (Err steps.DeviceFault) own next holds memory is =
-      let failed : None ≡ Some e = sym whole ∙ is.1.failed in
+      let failed : None ≡ Some e = sym ran.whole ∙ is.1.failed in
       absurd (cc)

@@ -1,5 +1,5 @@
 -- A plain store on a device: entries are offered to it one after another, and each is added if the model accepts it and there is room.
-use Rattle.std.specs.Prelude.{ℕ, ◌-◌, nat_lt, List, [], ◌∷◌, ◌++◌, if◌then◌else◌, Option, Some, None, Result, Ok, Err}
+use Rattle.std.specs.Prelude.{◌≡◌, ℕ, ◌+◌, ◌-◌, ◌≤◌, nat_lt, false, List, [], ◌∷◌, ◌++◌, if◌then◌else◌, Option, Some, None, Result, Ok, Err}
 use Rattle.btr_hist.specs.declared.entry.Entry.{Entry}
 use Rattle.btr_hist.specs.declared.rejection.Rejection.{Rejection}
 use Rattle.btr_hist.specs.Legal.{rejection}
@@ -8,7 +8,8 @@ use Rattle.btr_engine.specs.declared.board.Receipt.{Receipt}
 use Rattle.btr_engine.specs.declared.step.StepFault.{StepFault}
 use Rattle.btr_engine.specs.declared.step.StepFault.TheVariants as steps
 use Rattle.btr_engine.specs.Body.{need_of}
-use Rattle.btr_jobs.specs.Course.{Start}
+use Rattle.btr_hall.specs.Commit.{needs_of}
+use Rattle.btr_jobs.specs.Course.{Start, Course}
 
 -- What the store has: a history, and the blocks that are left.
 pub record Contents : Type 0 where
@@ -57,3 +58,9 @@ result_of (Full need left) = Err (steps.DeviceFull need left)
 -- What a store had when its hall began.
 abbrev pub first_contents : Start → Contents
 first_contents start = record { history = start.history; left = start.left }
+
+-- The store was not stopped, and the device did not fail. The entries need no more blocks than there were.
+pub record RunsThrough (start : Start) (course : Course) : Type 0 where
+  pub runs : start.stopped ≡ false
+  pub whole : course.failed ≡ None
+  pub fits : needs_of course.history ≤ start.left + needs_of start.history
