@@ -17,6 +17,11 @@ use Rattle.btr_jobs.specs.TurnLaws.{goes_refl, goes_trans}
 use Rattle.btr_jobs.proofs.DoesLemmas.{does_none, does_implied, does_then, does_both}
 use Rattle.btr_jobs.proofs.RunLemmas.{Lasts, Lowers, Did}
 
+-- The items of lists, one list after another.
+abbrev pub flat : {A : Type 0} → List (List A) → List A
+flat [] = []
+flat (l ∷ ls) = l ++ flat ls
+
 -- What is said of each job may be put for another thing, which it implies.
 pub turn_implied : {J : Type 0} (did more : Doing J) (start : Start) → ((course : Course) (low : List Entry) (was now : J) (own : List ℕ) → did start course low was now own → more start course low was now own) → (late : Course) (low : List Entry) (before after : List J) (own : List ℕ) → DidInTurn did start late low before after own → DidInTurn more start late low before after own
 turn_implied did more start implies late low [] [] own turn = turn
@@ -112,6 +117,17 @@ module _ {J : Type 0} (did : Doing J) (start : Start) where
           all_did_lowers did start late turn.0.history low (λ w n o. lowers start late turn.0.history low w n o turn.2) before after turn.4 rest,
           turn.7,
         )
+
+    -- Lists of jobs one after another are all their jobs one after another.
+    pub turn_flat : (late : Course) (low : List Entry) (before after : List (List J)) (own : List ℕ) → DidInTurn (DidInTurn did) start late low before after own → DidInTurn did start late low (flat before) (flat after) own
+    turn_flat late low [] [] own turn = turn
+    turn_flat late low [] (now ∷ after) own turn = absurd turn
+    turn_flat late low (was ∷ before) [] own turn = absurd turn
+    turn_flat late low (was ∷ before) (now ∷ after) own turn =
+        let rest = turn_flat late turn.0.history before after turn.4 turn.6 in
+        turn_alike late low (was ++ flat before) (now ++ flat after) (turn.3 ++ turn.4) own
+        (λ n. let both = times_append n turn.3 turn.4 in let sum = turn.7 n in omega (arith, both, sum))
+        (turn_append late turn.0 low was now turn.3 (flat before) (flat after) turn.4 turn.1 turn.5 rest)
 
   -- One job.
   pub turn_one : (late : Course) (low : List Entry) (was now : J) (own : List ℕ) → StartsWith late.history low → did start late low was now own → DidInTurn did start late low (was ∷ []) (now ∷ []) own
