@@ -257,7 +257,7 @@ module _ (at p : List Entry) (output : ℕ) (spec : Spec) (plan : PlanValue) (fo
   last : latest p output ≡ latest at output
   last = latest-same at p output same
 
-  plan-current : IsCurrent p plan
+  pub plan-current : IsCurrent p plan
   plan-current =
       ap (latest p) is.same_stream ∙ last ∙ ap (λ (l : Landing). l.base) parts.1
 
@@ -275,7 +275,7 @@ module _ (at p : List Entry) (output : ℕ) (spec : Spec) (plan : PlanValue) (fo
   spec-here : spec_of p output ≡ Some spec
   spec-here = spec-stays p at output spec starts is_spec
 
-  entry-here : landing p (landing_of plan) spec ≡ plans.entry_of plan
+  pub entry-here : landing p (landing_of plan) spec ≡ plans.entry_of plan
   entry-here =
       let own : spec_of p plan.stream ≡ Some spec = ap (spec_of p) is.same_stream ∙ spec-here in
       let same_one : plan-here.spec ≡ spec = same_some plan-here.spec spec (sym plan-here.output ∙ own) in
@@ -591,7 +591,7 @@ module _ (start : Start) (result : ℕ → Brought) (seen : List Entry) (follows
 -- ---- the whole
 
 -- Nobody added anything before the call saw the history.
-seen-low : (start : Start) (course : Course) (low : List Entry) (report : List ReportLine) (own : List ℕ) (brings : Brings start course low report own) → AreAllSince low course own → brings.seen ≡ low
+pub seen-low : (start : Start) (course : Course) (low : List Entry) (report : List ReportLine) (own : List ℕ) (brings : Brings start course low report own) → AreAllSince low course own → brings.seen ≡ low
 seen-low start course low report own brings all =
     elim (cases_lt (length low) (length brings.seen)) [
       | inl more ↦
@@ -611,7 +611,7 @@ same-result f g (x ∷ xs) each =
     let rest = same-result f g xs (λ y is. each y (inr is)) in
     λ i. here i ∷ rest i
 
-member-of : {A : Type 0} (P : A → Type 0) (f : ℕ → A) (xs : List ℕ) → AllByRecursion P (map f xs) → (x : ℕ) → IsIn x xs → P (f x)
+pub member-of : {A : Type 0} (P : A → Type 0) (f : ℕ → A) (xs : List ℕ) → AllByRecursion P (map f xs) → (x : ℕ) → IsIn x xs → P (f x)
 member-of P f [] all x is = absurd is
 member-of P f (y ∷ xs) all x (inl here) = subst (λ z. P (f z)) (sym here) all.0
 member-of P f (y ∷ xs) all x (inr later) = member-of P f xs all.1 x later

@@ -1,5 +1,5 @@
 -- Lemmas on the jobs of levels: one level more, and what the report says when all are done.
-use Rattle.std.specs.Prelude.{◌≡◌, ℕ, ◌+◌, ◌<◌, List, [], ◌∷◌, ◌++◌, length, map, take, drop, slice_set}
+use Rattle.std.specs.Prelude.{◌≡◌, ℕ, ◌+◌, ◌<◌, ◌≤◌, List, [], ◌∷◌, ◌++◌, length, map, take, drop, slice_set}
 use Rattle.std.specs.Vec.{with_items}
 use Rattle.std.proofs.Common.{suc, get_or, set, refl, sym, ap, ◌∙◌, subst, arith, inl, inr}
 use Rattle.std.proofs.lemmas.List.{length-set, get_or-set_same, get_or-set_other, with_items_is}
@@ -10,19 +10,17 @@ use Rattle.btr_hist.proofs.HistoryLemmas.{length-kinds}
 use Rattle.btr_engine.specs.Engine.{IsEngineOf}
 use Rattle.btr_gate.specs.Prefixes.{StartsWith}
 use Rattle.btr_gate.specs.Numbers.{times}
-use Rattle.btr_gate.proofs.NumberLemmas.{times_append}
-use Rattle.btr_gate.proofs.PrefixLemmas.{starts_refl, starts_trans}
 use Rattle.btr_hall.specs.declared.land.LandFault.TheVariants.{Want}
 use Rattle.btr_hall.specs.declared.session.Hall.{Hall}
 use Rattle.btr_hall.specs.declared.session.Session.{Session}
 use Rattle.btr_hall.specs.Trace.{history_of}
 use Rattle.btr_hall.specs.Session.{Looks, opening_of, seen_of}
-use Rattle.btr_jobs.specs.Course.{Start, Course, GoesOn}
-use Rattle.btr_jobs.specs.Jobs.{AllDid, IsAt, Does}
-use Rattle.btr_jobs.specs.TurnLaws.{goes_refl, goes_trans}
+use Rattle.btr_jobs.specs.Course.{Start, Course}
+use Rattle.btr_jobs.specs.Jobs.{Doing, AllDid, DidInTurn, IsAt, Does}
 use Rattle.btr_jobs.specs.JobLaws.{all_did_lowers}
-use Rattle.btr_jobs.proofs.DoesLemmas.{does_none, does_then}
-use Rattle.btr_jobs.proofs.RunLemmas.{length_after, rest_after, items_more, now_more}
+use Rattle.btr_jobs.proofs.DoesLemmas.{does_then}
+use Rattle.btr_jobs.proofs.RunLemmas.{Lowers, length_after, rest_after, items_more, now_more}
+use Rattle.btr_jobs.proofs.InTurnLemmas.{flat, turn_implied, turn_lowers, turn_all, turn_flat, in_turn_none, in_turn_more}
 use Rattle.btr_jobs.proofs.TurnLemmas.{look_turn}
 use Rattle.btr_work.specs.declared.bringing.OutputJob.{OutputJob}
 use Rattle.btr_work.specs.declared.prepare.Level.{Level}
@@ -30,80 +28,72 @@ use Rattle.btr_work.specs.declared.prepare.Work.{Work}
 use Rattle.btr_work.specs.declared.report.Brought.{Brought}
 use Rattle.btr_work.specs.declared.report.Brought.TheVariants.{Refused}
 use Rattle.btr_work.specs.declared.report.ReportLine.{ReportLine}
-use Rattle.btr_work.specs.Levels.{levels_of, outputs}
-use Rattle.btr_work.specs.Report.{IsBrought, BringsEach, BringsLevels, Brings}
-use Rattle.btr_work.specs.ReportLaws.{done_lowers}
-use Rattle.btr_work.specs.Bringing.{IsDone, AreDone, outputs_in, jobs_in, groups_in, blank, IsPrepared, noted, noted_all, result_at, filled}
+use Rattle.btr_work.specs.Levels.{levels_of, by_levels, outputs}
+use Rattle.btr_work.specs.Report.{IsBrought, BringsEach, BringsLevels, Brings, BringsInTurn}
+use Rattle.btr_work.specs.ReportLaws.{done_lasts, done_lowers}
+use Rattle.btr_work.specs.Bringing.{IsDone, outputs_in, jobs_in, groups_in, blank, IsPrepared, noted, noted_all, result_at, filled}
 use Rattle.btr_work.proofs.MemberLemmas.{IsIn, IsInAny, Distinct, Graded, groups-graded, graded-above, inside-some, levels-length}
 
 -- ---- one level more
 
-module _ (start : Start) where
-  pub done-snoc : (low : List Entry) (before after : List (List OutputJob)) (middle late : Course) (was now : List OutputJob) (a b : List ℕ) → GoesOn start late middle → AreDone start low before after middle a → AllDid IsDone start late middle.history was now b → AreDone start low (before ++ was ∷ []) (after ++ now ∷ []) late (a ++ b)
-  done-snoc low [] [] middle late was now a b on done all = (
-    late,
-    goes_refl start late,
-    starts_trans late.history middle.history low on.begins done.0,
-    b,
-    [],
-    all_did_lowers IsDone start late middle.history low (λ w n own. done_lowers start late middle.history low w n own done.0) was now b all,
-    (starts_refl late.history, λ n. refl),
-    λ n. let sum = times_append n a b in let none = done.1 n in omega (arith, sum, none),
-  )
-  done-snoc low [] (then ∷ after) middle late was now a b on done all = absurd done
-  done-snoc low (first ∷ before) [] middle late was now a b on done all = absurd done
-  done-snoc low (first ∷ before) (then ∷ after) middle late was now a b on done all = (
-    done.0,
-    goes_trans start late middle done.0 on done.1,
-    done.2,
-    done.3,
-    done.4 ++ b,
-    done.5,
-    done-snoc done.0.history before after middle late was now done.4 b on done.6 all,
-    λ n. let sum = times_append n a b in let rest = times_append n done.4 b in let so_far = done.7 n in omega (arith, sum, rest, so_far),
-  )
-
--- These levels were done.
-abbrev pub LevelsDone : List Level → List Level → Start → Course → List Entry → List ℕ → Type 0
-LevelsDone before after start course low own = AreDone start low (jobs_in before) (jobs_in after) course own
+-- Of each level this was done, one level after another.
+abbrev pub LevelsDone : Doing (List OutputJob) → List Level → List Level → Start → Course → List Entry → List ℕ → Type 0
+LevelsDone did before after start course low own = DidInTurn did start course low (jobs_in before) (jobs_in after) own
 
 jobs-snoc : (levels : List Level) (level : Level) → jobs_in levels ++ level.jobs.items ∷ [] ≡ jobs_in (levels ++ level ∷ [])
 jobs-snoc [] level = refl
 jobs-snoc (l ∷ levels) level = ap (λ js. l.jobs.items ∷ js) (jobs-snoc levels level)
 
-module _ {D : Type 0} {disk : Ghosts D} (hall : Hall D disk) where
+module _ (did : Doing (List OutputJob)) {D : Type 0} {disk : Ghosts D} (hall : Hall D disk) where
   -- No level was done.
-  pub levels-none : (s : Session D disk) → Does hall s s (LevelsDone [] [])
-  levels-none s = does_none hall s (LevelsDone [] []) (λ start course. (starts_refl course.history, λ n. refl))
+  pub levels-none : (s : Session D disk) → Does hall s s (LevelsDone did [] [])
+  levels-none s = in_turn_none did hall s
 
-  -- One level more was done.
-  pub levels-more : (old mid new : Session D disk) (before after : List Level) (was now : Level) → IsAt hall new → Does hall old mid (LevelsDone before after) → Does hall mid new (λ start course low own. AllDid IsDone start course low was.jobs.items now.jobs.items own) → Does hall old new (LevelsDone (before ++ was ∷ []) (after ++ now ∷ []))
-  levels-more old mid new before after was now at done level =
-      does_then hall old mid new (LevelsDone before after) (λ start course low own. AllDid IsDone start course low was.jobs.items now.jobs.items own) (LevelsDone (before ++ was ∷ []) (after ++ now ∷ [])) at
-      (λ start late early low a b on starts first second.
-      subst (λ js. AreDone start low js (jobs_in (after ++ now ∷ [])) late (a ++ b)) (jobs-snoc before was)
-      (subst (λ js. AreDone start low (jobs_in before ++ was.jobs.items ∷ []) js late (a ++ b)) (jobs-snoc after now)
-      (done-snoc start low (jobs_in before) (jobs_in after) early late was.jobs.items now.jobs.items a b on first second)))
-      done level
+  module _ (lowers : Lowers did) where
+    -- One level more was done.
+    levels-more : (old mid new : Session D disk) (before after : List Level) (was now : Level) → IsAt hall new → Does hall old mid (LevelsDone did before after) → Does hall mid new (λ start course low own. did start course low was.jobs.items now.jobs.items own) → Does hall old new (LevelsDone did (before ++ was ∷ []) (after ++ now ∷ []))
+    levels-more old mid new before after was now at done level =
+        subst (λ js. Does hall old new (λ start course low own. DidInTurn did start course low js (jobs_in (after ++ now ∷ [])) own)) (jobs-snoc before was)
+        (subst (λ js. Does hall old new (λ start course low own. DidInTurn did start course low (jobs_in before ++ was.jobs.items ∷ []) js own)) (jobs-snoc after now)
+        (in_turn_more did hall lowers old mid new (jobs_in before) (jobs_in after) was.jobs.items now.jobs.items at done level))
 
+    -- The level at the index i was done too.
+    levels-next : (old mid new : Session D disk) (levels now : List Level) (i : ℕ) (was done : Level) → i < length now → length now ≡ length levels → drop i now ≡ drop i levels → was ≡ get_or now i was → IsAt hall new → Does hall old mid (LevelsDone did (take i levels) (take i now)) → Does hall mid new (λ start course low own. did start course low (get_or now i was).jobs.items done.jobs.items own) → Does hall old new (LevelsDone did (take (i + 1) levels) (take (i + 1) (set now i done)))
+    levels-next old mid new levels now i was done inside long rest is at so_far one =
+        let level = subst (λ (w : Level). Does hall mid new (λ start course low own. did start course low w.jobs.items done.jobs.items own)) (sym is) one in
+        let more = levels-more old mid new (take i levels) (take i now) was done at so_far level in
+        let before = items_more levels now i was done inside long rest is in
+        let after = now_more levels now i was done inside long rest is in
+        subst (λ l. Does hall old new (LevelsDone did (take (i + 1) levels) l)) after (subst (λ l. Does hall old new (LevelsDone did l (take i now ++ done ∷ []))) before more)
+
+all-lowers : Lowers (AllDid IsDone)
+all-lowers start course low less was now own starts all =
+    all_did_lowers IsDone start course low less (λ w n o. done_lowers start course low less w n o starts) was now own all
+
+turn-lowers : Lowers (DidInTurn IsDone)
+turn-lowers start course low less was now own starts turn =
+    turn_lowers IsDone start done_lowers course low less was now own starts turn
+
+module _ {D : Type 0} {disk : Ghosts D} (hall : Hall D disk) (workers : ℕ) where
   -- The levels before the index i were done. The others are as they were.
   abbrev pub LevelsDoneTo : Session D disk → Session D disk → ℕ → List Level → List Level → Type 0
   LevelsDoneTo old new i levels now =
-      IsAt hall new × (length now ≡ length levels) × (drop i now ≡ drop i levels) × Does hall old new (LevelsDone (take i levels) (take i now))
+      IsAt hall new × (length now ≡ length levels) × (drop i now ≡ drop i levels)
+      × Does hall old new (LevelsDone (AllDid IsDone) (take i levels) (take i now))
+      × (workers ≤ 1 → Does hall old new (LevelsDone (DidInTurn IsDone) (take i levels) (take i now)))
 
-  -- The level at the index i was done too.
-  pub levels-step : (old mid new : Session D disk) (levels now : List Level) (i : ℕ) (was done : Level) → i < length now → LevelsDoneTo old mid i levels now → was ≡ get_or now i was → IsAt hall new → Does hall mid new (λ start course low own. AllDid IsDone start course low (get_or now i was).jobs.items done.jobs.items own) → LevelsDoneTo old new (i + 1) levels (set now i done)
-  levels-step old mid new levels now i was done inside so_far is at one =
+  pub levels-begin : (s : Session D disk) (levels : List Level) → IsAt hall s → LevelsDoneTo s s 0 levels levels
+  levels-begin s levels at = (at, refl, refl, levels-none (AllDid IsDone) hall s, λ few. levels-none (DidInTurn IsDone) hall s)
+
+  pub levels-step : (old mid new : Session D disk) (levels now : List Level) (i : ℕ) (was done : Level) → i < length now → LevelsDoneTo old mid i levels now → was ≡ get_or now i was → IsAt hall new → Does hall mid new (λ start course low own. AllDid IsDone start course low (get_or now i was).jobs.items done.jobs.items own) → (workers ≤ 1 → Does hall mid new (λ start course low own. DidInTurn IsDone start course low (get_or now i was).jobs.items done.jobs.items own)) → LevelsDoneTo old new (i + 1) levels (set now i done)
+  levels-step old mid new levels now i was done inside so_far is at all turn =
       let long = so_far.1 in
-      let rest = so_far.2 in
-      let level = subst (λ (w : Level). Does hall mid new (λ start course low own. AllDid IsDone start course low w.jobs.items done.jobs.items own)) (sym is) one in
-      let more = levels-more old mid new (take i levels) (take i now) was done at so_far.3 level in
-      let before = items_more levels now i was done inside long rest is in
-      let after = now_more levels now i was done inside long rest is in (
+      let rest = so_far.2 in (
         at,
         length_after levels now i was done inside long rest is,
         rest_after levels now i was done inside long rest is,
-        subst (λ l. Does hall old new (LevelsDone (take (i + 1) levels) l)) after (subst (λ l. Does hall old new (LevelsDone l (take i now ++ done ∷ []))) before more),
+        levels-next (AllDid IsDone) hall all-lowers old mid new levels now i was done inside long rest is at so_far.3 all,
+        λ few. levels-next (DidInTurn IsDone) hall turn-lowers old mid new levels now i was done inside long rest is at (so_far.4 few) (turn few),
       )
 
 -- ---- from jobs to results
@@ -126,7 +116,7 @@ module _ (start : Start) (result : ℕ → Brought) where
       let is = sym told.0 ∙ ap result all.2.output in
       (all.0, all.1, subst (λ r. IsBrought start course low was.output r all.0) is all.2.brought, each-from low course before after all.1 all.3 told.1, all.4)
 
-  levels-from : (low : List Entry) (before after : List (List OutputJob)) (late : Course) (own : List ℕ) → AreDone start low before after late own → ToldAll result after → BringsLevels start low result (map outputs_in before) late own
+  levels-from : (low : List Entry) (before after : List (List OutputJob)) (late : Course) (own : List ℕ) → DidInTurn (AllDid IsDone) start late low before after own → ToldAll result after → BringsLevels start low result (map outputs_in before) late own
   levels-from low [] [] late own done told = done
   levels-from low [] (now ∷ after) late own done told = absurd done
   levels-from low (was ∷ before) [] late own done told = absurd done
@@ -142,7 +132,7 @@ module _ (start : Start) (result : ℕ → Brought) where
       let rest = each-outputs low course before after all.1 all.3 in
       λ i. all.2.output i ∷ rest i
 
-  levels-outputs : (low : List Entry) (before after : List (List OutputJob)) (late : Course) (own : List ℕ) → AreDone start low before after late own → map outputs_in after ≡ map outputs_in before
+  levels-outputs : (low : List Entry) (before after : List (List OutputJob)) (late : Course) (own : List ℕ) → DidInTurn (AllDid IsDone) start late low before after own → map outputs_in after ≡ map outputs_in before
   levels-outputs low [] [] late own done = refl
   levels-outputs low [] (now ∷ after) late own done = absurd done
   levels-outputs low (was ∷ before) [] late own done = absurd done
@@ -200,17 +190,22 @@ lines-filled : (results : List Brought) (outputs : List ℕ) → map (filled res
 lines-filled results [] = refl
 lines-filled results (output ∷ outputs) = ap (λ ls. record { output = output; result = result_at results output } ∷ ls) (lines-filled results outputs)
 
--- Work that was prepared and done gives the report.
-pub done-brings : (start : Start) (low seen : List Entry) (work : Work) (after : List Level) (late : Course) (own : List ℕ) → StartsWith seen low → StartsWith late.history seen → IsPrepared seen work → AreDone start seen (jobs_in work.levels.items) (jobs_in after) late own → Brings start late low (map (filled (noted_all work.results.items (jobs_in after))) work.lines.items) own
-done-brings start low seen work after late own starts before prepared done =
-    let last = noted_all work.results.items (jobs_in after) in
+-- The results of the jobs are those that are noted.
+done-told : (start : Start) (seen : List Entry) (work : Work) (after : List Level) (late : Course) (own : List ℕ) → IsPrepared seen work → DidInTurn (AllDid IsDone) start late seen (jobs_in work.levels.items) (jobs_in after) own → ToldAll (result_at (noted_all work.results.items (jobs_in after))) (jobs_in after)
+done-told start seen work after late own prepared done =
     let same : map outputs_in (jobs_in after) ≡ groups_in work.levels.items =
     levels-outputs start (λ _. Refused Want) seen (jobs_in work.levels.items) (jobs_in after) late own done ∙ groups-jobs work.levels.items in
     let graded = subst (Graded (levels_of seen) 1) (sym same) (groups-graded (levels_of seen) (groups_in work.levels.items) prepared.levels) in
     let inside : (output : ℕ) → IsInAny output (map outputs_in (jobs_in after)) → output < length work.results.items = λ output any.
     let known = inside-some (levels_of seen) output (graded-above (levels_of seen) 1 (map outputs_in (jobs_in after)) output graded any) in
     omega (arith, known, levels-length [] (kinds seen), length-kinds seen, prepared.results) in
-    let told = told-all (levels_of seen) 1 work.results.items (jobs_in after) graded inside in
+    told-all (levels_of seen) 1 work.results.items (jobs_in after) graded inside
+
+-- Work that was prepared and done gives the report.
+pub done-brings : (start : Start) (low seen : List Entry) (work : Work) (after : List Level) (late : Course) (own : List ℕ) → StartsWith seen low → StartsWith late.history seen → IsPrepared seen work → DidInTurn (AllDid IsDone) start late seen (jobs_in work.levels.items) (jobs_in after) own → Brings start late low (map (filled (noted_all work.results.items (jobs_in after))) work.lines.items) own
+done-brings start low seen work after late own starts before prepared done =
+    let last = noted_all work.results.items (jobs_in after) in
+    let told = done-told start seen work after late own prepared done in
     record {
       seen = seen;
       after = starts;
@@ -224,18 +219,77 @@ done-brings start low seen work after late own starts before prepared done =
           (levels-from start (result_at last) seen (jobs_in work.levels.items) (jobs_in after) late own done told);
     }
 
+-- ---- one worker
+
+told-append : (result : ℕ → Brought) (a b : List OutputJob) → Told result a → Told result b → Told result (a ++ b)
+told-append result [] b first second = second
+told-append result (job ∷ a) b first second = (first.0, told-append result a b first.1 second)
+
+told-flat : (result : ℕ → Brought) (jobs : List (List OutputJob)) → ToldAll result jobs → Told result (flat jobs)
+told-flat result [] told = tt
+told-flat result (first ∷ jobs) told = told-append result first (flat jobs) told.0 (told-flat result jobs told.1)
+
+outputs-append : (a b : List OutputJob) → outputs_in (a ++ b) ≡ outputs_in a ++ outputs_in b
+outputs-append [] b = refl
+outputs-append (job ∷ a) b = ap (λ os. job.output ∷ os) (outputs-append a b)
+
+outputs-flat : (levels : List Level) → outputs_in (flat (jobs_in levels)) ≡ by_levels (groups_in levels)
+outputs-flat [] = refl
+outputs-flat (l ∷ levels) =
+    outputs-append l.jobs.items (flat (jobs_in levels)) ∙ ap (λ os. outputs_in l.jobs.items ++ os) (outputs-flat levels)
+
+-- Each job is a level of its own.
+turn-from : (start : Start) (result : ℕ → Brought) (low : List Entry) (before after : List OutputJob) (late : Course) (own : List ℕ) → DidInTurn IsDone start late low before after own → Told result after → BringsLevels start low result (map (λ output. output ∷ []) (outputs_in before)) late own
+turn-from start result low [] [] late own turn told = turn
+turn-from start result low [] (now ∷ after) late own turn told = absurd turn
+turn-from start result low (was ∷ before) [] late own turn told = absurd turn
+turn-from start result low (was ∷ before) (now ∷ after) late own turn told =
+    let done = turn.5 in
+    let is = sym told.0 ∙ ap result done.output in (
+      turn.0,
+      turn.1,
+      turn.2,
+      turn.3,
+      turn.4,
+      (turn.3, [], subst (λ r. IsBrought start turn.0 low was.output r turn.3) is done.brought, (λ n. refl), λ n. omega arith),
+      turn-from start result turn.0.history before after late turn.4 turn.6 told.1,
+      turn.7,
+    )
+
+-- Work that was prepared and done by one worker.
+pub done-turn : (start : Start) (low seen : List Entry) (work : Work) (after : List Level) (late : Course) (own : List ℕ) → StartsWith seen low → StartsWith late.history seen → IsPrepared seen work → DidInTurn (DidInTurn IsDone) start late seen (jobs_in work.levels.items) (jobs_in after) own → BringsInTurn start late low (map (filled (noted_all work.results.items (jobs_in after))) work.lines.items) own
+unfolding done-brings
+done-turn start low seen work after late own starts before prepared turn =
+    let result = result_at (noted_all work.results.items (jobs_in after)) in
+    let done = turn_implied (DidInTurn IsDone) (AllDid IsDone) start (λ course low was now own t. turn_all IsDone start done_lowers done_lasts course low was now own t) late seen (jobs_in work.levels.items) (jobs_in after) own turn in
+    let told = done-told start seen work after late own prepared done in
+    let all = turn_flat IsDone start done_lowers late seen (jobs_in work.levels.items) (jobs_in after) own turn in
+    record {
+      brings = done-brings start low seen work after late own starts before prepared done;
+      in_turn =
+          subst (λ os. BringsLevels start seen result (map (λ output. output ∷ []) os) late own) (outputs-flat work.levels.items)
+          (turn-from start result seen (flat (jobs_in work.levels.items)) (flat (jobs_in after)) late own all (told-flat result (jobs_in after) told));
+    }
+
 module _ {D : Type 0} {disk : Ghosts D} (hall : Hall D disk) where
-  -- The report that is made from work that was prepared and done.
-  pub all-brought : (old mid new : Session D disk) (work : Work) (before after : List Level) (report : List ReportLine) → IsAt hall new → Looks hall old mid → ((h : List Entry) → IsEngineOf h (opening_of hall) → IsPrepared (history_of h (seen_of mid)) work) → before ≡ work.levels.items → length after ≡ work.levels.len → Does hall mid new (LevelsDone before after) → report ≡ map (filled (noted_all work.results.items (jobs_in (with_items work.levels after).items))) work.lines.items → Does hall old new (λ start course low own. Brings start course low report own)
-  all-brought old mid new work before after report at looks prepared same long done is =
+  -- The report that is made from work that was prepared and done, if this follows of it.
+  brought-by : (did : Doing (List OutputJob)) (What : Start → Course → List Entry → List ReportLine → List ℕ → Type 0) → ((start : Start) (low seen : List Entry) (work : Work) (after : List Level) (late : Course) (own : List ℕ) → StartsWith seen low → StartsWith late.history seen → IsPrepared seen work → DidInTurn did start late seen (jobs_in work.levels.items) (jobs_in after) own → What start late low (map (filled (noted_all work.results.items (jobs_in after))) work.lines.items) own) → (old mid new : Session D disk) (work : Work) (before after : List Level) (report : List ReportLine) → IsAt hall new → Looks hall old mid → ((h : List Entry) → IsEngineOf h (opening_of hall) → IsPrepared (history_of h (seen_of mid)) work) → before ≡ work.levels.items → length after ≡ work.levels.len → Does hall mid new (LevelsDone did before after) → report ≡ map (filled (noted_all work.results.items (jobs_in (with_items work.levels after).items))) work.lines.items → Does hall old new (λ start course low own. What start course low report own)
+  brought-by did What follows old mid new work before after report at looks prepared same long done is =
       let made = is ∙ ap (λ ls. map (filled (noted_all work.results.items (jobs_in ls))) work.lines.items) (with_items_is work.levels after long) in
-      let all = subst (λ ls. Does hall mid new (LevelsDone ls after)) same done in
-      does_then hall old mid new (λ start course low own. (own ≡ []) × StartsWith course.history low × IsPrepared course.history work) (LevelsDone work.levels.items after) (λ start course low own. Brings start course low report own) at
+      let all = subst (λ ls. Does hall mid new (LevelsDone did ls after)) same done in
+      does_then hall old mid new (λ start course low own. (own ≡ []) × StartsWith course.history low × IsPrepared course.history work) (LevelsDone did work.levels.items after) (λ start course low own. What start course low report own) at
       (λ start late early low a b on starts first second.
-      subst (λ own. Brings start late low report (own ++ b)) (sym first.0)
-      (subst (λ r. Brings start late low r b) (sym made)
-      (done-brings start low early.history work after late b starts on.begins first.2 second)))
+      subst (λ own. What start late low report (own ++ b)) (sym first.0)
+      (subst (λ r. What start late low r b) (sym made)
+      (follows start low early.history work after late b starts on.begins first.2 second)))
       (look_turn hall old mid looks (λ h. IsPrepared h work) prepared) all
+
+  module _ (old mid new : Session D disk) (work : Work) (before after : List Level) (report : List ReportLine) (at : IsAt hall new) (looks : Looks hall old mid) (prepared : (h : List Entry) → IsEngineOf h (opening_of hall) → IsPrepared (history_of h (seen_of mid)) work) (same : before ≡ work.levels.items) (long : length after ≡ work.levels.len) (is : report ≡ map (filled (noted_all work.results.items (jobs_in (with_items work.levels after).items))) work.lines.items) where
+    pub all-brought : Does hall mid new (LevelsDone (AllDid IsDone) before after) → Does hall old new (λ start course low own. Brings start course low report own)
+    all-brought done = brought-by (AllDid IsDone) Brings done-brings old mid new work before after report at looks prepared same long done is
+
+    pub turn-brought : Does hall mid new (LevelsDone (DidInTurn IsDone) before after) → Does hall old new (λ start course low own. BringsInTurn start course low report own)
+    turn-brought done = brought-by (DidInTurn IsDone) BringsInTurn done-turn old mid new work before after report at looks prepared same long done is
 
   -- Nothing was added.
   pub none-brought : (old new : Session D disk) → Looks hall old new → Does hall old new (λ start course low own. (n : ℕ) → times n own ≡ 0)

@@ -4,5 +4,6 @@ pub mod QuietLemmas
 pub mod OwnLemmas
 pub mod CurrentLemmas
 pub mod AlikeLemmas
+pub mod InOrderLemmas
 mod BringLemmas
 mod DoneLemmas

@@ -45,7 +45,7 @@ plan-other plan stream differs =
       read = ap (λ b. cond {A = Option (Option Reads)} b (Some (Some plan.reads)) None) no;
     }
 
-only : (n m : ℕ) (own : List ℕ) → own ≡ m ∷ [] → 0 < times n own → n ≡ m
+pub only : (n m : ℕ) (own : List ℕ) → own ≡ m ∷ [] → 0 < times n own → n ≡ m
 only n m own is some =
     elim (cases_eq n m) [
       | inl same ↦ same

@@ -1,20 +1,17 @@
 -- What the private functions promise that bring outputs up to date.
-use Rattle.std.specs.Prelude.{◌≡◌, ℕ, ◌+◌, List, [], ◌∷◌, length, map, slice_set, slice_index_or}
+use Rattle.std.specs.Prelude.{◌≡◌, ℕ, List, [], ◌∷◌, length, map, slice_set, slice_index_or}
 use Rattle.btr_disk.specs.declared.disk.Disk.{Ghosts}
 use Rattle.btr_hist.specs.declared.entry.Entry.{Entry}
 use Rattle.btr_hist.specs.History.{ids}
 use Rattle.btr_distil.specs.Plan.{PlanValue}
 use Rattle.btr_plan.specs.Next.{IsNextPlan}
 use Rattle.btr_engine.specs.Engine.{IsEngineOf}
-use Rattle.btr_gate.specs.Prefixes.{StartsWith}
-use Rattle.btr_gate.specs.Numbers.{times}
 use Rattle.btr_hall.specs.declared.land.LandFault.TheVariants.{Want}
 use Rattle.btr_hall.specs.declared.session.Hall.{Hall}
 use Rattle.btr_hall.specs.declared.session.Session.{Session}
 use Rattle.btr_hall.specs.Trace.{history_of}
 use Rattle.btr_hall.specs.Session.{opening_of, seen_of}
-use Rattle.btr_jobs.specs.Course.{Start, Course, GoesOn}
-use Rattle.btr_jobs.specs.Jobs.{AllDid}
+use Rattle.btr_jobs.specs.Course.{Start, Course}
 use Rattle.btr_work.specs.declared.bringing.OutputJob.{OutputJob}
 use Rattle.btr_work.specs.declared.prepare.Level.{Level}
 use Rattle.btr_work.specs.declared.prepare.Work.{Work}
@@ -33,16 +30,6 @@ module _ {D : Type 0} {disk : Ghosts D} where
   -- The plan is the one that the model makes for the output after all that the session has seen.
   abbrev pub IsPlannedAt : Hall D disk → Session D disk → ℕ → PlanValue → Type 0
   IsPlannedAt hall s output plan = (h : List Entry) → IsEngineOf h (opening_of hall) → IsNextPlan (history_of h (seen_of s)) output plan
-
--- The jobs of levels were done, one level after another.
-abbrev pub AreDone : Start → List Entry → List (List OutputJob) → List (List OutputJob) → Course → List ℕ → Type 0
-AreDone start low [] [] late own = StartsWith late.history low × ((n : ℕ) → times n own ≡ 0)
-AreDone start low [] (now ∷ after) late own = ⊥
-AreDone start low (was ∷ before) [] late own = ⊥
-AreDone start low (was ∷ before) (now ∷ after) late own =
-    (middle : Course) × GoesOn start late middle × StartsWith middle.history low × (first rest : List ℕ)
-    × AllDid IsDone start middle low was now first × AreDone start middle.history before after late rest
-    × ((n : ℕ) → times n own ≡ times n first + times n rest)
 
 -- ---- what is made ready
 

@@ -43,6 +43,11 @@ pub record AreGroups (levels : List ℕ) (groups : List (List ℕ)) : Type 0 whe
 abbrev pub AreLevels : List Entry → List (List ℕ) → Type 0
 AreLevels h groups = AreGroups (levels_of h) groups
 
+-- The streams of levels in one list, level by level.
+abbrev pub by_levels : List (List ℕ) → List ℕ
+by_levels [] = []
+by_levels (level ∷ levels) = level ++ by_levels levels
+
 -- The outputs among streams of these kinds, in rising order, if the first stream has this number.
 abbrev pub outputs_from : ℕ → List (Option Spec) → List ℕ
 outputs_from stream [] = []

@@ -7,6 +7,7 @@ pub mod ReportLaws
 pub mod Laws
 -- what one worker leaves
 pub mod Alike
+pub mod InOrder
 -- what the private functions promise
 pub mod Leveling
 pub mod Bringing

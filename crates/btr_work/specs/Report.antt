@@ -13,7 +13,7 @@ use Rattle.btr_jobs.specs.Turns.{LandedAfter}
 use Rattle.btr_work.specs.declared.report.Brought.{Brought}
 use Rattle.btr_work.specs.declared.report.Brought.TheVariants.{Landed, Current, Refused}
 use Rattle.btr_work.specs.declared.report.ReportLine.{ReportLine}
-use Rattle.btr_work.specs.Levels.{AreLevels, outputs}
+use Rattle.btr_work.specs.Levels.{AreLevels, by_levels, outputs}
 
 -- ---- one output
 
@@ -75,3 +75,12 @@ pub record Brings (start : Start) (course : Course) (low : List Entry) (report :
   pub result : ℕ → Brought
   pub lines : report ≡ map (λ output. record { output = output; result = result output }) (outputs seen)
   pub brings : BringsLevels start seen result levels course own
+
+-- Each output of levels as a level of its own, in order.
+abbrev pub one_by_one : List (List ℕ) → List (List ℕ)
+one_by_one levels = map (λ output. output ∷ []) (by_levels levels)
+
+-- The report of a call of one worker: each output was planned after all that was seen when the one before it was done.
+pub record BringsInTurn (start : Start) (course : Course) (low : List Entry) (report : List ReportLine) (own : List ℕ) : Type 0 where
+  pub brings : Brings start course low report own
+  pub in_turn : BringsLevels start brings.seen brings.result (one_by_one brings.levels) course own

@@ -1,13 +1,13 @@
 //! All outputs are brought up to date, level by level.
-ghost use Rattle.std.specs.Prelude.{◌≡◌, ℕ, List, length, IfOk, OnErr};
+ghost use Rattle.std.specs.Prelude.{◌≡◌, ◌≤◌, ℕ, List, length, IfOk, OnErr};
 ghost use Rattle.btr_hist.specs.declared.entry.Entry.{Entry as EntrySpec};
 ghost use Rattle.btr_engine.specs.Engine.{IsEngineOf};
 ghost use Rattle.btr_gate.specs.Numbers.{times};
 ghost use Rattle.btr_hall.specs.Trace.{history_of};
 ghost use Rattle.btr_hall.specs.Session.{Looks, opening_of, seen_of};
-ghost use Rattle.btr_jobs.specs.Jobs.{IsAt, Does, AllDid};
-ghost use Rattle.btr_work.specs.Report.{Brings};
-ghost use Rattle.btr_work.specs.Bringing.{IsDone, AreDone, IsPrepared, jobs_in};
+ghost use Rattle.btr_jobs.specs.Jobs.{IsAt, Does, AllDid, DidInTurn};
+ghost use Rattle.btr_work.specs.Report.{Brings, BringsInTurn};
+ghost use Rattle.btr_work.specs.Bringing.{IsDone, IsPrepared, jobs_in};
 
 use crate::filling::report_of;
 use crate::prepare::{Level, Work, prepare};
@@ -22,6 +22,7 @@ use std::thread::Threads;
 
 /// Brings each output up to date once, with at most `workers` workers, each in a session of its own. The outputs are those of the
 /// history that the session sees first. A level is done after the one below it, so an output reads what was landed for its inputs.
+/// One worker does the outputs of a level one after another, in rising order.
 /// Each output is planned and landed once: if another user's landing comes between, it is refused as superseded.
 ///
 /// The turns of `pace` are the outputs, in order of definition. All memory for the jobs and the report is taken before the first
@@ -42,6 +43,8 @@ pub fn bring_current<R: Threads + Wait + Sync, D: Disk + Send, P: Pace + Sync>(
     ensures refused { OnErr result (Does hall.now session.old session.new (λ start course low own. (n : ℕ) → times n own ≡ 0)) }
     ensures brings { IfOk result (λ report. Does hall.now session.old session.new
         (λ start course low own. Brings start course low report own)) }
+    ensures in_turn { workers ≤ 1 → IfOk result (λ report. Does hall.now session.old session.new
+        (λ start course low own. BringsInTurn start course low report own)) }
 {
     let mut work = prepare_seen(rt, alloc, hall, session)?;
     bring_levels(rt, alloc, hall, session, workers, &mut work.levels, pace);
@@ -49,7 +52,7 @@ pub fn bring_current<R: Threads + Wait + Sync, D: Disk + Send, P: Pace + Sync>(
 }
 
 /// Makes the work for the outputs of the whole history.
-pub(crate) fn prepare_seen<R: Wait, D: Disk>(
+fn prepare_seen<R: Wait, D: Disk>(
     rt: &R,
     alloc: Global,
     hall: &Hall<D>,
@@ -79,7 +82,9 @@ fn bring_levels<R: Threads + Wait + Sync, D: Disk + Send, P: Pace + Sync>(
     ensures at { IsAt hall.now session.new }
     ensures levels { length levels.new ≡ length levels.old }
     ensures done { Does hall.now session.old session.new
-        (λ start course low own. AreDone start low (jobs_in levels.old) (jobs_in levels.new) course own) }
+        (λ start course low own. DidInTurn (AllDid IsDone) start course low (jobs_in levels.old) (jobs_in levels.new) own) }
+    ensures in_turn { workers ≤ 1 → Does hall.now session.old session.new
+        (λ start course low own. DidInTurn (DidInTurn IsDone) start course low (jobs_in levels.old) (jobs_in levels.new) own) }
 {
     for level in levels.iter_mut() {
         bring_level(rt, alloc, hall, session, workers, level, pace);
@@ -100,6 +105,8 @@ fn bring_level<R: Threads + Wait + Sync, D: Disk + Send, P: Pace + Sync>(
     ensures at { IsAt hall.now session.new }
     ensures done { Does hall.now session.old session.new
         (λ start course low own. AllDid IsDone start course low level.old.jobs.items level.new.jobs.items own) }
+    ensures in_turn { workers ≤ 1 → Does hall.now session.old session.new
+        (λ start course low own. DidInTurn IsDone start course low level.old.jobs.items level.new.jobs.items own) }
 {
     let turns = LevelTurns {
         pace,

@@ -1,9 +1,9 @@
-use Rattle.std.proofs.Common.{◌<◌, length, refl, arith}
-use Rattle.btr_work.proofs.DoneLemmas.{levels-none, levels-step}
+use Rattle.std.proofs.Common.{◌<◌, length, arith}
+use Rattle.btr_work.proofs.DoneLemmas.{levels-begin, levels-step}
 use Rattle.btr_work.proofs.current.bring_levels.Goals as goal
 
 pub loop-level-init : goal.loop-level-init
-loop-level-init g c = (c.requires.at, refl, refl, levels-none c.args.hall.now c.args.session.now)
+loop-level-init g c = levels-begin c.args.hall.now c.args.workers c.args.session.now c.args.levels.now c.requires.at
 
 pub loop-level-preserved : goal.loop-level-preserved
 loop-level-preserved g c =
@@ -11,4 +11,4 @@ loop-level-preserved g c =
     let now = c.loop-level.levels in
     let i = c.loop-level.level-index in
     let inside : i < length now = omega (arith, c.loop-level-test.true, c.loop-level.invariant.1) in
-    levels-step c.args.hall.now c.args.session.now c.loop-level.session c.bring_level.new.session c.args.levels.now now i c.level-item.result c.bring_level.new.level inside c.loop-level.invariant c.level-item.is done.at done.done
+    levels-step c.args.hall.now c.args.workers c.args.session.now c.loop-level.session c.bring_level.new.session c.args.levels.now now i c.level-item.result c.bring_level.new.level inside c.loop-level.invariant c.level-item.is done.at done.done done.in_turn
