@@ -11,11 +11,14 @@ mod ServeLemmas
 mod AskLines
 -- lanes
 mod LaneLemmas
+-- rounds
+mod RoundLemmas
+pub mod LandingLemmas
+-- all parts together
 mod PartLemmas
 -- replies in the order of the script
 mod OrderLemmas
--- rounds, and a whole run
-mod RoundLemmas
+-- a whole run
 pub mod HistoryLemmas
 pub mod CloseLemmas
 -- the last round

@@ -3,10 +3,10 @@ use Rattle.btr_live.proofs.RoundLemmas.{rounds_none, rounds_more}
 use Rattle.btr_live.proofs.rounds.make_rounds.Goals as goal
 
 pub loop-init : goal.loop-init
-loop-init g c = record { at = c.requires.at; lands = rounds_none c.args.hall.now c.args.session.now }
+loop-init g c = record { at = c.requires.at; rounds = rounds_none c.args.hall.now c.args.session.now }
 
 pub loop-preserved : goal.loop-preserved
 loop-preserved g c = record {
   at = c.make_round.ensures.at;
-  lands = rounds_more c.args.hall.now c.args.session.now c.loop.session c.make_round.new.session c.make_round.ensures.at c.loop.invariant.lands c.make_round.ensures.lands;
+  rounds = rounds_more c.args.hall.now c.loop.counter c.args.session.now c.loop.session c.make_round.new.session c.make_round.ensures.at c.loop.invariant.rounds c.make_round.ensures.round;
 }
