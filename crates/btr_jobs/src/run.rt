@@ -149,9 +149,8 @@ fn turn_after(first: u32, count: usize) -> u32 {
     first.wrapping_add((count % (1 << 32)) as u32)
 }
 
-/// Does the jobs one after another in this session, without other threads: [`run_jobs`] with one worker. The turns of `pace` are the
-/// jobs, from `first` on.
-pub fn run_in_turn<R: Wait, D: Disk, J: Job, P: Pace>(
+/// Does the jobs one after another in this session. The turns of `pace` are the jobs, from `first` on.
+fn run_in_turn<R: Threads + Wait + Sync, D: Disk + Send, J: Job + Send, P: Pace + Sync>(
     rt: &R,
     alloc: Global,
     hall: &Hall<D>,

@@ -10,7 +10,6 @@ ghost use Rattle.btr_jobs.specs.Course.{Start, Course, GoesOn};
 ghost use Rattle.btr_jobs.specs.Jobs.{IsAt, Does};
 ghost use Rattle.btr_work.specs.Report.{IsBrought};
 ghost use Rattle.btr_work.specs.Bringing.{IsPlannedAt};
-ghost use Rattle.btr_work.specs.Bringing.{IsPlannedAt};
 
 use crate::report::Brought;
 use btr_disk::Disk;
@@ -19,7 +18,9 @@ use btr_hall::{Hall, LandFault, Session};
 use btr_jobs::Job;
 use btr_plan::{Next, next_plan};
 use std::alloc::{AllocError, Global};
+use std::marker::{Send, Sync};
 use std::sync::Wait;
+use std::thread::Threads;
 
 /// The work of bringing an output up to date, and what became of it. Before it is done, that is as if there had been no memory.
 #[derive(Drop)]
@@ -34,7 +35,7 @@ impl Job for OutputJob {
 
     ghost did = { IsDone };
 
-    fn run<R: Wait, D: Disk>(
+    fn run<R: Threads + Wait + Sync, D: Disk + Send>(
         &mut self,
         rt: &R,
         alloc: Global,

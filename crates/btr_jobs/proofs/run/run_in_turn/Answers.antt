@@ -9,7 +9,7 @@ loop-job-init g c = (c.requires.at, refl, refl, did_none g.J.Job.did c.args.hall
 pub loop-job-preserved : goal.loop-job-preserved
 loop-job-preserved g c =
     let did = g.J.Job.did in
-    let laws = g.met.J.Job in
+    let laws = g.met.J.Job g.world.𝓛 g.world.𝓜 g.world.𝓡 ((λ s x. x), (λ x. x), (λ x. x), λ x. x) in
     let hall = c.args.hall.now in
     let i = c.loop-job.job-index in
     let jobs = c.args.jobs.now in
