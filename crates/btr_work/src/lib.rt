@@ -17,6 +17,7 @@ mod prepare;
 // laws of reports
 mod laws;
 
+pub use bringing::bring_output;
 pub use current::bring_current;
 pub use laws::{brought_is_alike, brought_is_current};
 pub use leveling::levels;
