@@ -20,6 +20,9 @@ use Rattle.btr_live.specs.Rounds.{MakesRound, MakesRounds}
 use Rattle.btr_live.specs.RoundsLaws.{round_lowers}
 use Rattle.btr_live.specs.Live.{LastRound}
 
+pub suc_one : (n : ℕ) → suc n ≡ n + 1
+suc_one n = omega arith
+
 module _ (start : Start) where
   -- Nothing was added in so many rounds.
   pub no_rounds : (count : ℕ) (course : Course) (low : List Entry) (own : List ℕ) → StartsWith course.history low → ((n : ℕ) → times n own ≡ 0) → MakesRounds start count low course own

@@ -4,8 +4,8 @@ ghost use Rattle.btr_live.specs.Rounds.{MakesRound, MakesRounds};
 
 use btr_disk::Disk;
 use btr_hall::{Hall, Session};
-use btr_jobs::{Job, NoPace};
-use btr_work::bring_current;
+use btr_jobs::Job;
+use btr_work::bring_current_here;
 use std::alloc::Global;
 use std::marker::{Send, Sync};
 use std::sync::atomic::{AtomicU32, Ordering};
@@ -45,7 +45,7 @@ impl Job for Rounds {
 }
 
 /// Makes at most `count` rounds, one after another, while lanes run.
-fn make_rounds<R: Threads + Wait + Sync, D: Disk + Send>(
+fn make_rounds<R: Wait, D: Disk>(
     rt: &R,
     alloc: Global,
     hall: &Hall<D>,
@@ -64,7 +64,7 @@ fn make_rounds<R: Threads + Wait + Sync, D: Disk + Send>(
 
 /// Brings each output up to date once, unless all lanes have ended. What is refused, also when memory runs out, is left to a later
 /// round.
-fn make_round<R: Threads + Wait + Sync, D: Disk + Send>(
+fn make_round<R: Wait, D: Disk>(
     rt: &R,
     alloc: Global,
     hall: &Hall<D>,
@@ -76,6 +76,6 @@ fn make_round<R: Threads + Wait + Sync, D: Disk + Send>(
     ensures round { Does hall.now session.old session.new (λ start course low own. MakesRound start course low own) }
 {
     if lanes.load(Ordering::SeqCst) > 0 {
-        let _report = bring_current(rt, alloc, hall, session, 1, &NoPace);
+        let _report = bring_current_here(rt, alloc, hall, session);
     }
 }

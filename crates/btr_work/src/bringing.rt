@@ -9,7 +9,7 @@ ghost use Rattle.btr_plan.specs.Next.{IsNext};
 ghost use Rattle.btr_jobs.specs.Course.{Start, Course, GoesOn};
 ghost use Rattle.btr_jobs.specs.Jobs.{IsAt, Does};
 ghost use Rattle.btr_work.specs.Report.{IsBrought, IsOfStopped, KnowsStopped};
-ghost use Rattle.btr_work.specs.Bringing.{IsPlannedAt};
+ghost use Rattle.btr_work.specs.Bringing.{IsDone, IsPlannedAt};
 
 use crate::report::Brought;
 use btr_disk::Disk;
@@ -29,6 +29,23 @@ pub(crate) struct OutputJob {
     pub(crate) result: Brought,
 }
 
+impl OutputJob {
+    /// Brings the output up to date, and keeps what became of it.
+    pub(crate) fn bring<R: Wait, D: Disk>(
+        &mut self,
+        rt: &R,
+        alloc: Global,
+        hall: &Hall<D>,
+        session: &mut Session<D>,
+    )
+        requires at { IsAt hall.now session.old }
+        ensures at { IsAt hall.now session.new }
+        ensures done { Does hall.now session.old session.new (λ start course low own. IsDone start course low self.old self.new own) }
+    {
+        self.result = bring_output(rt, alloc, hall, session, self.output);
+    }
+}
+
 impl Job for OutputJob {
     ghost use Rattle.btr_work.specs.Bringing.{IsDone};
     ghost use Rattle.btr_work.specs.ReportLaws.{done_lasts, done_lowers};
@@ -42,7 +59,7 @@ impl Job for OutputJob {
         hall: &Hall<D>,
         session: &mut Session<D>,
     ) {
-        self.result = bring_output(rt, alloc, hall, session, self.output);
+        self.bring(rt, alloc, hall, session);
     }
 
     ghost lasts = { done_lasts };

@@ -13,12 +13,14 @@ mod bringing;
 // the work of all outputs: what is made ready, how it is done, and how the report is filled in
 mod current;
 mod filling;
+mod here;
 mod prepare;
 // laws of reports
 mod laws;
 
 pub use bringing::bring_output;
 pub use current::bring_current;
+pub use here::bring_current_here;
 pub use laws::{brought_is_alike, brought_is_current};
 pub use leveling::levels;
 pub use report::{Brought, Report, ReportLine};

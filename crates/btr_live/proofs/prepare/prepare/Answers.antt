@@ -18,7 +18,7 @@ returns c =
           ∙ ap (λ all. lines_at all k) c.in_ok-parts.ensures
           ∙ lines-lane batch lists k
           ∙ c.in_ok-lanes.ensures.lines k;
-      limits = subst (λ n. HaveLimits batch n c.add_rounds.new.parts.items) c.len-count.ensures
+      limits = subst (λ n. HaveLimits batch n c.add_rounds.new.parts.items) (c.len-count.ensures ∙ c.args.script.ok.0)
           (c.in_ok-add_rounds.ensures.limits batch (subst (HaveLimits batch c.len-count.result) (sym c.in_ok-parts.ensures) (limits-lane batch c.len-count.result lists)));
       parties = omega (arith, some, made, none);
       empty = c.in_ok-replies.ensures.items;
