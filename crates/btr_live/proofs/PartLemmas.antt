@@ -54,7 +54,7 @@ module _ (batch rounds : ℕ) (start : Start) (course : Course) (low : List Entr
           | suc k ↦ rest.lanes k
         ];
         parties = rest.parties;
-        count = rest.count;
+        count = let more = rest.count in omega (arith, more);
         numbers = λ n.
             let sum = did.4 n in
             let more = rest.numbers n in
@@ -97,7 +97,7 @@ limits-lane batch count (list ∷ lists) = (refl, limits-lane batch count lists)
 -- Lanes are no parties.
 pub parties-lane : (batch : ℕ) (lists : List (Vec (Option Line) Global)) → parties_of (map (lane_with batch) lists) ≡ 0
 parties-lane batch [] = refl
-parties-lane batch (list ∷ lists) = parties-lane batch lists
+parties-lane batch (list ∷ lists) = let rest = parties-lane batch lists in omega (arith, rest)
 
 -- Rounds have no lines.
 pub lines-rounds : (all : List Part) (rounds : Rounds) (k : ℕ) → lines_at (all ++ parts.Rounds rounds ∷ []) k ≡ lines_at all k

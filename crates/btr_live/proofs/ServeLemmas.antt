@@ -31,7 +31,7 @@ use Rattle.btr_jobs.proofs.CourseLemmas.{history_goes_on}
 use Rattle.btr_jobs.proofs.TurnLemmas.{commit_turn, land_turn, look_turn}
 use Rattle.btr_live.specs.Meaning.{Meaning, Commits as CommitsEntry, Holds, Current, Refuses}
 use Rattle.btr_live.specs.Lanes.{reply_of_step, reply_of_landing, Offers, Answers}
-use Rattle.btr_live.specs.Serving.{Asking, Replies, Serves, Knows, was_told, RepliesIn, ServesIn}
+use Rattle.btr_live.specs.Serving.{Asking, Serves, Knows, was_told, RepliesIn, ServesIn}
 use Rattle.btr_live.proofs.ToldLemmas.{answers_told, stopped_longer}
 
 -- ---- entries

@@ -1,5 +1,5 @@
 -- Lemmas on failures of the device: a reply tells of one only if there was one, and who saw it gets a reply that says so again.
-use Rattle.std.specs.Prelude.{◌≡◌, ℕ, Bool, true, false, ◌||◌, if◌then◌else◌, List, [], ◌∷◌, ◌++◌, Option, Some, None, Result, Ok, Err}
+use Rattle.std.specs.Prelude.{◌≡◌, ℕ, Bool, true, false, ◌||◌, if◌then◌else◌, List, Some, None, Result, Ok, Err}
 use Rattle.std.specs.Option.{is_some}
 use Rattle.std.proofs.Common.{refl, sym, ap, ◌∙◌}
 use Rattle.std.proofs.lemmas.Bool.{or_right}
@@ -11,7 +11,6 @@ use Rattle.btr_hist.specs.declared.rejection.Rejection.TheVariants as rejections
 use Rattle.btr_distil.specs.Plan.{PlanValue, entry_of}
 use Rattle.btr_text.specs.declared.reply.LineReply.{LineReply}
 use Rattle.btr_text.specs.declared.reply.LineReply.TheVariants.{No}
-use Rattle.btr_text.specs.declared.reply.Reason.TheVariants as reasons
 use Rattle.btr_text.specs.Reasons.{reason_of_rejection}
 use Rattle.btr_engine.specs.declared.board.Receipt.{Receipt}
 use Rattle.btr_engine.specs.declared.engine.Engine.{Engine}

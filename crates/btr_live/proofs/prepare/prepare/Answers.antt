@@ -1,6 +1,5 @@
 -- The lists are the lines of the lanes.
 use Rattle.std.proofs.Common.{sym, ap, subst, ◌∙◌, arith}
-use Rattle.btr_gate.specs.Numbers.{one}
 use Rattle.btr_live.specs.Parts.{lines_at, parties_of, HaveLimits}
 use Rattle.btr_live.proofs.PartLemmas.{lines-lane, limits-lane, parties-lane}
 use Rattle.btr_live.proofs.prepare.prepare.Goals as goal
