@@ -8,6 +8,7 @@ mod DeleteLines
 -- the turns of a line
 mod ToldLemmas
 mod ServeLemmas
+mod BringLines
 mod AskLines
 -- lanes
 mod LaneLemmas
