@@ -50,8 +50,8 @@ abbrev pub times_all : ℕ → List (List ℕ) → List (List ℕ) → ℕ
 times_all n mine beside = total (times n) mine + total (times n) beside
 
 -- One history. It begins with that of the store when the run began, and all lanes ran on it. Each entry since then, and the one in
--- whose step the device failed, is that of exactly one line or one landing of one party. The last round is a party of its own. No party
--- makes more than one round more than the script has lines.
+-- whose step the device failed, is that of exactly one line or one landing of one party. The last round is a party of its own. Each party
+-- makes at most as many rounds as the script has lines, and one more.
 pub record OneHistory (batch : ℕ) (start : Start) (course : Course) (script : List ScriptLine) (replies : List LineReply) : Type 0 where
   pub begins : StartsWith course.history start.history
   pub mine : List (List ℕ)
