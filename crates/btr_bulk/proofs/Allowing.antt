@@ -1,7 +1,7 @@
 -- Each entry that work adds is allowed after those before it.
-use Rattle.std.specs.Prelude.{◌≡◌, ℕ, ◌+◌, ◌<◌, ◌≤◌, ◌==◌, Bool, true, false, ◌||◌, List, [], ◌∷◌, ◌++◌, length, Option, Some, None, Result, Ok, Err}
+use Rattle.std.specs.Prelude.{◌≡◌, ℕ, ◌+◌, ◌<◌, ◌≤◌, ◌==◌, Bool, true, false, ◌||◌, List, [], ◌∷◌, ◌++◌, length, Option, Some, None, option_to_list, Result, Ok, Err}
 use Rattle.std.specs.Option.{is_some}
-use Rattle.std.proofs.Common.{refl, sym, ap, ◌∙◌, subst, arith, length-append, ⊎_elim}
+use Rattle.std.proofs.Common.{refl, sym, ap, ◌∙◌, subst, arith, append-nil, length-append, ⊎_elim}
 use Rattle.std.proofs.lemmas.Bool.{eqb-true, cases_lt}
 use mathlib.Core.List.{head-eq_of_cons-eq, tail-eq_of_cons-eq}
 use Rattle.btr_hist.specs.declared.entry.Entry.{Entry}
@@ -21,10 +21,10 @@ use Rattle.btr_hall.specs.declared.land.LandFault.{LandFault}
 use Rattle.btr_hall.specs.declared.land.LandFault.TheVariants as faults
 use Rattle.btr_gate.specs.Numbers.{one, times}
 use Rattle.btr_gate.specs.Prefixes.{StartsWith}
-use Rattle.btr_gate.proofs.PrefixLemmas.{starts_same, starts_length, starts_trans}
+use Rattle.btr_gate.proofs.PrefixLemmas.{starts_same, starts_length, starts_trans, starts_between, starts_more}
 use Rattle.btr_jobs.specs.Course.{Start, Course, GoesOn}
 use Rattle.btr_jobs.specs.Turns.{IsAdded, IsFailed, IsIdle, Committed, Landed, LandedAfter}
-use Rattle.btr_bulk.specs.Work.{AddsAllowed}
+use Rattle.btr_bulk.specs.Work.{AddsAllowed, all_entries}
 
 -- ---- numbers
 
@@ -56,7 +56,9 @@ allows_both course own a b sum first second p e starts listed legal =
 pub allows_later : (start : Start) (late early : Course) (own : List ℕ) → GoesOn start late early → ((n : ℕ) → 1 ≤ times n own → n ≤ length early.history) → AddsAllowed early own → AddsAllowed late own
 allows_later start late early own on within allowed p e starts listed legal =
     let long : length (p ++ e ∷ []) ≡ length p + 1 = length-append p (e ∷ []) in
-    allowed p e (Rattle.btr_gate.proofs.PrefixLemmas.starts_between late.history (p ++ e ∷ []) early.history starts on.begins (omega (arith, long, within (length p + 1) listed))) listed legal
+    let inside : StartsWith early.history (p ++ e ∷ []) =
+    starts_between (all_entries late) (p ++ e ∷ []) early.history starts (starts_more late.history early.history (option_to_list late.failed) on.begins) (omega (arith, long, within (length p + 1) listed)) in
+    allowed p e (starts_more early.history (p ++ e ∷ []) (option_to_list early.failed) inside) listed legal
 
 -- ---- one turn
 
@@ -67,29 +69,31 @@ last_same [] (y ∷ q) e f is whole = absurd (cc)
 last_same (x ∷ p) [] e f is whole = absurd (cc)
 last_same (x ∷ p) (y ∷ q) e f is whole = last_same p q e f (tail-eq_of_cons-eq is) (tail-eq_of_cons-eq whole)
 
--- The entry of a turn is the one that stands at its number.
-pub allows_added : (course : Course) (p : List Entry) (e : Entry) (own : List ℕ) (next : List Entry) → IsAdded course p e own next → (Legal p → Allowed p e) → AddsAllowed course own
-allows_added course p e own next added allowed q f starts listed legal =
+-- The entry of a number is the one that stands at its place.
+allows_at : (course : Course) (p : List Entry) (e : Entry) (own : List ℕ) → StartsWith (all_entries course) (p ++ e ∷ []) → own ≡ (length p + 1) ∷ [] → (Legal p → Allowed p e) → AddsAllowed course own
+allows_at course p e own at is allowed q f starts listed legal =
     let n : ℕ = length q + 1 in
-    let here : 1 ≤ times n ((length p + 1) ∷ []) = omega (arith, listed, ap (times n) added.own) in
+    let all : List Entry = all_entries course in
+    let here : 1 ≤ times n ((length p + 1) ∷ []) = omega (arith, listed, ap (times n) is) in
     let same : length p + 1 ≡ n = the_number n (length p + 1) here in
     let long_p : length (p ++ e ∷ []) ≡ length p + 1 = length-append p (e ∷ []) in
     let long_q : length (q ++ f ∷ []) ≡ length q + 1 = length-append q (f ∷ []) in
-    let whole : p ++ e ∷ [] ≡ q ++ f ∷ [] = starts_same course.history (p ++ e ∷ []) (q ++ f ∷ []) added.follows starts (omega (arith, same, long_p, long_q)) in
-    let before : p ≡ q = starts_same course.history p q (starts_trans course.history (p ++ e ∷ []) p added.follows (e ∷ [], refl)) (starts_trans course.history (q ++ f ∷ []) q starts (f ∷ [], refl)) (omega (arith, same)) in
+    let whole : p ++ e ∷ [] ≡ q ++ f ∷ [] = starts_same all (p ++ e ∷ []) (q ++ f ∷ []) at starts (omega (arith, same, long_p, long_q)) in
+    let before : p ≡ q = starts_same all p q (starts_trans all (p ++ e ∷ []) p at (e ∷ [], refl)) (starts_trans all (q ++ f ∷ []) q starts (f ∷ [], refl)) (omega (arith, same)) in
     let entry : e ≡ f = last_same p q e f before whole in
     subst (λ (x : Entry). Allowed q x) entry (subst (λ (k : List Entry). Allowed k e) before (allowed (subst Legal (sym before) legal)))
 
--- The entry of a failed turn stands nowhere.
-pub allows_failed : (course : Course) (p : List Entry) (e : Entry) (own : List ℕ) (next : List Entry) → IsFailed course p e own next → AddsAllowed course own
-allows_failed course p e own next failed q f starts listed legal =
-    let n : ℕ = length q + 1 in
-    let here : 1 ≤ times n ((length p + 1) ∷ []) = omega (arith, listed, ap (times n) failed.own) in
-    let same : length p + 1 ≡ n = the_number n (length p + 1) here in
-    let long : length (q ++ f ∷ []) ≡ length q + 1 = length-append q (f ∷ []) in
-    let below : length (q ++ f ∷ []) ≤ length course.history = starts_length course.history (q ++ f ∷ []) starts in
-    let whole : length course.history ≡ length p = ap (length {A = Entry}) failed.last in
-    absurd (omega (arith, same, long, below, whole))
+-- The entry of a turn follows its history.
+pub allows_added : (course : Course) (p : List Entry) (e : Entry) (own : List ℕ) (next : List Entry) → IsAdded course p e own next → (Legal p → Allowed p e) → AddsAllowed course own
+allows_added course p e own next added allowed =
+    allows_at course p e own (starts_more course.history (p ++ e ∷ []) (option_to_list course.failed) added.follows) added.own allowed
+
+-- The entry of a failed turn is the one in whose step the device failed.
+pub allows_failed : (course : Course) (p : List Entry) (e : Entry) (own : List ℕ) (next : List Entry) → IsFailed course p e own next → (Legal p → Allowed p e) → AddsAllowed course own
+allows_failed course p e own next failed allowed =
+    let whole : all_entries course ≡ p ++ e ∷ [] =
+    ap (λ (h : List Entry). h ++ option_to_list course.failed) failed.last ∙ ap (λ (o : Option Entry). p ++ option_to_list o) failed.failed in
+    allows_at course p e own ([], whole ∙ sym (append-nil (p ++ e ∷ []))) failed.own allowed
 
 allows_idle : (course : Course) (p : List Entry) (own : List ℕ) (next : List Entry) → IsIdle p own next → AddsAllowed course own
 allows_idle course p own next idle = allows_nothing course own idle.own
@@ -102,7 +106,8 @@ allows_committed start course p e (Err (steps.Stopped entries)) own next compute
 allows_committed start course p e (Err (steps.Rejected why)) own next computed did = allows_idle course p own next did.1
 allows_committed start course p e (Err steps.Want) own next computed did = allows_idle course p own next did.1
 allows_committed start course p e (Err (steps.DeviceFull need left)) own next computed did = allows_idle course p own next did.2
-allows_committed start course p e (Err steps.DeviceFault) own next computed did = allows_failed course p e own next did.1
+allows_committed start course p e (Err steps.DeviceFault) own next computed did =
+    allows_failed course p e own next did.1 (λ legal. record { accepted = did.0; computed = computed })
 
 either_true : (a b : Bool) → b ≡ true → (a || b) ≡ true
 either_true true b is = refl
@@ -125,7 +130,7 @@ allows_committed_later start late early p e (Err (steps.DeviceFull need left)) o
 allows_committed_later start late early p e (Err steps.DeviceFault) own next on computed did =
     let some : is_some early.failed ≡ true = ap (λ (o : Option Entry). is_some o) did.1.failed in
     subst (λ (k : Course). AddsAllowed k own) (sym (on.ends (either_true start.stopped (is_some early.failed) some)))
-    (allows_failed early p e own next did.1)
+    (allows_failed early p e own next did.1 (λ legal. record { accepted = did.0; computed = computed }))
 
 -- ---- plans
 
@@ -133,11 +138,16 @@ accepted_none : (h : List Entry) (e : Entry) (why : Option Rejection) (r : _) �
 accepted_none h e None r is = refl
 accepted_none h e (Some why) r is = absurd (cc)
 
--- A plan of a history that was seen, whose landing was accepted, is allowed.
+-- A plan of a history that was seen is one of the history of its landing.
+plan_here : (q p : List Entry) (plan : PlanValue) → StartsWith p q → IsPlanOf q plan → Legal p → IsPlanOf p plan
+plan_here q p plan starts of legal =
+    let early : Legal q = legal-prefix q starts.0 (subst Legal starts.1 legal) in
+    subst (λ (h : List Entry). IsPlanOf h plan) (sym starts.1) (plan-stays q starts.0 plan (legal-follows q early) of)
+
+-- If its landing was accepted, it is allowed.
 plan_allowed : (q p : List Entry) (plan : PlanValue) (r : _) → StartsWith p q → IsPlanOf q plan → reply_to p plan ≡ Accepted r → Legal p → Allowed p (entry_of plan)
 plan_allowed q p plan r starts of accepted legal =
-    let early : Legal q = legal-prefix q starts.0 (subst Legal starts.1 legal) in
-    let here : IsPlanOf p plan = subst (λ (h : List Entry). IsPlanOf h plan) (sym starts.1) (plan-stays q starts.0 plan (legal-follows q early) of) in
+    let here : IsPlanOf p plan = plan_here q p plan starts of legal in
     ⊎_elim
     (λ (above : plan.base < latest p plan.stream).
     let is : Superseded (latest p plan.stream) ≡ Accepted r = sym (reply-superseded p plan here above).0 ∙ accepted in
@@ -150,6 +160,11 @@ plan_allowed q p plan r starts of accepted legal =
       computed = plan-computed p plan here current;
     })
     (cases_lt plan.base (latest p plan.stream))
+
+-- If the device failed in its step, it is allowed, too.
+plan_failed : (q p : List Entry) (plan : PlanValue) → StartsWith p q → IsPlanOf q plan → IsCurrent p plan → rejection p (entry_of plan) ≡ None → Legal p → Allowed p (entry_of plan)
+plan_failed q p plan starts of current accepted legal =
+    record { accepted = accepted; computed = plan-computed p plan (plan_here q p plan starts of legal) current }
 
 -- A landing.
 pub allows_landed : (start : Start) (course : Course) (q : List Entry) (plan : PlanValue) (result : Result Receipt LandFault) (own : List ℕ) (next : List Entry) → IsPlanOf q plan → LandedAfter start course q plan result own next → AddsAllowed course own
@@ -168,4 +183,5 @@ allows_landed start course q plan result own next of did = by_result result did.
     by_result (Err (faults.TooManyPoints count)) landed = allows_idle course p own next landed.3
     by_result (Err faults.Want) landed = allows_idle course p own next landed.2
     by_result (Err (faults.DeviceFull need left)) landed = allows_idle course p own next landed.3
-    by_result (Err faults.DeviceFault) landed = allows_failed course p (entry_of plan) own next landed.2
+    by_result (Err faults.DeviceFault) landed =
+        allows_failed course p (entry_of plan) own next landed.2 (λ legal. plan_failed q p plan did.1 of landed.0 landed.1 legal)

@@ -1,17 +1,18 @@
 -- If there is room for the outputs, and the device does not fail, work on them asks for no status of a full device or of a failed one.
-use Rattle.std.specs.Prelude.{◌≡◌, ◌⊎◌, ℕ, ◌+◌, ◌<◌, ◌≤◌, Bool, true, false, nat_lt, List, [], ◌∷◌, ◌++◌, length, map, Option, Some, None, Result, Ok, Err, IfOk}
+use Rattle.std.specs.Prelude.{◌≡◌, ℕ, ◌+◌, ◌<◌, ◌≤◌, ◌==◌, Bool, true, false, nat_lt, List, [], ◌∷◌, ◌++◌, length, map, Option, Some, None, Result, Ok, Err}
 use Rattle.std.specs.List.{AllByRecursion}
-use Rattle.std.specs.Option.{is_some}
 use Rattle.std.specs.declared.alloc.AllocError.{AllocError}
 use Rattle.std.proofs.Common.{cond, refl, sym, ap, ◌∙◌, subst, arith, inl, inr, length-append, ⊎_elim}
-use Rattle.std.proofs.lemmas.Bool.{cases_lt, lt-ltb, true≢false}
+use Rattle.std.proofs.lemmas.Bool.{cases_lt, cases_eq, lt-ltb, ne_eqb, true≢false}
 use mathlib.Core.List.{head-eq_of_cons-eq}
+use Rattle.btr_base.specs.Commit.{Change}
 use Rattle.btr_hist.specs.declared.entry.Entry.{Entry}
 use Rattle.btr_hist.specs.Legal.{rejection, Follows}
 use Rattle.btr_hist.proofs.HistoryLemmas.{follows-prefix, follows-push}
+use Rattle.btr_hist.proofs.VersionLemmas.{latest-silent}
 use Rattle.btr_distil.specs.Plan.{PlanValue, entry_of}
 use Rattle.btr_hist.specs.declared.kernel.Spec.{Spec}
-use Rattle.btr_hist.specs.History.{latest, spec_of}
+use Rattle.btr_hist.specs.History.{change_of, latest, spec_of}
 use Rattle.btr_hist.specs.Machine.{Reply, Receipt as ModelReceipt, landing_reply}
 use Rattle.btr_hist.specs.Machine.Reply.{Accepted, Superseded}
 use Rattle.btr_plan.specs.Next.{IsNextPlan}
@@ -19,23 +20,22 @@ use Rattle.btr_plan.specs.Plan.{IsPlanOf, IsCurrent, landing_of}
 use Rattle.btr_plan.proofs.PlanLemmas.{plan-current, plan-stays}
 use Rattle.btr_engine.specs.declared.board.Receipt.{Receipt}
 use Rattle.btr_engine.specs.Body.{need_of}
-use Rattle.btr_gate.specs.Numbers.{one, times, given}
+use Rattle.btr_gate.specs.Numbers.{given}
 use Rattle.btr_gate.specs.Prefixes.{StartsWith}
 use Rattle.btr_gate.proofs.NumberLemmas.{given_inside}
 use Rattle.btr_gate.proofs.PrefixLemmas.{starts_refl, starts_trans, starts_length, starts_same, starts_between, starts_more}
 use Rattle.btr_hall.specs.declared.land.LandFault.{LandFault}
 use Rattle.btr_hall.specs.declared.land.LandFault.TheVariants as faults
 use Rattle.btr_hall.specs.Commit.{needs_of}
-use Rattle.btr_jobs.specs.Course.{Start, Course, GoesOn}
-use Rattle.btr_jobs.specs.Turns.{IsFull, Landed, LandedAfter}
+use Rattle.btr_jobs.specs.Course.{Start, Course}
+use Rattle.btr_jobs.specs.Turns.{IsFull, Landed}
 use Rattle.btr_work.specs.declared.report.Brought.{Brought}
 use Rattle.btr_work.specs.declared.report.Brought.TheVariants as results
 use Rattle.btr_work.specs.declared.report.ReportLine as brought
-use Rattle.btr_work.specs.Levels.{outputs}
+use Rattle.btr_work.specs.Levels.{levels_of, outputs}
 use Rattle.btr_work.specs.Laws.{AreAllSince}
-use Rattle.btr_work.specs.Report.{IsPlanLanded, IsBrought, BringsEach, BringsLevels, Brings}
-use Rattle.btr_work.specs.ReportLaws.{brought_lasts}
-use Rattle.btr_work.proofs.MemberLemmas.{IsIn, IsInAny, all-members, output-spec, output-level}
+use Rattle.btr_work.specs.Report.{IsPlanLanded, IsBrought, Brings}
+use Rattle.btr_work.proofs.MemberLemmas.{IsInAny, Graded, groups-graded, all-members, output-spec, output-level}
 use Rattle.btr_work.proofs.OwnLemmas.{brings-number}
 use Rattle.btr_bulk.specs.declared.transcript.Transcript.{Transcript}
 use Rattle.btr_bulk.specs.Completes.{SaysBenign, IsPlannedSince, LandsSince, HasRoomSince, HasRoomForOutputs}
@@ -43,6 +43,7 @@ use Rattle.btr_bulk.specs.Distil.{output_line, BringsIf, SaysReport}
 use Rattle.btr_bulk.specs.Work.{last_number, OwnsEachOnce}
 use Rattle.btr_bulk.proofs.Allowing.{last_same}
 use Rattle.btr_bulk.proofs.Rooms.{needs_append}
+use Rattle.btr_bulk.proofs.FewVersions.{AreOfOthers, latest_push-few, own-in, one-each, versions-since}
 use Rattle.btr_bulk.proofs.Benign.{IsCalm, says_benign, report_benign}
 
 -- ---- plans that were accepted
@@ -118,8 +119,8 @@ module _ (start : Start) (course : Course) (runs : course.failed ≡ None) (low 
       record { at = is.0; since = is.4; before = entry.before; plan = is.1; planned = is.5; current = entry.current; entry = entry.entry }
 
   -- A plan that might be landed: with it the history goes on by landings, too.
-  lands_next : (p : List Entry) (e : Entry) → StartsWith course.history p → StartsWith p low → rejection p e ≡ None → IsPlannedSince low p e → LandsSince low (p ++ e ∷ [])
-  lands_next p e starts begins accepted planned = record {
+  lands_next : (most : ℕ) (p : List Entry) (e : Entry) → StartsWith course.history p → StartsWith p low → rejection p e ≡ None → IsPlannedSince low p e → ((stream : ℕ) → latest (p ++ e ∷ []) stream ≤ latest low stream + most) → LandsSince most low (p ++ e ∷ [])
+  lands_next most p e starts begins accepted planned few = record {
     begins = starts_more p low (e ∷ []) begins;
     follows = follows-push p e (follows-prefix p starts.0 (subst Follows starts.1 follows)) accepted;
     planned = λ q f within long.
@@ -136,24 +137,55 @@ module _ (start : Start) (course : Course) (runs : course.failed ≡ None) (low 
         let same : p ≡ q = starts_same (p ++ e ∷ []) p q (e ∷ [], refl) (starts_trans (p ++ e ∷ []) (q ++ f ∷ []) q within (f ∷ [], refl)) (omega (arith, whole, part_q, part_p, below)) in
         subst (λ (x : Entry). IsPlannedSince low q x) (last_same p q e f same all) (subst (λ (h : List Entry). IsPlannedSince low h e) same planned))
         (cases_lt (length q) (length p));
+    few = few;
   }
 
-  module _ (room : HasRoomSince start low) where
-    never_full : (p : List Entry) (e : Entry) (need left : ℕ) → StartsWith course.history p → StartsWith p low → rejection p e ≡ None → IsPlannedSince low p e → IsFull start p e need left → ⊥
-    never_full p e need left starts begins accepted planned full =
-        let fits : needs_of (p ++ e ∷ []) ≤ start.left + needs_of start.history = room (p ++ e ∷ []) (lands_next p e starts begins accepted planned) in
-        let sum : needs_of (p ++ e ∷ []) ≡ needs_of p + needs_of (e ∷ []) = needs_append p (e ∷ []) in
-        let last : needs_of (e ∷ []) ≡ need_of e = omega arith in
-        let needed = full.need in
-        let was = full.left in
-        let short = full.short in
-        omega (arith, fits, sum, last, needed, was, short)
+  never_full : (most : ℕ) → HasRoomSince most start low → (p : List Entry) (e : Entry) (need left : ℕ) → IsFull start p e need left → LandsSince most low (p ++ e ∷ []) → ⊥
+  never_full most room p e need left full lands =
+      let fits : needs_of (p ++ e ∷ []) ≤ start.left + needs_of start.history = room (p ++ e ∷ []) lands in
+      let sum : needs_of (p ++ e ∷ []) ≡ needs_of p + needs_of (e ∷ []) = needs_append p (e ∷ []) in
+      let last : needs_of (e ∷ []) ≡ need_of e = omega arith in
+      let needed = full.need in
+      let was = full.left in
+      let short = full.short in
+      omega (arith, fits, sum, last, needed, was, short)
 
-    plan_calm : (here : List Entry) (output need left : ℕ) (mine : List ℕ) → StartsWith here low → IsPlanLanded start course here output (Err (faults.DeviceFull need left)) mine → ⊥
-    plan_calm here output need left mine begins is =
+  -- ---- each output is landed once at most
+
+  abbrev seen : List Entry
+  seen = brings.seen
+
+  graded : Graded (levels_of seen) 1 brings.levels
+  graded = groups-graded (levels_of seen) brings.levels brings.are
+
+  -- At any time a stream has at most one version more.
+  one_more : (p : List Entry) (stream : ℕ) → StartsWith course.history p → StartsWith p low → latest p stream ≤ latest low stream + 1
+  one_more p stream starts begins =
+      let one = one-each start brings.result seen brings.levels course own graded brings.brings stream in
+      omega (arith, one.1, versions-since low seen course own each stream one.0 one.2 p starts begins)
+
+  -- With the entry of a plan for an output of which nothing was added a stream has still at most one version more.
+  still_one : (p : List Entry) (plan : PlanValue) → AreOfOthers plan.stream course seen own [] → StartsWith course.history p → StartsWith p low → (stream : ℕ) → latest (p ++ entry_of plan ∷ []) stream ≤ latest low stream + 1
+  still_one p plan others starts begins stream =
+      elim (cases_eq stream plan.stream) [
+        | inl same ↦
+            let none : latest p plan.stream ≤ latest low plan.stream + 0 = versions-since low seen course own each plan.stream [] others p starts begins in
+            let more : latest (p ++ entry_of plan ∷ []) plan.stream ≤ latest p plan.stream + 1 = latest_push-few p (entry_of plan) plan.stream in
+            subst (λ (s : ℕ). latest (p ++ entry_of plan ∷ []) s ≤ latest low s + 1) (sym same) (omega (arith, none, more))
+        | inr differs ↦
+            let other : (plan.stream == stream) ≡ false = ne_eqb plan.stream stream (λ same. differs (sym same)) in
+            let silent : change_of stream (entry_of plan) ≡ None =
+            ap (λ b. cond {A = Option Change} b (Some (record { cut = plan.cut; added = plan.added })) None) other in
+            omega (arith, latest-silent p (entry_of plan) stream silent, one_more p stream starts begins)
+      ]
+
+  module _ (room : HasRoomSince 1 start low) where
+    plan_calm : (here : List Entry) (output need left : ℕ) (mine : List ℕ) → StartsWith here low → AreOfOthers output course seen own mine → IsPlanLanded start course here output (Err (faults.DeviceFull need left)) mine → ⊥
+    plan_calm here output need left mine begins others is =
         let turn = is.landed in
         let p : List Entry = turn.0 in
         let at_low : StartsWith is.at low = starts_trans is.at here low is.after begins in
+        let after_low : StartsWith p low = starts_trans p is.at low turn.1 at_low in
         let planned : IsPlannedSince low p (entry_of is.plan) = record {
           at = is.at;
           since = at_low;
@@ -163,50 +195,44 @@ module _ (start : Start) (course : Course) (runs : course.failed ≡ None) (low 
           current = turn.3.0;
           entry = refl;
         } in
-        never_full p (entry_of is.plan) need left turn.2 (starts_trans p is.at low turn.1 at_low) turn.3.1 planned turn.3.2
+        let none : AreOfOthers is.plan.stream course seen own [] =
+        subst (λ (s : ℕ). AreOfOthers s course seen own []) (sym is.planned.same_stream)
+        (subst (λ (l : List ℕ). AreOfOthers output course seen own l) turn.3.3.own others) in
+        never_full 1 room p (entry_of is.plan) need left turn.3.2
+        (lands_next 1 p (entry_of is.plan) turn.2 after_low turn.3.1 planned (still_one p is.plan none turn.2 after_low))
 
     plan_ran : (here : List Entry) (output : ℕ) (mine : List ℕ) → IsPlanLanded start course here output (Err faults.DeviceFault) mine → ⊥
     plan_ran here output mine is =
         let failed : None ≡ Some (entry_of is.plan) = sym runs ∙ is.landed.3.2.failed in
         absurd (cc)
 
-    brought_calm : (here : List Entry) (output : ℕ) (result : Brought) (mine : List ℕ) → StartsWith here low → IsBrought start course here output result mine → IsCalm result
-    brought_calm here output (results.Landed version) mine begins is = tt
-    brought_calm here output (results.Current version) mine begins is = tt
-    brought_calm here output (results.Refused (faults.Stopped entries)) mine begins is = tt
-    brought_calm here output (results.Refused (faults.Superseded version)) mine begins is = tt
-    brought_calm here output (results.Refused faults.VersionLimit) mine begins is = tt
-    brought_calm here output (results.Refused (faults.Crowded start)) mine begins is = tt
-    brought_calm here output (results.Refused (faults.TooManyPoints count)) mine begins is = tt
-    brought_calm here output (results.Refused faults.Want) mine begins is = tt
-    brought_calm here output (results.Refused (faults.DeviceFull need left)) mine begins is = plan_calm here output need left mine begins is
-    brought_calm here output (results.Refused faults.DeviceFault) mine begins is = plan_ran here output mine is
+    brought_calm : (here : List Entry) (output : ℕ) (result : Brought) (mine : List ℕ) → StartsWith here low → AreOfOthers output course seen own mine → IsBrought start course here output result mine → IsCalm result
+    brought_calm here output (results.Landed version) mine begins others is = tt
+    brought_calm here output (results.Current version) mine begins others is = tt
+    brought_calm here output (results.Refused (faults.Stopped entries)) mine begins others is = tt
+    brought_calm here output (results.Refused (faults.Superseded version)) mine begins others is = tt
+    brought_calm here output (results.Refused faults.VersionLimit) mine begins others is = tt
+    brought_calm here output (results.Refused (faults.Crowded start)) mine begins others is = tt
+    brought_calm here output (results.Refused (faults.TooManyPoints count)) mine begins others is = tt
+    brought_calm here output (results.Refused faults.Want) mine begins others is = tt
+    brought_calm here output (results.Refused (faults.DeviceFull need left)) mine begins others is =
+        plan_calm here output need left mine begins others is
+    brought_calm here output (results.Refused faults.DeviceFault) mine begins others is = plan_ran here output mine is
 
-    each_calm : (middle : Course) (here : List Entry) (result : ℕ → Brought) (level mine : List ℕ) → GoesOn start course middle → StartsWith here low → BringsEach start middle here result level mine → (output : ℕ) → IsIn output level → IsCalm (result output)
-    each_calm middle here result [] mine on begins did output is = absurd is
-    each_calm middle here result (first ∷ level) mine on begins did output (inl same) =
-        subst (λ (x : ℕ). IsCalm (result x)) (sym same)
-        (brought_calm here first (result first) did.0 begins (brought_lasts start course middle here first (result first) did.0 on did.2))
-    each_calm middle here result (first ∷ level) mine on begins did output (inr later) =
-        each_calm middle here result level did.1 on begins did.3 output later
-
-    levels_calm : (here : List Entry) (result : ℕ → Brought) (levels : List (List ℕ)) (mine : List ℕ) → StartsWith here low → BringsLevels start here result levels course mine → (output : ℕ) → IsInAny output levels → IsCalm (result output)
-    levels_calm here result [] mine begins did output any = absurd any
-    levels_calm here result (level ∷ levels) mine begins did output (inl is) =
-        each_calm did.0 here result level did.3 did.1 begins did.5 output is
-    levels_calm here result (level ∷ levels) mine begins did output (inr later) =
-        levels_calm did.0.history result levels did.4 (starts_trans did.0.history here low did.2 begins) did.6 output later
+    output_calm : (output : ℕ) → IsInAny output brings.levels → IsCalm (brings.result output)
+    output_calm output any =
+        let is = own-in start brings.result seen 1 seen brings.levels course own graded brings.brings output any in
+        brought_calm is.here output (brings.result output) is.mine (starts_trans is.here seen low is.begins brings.after) is.others is.brought
 
     pub report_calm : AllByRecursion (λ line. IsCalm line.result) report
     report_calm =
-        let seen : List Entry = brings.seen in
         let result : ℕ → Brought = brings.result in
         let seen_follows : Follows seen = follows-prefix seen brings.before.0 (subst Follows brings.before.1 follows) in
         let line : ℕ → brought.ReportLine = λ output. record { output = output; result = result output } in
         subst (AllByRecursion (λ line. IsCalm line.result)) (sym brings.lines)
         (all-members (λ (l : brought.ReportLine). IsCalm l.result) line (outputs seen) (λ output is.
         let spec = output-spec seen output is in
-        levels_calm seen result brings.levels own brings.after brings.brings output (output-level seen brings.levels seen_follows brings.are output spec.0 spec.1)))
+        output_calm output (output-level seen brings.levels seen_follows brings.are output spec.0 spec.1)))
 
 pub report_completes : (start : Start) (course : Course) (own : List ℕ) (report : Option (List brought.ReportLine)) (said : Result Transcript AllocError) → OwnsEachOnce start course own → Follows course.history → BringsIf start course start.history report own → SaysReport course.history report said → HasRoomForOutputs start → course.failed ≡ None → SaysBenign said
 report_completes start course own report (Err error) each follows brings says room runs = tt

@@ -12,6 +12,7 @@ pub mod TranscriptLemmas
 mod Benign
 mod StreamLemmas
 -- the work of each command
+mod FewVersions
 mod DistilCompletes
 pub mod DistilLemmas
 mod LoadLineLemmas

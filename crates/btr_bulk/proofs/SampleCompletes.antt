@@ -25,7 +25,7 @@ use Rattle.btr_load.specs.declared.stream.LoadedStream.{LoadedStream}
 use Rattle.btr_load.specs.Loads.{OpensEach}
 use Rattle.btr_load.specs.Fits.{HadRoom}
 use Rattle.btr_bulk.specs.declared.define.DefinedOutput.{DefinedOutput}
-use Rattle.btr_bulk.specs.Completes.{IsBenign, LandsSince, HasRoomSince}
+use Rattle.btr_bulk.specs.Completes.{IsBenign, LandsSince}
 use Rattle.btr_bulk.specs.Define.{output_id, mean_of, refusal_of, DefinesOver, DefinesEach}
 use Rattle.btr_bulk.specs.SampleRoom.{AreOfRows, DefinesSince}
 use Rattle.btr_bulk.specs.Status.{status_of_reason}
@@ -44,13 +44,14 @@ of_rows start course low p batch (r ∷ rows) (s ∷ streams) own last opens =
     ((λ i. opens.0 i ∷ rest.0 i), (opens.1, rest.1))
 
 -- Nothing was landed yet.
-pub lands_none : (h : List Entry) → Follows h → LandsSince h h
-lands_none h follows = record {
+pub lands_none : (most : ℕ) (h : List Entry) → Follows h → LandsSince most h h
+lands_none most h follows = record {
   begins = starts_refl h;
   follows = follows;
   planned = λ p e starts long.
       let part : length (p ++ e ∷ []) ≡ length p + 1 = length-append p (e ∷ []) in
       absurd (omega (arith, long, part, starts_length h (p ++ e ∷ []) starts));
+  few = λ stream. omega arith;
 }
 
 module _ (streams : ℕ) (low : List Entry) where
@@ -83,12 +84,12 @@ module _ (streams : ℕ) (low : List Entry) where
             (cases_lt (length q) (length p));
       }
 
-  module _ (start : Start) (course : Course) (runs : course.failed ≡ None) (room : (m h : List Entry) → DefinesSince streams low m → LandsSince m h → needs_of h ≤ start.left + needs_of start.history) where
+  module _ (start : Start) (course : Course) (runs : course.failed ≡ None) (room : (m h : List Entry) → DefinesSince streams low m → LandsSince 1 m h → needs_of h ≤ start.left + needs_of start.history) where
     never_full : (p : List Entry) (stream input need left : ℕ) → stream < streams → DefinesSince streams low p → rejection p (entries.Define (output_id stream) (mean_of input)) ≡ None → IsFull start p (entries.Define (output_id stream) (mean_of input)) need left → ⊥
     never_full p stream input need left inside so_far accepted full =
         let e : Entry = entries.Define (output_id stream) (mean_of input) in
         let next : DefinesSince streams low (p ++ e ∷ []) = defines_next p stream input inside accepted so_far in
-        let fits : needs_of (p ++ e ∷ []) ≤ start.left + needs_of start.history = room (p ++ e ∷ []) (p ++ e ∷ []) next (lands_none (p ++ e ∷ []) next.follows) in
+        let fits : needs_of (p ++ e ∷ []) ≤ start.left + needs_of start.history = room (p ++ e ∷ []) (p ++ e ∷ []) next (lands_none 1 (p ++ e ∷ []) next.follows) in
         let sum : needs_of (p ++ e ∷ []) ≡ needs_of p + needs_of (e ∷ []) = needs_append p (e ∷ []) in
         let last : needs_of (e ∷ []) ≡ need_of e = omega arith in
         let needed = full.need in

@@ -49,7 +49,7 @@ use Rattle.btr_bulk.specs.Load.{LoadsIf, ArePlain}
 use Rattle.btr_bulk.specs.Define.{output_id, mean_of, DefinesOver, DefinesEach}
 use Rattle.btr_bulk.specs.Completes.{SaysBenign}
 use Rattle.btr_bulk.specs.Sample.{rows_of_sample, Work, SaysIf, Fills, Samples}
-use Rattle.btr_bulk.specs.SampleRoom.{AreOfRows, HasRoomForSample}
+use Rattle.btr_bulk.specs.SampleRoom.{AreOfRows, HasRoomToFill, HasRoomForSample}
 use Rattle.btr_bulk.specs.SampleLaw.{FillsStore, SettlesStore, SamplesStore}
 use Rattle.btr_bulk.proofs.Benign.{sample_benign, used_benign}
 use Rattle.btr_bulk.proofs.LoadCompletes.{loads_ran}
@@ -370,7 +370,7 @@ module _ (number streams points : ℕ) (start : Start) (course : Course) (own : 
       }
 
   -- If there was room, and the device did not fail, no line says that it was full or failed.
-  fills_complete : (said : Result Transcript AllocError) → start.history ≡ [] → Fills number streams points start course [] said own → HasRoomForSample number streams points start → course.failed ≡ None → SaysBenign said
+  fills_complete : (said : Result Transcript AllocError) → start.history ≡ [] → Fills number streams points start course [] said own → HasRoomToFill number streams points start → course.failed ≡ None → SaysBenign said
   fills_complete said empty did room runs = by_parts did.loaded did.outputs did.report said did.work did.says
     where
       by_parts : (loaded : Option LoadedValue) (outputs : List DefinedOutput) (report : Option (List brought.ReportLine)) (said : Result Transcript AllocError) → Work number streams points start course [] loaded outputs report own → SaysIf streams course.history loaded outputs report said → SaysBenign said
@@ -405,7 +405,7 @@ settles_store number streams points start course own (e ∷ low) each follows le
 
 samples_complete : (number streams points : ℕ) (start : Start) (course : Course) (own : List ℕ) (low : List Entry) → start.history ≡ low → ((n : ℕ) → times n own ≡ given (length low) (last_number course) n) → Follows course.history → (Legal low → Legal course.history) → (said : Result Transcript AllocError) → Samples number streams points start course low said own → HasRoomForSample number streams points start → course.failed ≡ None → SaysBenign said
 samples_complete number streams points start course own [] is each follows legal said did room runs =
-    fills_complete number streams points start course own each follows (legal legal-none) said is did room runs
+    fills_complete number streams points start course own each follows (legal legal-none) said is did (room is) runs
 samples_complete number streams points start course own (e ∷ low) is each follows legal (Err error) did room runs = tt
 samples_complete number streams points start course own (e ∷ low) is each follows legal (Ok transcript) did room runs =
     used_benign (length (e ∷ low)) transcript did.says

@@ -76,6 +76,7 @@ does_rightly disk What old new hall begun last allows on does closes =
       what = what;
       legal = works.legal allowed;
       right = works.right allowed;
+      in_flight = works.in_flight allowed;
     }
 
 -- What the work and the law say together of what was done.
@@ -88,4 +89,5 @@ does_more disk What More old new implies does = record {
   what = implies does.first does.course does.own does.works does.legal does.what;
   legal = does.legal;
   right = does.right;
+  in_flight = does.in_flight;
 }

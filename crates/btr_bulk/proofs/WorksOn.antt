@@ -19,6 +19,7 @@ use Rattle.btr_engine.proofs.EngineLemmas.{stopped_by_fault}
 use Rattle.btr_open.specs.Opening.{IsOpened}
 use Rattle.btr_gate.specs.Numbers.{one, times, given}
 use Rattle.btr_gate.specs.Prefixes.{StartsWith}
+use Rattle.btr_gate.proofs.PrefixLemmas.{starts_length, starts_more}
 use Rattle.btr_hall.specs.declared.item.Item.{Item}
 use Rattle.btr_hall.specs.declared.session.Hall.{Hall}
 use Rattle.btr_hall.specs.declared.session.Session.{Session}
@@ -31,7 +32,7 @@ use Rattle.btr_hall.specs.StoreLaws.{engine_earlier}
 use Rattle.btr_hall.proofs.TraceLemmas.{engine_of_list, stopped_of_list, length_of_list, keeps_of_list, at_rest_of_list}
 use Rattle.btr_jobs.specs.Course.{Start, Course, start_with, failed_in}
 use Rattle.btr_jobs.proofs.CourseLemmas.{course_at, failed_halt}
-use Rattle.btr_bulk.specs.Work.{OwnsEachOnce, HoldsPrefix, HoldsCourse, AddsAllowed, HoldsSafely, KeepsEach, CrashLeavesCourse, Works}
+use Rattle.btr_bulk.specs.Work.{OwnsEachOnce, HoldsPrefix, HoldsCourse, AddsAllowed, IsRightInFlight, all_entries, HoldsSafely, KeepsEach, CrashLeavesCourse, Works}
 use Rattle.btr_bulk.proofs.Moments.{steps_leave, steps_end, keeps_each}
 use Rattle.btr_bulk.proofs.Rooms.{needs_append, steps_fit}
 use Rattle.btr_bulk.proofs.WorkLemmas.{course_is, held_before}
@@ -65,8 +66,21 @@ work_legal first course own begins each adds legal =
     let part : length (p ++ e ∷ []) ≡ length p + 1 = length-append p (e ∷ []) in
     let was : 1 ≤ given (length first.history) (length course.history + one (is_some course.failed)) number =
     given_between (length first.history) (length course.history + one (is_some course.failed)) number (omega (arith, long)) (omega (arith, whole, part)) in
-    legal-push p e before (adds p e starts (omega (arith, was, each number)) before))
+    legal-push p e before (adds p e (starts_more course.history (p ++ e ∷ []) (option_to_list course.failed) starts) (omega (arith, was, each number)) before))
     legal
+
+-- So it is with the entry in whose step the device failed: its number is the last one.
+work_in_flight : (first : Start) (course : Course) (own : List ℕ) → StartsWith course.history first.history → OwnsEachOnce first course own → AddsAllowed course own → Legal first.history → IsRightInFlight course
+work_in_flight first course own begins each adds legal e failed =
+    let h : List Entry = course.history in
+    let number : ℕ = length h + 1 in
+    let one_more : one (is_some course.failed) ≡ 1 = ap (λ (o : Option Entry). one (is_some o)) failed in
+    let was : 1 ≤ given (length first.history) (length h + one (is_some course.failed)) number =
+    given_between (length first.history) (length h + one (is_some course.failed)) number (omega (arith, starts_length h first.history begins)) (omega (arith, one_more)) in
+    let whole : all_entries course ≡ (h ++ e ∷ []) ++ [] = ap (λ (o : Option Entry). h ++ option_to_list o) failed ∙ sym (append-nil (h ++ e ∷ [])) in
+    let before : Legal h = work_legal first course own begins each adds legal in
+    let then : Legal (h ++ e ∷ []) = legal-push h e before (adds h e ([], whole) (omega (arith, was, each number)) before) in
+    (then, legal-right (h ++ e ∷ []) then)
 
 -- ---- the list of a hall
 
@@ -188,6 +202,7 @@ module _ {D : Type 0} (disk : Ghosts D) (only_now : disk.is_observable → (d : 
           fits = fits;
           legal = λ adds legal. work_legal (start_with h x) course own begins once adds legal;
           right = λ adds legal. legal-right course.history (work_legal (start_with h x) course own begins once adds legal);
+          in_flight = λ adds legal. work_in_flight (start_with h x) course own begins once adds legal;
           before = λ told. record {
             blocks = blocks_of x;
             tail = tail_of x;

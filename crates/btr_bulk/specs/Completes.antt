@@ -2,6 +2,7 @@
 use Rattle.std.specs.Prelude.{◌≡◌, ◌⊎◌, ℕ, ◌+◌, ◌≤◌, List, [], ◌∷◌, ◌++◌, length, Result, IfOk}
 use Rattle.std.specs.declared.alloc.AllocError.{AllocError}
 use Rattle.btr_hist.specs.declared.entry.Entry.{Entry}
+use Rattle.btr_hist.specs.History.{latest}
 use Rattle.btr_hist.specs.Legal.{Follows}
 use Rattle.btr_distil.specs.Plan.{PlanValue, entry_of}
 use Rattle.btr_plan.specs.Next.{IsNextPlan}
@@ -44,16 +45,18 @@ pub record IsPlannedSince (low p : List Entry) (e : Entry) : Type 0 where
   pub current : IsCurrent p plan
   pub entry : e ≡ entry_of plan
 
--- The history goes on from `low` by landings alone: each entry after `low` is what the model plans for an output, and it may follow
--- the entries before it.
-pub record LandsSince (low h : List Entry) : Type 0 where
+-- The history goes on from `low` by landings alone, of each output at most this number of times: each entry after `low` is what the
+-- model plans for an output, and it may follow the entries before it.
+pub record LandsSince (most : ℕ) (low h : List Entry) : Type 0 where
   pub begins : StartsWith h low
   pub follows : Follows h
   pub planned : (p : List Entry) (e : Entry) → StartsWith h (p ++ e ∷ []) → length low ≤ length p → IsPlannedSince low p e
+  pub few : (stream : ℕ) → latest h stream ≤ latest low stream + most
 
--- Whatever is landed after the history `low`, its blocks were left at the start.
-abbrev pub HasRoomSince : Start → List Entry → Type 0
-HasRoomSince start low = (h : List Entry) → LandsSince low h → needs_of h ≤ start.left + needs_of start.history
+-- Whatever is landed after the history `low`, of each output at most this number of times, its blocks were left at the start.
+abbrev pub HasRoomSince : ℕ → Start → List Entry → Type 0
+HasRoomSince most start low = (h : List Entry) → LandsSince most low h → needs_of h ≤ start.left + needs_of start.history
 
+-- There is room for one landing of each output. A call that brings each output up to date once lands no output more often.
 abbrev pub HasRoomForOutputs : Start → Type 0
-HasRoomForOutputs start = HasRoomSince start start.history
+HasRoomForOutputs start = HasRoomSince 1 start start.history

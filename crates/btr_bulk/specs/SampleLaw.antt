@@ -40,5 +40,5 @@ pub record SamplesStore (number streams points : ℕ) (start : Start) (course : 
     : Type 0 where
   pub did : Samples number streams points start course start.history said own
   pub settles : SettlesStore number streams points start course start.history said own did
-  -- if there was room for all of it, and the device did not fail, no line says that it was full or failed
+  -- if there was room for all of it or the store was used, and the device did not fail, no line says that it was full or failed
   pub completes : HasRoomForSample number streams points start → course.failed ≡ None → SaysBenign said

@@ -1,4 +1,4 @@
--- How much room a sample needs: its rows, and then all that may be defined and landed.
+-- How much room a sample needs: in an empty store that of its rows, and then of all that may be defined and landed; else none.
 use Rattle.std.specs.Prelude.{◌≡◌, ℕ, ◌+◌, ◌<◌, ◌≤◌, List, [], ◌∷◌, ◌++◌, length, map}
 use Rattle.std.specs.List.{AllByRecursion}
 use Rattle.btr_hist.specs.declared.entry.Entry.{Entry}
@@ -32,9 +32,14 @@ pub record DefinesSince (streams : ℕ) (low h : List Entry) : Type 0 where
   pub defines : (p : List Entry) (e : Entry) → StartsWith h (p ++ e ∷ []) → length low ≤ length p
       → (stream input : ℕ) × (stream < streams) × (e ≡ Define (output_id stream) (mean_of input))
 
--- All blocks that the rows need are left. Whatever of them is loaded, then defined and landed, its blocks are left.
-pub record HasRoomForSample (number streams points : ℕ) (start : Start) : Type 0 where
+-- All blocks that the rows need are left. Whatever of them is loaded, then defined, and then landed once for each output, its blocks
+-- are left.
+pub record HasRoomToFill (number streams points : ℕ) (start : Start) : Type 0 where
   pub rows : HasRoomForRows start (rows_of_sample number streams points) BATCH
   pub outputs : (loaded defined landed : List Entry)
-      → IsLoadOf BATCH (rows_of_sample number streams points) loaded → DefinesSince streams loaded defined → LandsSince defined landed
+      → IsLoadOf BATCH (rows_of_sample number streams points) loaded → DefinesSince streams loaded defined → LandsSince 1 defined landed
       → needs_of landed ≤ start.left + needs_of start.history
+
+-- A store without an entry has room for the sample. A store that has an entry needs none, since nothing is added to it.
+abbrev pub HasRoomForSample : ℕ → ℕ → ℕ → Start → Type 0
+HasRoomForSample number streams points start = start.history ≡ [] → HasRoomToFill number streams points start

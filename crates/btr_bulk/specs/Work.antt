@@ -28,10 +28,21 @@ last_number course = length course.history + one (is_some course.failed)
 abbrev pub OwnsEachOnce : Start → Course → List ℕ → Type 0
 OwnsEachOnce first course own = (n : ℕ) → times n own ≡ given (length first.history) (last_number course) n
 
--- Each entry with one of these numbers is allowed after those before it, if they are legal.
+-- The entries of the history, and then the one in whose step the device failed, if it did.
+abbrev pub all_entries : Course → List Entry
+all_entries course = course.history ++ option_to_list course.failed
+
+-- Each entry with one of these numbers, also the one in whose step the device failed, is allowed after those before it, if they are
+-- legal.
 abbrev pub AddsAllowed : Course → List ℕ → Type 0
 AddsAllowed course own =
-    (p : List Entry) (e : Entry) → StartsWith course.history (p ++ e ∷ []) → 1 ≤ times (length p + 1) own → Legal p → Allowed p e
+    (p : List Entry) (e : Entry) → StartsWith (all_entries course) (p ++ e ∷ []) → 1 ≤ times (length p + 1) own → Legal p → Allowed p e
+
+-- A crash may leave the entry in whose step the device failed after all others. The history with it at its end is legal, and each
+-- version of each output is right.
+abbrev pub IsRightInFlight : Course → Type 0
+IsRightInFlight course =
+    (e : Entry) → course.failed ≡ Some e → Legal (course.history ++ e ∷ []) × Right (course.history ++ e ∷ [])
 
 -- ---- images
 
@@ -98,7 +109,8 @@ module _ {D : Type 0} (disk : Ghosts D) where
 
   -- Work at a hall that began with `first` and went on to this course, from the device `old` to the device `new`. Each entry may follow
   -- those before it, also if the device is not observable. If the device failed in a step, its count of faults rose. If the first
-  -- history is legal, and each entry that was added is allowed, each version of each output is right at the end.
+  -- history is legal, and each entry that was added is allowed, each version of each output is right at the end, also with the entry
+  -- in whose step the device failed.
   pub record Works (first : Start) (course : Course) (own : List ℕ) (old new : D) : Type 0 where
     pub same_size : disk.size new ≡ disk.size old
     pub begins : StartsWith course.history first.history
@@ -106,16 +118,18 @@ module _ {D : Type 0} (disk : Ghosts D) where
     pub not_stopped : first.stopped ≡ false
     pub each_once : OwnsEachOnce first course own
     -- The entries, with the one in whose step the device failed, need no more blocks than there were.
-    pub fits : needs_of (course.history ++ option_to_list course.failed) ≤ first.left + needs_of first.history
+    pub fits : needs_of (all_entries course) ≤ first.left + needs_of first.history
     pub legal : AddsAllowed course own → Legal first.history → Legal course.history
     pub right : AddsAllowed course own → Legal first.history → Right course.history
+    pub in_flight : AddsAllowed course own → Legal first.history → IsRightInFlight course
     pub before : disk.is_observable → HoldsStart old first
     pub after : disk.is_observable → course.failed ≡ None → HoldsSafely new course.history
     pub failed : is_some course.failed ≡ true → Rose (disk.faults old) (disk.faults new)
     pub crash : disk.is_observable → CrashLeavesCourse first course old new
 
   -- Work on the device `old`, of whose start, course and numbers this is true, left the device `new`. Each entry that was added is
-  -- allowed: if the history was legal before, it is so still, and each version of each output is right.
+  -- allowed: if the history was legal before, it is so still, and each version of each output is right. So it is with the entry in
+  -- whose step the device failed, which a crash may leave after the others.
   pub record DoesRightly (What : Start → Course → List ℕ → Type 0) (old new : D) : Type 0 where
     pub first : Start
     pub course : Course
@@ -124,3 +138,4 @@ module _ {D : Type 0} (disk : Ghosts D) where
     pub what : What first course own
     pub legal : Legal first.history → Legal course.history
     pub right : Legal first.history → Right course.history
+    pub in_flight : Legal first.history → IsRightInFlight course

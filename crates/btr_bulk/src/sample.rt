@@ -59,7 +59,7 @@ pub(crate) struct Filled {
 ///
 /// If the device does not fail, the store has just what was not refused, and each output without a refusal is up to date in the end. If
 /// the memory suffices too, the streams and the outputs are those that one worker leaves. If there is also room for the sample, no line
-/// says that the device was full.
+/// says that the device was full. A store that has an entry needs no room.
 ///
 /// It costs the reading of the store, time and memory linear in the points, and what the entries need. If there is no memory for the
 /// lines, or for a part of the work, what was done before stays.
