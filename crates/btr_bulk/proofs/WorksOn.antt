@@ -222,5 +222,5 @@ module _ {D : Type 0} (disk : Ghosts D) (only_now : disk.is_observable → (d : 
       (works l trace own (λ n.
       let none : times n (mine_of begun) ≡ 0 = ap (times n) begins.mine in
       let mine : times n (mine_of last) ≡ times n own = omega (arith, goes.mine n, none) in
-      let from : session.start_of last ≡ entries_of x = goes.start ∙ begins.start in
+      let from : session.entries_at_start last ≡ entries_of x = goes.start ∙ begins.start in
       sym mine ∙ all.once n ∙ ap (λ (k : ℕ). given k (length l) n) from))

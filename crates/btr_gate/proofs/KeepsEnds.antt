@@ -17,7 +17,7 @@ use Rattle.btr_gate.specs.Shares.{covers}
 use Rattle.btr_gate.specs.Views.{is_turn, blank, spent_view, opened}
 use Rattle.btr_gate.specs.Turns.{IsStateOf, Closes}
 use Rattle.btr_gate.specs.Rule.{Now, HasTicket, Fits, IsLive, FitsSlot, IsInUse, Rule}
-use Rattle.btr_gate.specs.Steps.{Seated, Empties, Begins, holding}
+use Rattle.btr_gate.specs.Steps.{Seated, Empties, Opens, holding}
 use Rattle.btr_gate.proofs.Totals.{total_only}
 use Rattle.btr_gate.proofs.NumberLemmas.{given_none}
 use Rattle.btr_gate.proofs.PrefixLemmas.{starts_refl}
@@ -135,7 +135,7 @@ module _ {T E X : Type 0} (C : Ghosts T E X) where
   }
 
   state_put : (slots id count : ℕ) (turn : Turn T E) (l : List E) (x : X) → C.is_state_of turn.state l x → C.lent turn.state ≡ false → turn.added ≡ None → count ≡ length l
-      → Allows (Rule C) slots id (blank Placing, holding (Some turn)) 2 (λ _. count) (λ _. Begins C (step slots 2 count 0 maybe.none) (blank Placing, holding (Some turn)) count)
+      → Allows (Rule C) slots id (blank Placing, holding (Some turn)) 2 (λ _. count) (λ _. Opens C (step slots 2 count 0 maybe.none) (blank Placing, holding (Some turn)) count)
   state_put slots id count turn l x of home none is s rule _ at _ = let f = placing s rule id at in (
     opened l x,
     gives,
@@ -149,9 +149,9 @@ module _ {T E X : Type 0} (C : Ghosts T E X) where
   -- The first pass, which has put the state into its slot, opens the gate.
   pub begins : (slots id count : ℕ) (turn : Turn T E) (before me : Seated T E X) → before ≡ (blank Placing, holding None) → me ≡ (before.0, (0, Some turn) ∷ rest before.1)
       → (l : List E) × (x : X) × C.is_state_of turn.state l x → C.lent turn.state ≡ false → turn.added ≡ None → ((l : List E) (x : X) → C.is_state_of turn.state l x → count ≡ length l)
-      → Allows (Rule C) slots id me 2 (λ _. count) (λ _. Begins C (step slots 2 count 0 maybe.none) me count)
+      → Allows (Rule C) slots id me 2 (λ _. count) (λ _. Opens C (step slots 2 count 0 maybe.none) me count)
   begins slots id count turn before me took put of home none counts =
-      subst (λ (m : Seated T E X). Allows (Rule C) slots id m 2 (λ _. count) (λ _. Begins C (step slots 2 count 0 maybe.none) m count))
+      subst (λ (m : Seated T E X). Allows (Rule C) slots id m 2 (λ _. count) (λ _. Opens C (step slots 2 count 0 maybe.none) m count))
       (sym (put ∙ ap (λ (m : Seated T E X). (m.0, (0, Some turn) ∷ rest m.1)) took))
       (state_put slots id count turn of.0 of.1 of.2 home none (counts of.0 of.1 of.2))
 

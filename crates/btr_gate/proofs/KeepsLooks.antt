@@ -18,7 +18,7 @@ use Rattle.btr_gate.specs.Shares.{on_path}
 use Rattle.btr_gate.specs.Views.{next_turn, is_turn}
 use Rattle.btr_gate.specs.Turns.{IsStateOf, Takes}
 use Rattle.btr_gate.specs.Rule.{Now, HasTicket, FitsStage, Fits, FitsSlot, IsInUse, Rule}
-use Rattle.btr_gate.specs.Steps.{Looks}
+use Rattle.btr_gate.specs.Steps.{Polls}
 use Rattle.btr_gate.proofs.Totals.{set_same}
 use Rattle.btr_gate.proofs.RuleFacts.{same_view, in_use, live_at, live_stage}
 use Rattle.btr_gate.proofs.Places.{place_set, set_there, ticket_of, whole_stays, wait_stays}
@@ -85,7 +85,7 @@ module _ {T E X : Type 0} (C : Ghosts T E X) where
   served s k id v at waits own (maybe.some (Some turn)) f = (turn, refl, f)
 
   pub looks : (slots id t : ℕ) (me : Me (Option (Turn T E)) V) → is_some me.0.setting ≡ true → me.0.stage ≡ Waiting t → me.1 ≡ []
-      → Allows (Rule C) slots id me 1 (λ n. n) (Looks C (step slots 1 0 0 none) me)
+      → Allows (Rule C) slots id me 1 (λ n. n) (Polls C (step slots 1 0 0 none) me)
   looks slots id t me live waits empty s r len at small =
       let k = in_use C s r id me.0 at live in
       let n : ℕ = get_or s.words 1 0 in

@@ -14,7 +14,7 @@ use Rattle.btr_gate.specs.declared.view.Stage.{Stage}
 use Rattle.btr_gate.specs.declared.view.Stage.TheVariants.{Idle, Met}
 use Rattle.btr_gate.specs.declared.turn.Turn.{Turn}
 use Rattle.btr_gate.specs.Prefixes.{StartsWith}
-use Rattle.btr_gate.specs.Turns.{OneHistory}
+use Rattle.btr_gate.specs.Turns.{HaveOneHistory}
 use Rattle.btr_gate.specs.Numbers.{one, times}
 use Rattle.btr_gate.specs.Shares.{on_path}
 use Rattle.btr_gate.specs.Views.{is_turn, spent_view, kept_view, other_view, just_met, at_stage}
@@ -39,7 +39,7 @@ module _ {T E X : Type 0} where
   met_stage v u out met is = ap (λ (m : Seated T E X). m.0.stage) is
 
   -- After the look, the pass is in one history with what it and the other had seen.
-  pub one_history : (v u : View E X) (out : List (ℕ × Option (Turn T E))) (found slots : ℕ) (met after : Seated T E X) → met ≡ (just_met v u, out) → Settles (step slots 0 0 0 maybe.none) met found after → OneHistory v u after.0
+  pub one_history : (v u : View E X) (out : List (ℕ × Option (Turn T E))) (found slots : ℕ) (met after : Seated T E X) → met ≡ (just_met v u, out) → Settles (step slots 0 0 0 maybe.none) met found after → HaveOneHistory v u after.0
   one_history v u out found slots met after is told =
       let t = told v.seen u.seen (met_stage v u out met is) in
       let h = t.1 in

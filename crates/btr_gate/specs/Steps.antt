@@ -40,8 +40,8 @@ module _ {T E X : Type 0} where
 
 module _ {T E X : Type 0} (C : Ghosts T E X) where
   -- The state is in the slot, and the gate is open.
-  abbrev pub Begins : Step (Option (Turn T E)) → Seated T E X → ℕ → Seated T E X → Type 0
-  Begins st m found n = (turn : Turn T E) → m.1 ≡ holding (Some turn)
+  abbrev pub Opens : Step (Option (Turn T E)) → Seated T E X → ℕ → Seated T E X → Type 0
+  Opens st m found n = (turn : Turn T E) → m.1 ≡ holding (Some turn)
       → (list : List E) × (x : X) × C.is_state_of turn.state list x × (n ≡ (opened list x, []))
 
   -- The turn has come, and the slot is out.
@@ -50,8 +50,8 @@ module _ {T E X : Type 0} (C : Ghosts T E X) where
       × (n ≡ (next_turn m.0 (InTurn t list lent), holding (Some turn))) × Takes C m.0 n.0 turn
 
   -- The turn has come if the number found is the ticket.
-  abbrev pub Looks : Step (Option (Turn T E)) → Seated T E X → ℕ → Seated T E X → Type 0
-  Looks st m found n = (t : ℕ) → m.0.stage ≡ Waiting t → (found ≡ t → Served m n) × (found ≢ t → n ≡ m)
+  abbrev pub Polls : Step (Option (Turn T E)) → Seated T E X → ℕ → Seated T E X → Type 0
+  Polls st m found n = (t : ℕ) → m.0.stage ≡ Waiting t → (found ≡ t → Served m n) × (found ≢ t → n ≡ m)
 
   -- The view with what the turn added, at a stage.
   abbrev pub settled : View E X → Turn T E → Stage E → View E X

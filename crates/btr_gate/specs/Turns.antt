@@ -33,7 +33,7 @@ module _ {E X : Type 0} where
     pub idle : w.stage ≡ Idle
 
   -- The passes in one history: each list that was seen begins the longer one.
-  pub record OneHistory (v u w : View E X) : Type 0 where
+  pub record HaveOneHistory (v u w : View E X) : Type 0 where
     pub this : StartsWith w.seen v.seen
     pub that : StartsWith w.seen u.seen
 

@@ -17,9 +17,9 @@ impl<T, E, X> Play<Option<Turn<T, E>>, View<E, X>> for Empty {
 pub(crate) struct Begin;
 
 impl<T: Chronicle<E, X>, E, X> Play<Option<Turn<T, E>>, View<E, X>> for Begin {
-    ghost use Rattle.btr_gate.specs.Steps.{Begins};
+    ghost use Rattle.btr_gate.specs.Steps.{Opens};
 
-    ghost then = { Begins ⟦<T as Chronicle<E, X>>⟧ };
+    ghost then = { Opens ⟦<T as Chronicle<E, X>>⟧ };
 }
 
 /// Draws a ticket.
@@ -35,9 +35,9 @@ impl<T, E, X> Play<Option<Turn<T, E>>, View<E, X>> for Draw {
 pub(crate) struct Look;
 
 impl<T: Chronicle<E, X>, E, X> Play<Option<Turn<T, E>>, View<E, X>> for Look {
-    ghost use Rattle.btr_gate.specs.Steps.{Looks};
+    ghost use Rattle.btr_gate.specs.Steps.{Polls};
 
-    ghost then = { Looks ⟦<T as Chronicle<E, X>>⟧ };
+    ghost then = { Polls ⟦<T as Chronicle<E, X>>⟧ };
 }
 
 /// Counts an entry.

@@ -2,7 +2,7 @@
 ghost use Rattle.std.specs.Prelude.{◌≡◌, ℕ, Bool, true, false, List, [], ◌∷◌};
 ghost use Rattle.btr_gate.specs.declared.view.Stage.TheVariants.{Idle};
 ghost use Rattle.btr_gate.specs.Views.{kept_view, other_view, joined};
-ghost use Rattle.btr_gate.specs.Turns.{OneHistory};
+ghost use Rattle.btr_gate.specs.Turns.{HaveOneHistory};
 ghost use Rattle.btr_gate.specs.Gates.{IsPassOf, view};
 
 use crate::chronicle::Chronicle;
@@ -32,7 +32,7 @@ impl<T: Chronicle<E, X>, E, X> Gate<T, E, X> {
         requires home { ((view pass.old).carries ≡ false) × ((view other).carries ≡ false) }
         ensures own { IsPassOf self.now pass.new }
         ensures joined { view pass.new ≡ joined (view pass.old) (view other) }
-        ensures one_history { OneHistory (view pass.old) (view other) (view pass.new) }
+        ensures one_history { HaveOneHistory (view pass.old) (view other) (view pass.new) }
     {
         let Pass { seat } = other;
         self.table.shared.join_seat::<Both>(&mut pass.seat, seat);

@@ -27,7 +27,7 @@ use Rattle.btr_hall.specs.declared.session.Session.{Session}
 use Rattle.btr_hall.specs.Trace.{IsTraceOf, engine_after, entries_in, has_halt, stopped_in, history_of}
 use Rattle.btr_hall.specs.Store.{IsStoreOf}
 use Rattle.btr_hall.specs.Session.{IsAlone, HasOneTurn, opening_of, seen_of, mine_of, engine_of}
-use Rattle.btr_hall.specs.Commit.{shown, needs_of, has_failed, number_by, item_by, Adds, Replies, Commits}
+use Rattle.btr_hall.specs.Commit.{shown, needs_of, has_failed, number_by, item_by, Adds, CommitReplies, Commits}
 use Rattle.btr_hall.proofs.TraceLemmas.{engine_append, halt_append, engine_of_list, stopped_of_list, length_of_list, room_of_list, item_engine, item_halt, list_push}
 
 -- A snapshot that shows a value.
@@ -100,7 +100,7 @@ module _ {D : Type 0} {disk : Ghosts D} where
       no_halt true b is = absurd (cc)
       no_halt false b is = ap one is
 
-  pub replies_of : (h : List Entry) (x y : Engine D disk) (l : List (Item D disk)) (e : Entry) (result : Result Receipt StepFault) → IsEngineOf h x → IsTraceOf x l → IsStep (engine_after x l) y e result → Replies x l (history_of h l) e result
+  pub replies_of : (h : List Entry) (x y : Engine D disk) (l : List (Item D disk)) (e : Entry) (result : Result Receipt StepFault) → IsEngineOf h x → IsTraceOf x l → IsStep (engine_after x l) y e result → CommitReplies x l (history_of h l) e result
   replies_of h x y l e (Ok receipt) of trace step =
       let at = engine_of_list h x l of trace in
       let stepped : IsStepped (history_of h l) (engine_after x l) y e receipt = step.stepped (history_of h l) at in

@@ -35,7 +35,7 @@ use Rattle.btr_hall.specs.Store.{IsStoreOf}
 use Rattle.btr_hall.specs.Session.{IsAlone, HasOneTurn, opening_of, seen_of, mine_of, engine_of}
 use Rattle.btr_hall.specs.Commit.{Adds, item_by}
 use Rattle.btr_hall.specs.Commit as commit
-use Rattle.btr_hall.specs.Landing.{step_fault, step_result, Replies, Lands}
+use Rattle.btr_hall.specs.Landing.{step_fault, step_result, LandingReplies, Lands}
 use Rattle.btr_hall.specs.Superseded.{IsNotSuperseded, IsSupersededBy, StoreLands, MayLand}
 use Rattle.btr_hall.proofs.TraceLemmas.{entries_append, engine_of_list, stopped_of_list, list_push}
 use Rattle.btr_hall.proofs.CommitLemmas.{store_after, replies_of, says_stopped, new_step, new_seen, new_mine}
@@ -143,7 +143,7 @@ module _ {D : Type 0} {disk : Ghosts D} where
   is_current h s p of is current runs = plan-current h p is (current runs h of)
 
   module _ (x y : Engine D disk) (s : Store D disk) (before : List (Item D disk)) (h : List Entry) (p : PlanValue) (of : IsEngineOf h s.engine) (is : IsPlanOf h p) (current : IsNotSuperseded s p) where
-    step_replies : (result : Result Receipt LandFault) → IsStep s.engine y (entry_of p) (step_result result) → commit.Replies x before h (entry_of p) (step_result result) → is_passed result ≡ false → Replies x before h p result
+    step_replies : (result : Result Receipt LandFault) → IsStep s.engine y (entry_of p) (step_result result) → commit.CommitReplies x before h (entry_of p) (step_result result) → is_passed result ≡ false → LandingReplies x before h p result
     step_replies (Ok receipt) step says other =
         let stepped : IsStepped h s.engine y (entry_of p) receipt = step.stepped h of in
         let reply = reply-accepted h p of.follows is (is_current h s p of is current stepped.could.runs) says.0 in
@@ -190,7 +190,7 @@ module _ {D : Type 0} {disk : Ghosts D} where
               let version : latest all p.stream ≡ passed.version = passed.by.2 all at in
               let above : p.base < latest all p.stream = subst (λ n. p.base < n) (sym version) passed.by.1 in
               let reply = reply-superseded all p (plans h with_h) above in
-              subst (Replies x before all p) (sym passed.is) (reply.0 ∙ ap Superseded version, passed.by.1, sym version);
+              subst (LandingReplies x before all p) (sym passed.is) (reply.0 ∙ ap Superseded version, passed.by.1, sym version);
         }
 
     lands_stepped : Stepped s t p added result → Lands hall old new p result

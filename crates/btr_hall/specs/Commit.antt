@@ -67,14 +67,14 @@ module _ {D : Type 0} {disk : Ghosts D} where
     pub item : added ≡ item_by result e new.engine
 
   -- What the result of an entry says of the history h, to which the list `before` leads from the engine `x`.
-  abbrev pub Replies : Engine D disk → List (Item D disk) → List Entry → Entry → Result Receipt StepFault → Type 0
-  Replies x before h e (Ok receipt) = (rejection h e ≡ None) × IsReceipt h e receipt × (receipt.number ≡ length before + 1)
-  Replies x before h e (Err (Stopped entries)) = (stopped_in x before ≡ true) × (entries ≡ length h)
-  Replies x before h e (Err (Rejected why)) = rejection h e ≡ Some why
-  Replies x before h e (Err Want) = MayLackMemory (rejection h e)
-  Replies x before h e (Err (DeviceFull need left)) =
+  abbrev pub CommitReplies : Engine D disk → List (Item D disk) → List Entry → Entry → Result Receipt StepFault → Type 0
+  CommitReplies x before h e (Ok receipt) = (rejection h e ≡ None) × IsReceipt h e receipt × (receipt.number ≡ length before + 1)
+  CommitReplies x before h e (Err (Stopped entries)) = (stopped_in x before ≡ true) × (entries ≡ length h)
+  CommitReplies x before h e (Err (Rejected why)) = rejection h e ≡ Some why
+  CommitReplies x before h e (Err Want) = MayLackMemory (rejection h e)
+  CommitReplies x before h e (Err (DeviceFull need left)) =
       (rejection h e ≡ None) × (need ≡ need_of e) × (left + needs_of (entries_in before) ≡ room_of x) × (left < need)
-  Replies x before h e (Err DeviceFault) = rejection h e ≡ None
+  CommitReplies x before h e (Err DeviceFault) = rejection h e ≡ None
 
   -- The turn of an entry, which is the only one. `before` is the list when it began, which begins with all that the session had seen. The
   -- engine at its end does the step. The session has then seen this list, and the item that the step added, whose number is its own.
@@ -89,4 +89,4 @@ module _ {D : Type 0} {disk : Ghosts D} where
     pub mine : mine_of new ≡ mine_of old ++ option_to_list (number_by result (length (seen_of new)))
     pub stopped : stopped_in (opening_of hall) before ≡ true
         → (h : List Entry) → IsEngineOf h (opening_of hall) → result ≡ Err (Stopped (length (history_of h before)))
-    pub replies : (h : List Entry) → IsEngineOf h (opening_of hall) → Replies (opening_of hall) before (history_of h before) e result
+    pub replies : (h : List Entry) → IsEngineOf h (opening_of hall) → CommitReplies (opening_of hall) before (history_of h before) e result

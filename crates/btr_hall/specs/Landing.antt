@@ -46,23 +46,23 @@ step_result (Err fault) = Err (step_fault fault)
 module _ {D : Type 0} {disk : Ghosts D} where
   -- What the result of a landing says of the history h, to which the list `before` leads from the engine `x`: the model's reply,
   -- or why the device or the memory refused.
-  abbrev pub Replies : Engine D disk → List (Item D disk) → List Entry → PlanValue → Result Receipt LandFault → Type 0
-  Replies x before h p (Ok receipt) =
+  abbrev pub LandingReplies : Engine D disk → List (Item D disk) → List Entry → PlanValue → Result Receipt LandFault → Type 0
+  LandingReplies x before h p (Ok receipt) =
       (reply_to h p ≡ Accepted (machine.receipt h (entry_of p))) × (landed_after h p ≡ h ++ entry_of p ∷ [])
       × IsReceipt h (entry_of p) receipt × (receipt.number ≡ length before + 1)
-  Replies x before h p (Err (faults.Stopped entries)) = (stopped_in x before ≡ true) × (entries ≡ length h)
-  Replies x before h p (Err (faults.Superseded version)) =
+  LandingReplies x before h p (Err (faults.Stopped entries)) = (stopped_in x before ≡ true) × (entries ≡ length h)
+  LandingReplies x before h p (Err (faults.Superseded version)) =
       (reply_to h p ≡ Superseded version) × (p.base < version) × (version ≡ latest h p.stream)
-  Replies x before h p (Err faults.VersionLimit) = IsCurrent h p × (reply_to h p ≡ Rejected rejections.VersionLimit)
-  Replies x before h p (Err (faults.Crowded start)) =
+  LandingReplies x before h p (Err faults.VersionLimit) = IsCurrent h p × (reply_to h p ≡ Rejected rejections.VersionLimit)
+  LandingReplies x before h p (Err (faults.Crowded start)) =
       IsCurrent h p × (rejection h (entry_of p) ≡ Some (rejections.Crowded start)) × (Legal h → ⊥)
-  Replies x before h p (Err (faults.TooManyPoints count)) =
+  LandingReplies x before h p (Err (faults.TooManyPoints count)) =
       IsCurrent h p × (rejection h (entry_of p) ≡ Some (rejections.TooManyPoints count)) × (Legal h → ⊥)
-  Replies x before h p (Err faults.Want) = IsCurrent h p × MayLackMemory (rejection h (entry_of p))
-  Replies x before h p (Err (faults.DeviceFull need left)) =
+  LandingReplies x before h p (Err faults.Want) = IsCurrent h p × MayLackMemory (rejection h (entry_of p))
+  LandingReplies x before h p (Err (faults.DeviceFull need left)) =
       IsCurrent h p × (rejection h (entry_of p) ≡ None) × (need ≡ need_of (entry_of p))
       × (left + needs_of (entries_in before) ≡ room_of x) × (left < need)
-  Replies x before h p (Err faults.DeviceFault) = IsCurrent h p × (rejection h (entry_of p) ≡ None)
+  LandingReplies x before h p (Err faults.DeviceFault) = IsCurrent h p × (rejection h (entry_of p) ≡ None)
 
   -- The turn of a plan, which is the only one. `before` is the list when it began, which begins with all that the session had seen. The
   -- session has then seen this list, and the item that the turn added, whose number is its own. What an engine promises of a step holds
@@ -77,4 +77,4 @@ module _ {D : Type 0} {disk : Ghosts D} where
     pub mine : mine_of new ≡ mine_of old ++ option_to_list (number_by (step_result result) (length (seen_of new)))
     pub stopped : stopped_in (opening_of hall) before ≡ true
         → (h : List Entry) → IsEngineOf h (opening_of hall) → result ≡ Err (faults.Stopped (length (history_of h before)))
-    pub replies : (h : List Entry) → IsEngineOf h (opening_of hall) → Replies (opening_of hall) before (history_of h before) p result
+    pub replies : (h : List Entry) → IsEngineOf h (opening_of hall) → LandingReplies (opening_of hall) before (history_of h before) p result

@@ -35,8 +35,8 @@ module _ {D : Type 0} {disk : Ghosts D} where
   share_of s = (view s.pass).share
 
   -- The number of entries when the hall began.
-  abbrev pub start_of : Session D disk → ℕ
-  start_of s = (view s.pass).start
+  abbrev pub entries_at_start : Session D disk → ℕ
+  entries_at_start s = (view s.pass).start
 
   -- The number of turns that it has had.
   abbrev pub turns_of : Session D disk → ℕ
@@ -57,7 +57,7 @@ module _ {D : Type 0} {disk : Ghosts D} where
   -- The share of a session, and the number of entries when its hall began, are as before.
   pub record IsSame (old new : Session D disk) : Type 0 where
     pub share : share_of new ≡ share_of old
-    pub start : start_of new ≡ start_of old
+    pub start : entries_at_start new ≡ entries_at_start old
 
   -- A hall that began with this engine, and its first session: it has seen the entries of the engine, and is alone.
   pub record Begins (x : Engine D disk) (hall : Hall D disk) (s : Session D disk) : Type 0 where
@@ -66,7 +66,7 @@ module _ {D : Type 0} {disk : Ghosts D} where
     pub engine : engine_of hall s ≡ x
     pub trace : IsTraceOf x (seen_of s)
     pub seen : length (seen_of s) ≡ entries_of x
-    pub start : start_of s ≡ entries_of x
+    pub start : entries_at_start s ≡ entries_of x
     pub mine : mine_of s ≡ []
     pub turns : turns_of s ≡ 0
     pub alone : IsAlone s
@@ -86,12 +86,12 @@ module _ {D : Type 0} {disk : Ghosts D} where
     pub seen : seen_of new ≡ seen_of old
     pub mine : mine_of new ≡ mine_of old
     pub share : share_of new ≡ kept_half (share_of old)
-    pub start : start_of new ≡ start_of old
+    pub start : entries_at_start new ≡ entries_at_start old
     pub turns : turns_of new ≡ turns_of old
     pub other_seen : seen_of other ≡ seen_of old
     pub other_mine : mine_of other ≡ []
     pub other_share : share_of other ≡ other_half (share_of old)
-    pub other_start : start_of other ≡ start_of old
+    pub other_start : entries_at_start other ≡ entries_at_start old
     pub other_turns : turns_of other ≡ 0
 
   -- A session takes in another: it has seen the longer list, with which neither is at odds, and has the items and the shares of both. Its
@@ -102,13 +102,13 @@ module _ {D : Type 0} {disk : Ghosts D} where
     pub that : StartsWith (seen_of new) (seen_of other)
     pub mine : mine_of new ≡ merged (mine_of old) (mine_of other)
     pub share : share_of new ≡ share_of old ++ share_of other
-    pub start : start_of new ≡ start_of old
+    pub start : entries_at_start new ≡ entries_at_start old
     pub turns : turns_of new ≡ turns_of old
 
   -- The session has the number of each item that was added since the hall began, once, in rising order.
   pub record HasEachOnce (s : Session D disk) : Type 0 where
-    pub once : (n : ℕ) → times n (mine_of s) ≡ given (start_of s) (length (seen_of s)) n
-    pub climbs : Climbs (start_of s) (mine_of s) (length (seen_of s))
+    pub once : (n : ℕ) → times n (mine_of s) ≡ given (entries_at_start s) (length (seen_of s)) n
+    pub climbs : Climbs (entries_at_start s) (mine_of s) (length (seen_of s))
 
   -- The number of entries of an engine, if it is stopped.
   abbrev pub stopped_at : Engine D disk → Option ℕ

@@ -121,7 +121,7 @@ module _ {D : Type 0} {disk : Ghosts D} where
     abbrev pub numbers : Result Receipt StepFault → List ℕ
     numbers result = option_to_list (number_by result (length after))
 
-    committed_by : (e : Entry) (y : Engine D disk) (result : Result Receipt StepFault) → after ≡ before ++ option_to_list (item_by result e y) → (stopped_in x before ≡ true → result ≡ Err (steps.Stopped (length (history_of h before)))) → commit.Replies x before (history_of h before) e result → (next : List Entry) × Committed (start_with h x) (course_at h after) (history_of h before) e result (numbers result) next × StartsWith (history_of h after) next
+    committed_by : (e : Entry) (y : Engine D disk) (result : Result Receipt StepFault) → after ≡ before ++ option_to_list (item_by result e y) → (stopped_in x before ≡ true → result ≡ Err (steps.Stopped (length (history_of h before)))) → commit.CommitReplies x before (history_of h before) e result → (next : List Entry) × Committed (start_with h x) (course_at h after) (history_of h before) e result (numbers result) next × StartsWith (history_of h after) next
     committed_by e y (Ok receipt) seen stopped says =
         let added = added_by e y seen (runs_before (is_stopped x) (has_halt before) (λ is. let not = stopped is in cc)) in
         (history_of h before ++ e ∷ [], (says.0, says.1, added), added.follows)
@@ -137,7 +137,7 @@ module _ {D : Type 0} {disk : Ghosts D} where
         let failed = failed_by e y seen (runs_before (is_stopped x) (has_halt before) (λ is. let not = stopped is in cc)) in
         (history_of h before, (says, failed), history_starts h after before (Halted (shown e) (shown y) ∷ [], seen))
 
-    landed_by : (plan : PlanValue) (y : Engine D disk) (result : Result Receipt LandFault) → after ≡ before ++ option_to_list (item_by (step_result result) (entry_of plan) y) → (stopped_in x before ≡ true → result ≡ Err (faults.Stopped (length (history_of h before)))) → landing.Replies x before (history_of h before) plan result → (next : List Entry) × Landed (start_with h x) (course_at h after) (history_of h before) plan result (numbers (step_result result)) next × StartsWith (history_of h after) next
+    landed_by : (plan : PlanValue) (y : Engine D disk) (result : Result Receipt LandFault) → after ≡ before ++ option_to_list (item_by (step_result result) (entry_of plan) y) → (stopped_in x before ≡ true → result ≡ Err (faults.Stopped (length (history_of h before)))) → landing.LandingReplies x before (history_of h before) plan result → (next : List Entry) × Landed (start_with h x) (course_at h after) (history_of h before) plan result (numbers (step_result result)) next × StartsWith (history_of h after) next
     landed_by plan y (Ok receipt) seen stopped says =
         let added = added_by (entry_of plan) y seen (runs_before (is_stopped x) (has_halt before) (λ is. let not = stopped is in cc)) in
         (history_of h before ++ entry_of plan ∷ [], (says.0, says.2, added), added.follows)

@@ -50,7 +50,7 @@ module _ {D : Type 0} {disk : Ghosts D} where
     pub seen : StartsWith (seen_of new) (seen_of old)
     pub mine : (n : ℕ) → times n (mine_of new) ≡ times n (mine_of old) + times n own
     pub fresh : (n : ℕ) → 1 ≤ times n own → (length (seen_of old) < n) × (n ≤ length (seen_of new))
-    pub start : session.start_of new ≡ session.start_of old
+    pub start : session.entries_at_start new ≡ session.entries_at_start old
     pub paths : (path : ℕ → Bool) → on_path path (share_of new) ≡ on_path path (share_of old)
 
   -- A session went on, and with the numbers that it added this is true of each history with which the hall may have begun.
