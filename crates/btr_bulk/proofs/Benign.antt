@@ -1,5 +1,5 @@
 -- Which lines ask for no status of a full device or of a failed one.
-use Rattle.std.specs.Prelude.{◌≡◌, ℕ, Bool, true, false, nat_lt, List, [], ◌∷◌, ◌++◌, length, map, flat_map, cond, take, drop, Option, Some, None, IfSome, Result, Ok, Err}
+use Rattle.std.specs.Prelude.{ℕ, Bool, true, false, nat_lt, List, [], ◌∷◌, ◌++◌, length, map, flat_map, cond, drop, Option, Some, None, IfSome, Result, Ok, Err}
 use Rattle.std.specs.List.{AllByRecursion, range_with_len}
 use Rattle.std.proofs.Common.{refl, sym, subst, inl, inr}
 use Rattle.btr_hist.specs.declared.entry.Entry.{Entry}
@@ -30,7 +30,7 @@ use Rattle.btr_bulk.specs.declared.status.Status.{Status}
 use Rattle.btr_bulk.specs.declared.status.Status.TheVariants.{Done}
 use Rattle.btr_bulk.specs.declared.transcript.Transcript.{Transcript}
 use Rattle.btr_live.specs.Reasons.{reason_of_step, reason_of_landing}
-use Rattle.btr_bulk.specs.Status.{rank, greater, greatest, status_of_reason, status_of_line, status_of_lines}
+use Rattle.btr_bulk.specs.Status.{rank, greater, greatest, status_of_reason, status_of_line}
 use Rattle.btr_bulk.specs.Transcript.{SaysLines}
 use Rattle.btr_bulk.specs.Completes.{IsBenign}
 use Rattle.btr_bulk.specs.Distil.{line_of, output_line}

@@ -1,26 +1,23 @@
 -- If there is room for a sample, and the device does not fail, it asks for no status of a full device or of a failed one.
-use Rattle.std.specs.Prelude.{◌≡◌, ◌⊎◌, ℕ, ◌+◌, ◌<◌, ◌≤◌, List, [], ◌∷◌, ◌++◌, length, map, Option, Some, None, Result, Ok, Err, IfSome}
+use Rattle.std.specs.Prelude.{◌≡◌, ℕ, ◌+◌, ◌<◌, ◌≤◌, List, [], ◌∷◌, ◌++◌, length, Option, Some, None, Result, Ok, Err, IfSome}
 use Rattle.std.specs.List.{AllByRecursion}
-use Rattle.std.proofs.Common.{refl, sym, ap, ◌∙◌, subst, arith, inl, inr, length-append, ⊎_elim}
+use Rattle.std.proofs.Common.{refl, sym, subst, arith, inl, inr, length-append, ⊎_elim}
 use Rattle.std.proofs.lemmas.Bool.{cases_lt}
 use Rattle.btr_hist.specs.declared.entry.Entry.{Entry}
 use Rattle.btr_hist.specs.declared.entry.Entry.TheVariants as entries
-use Rattle.btr_hist.specs.declared.rejection.Rejection.{Rejection}
 use Rattle.btr_hist.specs.History.{stream_of}
 use Rattle.btr_hist.specs.Legal.{rejection, Follows}
 use Rattle.btr_hist.proofs.HistoryLemmas.{follows-push}
 use Rattle.btr_rows.specs.Streams.{StreamValue}
 use Rattle.btr_text.specs.declared.reply.Reason.{Reason}
-use Rattle.btr_text.specs.declared.reply.Reason.TheVariants as reasons
 use Rattle.btr_engine.specs.declared.board.Receipt.{Receipt}
 use Rattle.btr_engine.specs.declared.step.StepFault.{StepFault}
 use Rattle.btr_engine.specs.declared.step.StepFault.TheVariants as steps
 use Rattle.btr_engine.specs.Body.{need_of}
-use Rattle.btr_gate.specs.Prefixes.{StartsWith}
 use Rattle.btr_gate.proofs.PrefixLemmas.{starts_refl, starts_trans, starts_length, starts_same, starts_between, starts_more}
 use Rattle.btr_hall.specs.Commit.{needs_of}
 use Rattle.btr_jobs.specs.Course.{Start, Course}
-use Rattle.btr_jobs.specs.Turns.{IsFull, IsIdle, Committed}
+use Rattle.btr_jobs.specs.Turns.{IsFull, Committed}
 use Rattle.btr_load.specs.declared.stream.LoadedStream.{LoadedStream}
 use Rattle.btr_load.specs.Loads.{OpensEach}
 use Rattle.btr_load.specs.Fits.{HadRoom}

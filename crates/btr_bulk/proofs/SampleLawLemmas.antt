@@ -22,7 +22,7 @@ use Rattle.btr_gate.specs.Prefixes.{StartsWith}
 use Rattle.btr_gate.proofs.NumberLemmas.{times_append, given_inside, given_below, given_above}
 use Rattle.btr_gate.proofs.PrefixLemmas.{starts_length}
 use Rattle.btr_jobs.specs.Course.{Start, Course, GoesOn}
-use Rattle.btr_jobs.specs.Turns.{IsAdded, IsFailed, IsIdle, Committed}
+use Rattle.btr_jobs.specs.Turns.{IsIdle, Committed}
 use Rattle.btr_load.specs.declared.fate.Fate.{Fate}
 use Rattle.btr_load.specs.declared.fate.Fate.TheVariants.{Output, NotCreated, Committed as CommittedTo}
 use Rattle.btr_load.specs.declared.stream.LoadedStream.{LoadedStream}

@@ -55,7 +55,7 @@ module _ {D : Type 0} (disk : Ghosts D) where
       WorkCause (λ said start course own. LoadsStore start course rows batch said own) old new e
 
 module _ {D : Type 0} (disk : Ghosts D) where
-  -- The device holds a store with room for all that may be landed for its outputs.
+  -- The device holds a store with room for all that may be landed for its outputs, each at most once.
   pub record CanDistil (old : D) : Type 0 where
     pub history : List Entry
     pub blocks : ℕ
@@ -63,7 +63,7 @@ module _ {D : Type 0} (disk : Ghosts D) where
     pub holds : HoldsHistoryTo (disk.size old) (disk.contents old) blocks tail history
     pub room : HasRoomForOutputs (record { history = history; left = left blocks tail; stopped = false })
 
-  -- The device holds a store with room for a sample.
+  -- The device holds a store with room for a sample. If the store has an entry, the sample needs no room.
   pub record CanSample (number streams points : ℕ) (old : D) : Type 0 where
     pub history : List Entry
     pub blocks : ℕ
