@@ -17,7 +17,8 @@ ghost use Rattle.btr_hist.specs.History.{latest, spec_of, reads};
 ghost use Rattle.btr_hist.specs.Legal.{rejection, points_rejection, has_inputs, is_stream, takes_reads, may_read, may_read_second};
 ghost use Rattle.btr_entry.specs.Grammar.{IsWithinBounds, AreVersions};
 ghost use Rattle.btr_engine.specs.Board.{IsBoardOf, IsStreamOf, IsGrown, HasPast, place_of, ids_of};
-ghost use Rattle.btr_engine.specs.Stage.{PushCause, IsReceipt, MakesStream, MakesVersion, IsNextTree, OfEachStream, change, version_rejection};
+ghost use Rattle.btr_engine.specs.Stage.{PushCause, IsReceipt, MakesStream, MakesVersion, IsNextTree, OfEachStream, change};
+ghost use Rattle.btr_engine.specs.Stage.{version_rejection};
 ghost use Rattle.btr_engine.specs.Stage.{with_version};
 
 use crate::board::{Board, PushFault, Receipt, Staged, Stream, read_at};

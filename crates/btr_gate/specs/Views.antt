@@ -46,7 +46,7 @@ module _ {E X : Type 0} where
   -- had no turn.
   abbrev pub opened : List E → X → View E X
   opened list setting =
-      record { seen = list; mine = []; share = [] ∷ []; setting = Some setting; start = length list; turns = 0; carries = false; stage = Idle }
+      record (blank Idle) { seen = list; share = [] ∷ []; setting = Some setting; start = length list }
 
   -- The view at another stage.
   abbrev pub at_stage : View E X → Stage E → View E X

@@ -1,5 +1,6 @@
 ghost use Rattle.std.specs.Prelude.{◌≡◌, ◌+◌, ◌<◌, ◌^◌, ◌++◌, ◌≤◌, ℕ, [], ◌∷◌, length, OnOk, IfOk};
-ghost use Rattle.btr_rows.specs.Sample.{row_id_text, instant_rows, next_state, sample_row, sample_text, sample_time, sample_value, state_at};
+ghost use Rattle.btr_rows.specs.Sample.{row_id_text, instant_rows, next_state, sample_row, sample_text, sample_time, sample_value};
+ghost use Rattle.btr_rows.specs.Sample.{state_at};
 
 use crate::plain::{COMMA, LINE_FEED};
 use itoa::Buffer;
