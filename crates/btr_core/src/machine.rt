@@ -7,7 +7,7 @@ ghost use Rattle.btr_core.specs.Events.{event_of, reply_of};
 ghost use Rattle.btr_core.specs.Machine.{IsMachineOf, IsAsBefore};
 
 use crate::event::{Event, Reply, What};
-use crate::staging::{Outcome, stage, stage_plan};
+use crate::staging::{finish, stage, stage_plan};
 use btr_distil::Plan;
 use btr_engine::{Board, Snapshot};
 use btr_hist::{Entry, Query, Rejection};
@@ -76,10 +76,8 @@ impl Machine {
         if let Entry::Distillate { .. } = entry {
             return Ok(Reply::Rejected(Rejection::NotWritable));
         }
-        match stage(alloc, &self.board, entry)? {
-            Outcome::Staged(staged) => Ok(Reply::Accepted(self.board.accept(staged))),
-            Outcome::Refused(reply) => Ok(reply),
-        }
+        let outcome = stage(alloc, &self.board, entry)?;
+        Ok(finish(&mut self.board, outcome))
     }
 
     /// Admits an actor to all entries so far.
@@ -139,10 +137,8 @@ impl Machine {
         let Some(plan) = self.plans.get(&actor) else {
             return Ok(Reply::NoPlan);
         };
-        let reply = match stage_plan(alloc, &self.board, plan)? {
-            Outcome::Staged(staged) => Reply::Accepted(self.board.accept(staged)),
-            Outcome::Refused(reply) => reply,
-        };
+        let outcome = stage_plan(alloc, &self.board, plan)?;
+        let reply = finish(&mut self.board, outcome);
         self.plans.remove(&actor);
         Ok(reply)
     }

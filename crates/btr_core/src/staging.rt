@@ -1,10 +1,11 @@
 //! Staging: an entry, or a plan, with the board that it makes.
-ghost use Rattle.std.specs.Prelude.{List, IfOk};
+ghost use Rattle.std.specs.Prelude.{◌≡◌, List, IfOk};
 ghost use Rattle.btr_hist.specs.declared.entry.Entry.{Entry as EntrySpec};
 ghost use Rattle.btr_hist.specs.Legal.{rejection, Legal};
-ghost use Rattle.btr_hist.specs.Machine.{committed, commit_reply};
+ghost use Rattle.btr_hist.specs.Machine.{Reply as ModelReply, committed, commit_reply};
 ghost use Rattle.btr_engine.specs.Board.{IsBoardOf};
 ghost use Rattle.btr_plan.specs.Plan.{IsPlanOf, reply_to, landed_after};
+ghost use Rattle.btr_core.specs.Events.{reply_of};
 ghost use Rattle.btr_core.specs.Staging.{Makes};
 
 use crate::event::Reply;
@@ -50,4 +51,15 @@ pub(crate) fn stage_plan(alloc: Global, board: &Board, plan: &Plan) -> Result<Ou
         return Ok(Outcome::Refused(Reply::Superseded { version }));
     }
     stage(alloc, board, plan.entry())
+}
+
+/// Accepts what was staged, and returns the reply. If the entry was refused, the board stays as it is. It takes no memory.
+pub(crate) fn finish(board: &mut Board, outcome: Outcome) -> Reply
+    ensures { (h next : List EntrySpec) (reply : ModelReply) → IsBoardOf h board.old → Makes h reply next outcome
+        → (reply_of result ≡ reply) × IsBoardOf next board.new }
+{
+    match outcome {
+        Outcome::Staged(staged) => Reply::Accepted(board.accept(staged)),
+        Outcome::Refused(reply) => reply,
+    }
 }

@@ -25,7 +25,8 @@ use Rattle.btr_engine.specs.Body.{body_of, bodies}
 use Rattle.btr_engine.proofs.BodyLemmas.{need-body_of}
 use Rattle.btr_open.specs.Damage.{IsNoEntryBody, IsDamagedEntry, IsDamagedLog, IsDamaged}
 use Rattle.btr_open.specs.Opening.{OpenCauseHolds}
-use Rattle.btr_open.specs.Reading.{IsStoreOf}
+use Rattle.btr_engine.specs.Board.{Kept, IsBoardOf}
+use Rattle.btr_open.specs.Reading.{IsStoreOf, MayNotAdd}
 
 module _ (size : ℕ) (image : Image) (blocks gate : ℕ) (h : List Entry) where
   -- The next extent is damaged in this block.
@@ -39,7 +40,7 @@ module _ (size : ℕ) (image : Image) (blocks gate : ℕ) (h : List Entry) where
     inside = omega (arith, whole.inside, next-IsWholeExtent image blocks gate head body next whole)
 
     -- The next extent holds no entry.
-    pub no_entry_next : IsNoEntryBody number body → IsDamagedEntry image blocks gate h (gate + 1)
+    no_entry_next : IsNoEntryBody number body → IsDamagedEntry image blocks gate h (gate + 1)
     no_entry_next none = inr (inl (record {
       head = head;
       body = body;
@@ -50,7 +51,7 @@ module _ (size : ℕ) (image : Image) (blocks gate : ℕ) (h : List Entry) where
     }))
 
     -- The next extent holds an entry that may not follow.
-    pub refused_next : (e : Entry) (why : Rejection) → IsSpelled e → body ≡ body_of number e → rejection h e ≡ Some why → IsDamagedEntry image blocks gate h (gate + 1)
+    refused_next : (e : Entry) (why : Rejection) → IsSpelled e → body ≡ body_of number e → rejection h e ≡ Some why → IsDamagedEntry image blocks gate h (gate + 1)
     refused_next e why spelled is refused =
         let same : body ≡ body_of (length h + 1) e = is ∙ ap (λ n. body_of n e) at in
         inr (inr (record {
@@ -63,6 +64,13 @@ module _ (size : ℕ) (image : Image) (blocks gate : ℕ) (h : List Entry) where
           refused = refused;
           first = refl;
         }))
+
+    -- The next extent holds no entry that may follow.
+    pub not_added_next : (board : Kept) → IsBoardOf h board → MayNotAdd board number body → IsDamagedEntry image blocks gate h (gate + 1)
+    not_added_next board of is = elim is [
+      | inl none ↦ no_entry_next none
+      | inr held ↦ let why = held.3 h of in refused_next held.0 why.0 held.1 held.2 why.1
+    ]
 
 module _ (is_observable read : Type 0) (size : ℕ) (image : Image) (blocks gate before after : ℕ) (told : read → is_observable) (damages : read → (block : ℕ) → IsDamagedExtent image blocks gate block → IsDamaged size image block) where
   -- A fault of the log is a cause of an opening.

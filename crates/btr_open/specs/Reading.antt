@@ -1,5 +1,5 @@
 -- What the functions promise that an opening is made of: what was read so far, and why nothing more is.
-use Rattle.std.specs.Prelude.{◌≡◌, ℕ, ◌+◌, ◌*◌, ◌<◌, ◌≤◌, false, List, ◌∷◌, [], ◌++◌, length, None}
+use Rattle.std.specs.Prelude.{◌≡◌, ◌⊎◌, ℕ, ◌+◌, ◌*◌, ◌<◌, ◌≤◌, false, List, ◌∷◌, [], ◌++◌, length, None, Some}
 use Rattle.std.specs.List.{AllByRecursion}
 use Rattle.btr_disk.specs.declared.disk.Disk.{Ghosts}
 use Rattle.btr_disk.specs.Bytes.{Image}
@@ -14,6 +14,7 @@ use Rattle.btr_log.specs.Log as log
 use Rattle.btr_super.specs.declared.superblock.Super.{Super}
 use Rattle.btr_super.specs.Choose.{IsChosen}
 use Rattle.btr_hist.specs.declared.entry.Entry.{Entry}
+use Rattle.btr_hist.specs.declared.rejection.Rejection.{Rejection}
 use Rattle.btr_hist.specs.Legal.{rejection, Follows}
 use Rattle.btr_entry.specs.Grammar.{IsSpelled}
 use Rattle.btr_engine.specs.declared.engine.Engine.{Engine}
@@ -21,6 +22,7 @@ use Rattle.btr_open.specs.declared.opening.OpenCause.{OpenCause}
 use Rattle.btr_engine.specs.Body.{body_of, need_of, bodies}
 use Rattle.btr_engine.specs.Board.{Kept, IsBoardOf}
 use Rattle.btr_engine.specs.Engine.{device, entries_of, is_stopped, synced_of, entries_at_open, IsEngineOf, IsAtRest}
+use Rattle.btr_open.specs.Damage.{IsNoEntryBody}
 use Rattle.btr_open.specs.Opening.{OpenCauseHolds}
 
 -- A superblock with this number of blocks is chosen.
@@ -31,6 +33,19 @@ IsStoreOf size image blocks = (s : Super) × IsChosen size image s × (s.blocks 
 abbrev pub IsReadTo : Type 0 → ℕ → Image → ℕ → ℕ → List Entry → Type 0
 IsReadTo is_observable size image blocks gate h =
     is_observable × AllByRecursion IsSpelled h × Follows h × Extents image first_gate (bodies h) gate × IsStoreOf size image blocks
+
+-- The body with this number is that of an entry, which may follow, and with which the new board is.
+abbrev pub HasAdded : Kept → Kept → ℕ → List ℕ → Type 0
+HasAdded old new number body =
+    (e : Entry) × IsSpelled e × (body ≡ body_of number e)
+    × ((h : List Entry) → IsBoardOf h old → (rejection h e ≡ None) × IsBoardOf (h ++ e ∷ []) new)
+
+-- The body with this number is that of no entry, or of one that may not follow.
+abbrev pub MayNotAdd : Kept → ℕ → List ℕ → Type 0
+MayNotAdd board number body =
+    IsNoEntryBody number body
+    ⊎ ((e : Entry) × IsSpelled e × (body ≡ body_of number e)
+    × ((h : List Entry) → IsBoardOf h board → (why : Rejection) × (rejection h e ≡ Some why)))
 
 module _ {D : Type 0} (disk : Ghosts D) where
   -- Why the calls between two states of a device found no history, if `known` holds of its bytes.

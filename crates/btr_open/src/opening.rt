@@ -1,7 +1,8 @@
 //! The opening of a store: which history a device holds.
-ghost use Rattle.std.specs.Prelude.{◌≡◌, ℕ, ◌+◌, ◌<◌, ◌≤◌, ◌^◌, List, [], IfErr, IfOk, IfSome, IfNone};
+ghost use Rattle.std.specs.Prelude.{◌≡◌, ℕ, ◌+◌, ◌<◌, ◌≤◌, ◌^◌, List, [], IfErr, IfOk, IfSome, IfNone, IsTrue, IsFalse};
 ghost use Rattle.btr_disk.specs.Causes.{KeepsCounts};
 ghost use Rattle.btr_disk.specs.Gate.{IsClosed};
+ghost use Rattle.btr_log.specs.Extents.{IsBody};
 ghost use Rattle.btr_log.specs.Log.{log_device as disk_of, log_blocks};
 ghost use Rattle.btr_super.specs.Super.{IsSuper};
 ghost use Rattle.btr_super.specs.Choose.{IsChosen};
@@ -10,12 +11,12 @@ ghost use Rattle.btr_engine.specs.Board.{IsBoardOf};
 ghost use Rattle.btr_engine.specs.Holds.{HoldsHistory};
 ghost use Rattle.btr_open.specs.Opening.{KeepsDisk, SyncsFirst, IsOpened, IsOpenedOn, IsNotOpened};
 ghost use Rattle.btr_open.specs.Reading.{IsReadTo, CauseBetween, LogCause, OnlyReads};
-ghost use Rattle.btr_open.specs.Reading.{IsReadEngine, ReadsLog, AddsEntry, IsReadLog};
+ghost use Rattle.btr_open.specs.Reading.{IsReadEngine, ReadsLog, AddsEntry, IsReadLog, HasAdded, MayNotAdd};
 
 use crate::decoding::decode_extent;
 use btr_disk::{Disk, Failed};
 use btr_engine::{Board, Engine, PushFault};
-use btr_log::{ExtentFault, Found, Log};
+use btr_log::{ExtentFault, Found, Head, Log};
 use btr_super::{ChooseFault, LOG_START, Super, choose};
 use std::alloc::{AllocError, Global};
 use std::snapshot::Snapshot;
@@ -200,16 +201,36 @@ fn read_next<D: Disk>(
     let Found::Extent { head, body, next } = found else {
         return Ok(None);
     };
-    let Some(entry) = decode_extent(alloc, &body, &head, number)? else {
+    if !add_body(alloc, board, &head, &body, number)? {
         return Err(OpenCause::Damaged { block: gate + 1 });
+    }
+    Ok(Some(next))
+}
+
+/// Adds the entry to the board whose body with this number the bytes are. It returns `false`, and the board stays as it is, if there
+/// is no such entry or it may not follow. An `Err` means out of memory.
+fn add_body(
+    alloc: Global,
+    board: &mut Board,
+    head: &Head,
+    body: &[u8],
+    number: u64,
+) -> Result<bool, AllocError>
+    requires body { IsBody body.now head.now }
+    requires number { number ≡ board.old.entries + 1 }
+    ensures added { IfOk result (λ b. IsTrue b → HasAdded board.old board.new number body.now) }
+    ensures refused { IfOk result (λ b. IsFalse b → MayNotAdd board.old number body.now) }
+{
+    let Some(entry) = decode_extent(alloc, body, head, number)? else {
+        return Ok(false);
     };
     match board.stage(alloc, &entry) {
         Ok(staged) => {
             board.accept(staged);
-            Ok(Some(next))
+            Ok(true)
         }
-        Err(PushFault::Rejected(_)) => Err(OpenCause::Damaged { block: gate + 1 }),
-        Err(PushFault::Want) => Err(OpenCause::Want),
+        Err(PushFault::Rejected(_)) => Ok(false),
+        Err(PushFault::Want) => Err(AllocError),
     }
 }
 
