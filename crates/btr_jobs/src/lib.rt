@@ -1,7 +1,6 @@
 //! Jobs for many workers at one hall: each worker has a session of its own while it works.
 //!
-//! A [`Job`] is a piece of work in one session. [`run_jobs`] shares jobs among workers; one worker does them one after another, as
-//! [`run_in_turn`] does in its caller's session.
+//! A [`Job`] is a piece of work in one session. [`run_jobs`] shares jobs among workers; one worker does them one after another.
 //! For any number of workers each job did its part after all that had been seen before ([`AllDid`]). With one worker each job followed
 //! all that the one before it had seen ([`DidInTurn`]). Nothing is said of which workers run beside each other; a [`Pace`] learns it.
 //!
@@ -18,4 +17,4 @@ mod worker;
 
 pub use job::Job;
 pub use pace::{NoPace, Pace};
-pub use run::{run_in_turn, run_jobs};
+pub use run::run_jobs;

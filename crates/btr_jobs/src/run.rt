@@ -153,29 +153,8 @@ fn turn_after(first: u32, count: usize) -> u32 {
     first.wrapping_add((count % (1 << 32)) as u32)
 }
 
-/// Does the jobs one after another in this session: [`run_jobs`] with one worker, for callers that cannot give a session to a thread, as
-/// a job. The turns of `pace` are the jobs, from `first` on.
-pub fn run_in_turn<R: Wait, D: Disk, J: Job, P: Pace>(
-    rt: &R,
-    alloc: Global,
-    hall: &Hall<D>,
-    session: &mut Session<D>,
-    first: u32,
-    jobs: &mut [J],
-    pace: &P,
-)
-    requires at { IsAt hall.now session.old }
-    ensures at { IsAt hall.now session.new }
-    ensures jobs { length jobs.new ≡ length jobs.old }
-    ensures does { Does hall.now session.old session.new (λ start course low own. AllDid J.did start course low jobs.old jobs.new own) }
-    ensures in_turn { Does hall.now session.old session.new
-        (λ start course low own. DidInTurn J.did start course low jobs.old jobs.new own) }
-{
-    do_in_turn(rt, alloc, hall, session, first, jobs, pace);
-}
-
-/// Does the jobs one after another.
-fn do_in_turn<R: Wait, D: Disk, J: Job, P: Pace>(
+/// Does the jobs one after another in this session. The turns of `pace` are the jobs, from `first` on.
+fn run_in_turn<R: Threads + Wait + Sync, D: Disk + Send, J: Job + Send, P: Pace + Sync>(
     rt: &R,
     alloc: Global,
     hall: &Hall<D>,

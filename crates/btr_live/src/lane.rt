@@ -14,10 +14,11 @@ use btr_jobs::Job;
 use btr_text::{Line, LineReply, Reason};
 use std::alloc::{AllocError, Global};
 use std::collections::VecDeque;
-use std::marker::Model;
+use std::marker::{Model, Send, Sync};
 use std::mem;
 use std::sync::atomic::{AtomicU32, Ordering};
 use std::sync::{Arc, Wait};
+use std::thread::Threads;
 
 /// The lines of a lane, and their replies. There is room for a reply to each line, so that no lane stops because memory runs out.
 #[derive(Drop)]
@@ -86,7 +87,7 @@ impl Job for Lane {
     ghost did = { LaneDid };
 
     /// Runs the lines. Then the lane has ended.
-    fn run<R: Wait, D: Disk>(
+    fn run<R: Threads + Wait + Sync, D: Disk + Send>(
         &mut self,
         rt: &R,
         alloc: Global,

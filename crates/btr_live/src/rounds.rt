@@ -7,8 +7,10 @@ use btr_hall::{Hall, Session};
 use btr_jobs::Job;
 use btr_work::bring_current_here;
 use std::alloc::Global;
+use std::marker::{Send, Sync};
 use std::sync::atomic::{AtomicU32, Ordering};
 use std::sync::{Arc, Wait};
+use std::thread::Threads;
 
 /// The rounds beside the lanes of a run.
 #[derive(Drop)]
@@ -27,7 +29,7 @@ impl Job for Rounds {
     ghost did = { RoundsDid };
 
     /// Makes the rounds, one after another.
-    fn run<R: Wait, D: Disk>(
+    fn run<R: Threads + Wait + Sync, D: Disk + Send>(
         &mut self,
         rt: &R,
         alloc: Global,

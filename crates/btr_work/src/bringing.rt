@@ -18,7 +18,9 @@ use btr_hall::{Hall, LandFault, Session};
 use btr_jobs::Job;
 use btr_plan::{Next, next_plan};
 use std::alloc::{AllocError, Global};
+use std::marker::{Send, Sync};
 use std::sync::Wait;
+use std::thread::Threads;
 
 /// The work of bringing an output up to date, and what became of it. Before it is done, that is as if there had been no memory.
 #[derive(Drop)]
@@ -27,20 +29,37 @@ pub(crate) struct OutputJob {
     pub(crate) result: Brought,
 }
 
+impl OutputJob {
+    /// Brings the output up to date, and keeps what became of it.
+    pub(crate) fn bring<R: Wait, D: Disk>(
+        &mut self,
+        rt: &R,
+        alloc: Global,
+        hall: &Hall<D>,
+        session: &mut Session<D>,
+    )
+        requires at { IsAt hall.now session.old }
+        ensures at { IsAt hall.now session.new }
+        ensures done { Does hall.now session.old session.new (λ start course low own. IsDone start course low self.old self.new own) }
+    {
+        self.result = bring_output(rt, alloc, hall, session, self.output);
+    }
+}
+
 impl Job for OutputJob {
     ghost use Rattle.btr_work.specs.Bringing.{IsDone};
     ghost use Rattle.btr_work.specs.ReportLaws.{done_lasts, done_lowers};
 
     ghost did = { IsDone };
 
-    fn run<R: Wait, D: Disk>(
+    fn run<R: Threads + Wait + Sync, D: Disk + Send>(
         &mut self,
         rt: &R,
         alloc: Global,
         hall: &Hall<D>,
         session: &mut Session<D>,
     ) {
-        self.result = bring_output(rt, alloc, hall, session, self.output);
+        self.bring(rt, alloc, hall, session);
     }
 
     ghost lasts = { done_lasts };

@@ -2,8 +2,7 @@
 //!
 //! [`levels`] sorts the outputs of a store by levels: each stands above its inputs. [`bring_current`] brings each output up to date
 //! once, level by level; the outputs of a level are shared among workers. Its [`Report`] says what became of each. One worker has just
-//! one outcome, also if blocks do not suffice for all: `specs/InOrder.antt` says which. [`bring_current_here`] does the same in the session
-//! of its caller, and [`bring_output`] brings one output up to date.
+//! one outcome, also if blocks do not suffice for all: `specs/InOrder.antt` says which. [`bring_output`] brings one output up to date.
 #![tactic(auto)]
 
 // which outputs come first

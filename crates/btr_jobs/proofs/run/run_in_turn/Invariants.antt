@@ -1,6 +1,6 @@
 use Rattle.std.proofs.Common.{◌≡◌, length, take, drop}
 use Rattle.btr_jobs.specs.Jobs.{IsAt, Does, DidInTurn}
-use Rattle.btr_jobs.proofs.run.do_in_turn.Given as goal
+use Rattle.btr_jobs.proofs.run.run_in_turn.Given as goal
 
 abbrev pub invariant-loop-job : goal.invariant-loop-job
 invariant-loop-job g l =
