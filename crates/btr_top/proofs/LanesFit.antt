@@ -34,7 +34,7 @@ use Rattle.btr_text.specs.declared.reply.Reason.TheVariants as reasons
 use Rattle.btr_live.specs.Feeds.{Waiting}
 use Rattle.btr_live.specs.Meaning.{Meaning, Commits, Asks, Holds, Current, Refuses}
 use Rattle.btr_live.specs.Replies.{reply_of_answer, reply_to, Means}
-use Rattle.btr_live.specs.Lanes.{reply_of_step, reply_of_landing, Offers, Answers, LaneState, begun, RunsLine, RunsLines, RunsLane}
+use Rattle.btr_live.specs.Lanes.{reply_of_step, reply_of_landing, Offers, Answers, LaneState, begun, RunsLine, RunsLines}
 use Rattle.btr_live.specs.OneHistory.{of_lane, lanes_of, lines_of}
 use Rattle.btr_bulk.specs.Completes.{IsBenign}
 use Rattle.btr_bulk.specs.declared.status.Status.{Status}
@@ -330,7 +330,7 @@ module _ (batch : ℕ) (start : Start) (course : Course) (running : start.stoppe
 
   -- ---- all lanes
 
-  module _ (script : List ScriptLine) (all : List LineReply) (mine : List (List ℕ)) (begins : StartsWith course.history start.history) (each : length all ≡ length script) (lanes : (k : ℕ) → RunsLane batch start course start.history (lines_of k script) (of_lane k (lanes_of script) all) (slice_index_or mine k [])) (once : (n : ℕ) → total (times n) mine ≡ given (length start.history) (length course.history + one (is_some course.failed)) n) (no_refresh : AllByRecursion (λ (line : ScriptLine). IsNoRefresh line.line) script) (room : total (λ (line : ScriptLine). most_blocks line.line) script ≤ start.left) where
+  module _ (script : List ScriptLine) (all : List LineReply) (mine : List (List ℕ)) (begins : StartsWith course.history start.history) (each : length all ≡ length script) (lasts : ℕ → LaneState) (lanes : (k : ℕ) → RunsLines batch start course (begun start.history) (lines_of k script) (of_lane k (lanes_of script) all) (slice_index_or mine k []) (lasts k)) (once : (n : ℕ) → total (times n) mine ≡ given (length start.history) (length course.history + one (is_some course.failed)) n) (no_refresh : AllByRecursion (λ (line : ScriptLine). IsNoRefresh line.line) script) (room : total (λ (line : ScriptLine). most_blocks line.line) script ≤ start.left) where
     abbrev blocks : List ℕ
     blocks = map (λ (line : ScriptLine). most_blocks line.line) script
 
@@ -342,7 +342,7 @@ module _ (batch : ℕ) (start : Start) (course : Course) (running : start.stoppe
 
     lane_weight : (k : ℕ) → weight (slice_index_or mine k []) ≤ total own (of k)
     lane_weight k =
-        lines_weight (begun start.history) (lines_of k script) (of_lane k (lanes_of script) all) (slice_index_or mine k []) (lanes k).0 (of k) (lane_need k) (lanes k).1
+        lines_weight (begun start.history) (lines_of k script) (of_lane k (lanes_of script) all) (slice_index_or mine k []) (lasts k) (of k) (lane_need k) (lanes k)
 
     -- The entries of all lanes.
     sum_is : total weight mine + needs_of start.history ≡ needs_of course.history
@@ -369,7 +369,7 @@ module _ (batch : ℕ) (start : Start) (course : Course) (running : start.stoppe
     pub lanes_benign : IsBenign (status_of_replies all)
     lanes_benign =
         greatest_benign _ all (inl refl) (all_lanes (lanes_of script) all (long script each) (λ k.
-        lines_benign (begun start.history) (lines_of k script) (of_lane k (lanes_of script) all) (slice_index_or mine k []) (lanes k).0 (of k) (lane_need k) (never_full k) (lanes k).1))
+        lines_benign (begun start.history) (lines_of k script) (of_lane k (lanes_of script) all) (slice_index_or mine k []) (lasts k) (of k) (lane_need k) (never_full k) (lanes k)))
       where
         count : (lines : List ScriptLine) → length (lanes_of lines) ≡ length lines
         count [] = refl

@@ -15,7 +15,8 @@ use Rattle.btr_live.specs.declared.live.LiveReport.{LiveReport}
 use Rattle.btr_live.specs.Live as runs
 use Rattle.btr_live.specs.Script.{begun}
 use Rattle.btr_live.specs.OneHistory.{of_lane, lanes_of, lines_of}
-use Rattle.btr_live.specs.LaneLaws.{lane_lasts}
+use Rattle.btr_live.specs.Lanes as lanes
+use Rattle.btr_live.specs.LaneLaws.{lines_last}
 use Rattle.btr_live.specs.OneLane.{AreInLane, RunsAlone, store_at}
 use Rattle.btr_bulk.specs.declared.status.Status.{Status}
 use Rattle.btr_bulk.specs.declared.status.Status.TheVariants.{Done}
@@ -96,17 +97,17 @@ module _ {S D : Type 0} (source : SourceGhosts S) (disk : Ghosts D) (batch : ℕ
     -- All that was added is of the lanes.
     of_lanes : (report : LiveReport) → (ran : Ran report) → (n : ℕ) → total (times n) ran.mine ≡ numbers.given (length does.first.history) (last_number does.course) n
     of_lanes report ran n =
-        let none : times n ran.landed ≡ 0 = ap (times n) (ran.no_rounds refl) in
+        let none : total (times n) ran.beside ≡ 0 = ap (λ (l : List (List ℕ)). total (times n) l) (ran.no_rounds refl) in
         let lastly : times n ran.lastly ≡ 0 =
         (subst (λ (l : LastRound). runs.LastRound does.first does.course ran.middle.history false l ran.lastly) (no_last batch does.first does.course lines report does.own ran) ran.last) n in
-        let numbers : times n does.own ≡ total (times n) ran.mine + times n ran.landed + times n ran.lastly = ran.numbers n in
+        let numbers : times n does.own ≡ total (times n) ran.mine + total (times n) ran.beside + times n ran.lastly = ran.numbers n in
         omega (arith, none, lastly, numbers, does.works.each_once n)
 
     benign_lanes : (report : LiveReport) → HasRoomInLanes (store_at does.first) lines → Ran report → IsBenign (status_of_replies report.replies.items)
     benign_lanes report room ran =
         lanes_benign batch does.first does.course does.works.not_stopped sound_end does.works.follows lines report.replies.items ran.mine
-        does.works.begins ran.lanes.each
-        (λ k. lane_lasts does.first does.course ran.middle ran.goes_on batch does.first.history (lines_of k lines) (of_lane k (lanes_of lines) report.replies.items) (slice_index_or ran.mine k []) (ran.lanes.lanes k))
+        does.works.begins ran.lanes.each ran.lanes.lasts
+        (λ k. lines_last does.first does.course ran.middle ran.goes_on batch (lanes.begun does.first.history) (lines_of k lines) (of_lane k (lanes_of lines) report.replies.items) (slice_index_or ran.mine k []) (ran.lanes.lasts k) (ran.lanes.lanes k))
         (of_lanes report ran) room.no_refresh room.room
 
     benign_replies : (report : LiveReport) → Ran report → ((lane : ℕ) → AreInLane lane lines → RunsAlone batch does.first does.course lines report.replies.items) → IsBenign (status_of_replies report.replies.items)

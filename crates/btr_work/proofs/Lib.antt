@@ -5,5 +5,5 @@ pub mod OwnLemmas
 pub mod CurrentLemmas
 pub mod AlikeLemmas
 pub mod InOrderLemmas
-mod BringLemmas
+pub mod BringLemmas
 mod DoneLemmas

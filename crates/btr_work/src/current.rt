@@ -52,7 +52,7 @@ pub fn bring_current<R: Threads + Wait + Sync, D: Disk + Send, P: Pace + Sync>(
 }
 
 /// Makes the work for the outputs of the whole history.
-fn prepare_seen<R: Wait, D: Disk>(
+pub(crate) fn prepare_seen<R: Wait, D: Disk>(
     rt: &R,
     alloc: Global,
     hall: &Hall<D>,
