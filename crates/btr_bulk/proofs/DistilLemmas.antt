@@ -1,7 +1,7 @@
 -- Lemmas on the work of bringing each output up to date: what is said of it, and that what it adds is allowed.
 use Rattle.std.specs.Prelude.{◌≡◌, ℕ, ◌<◌, ◌≤◌, List, [], ◌∷◌, length, map, Option, Some, None, Result, Ok, Err, IfOk, IfSome}
 use Rattle.std.specs.declared.alloc.AllocError.{AllocError}
-use Rattle.std.proofs.Common.{sym, ap, ◌∙◌, subst}
+use Rattle.std.proofs.Common.{sym, ap, ◌∙◌, subst, arith}
 use Rattle.btr_disk.specs.declared.disk.Disk.{Ghosts}
 use Rattle.btr_hist.specs.declared.entry.Entry.{Entry}
 use Rattle.btr_hist.specs.Legal.{Follows, Legal}
@@ -15,6 +15,7 @@ use Rattle.btr_hall.specs.Trace.{history_of}
 use Rattle.btr_hall.specs.Session.{IsAlone, opening_of, seen_of}
 use Rattle.btr_jobs.specs.Course.{Start, Course, GoesOn, start_of, course_of}
 use Rattle.btr_jobs.specs.Jobs.{Goes, Does}
+use Rattle.btr_jobs.specs.Contents.{RunsThrough}
 use Rattle.btr_jobs.proofs.CourseLemmas.{course_at}
 use Rattle.btr_engine.specs.declared.board.Receipt.{Receipt}
 use Rattle.btr_hall.specs.declared.land.LandFault.{LandFault}
@@ -22,17 +23,24 @@ use Rattle.btr_hall.specs.declared.land.LandFault.TheVariants as faults
 use Rattle.btr_work.specs.declared.report.Brought.{Brought}
 use Rattle.btr_work.specs.declared.report.Brought.TheVariants.{Landed, Current, Refused}
 use Rattle.btr_work.specs.declared.report.ReportLine as brought
-use Rattle.btr_work.specs.Report.{IsPlanLanded, IsBrought, BringsEach, BringsLevels, Brings}
+use Rattle.btr_work.specs.Report.{IsPlanLanded, IsBrought, BringsEach, BringsLevels, Brings, BringsInTurn}
 use Rattle.btr_work.specs.ReportLaws.{brought_lasts}
 use Rattle.btr_work.proofs.CurrentLemmas.{brought-current}
 use Rattle.btr_work.proofs.AlikeLemmas.{brought-alike}
+use Rattle.btr_work.proofs.InOrderLemmas.{brought-in-order}
 use Rattle.btr_bulk.specs.declared.transcript.Transcript.{Transcript}
 use Rattle.btr_bulk.specs.Streams.{Stays}
 use Rattle.btr_bulk.specs.Transcript.{SaysLines}
-use Rattle.btr_bulk.specs.Distil.{output_line, BringsIf, SaysReport, Distils, AreCurrent, AreUndisturbed, AreOfOneWorker, DistilsStore}
-use Rattle.btr_bulk.specs.Work.{AddsAllowed, OwnsEachOnce}
+use Rattle.btr_bulk.specs.Distil.{output_line, BringsIf, SaysReport, Distils, DistilsInTurn, AreCurrent, AreUndisturbed, AreOfOneWorker}
+use Rattle.btr_bulk.specs.Distil.{HadMemoryForOutputs, AreBroughtInOrder, DistilsStore}
+use Rattle.btr_bulk.specs.Work.{AddsAllowed, OwnsEachOnce, Works}
 use Rattle.btr_bulk.proofs.Allowing.{allows_none, allows_nothing, allows_both, allows_landed}
 use Rattle.btr_bulk.proofs.DistilCompletes.{report_completes}
+use Rattle.btr_bulk.proofs.WorkLemmas.{works_run}
+
+says_report : (report : List brought.ReportLine) (said : Result Transcript AllocError) (h : List Entry) → IfOk said (SaysLines (map (output_line h) report)) → SaysReport h (Some report) said
+says_report report (Ok transcript) h is = is
+says_report report (Err error) h is = tt
 
 module _ {D : Type 0} {disk : Ghosts D} where
   -- A session that stays as it is is still alone.
@@ -59,18 +67,35 @@ module _ {D : Type 0} {disk : Ghosts D} where
         (record {
           report = Some report;
           brings = does.2 h of;
-          says = says_report said (history_of h (seen_of mid)) (says h of);
+          says = says_report report said (history_of h (seen_of mid)) (says h of);
         }),
   )
-    where
-      says_report : (said : Result Transcript AllocError) (h : List Entry) → IfOk said (SaysLines (map (output_line h) report)) → SaysReport h (Some report) said
-      says_report (Ok transcript) h is = is
-      says_report (Err error) h is = tt
+
+  -- The same of one worker.
+  pub turn_said : (hall : Hall D disk) (old mid new : Session D disk) (report : List brought.ReportLine) (said : Result Transcript AllocError) → Does hall old mid (λ start course low own. BringsInTurn start course low report own) → Stays mid new → ((h : List Entry) → IsEngineOf h (opening_of hall) → IfOk said (SaysLines (map (output_line (history_of h (seen_of mid))) report))) → Does hall old new (λ start course low own. DistilsInTurn start course low said own)
+  turn_said hall old mid new report said does stays says = (
+    does.0,
+    goes_stays old mid new does.0 does.1 stays,
+    λ h of.
+        subst (λ l. DistilsInTurn (start_of h hall) (course_at h l) (course_of h old).history said does.0) (sym stays.seen)
+        (record {
+          did = record {
+            report = Some report;
+            brings = (does.2 h of).brings;
+            says = says_report report said (history_of h (seen_of mid)) (says h of);
+          };
+          in_turn = does.2 h of;
+        }),
+  )
 
   -- Memory ran out before any output.
   pub distils_none : (hall : Hall D disk) (old new : Session D disk) (error : AllocError) → Does hall old new (λ start course low own. (n : ℕ) → times n own ≡ 0) → Does hall old new (λ start course low own. Distils start course low (Err error) own)
   distils_none hall old new error does =
       (does.0, does.1, λ h of. record { report = None; brings = does.2 h of; says = tt })
+
+  pub turn_none : (hall : Hall D disk) (old new : Session D disk) (error : AllocError) → Does hall old new (λ start course low own. (n : ℕ) → times n own ≡ 0) → Does hall old new (λ start course low own. DistilsInTurn start course low (Err error) own)
+  turn_none hall old new error does =
+      (does.0, does.1, λ h of. record { did = record { report = None; brings = does.2 h of; says = tt }; in_turn = tt })
 
 -- ---- what it adds is allowed
 
@@ -128,10 +153,28 @@ module _ (start : Start) (course : Course) (own : List ℕ) (each : OwnsEachOnce
   report_alike (Some report) legal brings = λ undisturbed levels are.
       brought-alike start course start.history report own levels brings legal each are undisturbed
 
-  pub distils_store : (said : Result Transcript AllocError) → Follows course.history → (Legal start.history → Legal course.history) → Distils start course start.history said own → DistilsStore start course said own
-  distils_store said follows legal is = record {
+  report_in_order : (report : Option (List brought.ReportLine)) → RunsThrough start course → Legal course.history → IfSome report (λ report. BringsInTurn start course start.history report own) → IfSome report (λ report. HadMemoryForOutputs report → AreBroughtInOrder start course report)
+  report_in_order None ran legal turn = tt
+  report_in_order (Some report) ran legal turn = λ memory levels are.
+      brought-in-order start course report own levels ran legal each turn are memory
+
+  store_distils : (workers : ℕ) (said : Result Transcript AllocError) (is : Distils start course start.history said own) → Follows course.history → (Legal start.history → Legal course.history) → (workers ≤ 1 → Legal start.history → course.failed ≡ None → IfSome is.report (λ report. HadMemoryForOutputs report → AreBroughtInOrder start course report)) → DistilsStore start course workers said own
+  store_distils workers said is follows legal order = record {
     did = is;
     current = report_current is.report follows is.brings;
     alike = λ before. report_alike is.report (legal before) is.brings;
+    in_order = order;
     completes = report_completes start course own is.report said each follows is.brings is.says;
   }
+
+module _ {D : Type 0} (disk : Ghosts D) (old new : D) (start : Start) (course : Course) (workers : ℕ) (own : List ℕ) (said : Result Transcript AllocError) (works : Works disk start course own old new) (legal : Legal start.history → Legal course.history) where
+  -- Many workers brought the outputs up to date.
+  pub distils_store : 1 < workers → Distils start course start.history said own → DistilsStore start course workers said own
+  distils_store many is =
+      store_distils start course own works.each_once workers said is works.follows legal (λ few. absurd (omega (arith, many, few)))
+
+  -- One worker did.
+  pub distils_store_in_order : DistilsInTurn start course start.history said own → DistilsStore start course workers said own
+  distils_store_in_order is =
+      store_distils start course own works.each_once workers said is.did works.follows legal
+      (λ few before whole. report_in_order start course own works.each_once is.did.report (works_run disk start course own old new works whole) (legal before) is.in_turn)

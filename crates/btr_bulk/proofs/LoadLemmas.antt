@@ -1,7 +1,7 @@
 -- Lemmas on loads: what is said of them, and that what they add is allowed.
-use Rattle.std.specs.Prelude.{◌≡◌, ℕ, List, [], ◌∷◌, ◌++◌, Option, Some, None, Result, Ok, Err, IfOk, IfSome}
+use Rattle.std.specs.Prelude.{◌≡◌, ℕ, ◌<◌, ◌≤◌, List, [], ◌∷◌, ◌++◌, Option, Some, None, Result, Ok, Err, IfOk, IfSome}
 use Rattle.std.specs.declared.alloc.AllocError.{AllocError}
-use Rattle.std.proofs.Common.{ap, ◌∙◌, subst, ⊎_elim}
+use Rattle.std.proofs.Common.{ap, ◌∙◌, subst, arith, ⊎_elim}
 use Rattle.btr_disk.specs.declared.disk.Disk.{Ghosts}
 use Rattle.btr_hist.specs.declared.entry.Entry.{Entry}
 use Rattle.btr_hist.specs.declared.entry.Entry.TheVariants as entries
@@ -13,30 +13,33 @@ use Rattle.btr_rows.specs.Streams.{StreamValue, RowListValue}
 use Rattle.btr_engine.specs.declared.board.Receipt.{Receipt}
 use Rattle.btr_engine.specs.declared.step.StepFault.{StepFault}
 use Rattle.btr_gate.specs.Numbers.{times}
-use Rattle.btr_gate.specs.Prefixes.{StartsWith}
 use Rattle.btr_gate.proofs.NumberLemmas.{times_append}
 use Rattle.btr_hall.specs.declared.session.Hall.{Hall}
 use Rattle.btr_hall.specs.declared.session.Session.{Session}
 use Rattle.btr_jobs.specs.Course.{Start, Course, GoesOn}
 use Rattle.btr_jobs.specs.TurnLaws.{goes_refl}
 use Rattle.btr_jobs.specs.Jobs.{Does}
+use Rattle.btr_jobs.specs.Contents.{RunsThrough}
 use Rattle.btr_jobs.proofs.DoesLemmas.{does_implied}
 use Rattle.btr_load.specs.declared.fate.Fate.{Fate}
 use Rattle.btr_load.specs.declared.fate.Fate.TheVariants.{Output, NotCreated, Committed}
 use Rattle.btr_load.specs.declared.stream.LoadedStream.{LoadedStream}
 use Rattle.btr_load.specs.Batches.{batches_of, batch_entry}
 use Rattle.btr_load.specs.Work.{BatchDid, BatchesDid, FateDid, StreamsDid}
-use Rattle.btr_load.specs.Loads.{LoadedValue, Opens, OpensEach, Loads}
+use Rattle.btr_load.specs.Loads.{LoadedValue, Opens, OpensEach, Loads, LoadsInTurn}
 use Rattle.btr_load.specs.There.{AreDistinct, AreThere}
 use Rattle.btr_load.specs.Alike.{IsAlike}
+use Rattle.btr_load.specs.InOrder.{IsLoadedInOrder}
 use Rattle.btr_load.proofs.ThereLemmas.{batches_there}
 use Rattle.btr_load.proofs.AlikeLemmas.{loads_alike}
+use Rattle.btr_load.proofs.InOrderLemmas.{loads_in_order}
 use Rattle.btr_bulk.specs.declared.transcript.Transcript.{Transcript}
 use Rattle.btr_bulk.specs.LoadLines.{SaysLoad}
-use Rattle.btr_bulk.specs.Load.{LoadsIf, SaysLoaded, LoadsRows, ArePlain, LoadsStore}
-use Rattle.btr_bulk.specs.Work.{AddsAllowed, OwnsEachOnce}
+use Rattle.btr_bulk.specs.Load.{LoadsIf, SaysLoaded, LoadsRows, LoadsRowsInTurn, ArePlain, HadMemoryForAll, LoadsStore}
+use Rattle.btr_bulk.specs.Work.{AddsAllowed, OwnsEachOnce, Works}
 use Rattle.btr_bulk.proofs.Allowing.{allows_none, allows_nothing, allows_both, allows_committed_later}
 use Rattle.btr_bulk.proofs.LoadCompletes.{load_completes}
+use Rattle.btr_bulk.proofs.WorkLemmas.{works_run}
 
 -- ---- what is said
 
@@ -56,6 +59,30 @@ module _ {D : Type 0} {disk : Ghosts D} where
   loads_none hall old new rows batch error does =
       does_implied hall old new (λ start course low own. own ≡ []) (λ start course low own. LoadsRows start course low rows batch (Err error) own)
       (λ start course low own is. record { loaded = None; loads = is; says = tt }) does
+
+-- The same of one worker.
+says_turn : (start : Start) (course : Course) (low : List Entry) (rows : RowListValue) (batch : ℕ) (loaded : LoadedValue) (said : Result Transcript AllocError) (own : List ℕ) → IfOk said (SaysLoad loaded) → LoadsInTurn start course low rows batch loaded own → LoadsRowsInTurn start course low rows batch said own
+says_turn start course low rows batch loaded said own says turn = record {
+  did = record { loaded = Some loaded; loads = turn.loads; says = says_loaded loaded said says };
+  in_turn = turn;
+}
+
+says_none : (start : Start) (course : Course) (low : List Entry) (rows : RowListValue) (batch : ℕ) (error : AllocError) (own : List ℕ) → own ≡ [] → LoadsRowsInTurn start course low rows batch (Err error) own
+says_none start course low rows batch error own is = record {
+  did = record { loaded = None; loads = is; says = tt };
+  in_turn = tt;
+}
+
+module _ {D : Type 0} {disk : Ghosts D} where
+  pub turn_said : (hall : Hall D disk) (old new : Session D disk) (rows : RowListValue) (batch : ℕ) (loaded : LoadedValue) (said : Result Transcript AllocError) → Does hall old new (λ start course low own. LoadsInTurn start course low rows batch loaded own) → IfOk said (SaysLoad loaded) → Does hall old new (λ start course low own. LoadsRowsInTurn start course low rows batch said own)
+  turn_said hall old new rows batch loaded said does says =
+      does_implied hall old new (λ start course low own. LoadsInTurn start course low rows batch loaded own) (λ start course low own. LoadsRowsInTurn start course low rows batch said own)
+      (λ start course low own is. says_turn start course low rows batch loaded said own says is) does
+
+  pub turn_none : (hall : Hall D disk) (old new : Session D disk) (rows : RowListValue) (batch : ℕ) (error : AllocError) → Does hall old new (λ start course low own. own ≡ []) → Does hall old new (λ start course low own. LoadsRowsInTurn start course low rows batch (Err error) own)
+  turn_none hall old new rows batch error does =
+      does_implied hall old new (λ start course low own. own ≡ []) (λ start course low own. LoadsRowsInTurn start course low rows batch (Err error) own)
+      (λ start course low own is. says_none start course low rows batch error own is) does
 
 -- ---- what is added is allowed
 
@@ -131,14 +158,30 @@ module _ (start : Start) (course : Course) (rows : RowListValue) (batch : ℕ) (
   loaded_alike None distinct is = tt
   loaded_alike (Some loaded) distinct is = λ plain. loads_alike start course start.history rows batch loaded own before distinct each is plain
 
-  store_loads : (said : Result Transcript AllocError) → LoadsRows start course start.history rows batch said own → LoadsStore start course rows batch said own
-  store_loads said is = record {
+  loaded_in_order : (loaded : Option LoadedValue) → RunsThrough start course → IfSome loaded (λ loaded. LoadsInTurn start course start.history rows batch loaded own) → IfSome loaded (λ loaded. HadMemoryForAll loaded → IsLoadedInOrder start course rows.streams batch loaded.streams)
+  loaded_in_order None ran turn = tt
+  loaded_in_order (Some loaded) ran turn = λ memory. loads_in_order start course rows batch loaded own ran each turn memory
+
+  store_loads : (workers : ℕ) (said : Result Transcript AllocError) (is : LoadsRows start course start.history rows batch said own) → (workers ≤ 1 → course.failed ≡ None → IfSome is.loaded (λ loaded. HadMemoryForAll loaded → IsLoadedInOrder start course rows.streams batch loaded.streams)) → LoadsStore start course rows batch workers said own
+  store_loads workers said is order = record {
     did = is;
     there = λ distinct. loaded_there is.loaded distinct is.loads;
     alike = λ distinct. loaded_alike is.loaded distinct is.loads;
+    in_order = order;
     completes = load_completes start course rows batch own is.loaded said before each is.loads is.says;
   }
 
-pub loads_store : (start : Start) (course : Course) (rows : RowListValue) (batch : ℕ) (own : List ℕ) (said : Result Transcript AllocError) → OwnsEachOnce start course own → StartsWith course.history start.history → Follows course.history → LoadsRows start course start.history rows batch said own → LoadsStore start course rows batch said own
-loads_store start course rows batch own said each begins follows is =
-    store_loads start course rows batch own each (follows-prefix start.history begins.0 (subst Follows begins.1 follows)) said is
+module _ {D : Type 0} (disk : Ghosts D) (old new : D) (start : Start) (course : Course) (rows : RowListValue) (batch workers : ℕ) (own : List ℕ) (said : Result Transcript AllocError) (works : Works disk start course own old new) where
+  begun_follows : Follows start.history
+  begun_follows = follows-prefix start.history works.begins.0 (subst Follows works.begins.1 works.follows)
+
+  -- Many workers loaded rows.
+  pub loads_store : 1 < workers → LoadsRows start course start.history rows batch said own → LoadsStore start course rows batch workers said own
+  loads_store many is =
+      store_loads start course rows batch own works.each_once begun_follows workers said is (λ few. absurd (omega (arith, many, few)))
+
+  -- One worker did.
+  pub loads_store_in_order : LoadsRowsInTurn start course start.history rows batch said own → LoadsStore start course rows batch workers said own
+  loads_store_in_order is =
+      store_loads start course rows batch own works.each_once begun_follows workers said is.did
+      (λ few whole. loaded_in_order start course rows batch own works.each_once begun_follows is.did.loaded (works_run disk start course own old new works whole) is.in_turn)

@@ -1,5 +1,5 @@
 -- Lemmas on work at a hall that was opened and closed, which other crates cite: its begin, and what it did on the device.
-use Rattle.std.specs.Prelude.{◌≡◌, ℕ, List, [], ◌∷◌, ◌++◌, length, replicate}
+use Rattle.std.specs.Prelude.{◌≡◌, ℕ, List, [], ◌∷◌, ◌++◌, length, replicate, None, option_to_list}
 use Rattle.std.proofs.Common.{zero, suc, refl, ap, ◌∙◌, subst, arith}
 use Rattle.std.proofs.lemmas.List.{append-nil, length-append, length-replicate}
 use Rattle.btr_disk.specs.declared.disk.Disk.{Ghosts}
@@ -11,6 +11,7 @@ use Rattle.btr_engine.specs.declared.engine.Engine.{Engine}
 use Rattle.btr_engine.specs.Engine.{device, blocks_of, tail_of, entries_of, IsAtRest}
 use Rattle.btr_engine.specs.Holds.{HoldsHistoryTo}
 use Rattle.btr_open.specs.Opening.{IsOpened}
+use Rattle.btr_gate.proofs.PrefixLemmas.{starts_append}
 use Rattle.btr_hall.specs.declared.item.Item.{Item}
 use Rattle.btr_hall.specs.declared.item.Item.TheVariants.{Earlier}
 use Rattle.btr_hall.specs.declared.session.Hall.{Hall}
@@ -19,7 +20,9 @@ use Rattle.btr_hall.specs.Trace.{IsTraceOf, entries_in, history_of}
 use Rattle.btr_hall.specs.Session.{opening_of, seen_of}
 use Rattle.btr_jobs.specs.Jobs.{Goes, Does}
 use Rattle.btr_jobs.specs.Course.{Start, Course, start_of, course_of}
+use Rattle.btr_jobs.specs.Contents.{RunsThrough}
 use Rattle.btr_jobs.proofs.CourseLemmas.{course_at}
+use Rattle.btr_jobs.proofs.ContentsLemmas.{needs_prefix}
 use Rattle.btr_bulk.specs.Work.{AddsAllowed, Works, DoesRightly}
 use Rattle.btr_bulk.specs.Closing.{BeginsOn}
 
@@ -78,6 +81,18 @@ does_rightly disk What old new hall begun last allows on does closes =
       right = works.right allowed;
       in_flight = works.in_flight allowed;
     }
+
+-- If the device did not fail, the work ran through.
+pub works_run : {D : Type 0} (disk : Ghosts D) (start : Start) (course : Course) (own : List ℕ) (old new : D) → Works disk start course own old new → course.failed ≡ None → RunsThrough start course
+works_run disk start course own old new works whole = record {
+  runs = works.not_stopped;
+  whole = whole;
+  fits =
+      let all = course.history ++ option_to_list course.failed in
+      let least = needs_prefix all course.history (starts_append course.history (option_to_list course.failed)) in
+      let fits = works.fits in
+      omega (arith, least, fits);
+}
 
 -- What the work and the law say together of what was done.
 pub does_more : {D : Type 0} (disk : Ghosts D) (What More : Start → Course → List ℕ → Type 0) (old new : D) → ((first : Start) (course : Course) (own : List ℕ) → Works disk first course own old new → (Legal first.history → Legal course.history) → What first course own → More first course own) → DoesRightly disk What old new → DoesRightly disk More old new

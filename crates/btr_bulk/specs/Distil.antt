@@ -1,5 +1,5 @@
 -- What bringing each output up to date once does, and what it says of each.
-use Rattle.std.specs.Prelude.{◌≡◌, ℕ, List, map, Option, Some, None, Result, Ok, Err, IfSome}
+use Rattle.std.specs.Prelude.{◌≡◌, ℕ, ◌≤◌, List, map, Option, Some, None, Result, Ok, Err, IfSome}
 use Rattle.std.specs.List.{AllByRecursion}
 use Rattle.std.specs.Option.{unwrap_or}
 use Rattle.std.specs.declared.alloc.AllocError.{AllocError}
@@ -14,9 +14,10 @@ use Rattle.btr_work.specs.declared.report.Brought.{Brought}
 use Rattle.btr_work.specs.declared.report.Brought.TheVariants as results
 use Rattle.btr_work.specs.declared.report.ReportLine as brought
 use Rattle.btr_work.specs.Levels.{AreLevels}
-use Rattle.btr_work.specs.Report.{Brings}
+use Rattle.btr_work.specs.Report.{Brings, BringsInTurn}
 use Rattle.btr_work.specs.Laws.{IsCurrentIn}
 use Rattle.btr_work.specs.Alike.{IsAlike, IsUndisturbed, landed_levels}
+use Rattle.btr_work.specs.InOrder.{HadMemoryToLand, IsBroughtInOrder}
 use Rattle.btr_report.specs.declared.line.ReportLine.{ReportLine}
 use Rattle.btr_report.specs.declared.line.ReportLine.TheVariants as lines
 use Rattle.btr_bulk.specs.declared.transcript.Transcript.{Transcript}
@@ -70,6 +71,12 @@ pub record Distils (start : Start) (course : Course) (low : List Entry) (said : 
   pub brings : BringsIf start course low report own
   pub says : SaysReport course.history report said
 
+-- The same of one worker: each output was planned after all that was seen when the one before it was done.
+pub record DistilsInTurn (start : Start) (course : Course) (low : List Entry) (said : Result Transcript AllocError) (own : List ℕ)
+    : Type 0 where
+  pub did : Distils start course low said own
+  pub in_turn : IfSome did.report (λ report. BringsInTurn start course low report own)
+
 -- ---- the work on a store that nobody else uses
 
 -- Each output of the report whose result is no refusal is up to date after this history, and none was refused because another version
@@ -86,14 +93,28 @@ AreUndisturbed report = AllByRecursion (λ line. IsUndisturbed line.result) repo
 abbrev pub AreOfOneWorker : List Entry → List Entry → List brought.ReportLine → Type 0
 AreOfOneWorker h low report = (levels : List (List ℕ)) → AreLevels low levels → IsAlike h (landed_levels low levels) low report
 
--- Each output was brought up to date once on a store that nobody else used, and this was said of them. `own` are the numbers of what
--- was added.
-pub record DistilsStore (start : Start) (course : Course) (said : Result Transcript AllocError) (own : List ℕ) : Type 0 where
+-- The memory sufficed for each output of the report.
+abbrev pub HadMemoryForOutputs : List brought.ReportLine → Type 0
+HadMemoryForOutputs report = AllByRecursion (λ line. HadMemoryToLand line.result) report
+
+-- The history and the report are those of one worker on this device, who lands the outputs one after another, level by level.
+abbrev pub AreBroughtInOrder : Start → Course → List brought.ReportLine → Type 0
+AreBroughtInOrder start course report =
+    (levels : List (List ℕ)) → AreLevels start.history levels → IsBroughtInOrder start course levels report
+
+-- Each output was brought up to date once by so many workers on a store that nobody else used, and this was said of them. `own` are the
+-- numbers of what was added.
+pub record DistilsStore (start : Start) (course : Course) (workers : ℕ) (said : Result Transcript AllocError) (own : List ℕ)
+    : Type 0 where
   pub did : Distils start course start.history said own
   -- each output whose result is no refusal is up to date in the end, and none is superseded
   pub current : IfSome did.report (AreCurrent course.history)
   -- any number of workers leaves what one worker leaves, if the memory and the device sufficed
   pub alike : Legal start.history
       → IfSome did.report (λ report. AreUndisturbed report → AreOfOneWorker course.history start.history report)
+  -- one worker lands the outputs one after another, each landing if the model accepts it and the blocks that are left suffice: if the
+  -- history was legal, and memory and device did not fail, the history and the results are those
+  pub in_order : workers ≤ 1 → Legal start.history → course.failed ≡ None
+      → IfSome did.report (λ report. HadMemoryForOutputs report → AreBroughtInOrder start course report)
   -- if there was room for all that may be landed, and the device did not fail, no line says that it was full or failed
   pub completes : HasRoomForOutputs start → course.failed ≡ None → SaysBenign said

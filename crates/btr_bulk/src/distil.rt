@@ -1,5 +1,5 @@
 //! The work of `distil`: each output of a store is brought up to date once.
-ghost use Rattle.std.specs.Prelude.{◌≡◌, ℕ, List, map, IfErr, IfOk};
+ghost use Rattle.std.specs.Prelude.{◌≡◌, ◌≤◌, ℕ, List, map, IfErr, IfOk};
 ghost use Rattle.btr_hist.specs.declared.entry.Entry.{Entry as EntrySpec};
 ghost use Rattle.btr_engine.specs.Engine.{IsEngineOf};
 ghost use Rattle.btr_engine.specs.Snapshot.{IsSnapshotOf};
@@ -10,7 +10,7 @@ ghost use Rattle.btr_jobs.specs.Jobs.{IsAt, Does};
 ghost use Rattle.btr_bulk.specs.Work.{DoesRightly};
 ghost use Rattle.btr_bulk.specs.Transcript.{SaysLines};
 ghost use Rattle.btr_bulk.specs.Streams.{AreStreams, Stays};
-ghost use Rattle.btr_bulk.specs.Distil.{Distils, DistilsStore, output_line, current_line, nothing_of};
+ghost use Rattle.btr_bulk.specs.Distil.{Distils, DistilsInTurn, DistilsStore, output_line, current_line, nothing_of};
 
 use crate::streams::{all_streams, id_of};
 use crate::transcript::Transcript;
@@ -36,6 +36,10 @@ use std::thread::Threads;
 /// commits, what they have read, and the lines are those of one worker, which lands the outputs one after another. If there is room
 /// for all that may be landed, and the device does not fail, no line says that it was full or failed.
 ///
+/// One worker has one right outcome, also on a nearly full device: it lands the outputs one after another, level by level, each level in
+/// rising order. A landing is added if the model accepts it and the blocks that are left suffice. If the history was legal, the memory
+/// suffices and the device does not fail, the history and the results are those.
+///
 /// It costs the reading of the store, logarithmic time for each stream, and what the outputs need. If there is no memory for the
 /// lines, all outputs may have been brought up to date, or none.
 pub fn distil_store<R: Threads + Wait + Sync, D: Disk + Send, P: Pace + Sync>(
@@ -45,7 +49,8 @@ pub fn distil_store<R: Threads + Wait + Sync, D: Disk + Send, P: Pace + Sync>(
     pace: &P,
     disk: D,
 ) -> Result<Worked<D>, OpenFault<D>>
-    ensures done { IfOk result (λ w. DoesRightly ⟦<D as Disk>⟧ (λ start course own. DistilsStore start course w.said own) disk w.disk) }
+    ensures done { IfOk result (λ w. DoesRightly ⟦<D as Disk>⟧ (λ start course own. DistilsStore start course workers w.said own)
+        disk w.disk) }
     ensures refused { IfErr result (IsNotOpened ⟦<D as Disk>⟧ disk) }
 {
     let (hall, mut session) = open_hall(alloc, disk)?;
@@ -68,6 +73,8 @@ fn distil<R: Threads + Wait + Sync, D: Disk + Send, P: Pace + Sync>(
     ensures at { IsAt hall.now session.new }
     ensures alone { IsAlone session.new }
     ensures does { Does hall.now session.old session.new (λ start course low own. Distils start course low result own) }
+    ensures in_turn { workers ≤ 1 → Does hall.now session.old session.new
+        (λ start course low own. DistilsInTurn start course low result own) }
 {
     match bring_current(rt, alloc, hall, session, workers, pace) {
         Ok(report) => say_report(rt, alloc, hall, session, &report),

@@ -4,7 +4,7 @@ ghost use Rattle.btr_open.specs.Opening.{IsNotOpened};
 ghost use Rattle.btr_hall.specs.Session.{IsAlone};
 ghost use Rattle.btr_jobs.specs.Jobs.{IsAt, Does};
 ghost use Rattle.btr_bulk.specs.Work.{DoesRightly};
-ghost use Rattle.btr_bulk.specs.Load.{LoadsRows, LoadsStore};
+ghost use Rattle.btr_bulk.specs.Load.{LoadsRows, LoadsRowsInTurn, LoadsStore};
 
 use crate::load_lines::load_lines;
 use crate::transcript::Transcript;
@@ -28,6 +28,10 @@ use std::thread::Threads;
 /// id once, as rows that were read do. If there is room for the rows, and the device does not fail, no line says that it was full or
 /// failed.
 ///
+/// One worker has one right outcome, also on a nearly full device: it makes the creates in order, and then commits the batches stream by
+/// stream. Each entry is added if the model accepts it and the blocks that are left suffice. If the memory suffices and the device does
+/// not fail, the history and the results are those.
+///
 /// It costs the reading of the store, time linear in the rows, logarithmic time for each stream and each refused row, and what the
 /// entries need. If there is no memory for the lines, all rows may have been loaded, or none.
 pub fn load_store<R: Threads + Wait + Sync, D: Disk + Send, P: Pace + Sync>(
@@ -40,7 +44,7 @@ pub fn load_store<R: Threads + Wait + Sync, D: Disk + Send, P: Pace + Sync>(
     disk: D,
 ) -> Result<Worked<D>, OpenFault<D>>
     requires batch { 1 ≤ batch }
-    ensures done { IfOk result (λ w. DoesRightly ⟦<D as Disk>⟧ (λ start course own. LoadsStore start course rows batch w.said own)
+    ensures done { IfOk result (λ w. DoesRightly ⟦<D as Disk>⟧ (λ start course own. LoadsStore start course rows batch workers w.said own)
         disk w.disk) }
     ensures refused { IfErr result (IsNotOpened ⟦<D as Disk>⟧ disk) }
 {
@@ -67,6 +71,8 @@ fn load_rows<R: Threads + Wait + Sync, D: Disk + Send, P: Pace + Sync>(
     ensures at { IsAt hall.now session.new }
     ensures alone { IsAlone session.new }
     ensures does { Does hall.now session.old session.new (λ start course low own. LoadsRows start course low rows batch result own) }
+    ensures in_turn { workers ≤ 1 → Does hall.now session.old session.new
+        (λ start course low own. LoadsRowsInTurn start course low rows batch result own) }
 {
     match load(rt, alloc, hall, session, rows, batch, workers, pace) {
         Ok(loaded) => load_lines(alloc, &loaded),

@@ -18,7 +18,7 @@ pub trait Job {
     // the numbers of what it added.
     ghost did: { Start → Course → List EntrySpec → Self → Self → List ℕ → Type 0 };
 
-    /// Does the work, in turns of this session. A job may itself share work among threads.
+    /// Does the work, in turns of this session, on this thread.
     fn run<R: Threads + Wait + Sync, D: Disk + Send>(
         &mut self,
         rt: &R,

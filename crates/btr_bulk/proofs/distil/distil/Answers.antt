@@ -1,6 +1,6 @@
 -- The session is alone again, and what is said is what was done.
 use Rattle.btr_hall.proofs.SessionLemmas.{alone_alike}
-use Rattle.btr_bulk.proofs.DistilLemmas.{stays_alone, distils_said, distils_none}
+use Rattle.btr_bulk.proofs.DistilLemmas.{stays_alone, distils_said, distils_none, turn_said, turn_none}
 use Rattle.btr_bulk.proofs.distil.distil.Goals as goal
 
 pub say_report-requires-clause-alone : goal.say_report-requires-clause-alone
@@ -23,3 +23,11 @@ returns-in-Ok-clause-does g c =
 pub returns-in-Err-clause-does : goal.returns-in-Err-clause-does
 returns-in-Err-clause-does g c =
     distils_none c.args.hall.now c.args.session.now c.bring_current.new.session c.in-Err.error c.in-Err.ensures.refused
+
+pub returns-in-Ok-clause-in_turn : goal.returns-in-Ok-clause-in_turn
+returns-in-Ok-clause-in_turn g c =
+    λ few. turn_said c.args.hall.now c.args.session.now c.bring_current.new.session c.say_report.new.session c.in-Ok.report c.say_report.result (c.in-Ok.ensures.in_turn few) c.say_report.ensures.stays c.say_report.ensures.says
+
+pub returns-in-Err-clause-in_turn : goal.returns-in-Err-clause-in_turn
+returns-in-Err-clause-in_turn g c =
+    λ few. turn_none c.args.hall.now c.args.session.now c.bring_current.new.session c.in-Err.error c.in-Err.ensures.refused
