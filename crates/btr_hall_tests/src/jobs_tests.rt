@@ -6,7 +6,7 @@ use btr_hall::{Hall, Session};
 use btr_hist::{Entry, Rejection};
 use btr_jobs::*;
 use std::alloc::{AllocError, Global};
-use std::marker::Sync;
+use std::marker::{Send, Sync};
 use std::sync::Wait;
 use std::test::Fail;
 use std::thread::Threads;
@@ -31,7 +31,7 @@ impl Job for Make {
         (result : Result ReceiptSpec StepFaultSpec) × (next : List EntrySpec)
         × CommittedAfter start course low (Create was.id) result own next × (now.id ≡ was.id) × (now.result ≡ Some result) };
 
-    fn run<R: Wait, D: Disk>(
+    fn run<R: Threads + Wait + Sync, D: Disk + Send>(
         &mut self,
         rt: &R,
         alloc: Global,
@@ -72,14 +72,6 @@ fn done<R: Threads + Wait + Sync, P: Pace + Sync>(
 ) -> Result<u64, Fail> {
     let (hall, mut session) = begun_empty(alloc, 64, &[])?;
     run_jobs(rt, alloc, &hall, &mut session, workers, first, jobs, pace);
-    let engine = hall.close(session);
-    Ok(engine.entries())
-}
-
-/// Does the jobs in turn at a hall of their own. Returns the number of its entries in the end.
-fn done_in_turn<R: Wait>(rt: &R, alloc: Global, jobs: &mut [Make]) -> Result<u64, Fail> {
-    let (hall, mut session) = begun_empty(alloc, 64, &[])?;
-    run_in_turn(rt, alloc, &hall, &mut session, 0, jobs, &NoPace);
     let engine = hall.close(session);
     Ok(engine.entries())
 }
@@ -131,15 +123,19 @@ fn each_job_is_done_once_by_any_number_of_workers(rt: HostRuntime) -> Result<(),
     no_wrong(first_wrong_workers(&rt, rt.alloc())?)
 }
 
-/// Returns the number of entries after three jobs in turn, whether the numbers of the receipts are 1 and 2, and how many were refused.
-fn three_in_turn<R: Wait>(rt: &R, alloc: Global) -> Result<(u64, bool, u32), Fail> {
+/// Returns the number of entries after three jobs by one worker, whether the numbers of the receipts are 1 and 2, and how many were
+/// refused.
+fn three_in_turn<R: Threads + Wait + Sync>(
+    rt: &R,
+    alloc: Global,
+) -> Result<(u64, bool, u32), Fail> {
     let mut jobs = makes(alloc, &[7, 8, 7])?;
-    let entries = done_in_turn(rt, alloc, &mut jobs)?;
+    let entries = done(rt, alloc, 1, 0, &mut jobs, &NoPace)?;
     let (numbers, refused) = told(alloc, &jobs)?;
     Ok((entries, matches!(numbers.as_slice(), [1, 2]), refused))
 }
 
-/// In turn in one session, three jobs make two streams, and the last one is refused.
+/// One worker does three jobs in turn: they make two streams, and the last one is refused.
 #[test]
 fn jobs_are_done_in_turn(rt: HostRuntime) -> Result<(), Fail> {
     assert!(rt; three_in_turn(&rt, rt.alloc())? == (2, true, 1));
