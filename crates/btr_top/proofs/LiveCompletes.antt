@@ -15,6 +15,7 @@ use Rattle.btr_live.specs.declared.live.LiveReport.{LiveReport}
 use Rattle.btr_live.specs.Live as runs
 use Rattle.btr_live.specs.Script.{begun}
 use Rattle.btr_live.specs.OneHistory.{of_lane, lanes_of, lines_of}
+use Rattle.btr_live.specs.Lanes.{RunsLane}
 use Rattle.btr_live.specs.LaneLaws.{lane_lasts}
 use Rattle.btr_live.specs.OneLane.{AreInLane, RunsAlone, store_at}
 use Rattle.btr_bulk.specs.declared.status.Status.{Status}
@@ -23,18 +24,19 @@ use Rattle.btr_bulk.specs.declared.transcript.Transcript.{Transcript}
 use Rattle.btr_bulk.specs.Completes.{IsBenign}
 use Rattle.btr_bulk.specs.Status.{greater, status_of_lines}
 use Rattle.btr_bulk.specs.Work.{DoesRightly, last_number}
-use Rattle.btr_gate.specs.Numbers.{total, times}
+use Rattle.btr_gate.specs.Numbers.{one as one_if, total, times}
 use Rattle.btr_gate.specs.Numbers as numbers
 use Rattle.btr_top.specs.declared.ending.Ending.{Ending}
 use Rattle.btr_top.specs.Ending.{status_of}
 use Rattle.btr_top.specs.Status.{status_of_replies}
 use Rattle.btr_top.specs.Script.{HasRead, ExceedsInputLimit}
 use Rattle.btr_top.specs.Live.{LastRound, round_lines, round_status, course_status, SaysLive, SaysIf, RunsIf, LivesStore, ScriptCause, LiveCause, CanLive}
-use Rattle.btr_top.specs.Room.{HasRoomInLane, HasRoomInLanes, HasRoomForScript}
+use Rattle.btr_top.specs.Room.{HasRoomInLane, HasRoomForHistories, HasRoomForScript}
 use Rattle.btr_top.specs.Run.{IsPlainStatus}
 use Rattle.btr_top.proofs.BenignStatuses.{benign_greater, benign_script}
 use Rattle.btr_top.proofs.PlainStatuses.{benign_input}
-use Rattle.btr_top.proofs.LanesFit.{lanes_benign}
+use Rattle.btr_top.proofs.RoundServes.{no_round}
+use Rattle.btr_top.proofs.HistoriesFit.{no_party, replies_benign}
 use Rattle.btr_top.proofs.StoreCompletes.{opened, began, no_failure, plain_work}
 
 -- ---- the status of a transcript
@@ -63,7 +65,7 @@ no_last batch start course script report own is = by report.last refl
     by (Some result) some =
         absurd (subst (λ (l : LastRound). runs.LastRound start course is.middle.history false l is.lastly) some is.last)
 
-module _ {S D : Type 0} (source : SourceGhosts S) (disk : Ghosts D) (batch : ℕ) (given rest : S) (old new : D) (sound : HeldIsSound) (one : OneHistoryIsHeld) (can : CanLive source disk batch given old) (source_told : source.is_observable) (told : disk.is_observable) (source_works : StreamRose (source.faults given) (source.faults rest) → ⊥) (device_works : Rose (disk.faults old) (disk.faults new) → ⊥) where
+module _ {S D : Type 0} (source : SourceGhosts S) (disk : Ghosts D) (batch : ℕ) (given rest : S) (old new : D) (sound : HeldIsSound) (one : OneHistoryIsHeld) (can : CanLive source disk batch false given old) (source_told : source.is_observable) (told : disk.is_observable) (source_works : StreamRose (source.faults given) (source.faults rest) → ⊥) (device_works : Rose (disk.faults old) (disk.faults new) → ⊥) where
   not_too_long : ExceedsInputLimit source given rest → ⊥
   not_too_long exceeds = omega (arith, exceeds source_told, can.within)
 
@@ -78,11 +80,11 @@ module _ {S D : Type 0} (source : SourceGhosts S) (disk : Ghosts D) (batch : ℕ
     sound_end = no_failure disk old new can.history can.blocks can.tail can.holds sound one told device_works What does
 
     -- The room of the store, as the run found it.
-    room_here : HasRoomForScript batch (store_at does.first) lines
+    room_here : HasRoomForScript batch false (store_at does.first) lines
     room_here =
         let same : does.first ≡ store = began disk old new can.history can.blocks can.tail can.holds sound one told device_works What does in
-        subst (λ (s : Start). HasRoomForScript batch (store_at s) lines) (sym same)
-        (subst (λ (ls : List ScriptLine). HasRoomForScript batch (store_at store) ls) (sym all) can.room)
+        subst (λ (s : Start). HasRoomForScript batch false (store_at s) lines) (sym same)
+        (subst (λ (ls : List ScriptLine). HasRoomForScript batch false (store_at store) ls) (sym all) can.room)
 
     abbrev Ran : LiveReport → Type 0
     Ran report = runs.RunsLive batch false does.first does.course does.first.history lines report does.own
@@ -102,16 +104,21 @@ module _ {S D : Type 0} (source : SourceGhosts S) (disk : Ghosts D) (batch : ℕ
         let numbers : times n does.own ≡ total (times n) ran.mine + times n ran.landed + times n ran.lastly = ran.numbers n in
         omega (arith, none, lastly, numbers, does.works.each_once n)
 
-    benign_lanes : (report : LiveReport) → HasRoomInLanes (store_at does.first) lines → Ran report → IsBenign (status_of_replies report.replies.items)
+    benign_lanes : (report : LiveReport) → HasRoomForHistories batch 0 (store_at does.first) lines → Ran report → IsBenign (status_of_replies report.replies.items)
     benign_lanes report room ran =
-        lanes_benign batch does.first does.course does.works.not_stopped sound_end does.works.follows lines report.replies.items ran.mine
-        does.works.begins ran.lanes.each
-        (λ k. lane_lasts does.first does.course ran.middle ran.goes_on batch does.first.history (lines_of k lines) (of_lane k (lanes_of lines) report.replies.items) (slice_index_or ran.mine k []) (ran.lanes.lanes k))
-        (of_lanes report ran) room.no_refresh room.room
+        let lane : (k : ℕ) → RunsLane batch does.first does.course does.first.history (lines_of k lines) (of_lane k (lanes_of lines) report.replies.items) (slice_index_or ran.mine k []) =
+        λ k. lane_lasts does.first does.course ran.middle ran.goes_on batch does.first.history (lines_of k lines) (of_lane k (lanes_of lines) report.replies.items) (slice_index_or ran.mine k []) (ran.lanes.lanes k) in
+        replies_benign batch 0 lines does.first does.course does.works.not_stopped sound_end does.works.follows does.works.begins
+        room report.replies.items ran.lanes.each ran.mine (λ k. (lane k).0) (λ k. (lane k).1) [] [] (Unit {0})
+        (no_party batch 0 lines does.first does.course does.works.not_stopped sound_end does.works.follows does.works.begins)
+        (no_round batch 0 lines does.first does.course does.works.not_stopped sound_end does.works.follows does.first.history 0 [] (λ n. refl))
+        (λ n. let all_of = of_lanes report ran n in let none : one_if (is_some does.course.failed) ≡ 0 = ap (λ (o : Option Entry). one_if (is_some o)) sound_end in
+        let same : numbers.given (length does.first.history) (last_number does.course) n ≡ numbers.given (length does.first.history) (length does.course.history) n = ap (λ m. numbers.given (length does.first.history) m n) (omega (arith, none)) in
+        omega (arith, all_of, same))
 
     benign_replies : (report : LiveReport) → Ran report → ((lane : ℕ) → AreInLane lane lines → RunsAlone batch does.first does.course lines report.replies.items) → IsBenign (status_of_replies report.replies.items)
     benign_replies report ran in_lane =
-        ⊎_elim (λ room. benign_alone report room in_lane) (λ room. benign_lanes report room ran) room_here
+        ⊎_elim (λ room. benign_alone report room.1 in_lane) (λ room. benign_lanes report room ran) room_here
 
     benign_says : (report : LiveReport) → IsBenign (status_of_replies report.replies.items) → report.last ≡ None → SaysLive does.course report transcript → IsBenign transcript.status
     benign_says report benign none says =

@@ -44,7 +44,7 @@ RunCause source disk command given rest old new e =
 abbrev pub CanRun : {S D : Type 0} → SourceGhosts S → Ghosts D → Option Command → S → D → Type 0
 CanRun source disk None given old = ⊥
 CanRun source disk (Some (Format blocks)) given old = ⊥
-CanRun source disk (Some (Live batch materialize)) given old = (materialize ≡ false) × CanLive source disk batch given old
+CanRun source disk (Some (Live batch materialize)) given old = (materialize ≡ false) × CanLive source disk batch materialize given old
 CanRun source disk (Some Ask) given old = CanAsk source disk given old
 CanRun source disk (Some (Load workers batch)) given old = CanLoad source disk batch given old
 CanRun source disk (Some (Distil workers)) given old = CanDistil disk old
