@@ -1,5 +1,5 @@
 -- If the device holds a store with room, and nothing fails, `live` runs the whole script.
-use Rattle.std.specs.Prelude.{◌≡◌, ℕ, ◌+◌, ◌≤◌, false, List, [], length, slice_index_or, Option, Some, None, Ok, IfSome}
+use Rattle.std.specs.Prelude.{◌≡◌, ℕ, ◌+◌, false, List, [], length, slice_index_or, Option, Some, None, Ok, IfSome}
 use Rattle.std.specs.Option.{is_some}
 use Rattle.std.proofs.Common.{refl, sym, ◌∙◌, ap, subst, arith, inl, ⊎_elim}
 use Rattle.btr_io.specs.declared.source.Source.{Ghosts as SourceGhosts}
