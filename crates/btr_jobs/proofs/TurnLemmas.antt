@@ -44,7 +44,7 @@ runs_before true false never = refl
 runs_before false false never = refl
 
 -- The blocks that entries need, one list after another.
-needs_append : (h k : List Entry) → needs_of (h ++ k) ≡ needs_of h + needs_of k
+pub needs_append : (h k : List Entry) → needs_of (h ++ k) ≡ needs_of h + needs_of k
 needs_append [] k = omega arith
 needs_append (e ∷ h) k = let rest = needs_append h k in omega (arith, rest)
 

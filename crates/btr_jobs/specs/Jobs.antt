@@ -11,7 +11,7 @@ use Rattle.btr_hall.specs.declared.session.Session.{Session}
 use Rattle.btr_hall.specs.Trace.{IsTraceOf}
 use Rattle.btr_hall.specs.Session as session
 use Rattle.btr_hall.specs.Session.{IsSessionOf, opening_of, seen_of, mine_of, share_of}
-use Rattle.btr_jobs.specs.Course.{Start, Course, course_of, start_of}
+use Rattle.btr_jobs.specs.Course.{Start, Course, GoesOn, course_of, start_of}
 
 -- What a kind of job does: after this course of a hall that began so, a job that had seen this history went from its first state to
 -- its second, and these are the numbers of what it added.
@@ -25,6 +25,17 @@ AllDid did start course low [] (now ∷ after) own = ⊥
 AllDid did start course low (was ∷ before) [] own = ⊥
 AllDid did start course low (was ∷ before) (now ∷ after) own =
     (first rest : List ℕ) × did start course low was now first × AllDid did start course low before after rest
+    × ((n : ℕ) → times n own ≡ times n first + times n rest)
+
+-- The jobs were done one after another. `middle` is the course after the first one. Of it is said what this job did, after all of
+-- `low` had been seen. The others followed after all of its history. `own` are the numbers of what they added, in some order.
+abbrev pub DidInTurn : {J : Type 0} → Doing J → Start → Course → List Entry → List J → List J → List ℕ → Type 0
+DidInTurn did start late low [] [] own = StartsWith late.history low × ((n : ℕ) → times n own ≡ 0)
+DidInTurn did start late low [] (now ∷ after) own = ⊥
+DidInTurn did start late low (was ∷ before) [] own = ⊥
+DidInTurn did start late low (was ∷ before) (now ∷ after) own =
+    (middle : Course) × GoesOn start late middle × StartsWith middle.history low × (first rest : List ℕ)
+    × did start middle low was now first × DidInTurn did start late middle.history before after rest
     × ((n : ℕ) → times n own ≡ times n first + times n rest)
 
 module _ {D : Type 0} {disk : Ghosts D} where

@@ -4,6 +4,8 @@ pub mod Course
 pub mod Turns
 -- jobs, and many of them
 pub mod Jobs
+-- a plain store on a device, to which entries are offered one after another
+pub mod Contents
 -- laws that the ghost members of jobs cite
 pub mod TurnLaws
 pub mod JobLaws

@@ -8,7 +8,9 @@ ghost use Rattle.btr_jobs.specs.Jobs.{IsAt, Does};
 use btr_disk::Disk;
 use btr_hall::{Hall, Session};
 use std::alloc::Global;
+use std::marker::{Send, Sync};
 use std::sync::Wait;
+use std::thread::Threads;
 
 /// A piece of work at a hall, done in one session. Its state says what became of it.
 pub trait Job {
@@ -16,8 +18,8 @@ pub trait Job {
     // the numbers of what it added.
     ghost did: { Start → Course → List EntrySpec → Self → Self → List ℕ → Type 0 };
 
-    /// Does the work, in turns of this session.
-    fn run<R: Wait, D: Disk>(
+    /// Does the work, in turns of this session. A job may itself share work among threads.
+    fn run<R: Threads + Wait + Sync, D: Disk + Send>(
         &mut self,
         rt: &R,
         alloc: Global,

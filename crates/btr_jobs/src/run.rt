@@ -1,7 +1,7 @@
 //! Many jobs, shared among workers.
 ghost use Rattle.std.specs.Prelude.{◌≡◌, ◌<◌, ◌≤◌, length};
 ghost use Rattle.std.specs.Thread.{IsSync, IsSend};
-ghost use Rattle.btr_jobs.specs.Jobs.{IsAt, Does, AllDid};
+ghost use Rattle.btr_jobs.specs.Jobs.{IsAt, Does, AllDid, DidInTurn};
 
 use crate::job::Job;
 use crate::pace::Pace;
@@ -14,8 +14,8 @@ use std::sync::Wait;
 use std::thread::{Threads, join_mut};
 
 /// Does all jobs, with at most so many workers, each in a session of its own; 0 workers are 1. A job is done by one worker. If there
-/// are more jobs than workers, each worker does jobs next to each other in the list, in order. The turns of `pace` are the jobs,
-/// from `first` on.
+/// are more jobs than workers, each worker does jobs next to each other in the list, in order. One worker does all jobs one after
+/// another. The turns of `pace` are the jobs, from `first` on.
 ///
 /// Afterwards the session has seen what all of them have seen. If it was the only session of the hall it is so again. It takes no
 /// memory but what the jobs and the threads take.
@@ -33,6 +33,8 @@ pub fn run_jobs<R: Threads + Wait + Sync, D: Disk + Send, J: Job + Send, P: Pace
     ensures at { IsAt hall.now session.new }
     ensures jobs { length jobs.new ≡ length jobs.old }
     ensures does { Does hall.now session.old session.new (λ start course low own. AllDid J.did start course low jobs.old jobs.new own) }
+    ensures in_turn { workers ≤ 1 → Does hall.now session.old session.new
+        (λ start course low own. DidInTurn J.did start course low jobs.old jobs.new own) }
 {
     let other = session.split(hall);
     let mut worker = Worker {
@@ -64,6 +66,8 @@ fn share_out<R: Threads + Wait + Sync, D: Disk + Send, J: Job + Send, P: Pace + 
     ensures jobs { length jobs.new ≡ length jobs.old }
     ensures does { Does worker.old.hall.now worker.old.session worker.new.session
         (λ start course low own. AllDid J.did start course low jobs.old jobs.new own) }
+    ensures in_turn { workers ≤ 1 → Does worker.old.hall.now worker.old.session worker.new.session
+        (λ start course low own. DidInTurn J.did start course low jobs.old jobs.new own) }
 {
     if workers <= 1 || jobs.len() <= 1 {
         let hall = worker.hall;
@@ -149,9 +153,8 @@ fn turn_after(first: u32, count: usize) -> u32 {
     first.wrapping_add((count % (1 << 32)) as u32)
 }
 
-/// Does the jobs one after another in this session, without other threads: [`run_jobs`] with one worker. The turns of `pace` are the
-/// jobs, from `first` on.
-pub fn run_in_turn<R: Wait, D: Disk, J: Job, P: Pace>(
+/// Does the jobs one after another in this session. The turns of `pace` are the jobs, from `first` on.
+fn run_in_turn<R: Threads + Wait + Sync, D: Disk + Send, J: Job + Send, P: Pace + Sync>(
     rt: &R,
     alloc: Global,
     hall: &Hall<D>,
@@ -163,7 +166,8 @@ pub fn run_in_turn<R: Wait, D: Disk, J: Job, P: Pace>(
     requires at { IsAt hall.now session.old }
     ensures at { IsAt hall.now session.new }
     ensures jobs { length jobs.new ≡ length jobs.old }
-    ensures does { Does hall.now session.old session.new (λ start course low own. AllDid J.did start course low jobs.old jobs.new own) }
+    ensures in_turn { Does hall.now session.old session.new
+        (λ start course low own. DidInTurn J.did start course low jobs.old jobs.new own) }
 {
     let mut turn = first;
     for job in jobs.iter_mut() {

@@ -13,11 +13,11 @@ use Rattle.btr_work.specs.Report.{Brings}
 use Rattle.btr_work.specs.Laws.{AreAllSince}
 use Rattle.btr_work.proofs.CurrentLemmas.{brought-current}
 use Rattle.btr_live.specs.declared.live.LiveReport.{LiveReport}
-use Rattle.btr_live.specs.Landings.{Landings}
 use Rattle.btr_live.specs.OneHistory.{of_lane, lanes_of, lines_of, RunsLanes, times_all}
 use Rattle.btr_live.specs.Live.{LastRound, LastIsCurrent}
-use Rattle.btr_live.proofs.RoundLemmas.{brings_lands}
-use Rattle.btr_live.proofs.NumberBounds.{lane_inside, landing_within}
+use Rattle.btr_live.specs.Lanes.{begun}
+use Rattle.btr_live.proofs.LandingLemmas.{Landings, brings_lands, rounds_land}
+use Rattle.btr_live.proofs.NumberBounds.{lines_inside, landing_within}
 
 -- A number that is in one of the lists is in a list at some place.
 in_lists : (P : Type 0) (n : ℕ) (lists : List (List ℕ)) → ((k : ℕ) → 1 ≤ times n (slice_index_or lists k []) → P) → 1 ≤ total (times n) lists → P
@@ -39,16 +39,19 @@ earlier_sound start late early on sound = by early.failed refl
         let failed : late.failed ≡ Some e = ap (λ (c : Course). c.failed) same ∙ is in
         absurd (cc)
 
-module _ (batch : ℕ) (start : Start) (middle : Course) (sound : middle.failed ≡ None) (low : List Entry) (script : List ScriptLine) (report : LiveReport) (mine : List (List ℕ)) (landed : List ℕ) (runs : RunsLanes batch start middle low script report.replies.items mine landed) where
+module _ (batch rounds : ℕ) (start : Start) (middle : Course) (sound : middle.failed ≡ None) (low : List Entry) (script : List ScriptLine) (report : LiveReport) (mine beside : List (List ℕ)) (runs : RunsLanes batch rounds start middle low script report.replies.items mine beside) where
   -- What lanes and rounds added is in the history in the end of the lanes.
-  all_inside : (n : ℕ) → 1 ≤ times_all n mine landed → n ≤ length middle.history
+  all_inside : (n : ℕ) → 1 ≤ times_all n mine beside → n ≤ length middle.history
   all_inside n some =
       elim (cases_lt 0 (total (times n) mine)) [
         | inl by_lane ↦
             in_lists (n ≤ length middle.history) n mine
-            (λ k here. lane_inside start middle sound n batch low (lines_of k script) (of_lane k (lanes_of script) report.replies.items) (slice_index_or mine k []) (runs.lanes k) here)
+            (λ k here. lines_inside start middle sound n batch (begun low) (lines_of k script) (of_lane k (lanes_of script) report.replies.items) (slice_index_or mine k []) (runs.lasts k) (runs.lanes k) here)
             by_lane
-        | inr none ↦ (landing_within start middle sound n low (runs.lands n (omega (arith, some, none)))).inside
+        | inr none ↦
+            in_lists (n ≤ length middle.history) n beside
+            (λ k here. (landing_within start middle sound n low (rounds_land start rounds middle low (slice_index_or beside k []) (runs.parties k) n here)).inside)
+            (omega (arith, some, none))
       ]
 
 module _ (start : Start) (course middle : Course) (first : List Entry) (low_starts : length first ≤ length middle.history) (more : length middle.history ≤ length course.history) (sound : course.failed ≡ None) (own lastly rest : ℕ → ℕ) where
@@ -88,8 +91,8 @@ last_current batch start course script report own last runs all follows sound is
     let lands : Landings start course middle.history runs.lastly = brings_lands start course middle.history last runs.lastly brings in
     let since : AreAllSince middle.history course runs.lastly =
     last_all start course middle start.history (starts_length middle.history start.history runs.after) (starts_length course.history middle.history runs.goes_on.begins) sound
-    (λ n. times n own) (λ n. times n runs.lastly) (λ n. times_all n runs.mine runs.landed)
+    (λ n. times n own) (λ n. times n runs.lastly) (λ n. times_all n runs.mine runs.beside)
     all runs.numbers
-    (λ n some. all_inside batch start middle middle_sound start.history script report runs.mine runs.landed runs.lanes n some)
+    (λ n some. all_inside batch (length script) start middle middle_sound start.history script report runs.mine runs.beside runs.lanes n some)
     (λ n some. (landing_within start course sound n middle.history (lands n some)).above) in
     brought-current start course middle.history last runs.lastly brings follows since

@@ -9,11 +9,11 @@ use Rattle.btr_gate.proofs.PrefixLemmas.{starts_refl, starts_trans}
 use Rattle.btr_jobs.specs.Course.{Start, Course, GoesOn}
 use Rattle.btr_live.specs.Feeds.{Waiting, none_waiting, fed}
 use Rattle.btr_live.specs.Replies.{waiting_after, Means}
-use Rattle.btr_live.specs.Lanes.{LaneState, begun, tells_failure, RunsLine, RunsLines, RunsLane}
+use Rattle.btr_live.specs.Lanes.{LaneState, begun, tells_failure, RunsLine, RunsLines}
 use Rattle.btr_live.specs.LaneLaws.{lines_last}
 use Rattle.btr_live.specs.Serving.{LineAsks, Serves}
-use Rattle.btr_live.specs.Running.{RunsTo}
-use Rattle.btr_live.proofs.ToldLemmas.{has_failed, answers_tell, answers_told, means_tells}
+use Rattle.btr_live.specs.Running.{RunsLane, RunsTo}
+use Rattle.btr_live.proofs.ToldLemmas.{has_failed, answers_tell, answers_told}
 
 either : (a b : Bool) (P : Type 0) → (a ≡ true → P) → (b ≡ true → P) → (a || b) ≡ true → P
 either true b P first second is = first refl
@@ -32,7 +32,7 @@ lines_push batch start course old (l ∷ ls) (r ∷ rs) own mid line reply more 
 module _ (batch : ℕ) (start : Start) (late early : Course) (low : List Entry) (lines : List (Option Line)) (replies : List LineReply) (line : Option Line) (reply : LineReply) (w after : Waiting) (a b : List ℕ) (saw_failure : Bool) (on : GoesOn start late early) (same : saw_failure ≡ has_failed start early) (first : RunsTo batch start early low lines replies a w) (second : Serves start late saw_failure early.history (LineAsks batch w line reply after) reply b) where
   -- The lane after one line more.
   abbrev state_after : LaneState
-  state_after = record { history = second.replies.next; saw_failure = first.last.saw_failure || tells_failure reply; waiting = after }
+  state_after = record { history = second.replies.next; saw_failure = first.last.saw_failure || tells_failure second.asked reply; waiting = after }
 
   one_more : RunsLine batch start late first.last line reply b state_after
   one_more = record {
@@ -49,9 +49,9 @@ module _ (batch : ℕ) (start : Start) (late early : Course) (low : List Entry) 
   told_before : has_failed start early ≡ true → has_failed start late ≡ true
   told_before is = ap (λ c. has_failed start c) (on.ends is) ∙ is
 
-  told_now : tells_failure reply ≡ true → has_failed start late ≡ true
+  told_now : tells_failure second.asked reply ≡ true → has_failed start late ≡ true
   told_now tells =
-      answers_tell start late saw_failure second.admitted second.asked reply b second.replies.next (means_tells batch second.admitted w line second.asked second.asks.0) second.replies.answers tells
+      answers_tell start late saw_failure second.admitted second.asked reply b second.replies.next second.replies.answers tells
 
   -- The lines up to one, and this one.
   pub runs_push : RunsTo batch start late low (lines ++ line ∷ []) (replies ++ reply ∷ []) (a ++ b) after
@@ -60,7 +60,7 @@ module _ (batch : ℕ) (start : Start) (late early : Course) (low : List Entry) 
     runs = lines_push batch start late (begun low) lines replies a first.last line reply b state_after (lines_last start late early on batch (begun low) lines replies a first.last first.runs) one_more;
     waits = refl;
     ends = second.replies.ends;
-    failed = either first.last.saw_failure (tells_failure reply) (has_failed start late ≡ true) (λ t. told_before (first.failed t)) told_now;
+    failed = either first.last.saw_failure (tells_failure second.asked reply) (has_failed start late ≡ true) (λ t. told_before (first.failed t)) told_now;
   }
 
 -- There is a reply to each line.

@@ -8,14 +8,18 @@ mod DeleteLines
 -- the turns of a line
 mod ToldLemmas
 mod ServeLemmas
+mod BringLines
 mod AskLines
 -- lanes
 mod LaneLemmas
+-- rounds
+mod RoundLemmas
+pub mod LandingLemmas
+-- all parts together
 mod PartLemmas
 -- replies in the order of the script
 mod OrderLemmas
--- rounds, and a whole run
-mod RoundLemmas
+-- a whole run
 pub mod HistoryLemmas
 pub mod CloseLemmas
 -- the last round

@@ -19,8 +19,8 @@ use Rattle.btr_hall.specs.declared.land.LandFault.TheVariants as faults
 use Rattle.btr_jobs.specs.Course.{Start, Course}
 use Rattle.btr_jobs.specs.Turns.{IsAdded, IsFailed, IsIdle, Committed, CommittedAfter, Landed, LandedAfter}
 use Rattle.btr_live.specs.Meaning.{Meaning, Commits, Asks, Holds, Current, Refuses}
-use Rattle.btr_live.specs.Lanes.{Offers, Answers, LaneState, begun, RunsLines, RunsLane}
-use Rattle.btr_live.specs.Landings.{IsLanding}
+use Rattle.btr_live.specs.Lanes.{Offers, Answers, LaneState, RunsLines}
+use Rattle.btr_live.proofs.LandingLemmas.{IsLanding}
 
 only : (n m : ℕ) (own : List ℕ) → own ≡ m ∷ [] → 1 ≤ times n own → n ≡ m
 only n m own is some =
@@ -97,7 +97,8 @@ module _ (start : Start) (course : Course) (sound : course.failed ≡ None) (n :
   answers_within saw_failure low (Current version) reply own next is some = idle low own next is.1 some
   answers_within saw_failure low (Refuses reason) reply own next is some = idle low own next is.1 some
 
-  lines_inside : (batch : ℕ) (old : LaneState) (lines : List (Option Line)) (replies : List LineReply) (own : List ℕ) (new : LaneState) → RunsLines batch start course old lines replies own new → 1 ≤ times n own → n ≤ length course.history
+  -- The number of an entry of a line is in the history.
+  pub lines_inside : (batch : ℕ) (old : LaneState) (lines : List (Option Line)) (replies : List LineReply) (own : List ℕ) (new : LaneState) → RunsLines batch start course old lines replies own new → 1 ≤ times n own → n ≤ length course.history
   lines_inside batch old [] [] own new is some = nothing (n ≤ length course.history) n own is.0 some
   lines_inside batch old [] (r ∷ rs) own new is some = absurd is
   lines_inside batch old (l ∷ ls) [] own new is some = absurd is
@@ -107,10 +108,6 @@ module _ (start : Start) (course : Course) (sound : course.failed ≡ None) (n :
         | inr none ↦ lines_inside batch is.2 ls rs is.1 new is.5
             (let all = ap (times n) is.3 in let both = times_append n is.0 is.1 in omega (arith, some, none, all, both))
       ]
-
-  -- The number of an entry of a lane is in the history.
-  pub lane_inside : (batch : ℕ) (low : List Entry) (lines : List (Option Line)) (replies : List LineReply) (own : List ℕ) → RunsLane batch start course low lines replies own → 1 ≤ times n own → n ≤ length course.history
-  lane_inside batch low lines replies own is some = lines_inside batch (begun low) lines replies own is.0 is.1 some
 
   -- So is the number of a landing, which is after the history at which it was planned.
   pub landing_within : (low : List Entry) → IsLanding start course low n → IsWithin course low n

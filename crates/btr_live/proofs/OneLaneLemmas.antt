@@ -19,7 +19,7 @@ use Rattle.btr_text.specs.declared.reply.LineReply.TheVariants.{No}
 use Rattle.btr_text.specs.declared.reply.Reason.TheVariants as reasons
 use Rattle.btr_engine.specs.declared.board.Receipt.{Receipt}
 use Rattle.btr_engine.specs.declared.step.StepFault.{StepFault}
-use Rattle.btr_gate.specs.Numbers.{one, times, given}
+use Rattle.btr_gate.specs.Numbers.{one, total, times, given}
 use Rattle.btr_gate.specs.Prefixes.{StartsWith}
 use Rattle.btr_gate.proofs.NumberLemmas.{given_inside, times_append}
 use Rattle.btr_gate.proofs.PrefixLemmas.{starts_refl, starts_trans, starts_length, starts_whole}
@@ -32,9 +32,9 @@ use Rattle.btr_live.specs.declared.live.LiveReport.{LiveReport}
 use Rattle.btr_live.specs.Feeds.{none_waiting, fed}
 use Rattle.btr_live.specs.Meaning.{Meaning, Commits, Asks, Holds, Current, Refuses}
 use Rattle.btr_live.specs.Replies.{waiting_after, Means}
-use Rattle.btr_live.specs.Lanes.{reply_of_step, Offers, Answers, LaneState, tells_failure, RunsLine, RunsLines, RunsLane}
+use Rattle.btr_live.specs.Lanes.{reply_of_step, Offers, Answers, LaneState, tells_failure, RunsLine, RunsLines}
 use Rattle.btr_live.specs.Lanes.{begun as lane_begun}
-use Rattle.btr_live.specs.LaneLaws.{lane_lasts}
+use Rattle.btr_live.specs.LaneLaws.{lines_last}
 use Rattle.btr_live.specs.OneHistory.{of_lane, lanes_of, lines_of}
 use Rattle.btr_live.specs.Live.{LastRound, RunsLive}
 use Rattle.btr_live.specs.Script.{State, begun, RepliesToLine, RunsScript}
@@ -240,7 +240,7 @@ module _ (start : Start) (course : Course) (all : Follows course.history) where
         let ran : RunsLine batch start course old line reply is.0 is.2 = is.4 in
         let turn : InTurn old.saw_failure ran.admitted ran.asked reply is.0 is.2.history = turn_of old line reply is.0 is.2 ran in
         let none : times n is.0 ≡ 0 = ap (times n) (turn.stops heard) in
-        let still : is.2.saw_failure ≡ true = ran.saw_failure ∙ ap (λ t. t || tells_failure reply) heard in
+        let still : is.2.saw_failure ≡ true = ran.saw_failure ∙ ap (λ t. t || tells_failure ran.asked reply) heard in
         let rest = lines_told n is.2 lines replies is.1 new is.5 still in
         let sum = ap (times n) is.3 in
         let both = times_append n is.0 is.1 in
@@ -299,10 +299,10 @@ module _ (start : Start) (course : Course) (all : Follows course.history) where
           omega (arith, less, same)) in
           let done : IsDone start course s.saw_failure s.history ran.asked reply is.0 after.history =
           subst (λ h. IsDone start course s.saw_failure h ran.asked reply is.0 after.history) at_is (turn.done (admitted_is ∙ sym at_is)) in
-          let no_stop : stopped ≡ false → (count : ℕ) → reply ≡ No (reasons.Stopped count) → is.0 ≡ [] → course.history ≡ s.history → is_some course.failed ≡ true → ⊥ =
-          λ not count refused none.
+          let no_stop : stopped ≡ false → tells_failure ran.asked reply ≡ true → is.0 ≡ [] → course.history ≡ s.history → is_some course.failed ≡ true → ⊥ =
+          λ not tells none.
           not_before s stopped own is.0 is.1 alone is.3 not none
-          (λ n. lines_told n after (map (λ (line : ScriptLine). line.line) script) replies is.1 new is.5 (ran.saw_failure ∙ or_right s.saw_failure (tells_failure reply) (ap tells_failure refused))) in
+          (λ n. lines_told n after (map (λ (line : ScriptLine). line.line) script) replies is.1 new is.5 (ran.saw_failure ∙ or_right s.saw_failure (tells_failure ran.asked reply) tells)) in
           let step : Stepped start course fits runs s.history stopped s.saw_failure ran.asked reply is.0 after.history =
           stepped start course fits runs s.history stopped s.saw_failure ran.asked reply is.0 after.history alone.begins alone.known no_stop done in
           let known : step.stops ≡ true → IsLast course after.history after.saw_failure = λ stops.
@@ -346,31 +346,30 @@ module _ (batch lane : ℕ) (start : Start) (course : Course) (script : List Scr
   -- No other lane has a number.
   other_none : (k : ℕ) → (k ≡ lane → ⊥) → slice_index_or runs.mine k [] ≡ []
   other_none k other =
-      let ran : RunsLane batch start runs.middle start.history (lines_of k script) (of_lane k (lanes_of script) report.replies.items) (slice_index_or runs.mine k []) = runs.lanes.lanes k in
-      no_lines batch start runs.middle (lane_begun start.history) (lines_of k script) (of_lane k (lanes_of script) report.replies.items) (slice_index_or runs.mine k []) ran.0
-      (no_items lane k script (map (λ (line : ScriptLine). line.line) script) other in_lane) ran.1
+      no_lines batch start runs.middle (lane_begun start.history) (lines_of k script) (of_lane k (lanes_of script) report.replies.items) (slice_index_or runs.mine k []) (runs.lanes.lasts k)
+      (no_items lane k script (map (λ (line : ScriptLine). line.line) script) other in_lane) (runs.lanes.lanes k)
 
   -- All numbers are those of the one lane.
   mine_all : (n : ℕ) → times n (slice_index_or runs.mine lane []) ≡ given (length start.history + one false) (all_numbers course) n
   mine_all n =
       let sum = runs.numbers n in
       let only = in_one n lane runs.mine (λ k other. ap (times n) (other_none k other)) in
-      let no_landed : times n runs.landed ≡ 0 = ap (times n) (runs.no_rounds refl) in
+      let no_party : total (times n) runs.beside ≡ 0 = ap (λ (l : List (List ℕ)). total (times n) l) (runs.no_rounds refl) in
       let no_more = no_last start course runs.middle.history report.last runs.lastly runs.last n in
       let every = all n in
       let low : length start.history + one false ≡ length start.history = omega arith in
       let same = ap (λ low. given low (all_numbers course) n) low in
-      omega (arith, sum, only, no_landed, no_more, every, same)
+      omega (arith, sum, only, no_party, no_more, every, same)
 
   -- The lane ran on the course, and its lines and replies are all lines and replies.
-  lane_ran : RunsLane batch start course start.history (map (λ (line : ScriptLine). line.line) script) report.replies.items (slice_index_or runs.mine lane [])
+  lane_ran : RunsLines batch start course (lane_begun start.history) (map (λ (line : ScriptLine). line.line) script) report.replies.items (slice_index_or runs.mine lane []) (runs.lanes.lasts lane)
   lane_ran =
       let lines : List (Option Line) = map (λ (line : ScriptLine). line.line) script in
       let all_lines : lines_of lane script ≡ lines = all_items lane script lines in_lane (length-map script (λ (line : ScriptLine). line.line)) in
       let all_replies : of_lane lane (lanes_of script) report.replies.items ≡ report.replies.items = all_items lane script report.replies.items in_lane runs.lanes.each in
-      subst (λ ls. RunsLane batch start course start.history ls report.replies.items (slice_index_or runs.mine lane [])) all_lines
-      (subst (λ rs. RunsLane batch start course start.history (lines_of lane script) rs (slice_index_or runs.mine lane [])) all_replies
-      (lane_lasts start course runs.middle runs.goes_on batch start.history (lines_of lane script) (of_lane lane (lanes_of script) report.replies.items) (slice_index_or runs.mine lane []) (runs.lanes.lanes lane)))
+      subst (λ ls. RunsLines batch start course (lane_begun start.history) ls report.replies.items (slice_index_or runs.mine lane []) (runs.lanes.lasts lane)) all_lines
+      (subst (λ rs. RunsLines batch start course (lane_begun start.history) (lines_of lane script) rs (slice_index_or runs.mine lane []) (runs.lanes.lasts lane)) all_replies
+      (lines_last start course runs.middle runs.goes_on batch (lane_begun start.history) (lines_of lane script) (of_lane lane (lanes_of script) report.replies.items) (slice_index_or runs.mine lane []) (runs.lanes.lasts lane) (runs.lanes.lanes lane)))
 
 -- A script in one lane that ran alone has the model's replies.
 pub one_lane : OneLaneIsTheModel
@@ -382,7 +381,7 @@ one_lane batch lane start course script report own runs all sound follows fits i
       numbers = mine_all batch lane start course script report own runs all in_lane;
     } in
     let by_itself : RanAlone start course follows batch fits sound (state_with start (room start start.history) false) script report.replies.items =
-    lines_alone start course follows batch fits sound (lane_begun start.history) false script report.replies.items (slice_index_or runs.mine lane []) ran.0 alone ran.1 in record {
+    lines_alone start course follows batch fits sound (lane_begun start.history) false script report.replies.items (slice_index_or runs.mine lane []) (runs.lanes.lasts lane) alone ran in record {
       last = by_itself.last;
       runs = subst (λ s. RunsScript batch s script report.replies.items by_itself.last) (begun_same start sound) by_itself.replied;
       history = by_itself.history;

@@ -1,6 +1,5 @@
 -- Lemmas on the parts of a run: all lanes and rounds together.
 use Rattle.std.specs.Prelude.{◌≡◌, ℕ, zero, suc, ◌+◌, ◌≤◌, ◌<◌, ◌==◌, true, false, cond, List, [], ◌∷◌, ◌++◌, length, map, slice_index_or, Option}
-use Rattle.std.specs.List.{AllByRecursion}
 use Rattle.std.specs.declared.vec.Vec.{Vec}
 use Rattle.std.specs.declared.alloc.Global.{Global}
 use Rattle.std.proofs.Common.{refl, sym, ap, ◌∙◌, subst, arith, get_or, set}
@@ -11,81 +10,76 @@ use Rattle.btr_text.specs.declared.script.Line.{Line}
 use Rattle.btr_text.specs.declared.reply.LineReply.{LineReply}
 use Rattle.btr_hist.specs.declared.entry.Entry.{Entry}
 use Rattle.btr_gate.specs.Numbers.{total, times}
-use Rattle.btr_gate.proofs.NumberLemmas.{times_append}
+use Rattle.btr_gate.specs.Prefixes.{StartsWith}
 use Rattle.btr_jobs.specs.Course.{Start, Course}
 use Rattle.btr_jobs.specs.Jobs.{AllDid}
-use Rattle.btr_live.specs.Lanes.{begun, RunsLane}
-use Rattle.btr_live.specs.Landings.{IsLanding, Landings}
+use Rattle.btr_live.specs.Lanes.{begun}
+use Rattle.btr_live.specs.Rounds.{MakesRounds}
+use Rattle.btr_live.specs.Running.{RunsLane}
 use Rattle.btr_live.specs.declared.part.Part.{Part}
 use Rattle.btr_live.specs.declared.part.Part.TheVariants as parts
 use Rattle.btr_live.specs.declared.rounds.Rounds.{Rounds}
-use Rattle.btr_live.specs.OneHistory.{of_lane}
-use Rattle.btr_live.specs.Parts.{PartDid, IsLane, HaveBatch, lines_at, replies_of, replies_in, replies_at, lane_with, list_in, list_at}
+use Rattle.btr_live.specs.OneHistory.{of_lane, IsParty}
+use Rattle.btr_live.proofs.RoundLemmas.{no_rounds}
+use Rattle.btr_live.specs.Parts.{PartDid, HaveLimits, parties_of, lines_at, replies_of, replies_in, replies_at, lane_with, list_in, list_at}
 
--- All parts together: each lane ran, and the other numbers are those of landings.
-pub record RanParts (batch : ℕ) (start : Start) (course : Course) (low : List Entry) (before after : List Part) (own : List ℕ) : Type 0 where
+-- All parts together: each lane ran, and the other numbers are those of parties, which made at most so many rounds.
+pub record RanParts (batch rounds : ℕ) (start : Start) (course : Course) (low : List Entry) (before after : List Part) (own : List ℕ) : Type 0 where
   pub mine : List (List ℕ)
-  pub landed : List ℕ
+  pub beside : List (List ℕ)
   pub lanes : (k : ℕ) → RunsLane batch start course low (lines_at before k) (replies_at after k) (slice_index_or mine k [])
-  pub lands : Landings start course low landed
-  pub numbers : (n : ℕ) → times n own ≡ total (times n) mine + times n landed
-  pub no_rounds : AllByRecursion IsLane before → landed ≡ []
+  pub parties : (k : ℕ) → IsParty start course low rounds (slice_index_or beside k [])
+  pub count : length beside ≡ parties_of before
+  pub numbers : (n : ℕ) → times n own ≡ total (times n) mine + total (times n) beside
 
-pub none_landed : (start : Start) (course : Course) (low : List Entry) → Landings start course low []
-none_landed start course low = λ n there. absurd (omega (arith, there))
-
-pub both_landed : (start : Start) (course : Course) (low : List Entry) (a b : List ℕ) → Landings start course low a → Landings start course low b → Landings start course low (a ++ b)
-both_landed start course low a b first second = λ n there. pick n (times n a) refl there
-  where
-    pick : (n count : ℕ) → times n a ≡ count → 1 ≤ times n (a ++ b) → IsLanding start course low n
-    pick n zero is there = second n (let both = times_append n a b in omega (arith, both, is, there))
-    pick n (suc count) is there = first n (omega (arith, is))
-
-module _ (batch : ℕ) (start : Start) (course : Course) (low : List Entry) where
-  pub ran_parts : (before after : List Part) (own : List ℕ) → HaveBatch batch before → AllDid PartDid start course low before after own → RanParts batch start course low before after own
+module _ (batch rounds : ℕ) (start : Start) (course : Course) (low : List Entry) (starts : StartsWith course.history low) where
+  pub ran_parts : (before after : List Part) (own : List ℕ) → HaveLimits batch rounds before → AllDid PartDid start course low before after own → RanParts batch rounds start course low before after own
   ran_parts [] [] own have did = record {
     mine = [];
-    landed = [];
+    beside = [];
     lanes = λ k. (begun low, (refl, refl));
-    lands = none_landed start course low;
+    parties = λ k. no_rounds start rounds course low [] starts (λ n. refl);
+    count = refl;
     numbers = λ n. did n;
-    no_rounds = λ all. refl;
   }
   ran_parts [] (p ∷ after) own have did = absurd did
   ran_parts (p ∷ before) [] own have did = absurd did
   ran_parts (parts.Lane was ∷ before) (parts.Lane now ∷ after) own have did =
-      let rest : RanParts batch start course low before after did.1 = ran_parts before after did.1 have.1 did.3 in
+      let rest : RanParts batch rounds start course low before after did.1 = ran_parts before after did.1 have.1 did.3 in
       let first : RunsLane batch start course low was.lines now.replies did.0 = subst (λ b. RunsLane b start course low was.lines now.replies did.0) have.0 did.2 in record {
         mine = did.0 ∷ rest.mine;
-        landed = rest.landed;
+        beside = rest.beside;
         lanes = λ k. elim k as (λ k. RunsLane batch start course low (lines_at (parts.Lane was ∷ before) k) (replies_at (parts.Lane now ∷ after) k) (slice_index_or (did.0 ∷ rest.mine) k [])) [
           | zero ↦ first
           | suc k ↦ rest.lanes k
         ];
-        lands = rest.lands;
+        parties = rest.parties;
+        count = let more = rest.count in omega (arith, more);
         numbers = λ n.
             let sum = did.4 n in
             let more = rest.numbers n in
             omega (arith, sum, more);
-        no_rounds = λ all. rest.no_rounds all.1;
       }
   ran_parts (parts.Lane was ∷ before) (parts.Rounds now ∷ after) own have did = absurd did.2
   ran_parts (parts.Rounds was ∷ before) (parts.Lane now ∷ after) own have did = absurd did.2
   ran_parts (parts.Rounds was ∷ before) (parts.Rounds now ∷ after) own have did =
-      let rest : RanParts batch start course low before after did.1 = ran_parts before after did.1 have.1 did.3 in record {
+      let rest : RanParts batch rounds start course low before after did.1 = ran_parts before after did.1 have.1 did.3 in
+      let party : IsParty start course low rounds did.0 = subst (λ r. MakesRounds start r low course did.0) have.0 did.2 in record {
         mine = [] ∷ rest.mine;
-        landed = did.0 ++ rest.landed;
+        beside = did.0 ∷ rest.beside;
         lanes = λ k. elim k as (λ k. RunsLane batch start course low (lines_at (parts.Rounds was ∷ before) k) (replies_at (parts.Rounds now ∷ after) k) (slice_index_or ([] ∷ rest.mine) k [])) [
           | zero ↦ (begun low, (refl, refl))
           | suc k ↦ rest.lanes k
         ];
-        lands = both_landed start course low did.0 rest.landed did.2 rest.lands;
+        parties = λ k. elim k as (λ k. IsParty start course low rounds (slice_index_or (did.0 ∷ rest.beside) k [])) [
+          | zero ↦ party
+          | suc k ↦ rest.parties k
+        ];
+        count = let more = rest.count in omega (arith, more);
         numbers = λ n.
             let sum = did.4 n in
             let more = rest.numbers n in
-            let both = times_append n did.0 rest.landed in
-            omega (arith, sum, more, both);
-        no_rounds = λ all. absurd all.0;
+            omega (arith, sum, more);
       }
 
 -- ---- before a run
@@ -96,13 +90,14 @@ lines-lane batch [] k = refl
 lines-lane batch (list ∷ lists) zero = refl
 lines-lane batch (list ∷ lists) (suc k) = lines-lane batch lists k
 
-pub batch-lane : (batch : ℕ) (lists : List (Vec (Option Line) Global)) → HaveBatch batch (map (lane_with batch) lists)
-batch-lane batch [] = tt
-batch-lane batch (list ∷ lists) = (refl, batch-lane batch lists)
+pub limits-lane : (batch count : ℕ) (lists : List (Vec (Option Line) Global)) → HaveLimits batch count (map (lane_with batch) lists)
+limits-lane batch count [] = tt
+limits-lane batch count (list ∷ lists) = (refl, limits-lane batch count lists)
 
-pub lane-each : (batch : ℕ) (lists : List (Vec (Option Line) Global)) → AllByRecursion IsLane (map (lane_with batch) lists)
-lane-each batch [] = tt
-lane-each batch (list ∷ lists) = (tt, lane-each batch lists)
+-- Lanes are no parties.
+pub parties-lane : (batch : ℕ) (lists : List (Vec (Option Line) Global)) → parties_of (map (lane_with batch) lists) ≡ 0
+parties-lane batch [] = refl
+parties-lane batch (list ∷ lists) = let rest = parties-lane batch lists in omega (arith, rest)
 
 -- Rounds have no lines.
 pub lines-rounds : (all : List Part) (rounds : Rounds) (k : ℕ) → lines_at (all ++ parts.Rounds rounds ∷ []) k ≡ lines_at all k
@@ -111,9 +106,14 @@ lines-rounds [] rounds (suc k) = refl
 lines-rounds (part ∷ all) rounds zero = refl
 lines-rounds (part ∷ all) rounds (suc k) = lines-rounds all rounds k
 
-pub batch-rounds : (batch : ℕ) (all : List Part) (rounds : Rounds) → HaveBatch batch all → HaveBatch batch (all ++ parts.Rounds rounds ∷ [])
-batch-rounds batch [] rounds have = (tt, tt)
-batch-rounds batch (part ∷ all) rounds have = (have.0, batch-rounds batch all rounds have.1)
+pub limits-rounds : (batch count : ℕ) (all : List Part) (rounds : Rounds) → rounds.count ≡ count → HaveLimits batch count all → HaveLimits batch count (all ++ parts.Rounds rounds ∷ [])
+limits-rounds batch count [] rounds is have = (is, tt)
+limits-rounds batch count (part ∷ all) rounds is have = (have.0, limits-rounds batch count all rounds is have.1)
+
+-- Rounds are one party more.
+pub parties-rounds : (all : List Part) (rounds : Rounds) → parties_of (all ++ parts.Rounds rounds ∷ []) ≡ parties_of all + 1
+parties-rounds [] rounds = refl
+parties-rounds (part ∷ all) rounds = let more = parties-rounds all rounds in omega (arith, more)
 
 -- ---- one place of a list
 

@@ -1,64 +1,128 @@
--- Lemmas on rounds: all that they add are landings.
-use Rattle.std.specs.Prelude.{◌≡◌, ℕ, List, Bool, true, false, Result, Ok, Err, IfOk, OnErr, Option, Some, None}
+-- Lemmas on rounds: none, one more, and more that may be made.
+use Rattle.std.specs.Prelude.{◌≡◌, ℕ, zero, suc, ◌+◌, ◌≤◌, List, [], ◌++◌, Bool, true, false, Result, Ok, Err, IfOk, OnErr, Option, Some, None}
 use Rattle.std.specs.declared.alloc.AllocError.{AllocError}
-use Rattle.std.proofs.Common.{arith}
+use Rattle.std.proofs.Common.{refl, arith, inl, inr}
 use Rattle.btr_disk.specs.declared.disk.Disk.{Ghosts}
 use Rattle.btr_hist.specs.declared.entry.Entry.{Entry}
 use Rattle.btr_gate.specs.Numbers.{times}
+use Rattle.btr_gate.specs.Prefixes.{StartsWith}
+use Rattle.btr_gate.proofs.NumberLemmas.{times_append}
+use Rattle.btr_gate.proofs.PrefixLemmas.{starts_refl, starts_trans}
 use Rattle.btr_hall.specs.declared.session.Hall.{Hall}
 use Rattle.btr_hall.specs.declared.session.Session.{Session}
-use Rattle.btr_jobs.specs.Course.{Start, Course}
+use Rattle.btr_jobs.specs.Course.{Start, Course, GoesOn}
+use Rattle.btr_jobs.specs.TurnLaws.{goes_refl, goes_trans}
 use Rattle.btr_jobs.specs.Jobs.{IsAt, Does}
 use Rattle.btr_jobs.proofs.DoesLemmas.{does_none, does_then, does_implied}
 use Rattle.btr_work.specs.declared.report.ReportLine.{ReportLine}
 use Rattle.btr_work.specs.Report.{Brings}
-use Rattle.btr_work.proofs.OwnLemmas.{brings-number}
-use Rattle.btr_live.specs.Landings.{Landings}
-use Rattle.btr_live.specs.LaneLaws.{landings_last, landings_lower}
+use Rattle.btr_live.specs.Rounds.{MakesRound, MakesRounds}
+use Rattle.btr_live.specs.RoundsLaws.{round_lowers}
 use Rattle.btr_live.specs.Live.{LastRound}
-use Rattle.btr_live.proofs.PartLemmas.{none_landed, both_landed}
 
--- What brings outputs up to date adds landings.
-pub brings_lands : (start : Start) (course : Course) (low : List Entry) (report : List ReportLine) (own : List ℕ) → Brings start course low report own → Landings start course low own
-brings_lands start course low report own brings = λ n there.
-    let is = brings-number start course low report own brings n (omega (arith, there)) in
-    record { at = is.0; after = is.4; plan = is.1; planned = is.5; result = is.2; next = is.3; landed = is.6 }
+pub suc_one : (n : ℕ) → suc n ≡ n + 1
+suc_one n = omega arith
 
-nothing_lands : (start : Start) (course : Course) (low : List Entry) (own : List ℕ) → ((n : ℕ) → times n own ≡ 0) → Landings start course low own
-nothing_lands start course low own none = λ n there. absurd (let is = none n in omega (arith, is, there))
+module _ (start : Start) where
+  -- Nothing was added in so many rounds.
+  pub no_rounds : (count : ℕ) (course : Course) (low : List Entry) (own : List ℕ) → StartsWith course.history low → ((n : ℕ) → times n own ≡ 0) → MakesRounds start count low course own
+  no_rounds zero course low own starts none = (starts, none)
+  no_rounds (suc count) course low own starts none = (
+    course,
+    goes_refl start course,
+    starts,
+    own,
+    [],
+    inr none,
+    no_rounds count course course.history [] (starts_refl course.history) (λ n. refl),
+    λ n. omega arith,
+  )
 
--- So does the last round.
-pub last_lands : (start : Start) (course : Course) (low : List Entry) (materialize : Bool) (last : Option (Result (List ReportLine) AllocError)) (own : List ℕ) → LastRound start course low materialize last own → Landings start course low own
-last_lands start course low false None own is = nothing_lands start course low own is
-last_lands start course low false (Some result) own is = absurd is
-last_lands start course low true None own is = absurd is
-last_lands start course low true (Some (Err e)) own is = nothing_lands start course low own is
-last_lands start course low true (Some (Ok report)) own is = brings_lands start course low report own is
+  -- What was done in at most so many rounds was done in at most more.
+  pub rounds_most : (count more : ℕ) (course : Course) (low : List Entry) (own : List ℕ) → count ≤ more → MakesRounds start count low course own → MakesRounds start more low course own
+  rounds_most zero more course low own least is = no_rounds more course low own is.0 is.1
+  rounds_most (suc count) zero course low own least is = absurd (omega (arith, least))
+  rounds_most (suc count) (suc more) course low own least is = (
+    is.0,
+    is.1,
+    is.2,
+    is.3,
+    is.4,
+    is.5,
+    rounds_most count more course is.0.history is.4 (omega (arith, least)) is.6,
+    is.7,
+  )
+
+  -- One round more.
+  pub rounds_push : (count : ℕ) (late early : Course) (low : List Entry) (a b : List ℕ) → GoesOn start late early → MakesRounds start count low early a → MakesRound start late early.history b → MakesRounds start (suc count) low late (a ++ b)
+  rounds_push zero late early low a b on is round = (
+    late,
+    goes_refl start late,
+    starts_trans late.history early.history low on.begins is.0,
+    b,
+    [],
+    round_lowers start late early.history low b is.0 round,
+    (starts_refl late.history, λ n. refl),
+    λ n.
+        let both = times_append n a b in
+        let none = is.1 n in
+        omega (arith, both, none),
+  )
+  rounds_push (suc count) late early low a b on is round = (
+    is.0,
+    goes_trans start late early is.0 on is.1,
+    is.2,
+    is.3,
+    is.4 ++ b,
+    is.5,
+    rounds_push count late early is.0.history is.4 b on is.6 round,
+    λ n.
+        let sum = is.7 n in
+        let both = times_append n a b in
+        let rest = times_append n is.4 b in
+        omega (arith, sum, both, rest),
+  )
+
+-- A last round is one round at most.
+pub last_makes : (start : Start) (course : Course) (low : List Entry) (materialize : Bool) (last : Option (Result (List ReportLine) AllocError)) (own : List ℕ) → StartsWith course.history low → LastRound start course low materialize last own → MakesRounds start 1 low course own
+last_makes start course low materialize last own starts is =
+    (course, goes_refl start course, starts, own, [], makes materialize last is, (starts_refl course.history, λ n. refl), λ n. omega arith)
+  where
+    makes : (materialize : Bool) (last : Option (Result (List ReportLine) AllocError)) → LastRound start course low materialize last own → MakesRound start course low own
+    makes false None is = inr is
+    makes false (Some result) is = absurd is
+    makes true None is = absurd is
+    makes true (Some (Err e)) is = inr is
+    makes true (Some (Ok report)) is = inl (report, is)
 
 module _ {D : Type 0} {disk : Ghosts D} (hall : Hall D disk) where
   -- No round yet.
-  pub rounds_none : (s : Session D disk) → Does hall s s (λ start course low own. Landings start course low own)
-  rounds_none s = does_none hall s (λ start course low own. Landings start course low own) (λ start course. none_landed start course course.history)
+  pub rounds_none : (s : Session D disk) → Does hall s s (λ start course low own. MakesRounds start 0 low course own)
+  rounds_none s = does_none hall s (λ start course low own. MakesRounds start 0 low course own) (λ start course. (starts_refl course.history, λ n. refl))
 
   -- One round more.
-  pub rounds_more : (old mid new : Session D disk) → IsAt hall new → Does hall old mid (λ start course low own. Landings start course low own) → Does hall mid new (λ start course low own. Landings start course low own) → Does hall old new (λ start course low own. Landings start course low own)
-  rounds_more old mid new at first second =
+  pub rounds_more : (count : ℕ) (old mid new : Session D disk) → IsAt hall new → Does hall old mid (λ start course low own. MakesRounds start count low course own) → Does hall mid new (λ start course low own. MakesRound start course low own) → Does hall old new (λ start course low own. MakesRounds start (suc count) low course own)
+  rounds_more count old mid new at first second =
       does_then hall old mid new
-      (λ start course low own. Landings start course low own)
-      (λ start course low own. Landings start course low own)
-      (λ start course low own. Landings start course low own)
+      (λ start course low own. MakesRounds start count low course own)
+      (λ start course low own. MakesRound start course low own)
+      (λ start course low own. MakesRounds start (suc count) low course own)
       at
-      (λ start late early low a b on starts one two. both_landed start late low a b (landings_last start late early on low a one) (landings_lower start late early.history low b starts two))
+      (λ start late early low a b on starts one two. rounds_push start count late early low a b on one two)
       first second
 
-  -- One round.
-  pub round_lands : (old new : Session D disk) (result : Result (List ReportLine) AllocError) → OnErr result (Does hall old new (λ start course low own. (n : ℕ) → times n own ≡ 0)) → IfOk result (λ report. Does hall old new (λ start course low own. Brings start course low report own)) → Does hall old new (λ start course low own. Landings start course low own)
-  round_lands old new (Ok report) refused brings =
-      does_implied hall old new (λ start course low own. Brings start course low report own) (λ start course low own. Landings start course low own)
-      (λ start course low own is. brings_lands start course low report own is) brings
-  round_lands old new (Err e) refused brings =
-      does_implied hall old new (λ start course low own. (n : ℕ) → times n own ≡ 0) (λ start course low own. Landings start course low own)
-      (λ start course low own is. nothing_lands start course low own is) refused
+  -- No round was begun.
+  pub round_none : (s : Session D disk) → Does hall s s (λ start course low own. MakesRound start course low own)
+  round_none s = does_none hall s (λ start course low own. MakesRound start course low own) (λ start course. inr (λ n. refl))
+
+  -- One round, if there was memory for it.
+  pub round_made : (old new : Session D disk) (result : Result (List ReportLine) AllocError) → OnErr result (Does hall old new (λ start course low own. (n : ℕ) → times n own ≡ 0)) → IfOk result (λ report. Does hall old new (λ start course low own. Brings start course low report own)) → Does hall old new (λ start course low own. MakesRound start course low own)
+  round_made old new (Ok report) refused brings =
+      does_implied hall old new (λ start course low own. Brings start course low report own) (λ start course low own. MakesRound start course low own)
+      (λ start course low own is. inl (report, is)) brings
+  round_made old new (Err e) refused brings =
+      does_implied hall old new (λ start course low own. (n : ℕ) → times n own ≡ 0) (λ start course low own. MakesRound start course low own)
+      (λ start course low own is. inr is) refused
 
   -- The last round.
   pub round_is_last : (old new : Session D disk) (result : Result (List ReportLine) AllocError) → OnErr result (Does hall old new (λ start course low own. (n : ℕ) → times n own ≡ 0)) → IfOk result (λ report. Does hall old new (λ start course low own. Brings start course low report own)) → Does hall old new (λ start course low own. LastRound start course low true (Some result) own)

@@ -31,7 +31,7 @@ use Rattle.btr_jobs.proofs.CourseLemmas.{history_goes_on}
 use Rattle.btr_jobs.proofs.TurnLemmas.{commit_turn, land_turn, look_turn}
 use Rattle.btr_live.specs.Meaning.{Meaning, Commits as CommitsEntry, Holds, Current, Refuses}
 use Rattle.btr_live.specs.Lanes.{reply_of_step, reply_of_landing, Offers, Answers}
-use Rattle.btr_live.specs.Serving.{Asking, Replies, Serves, Knows, was_told, RepliesIn, ServesIn}
+use Rattle.btr_live.specs.Serving.{Asking, Serves, Knows, was_told, RepliesIn, ServesIn}
 use Rattle.btr_live.proofs.ToldLemmas.{answers_told, stopped_longer}
 
 -- ---- entries
@@ -42,10 +42,6 @@ offers start course saw_failure a (entries.Create id) result own next user is ag
 offers start course saw_failure a (entries.Define id spec) result own next user is again = (result, is, refl, again)
 offers start course saw_failure a (entries.Commit stream cut added) result own next user is again = (result, is, refl, again)
 offers start course saw_failure a (entries.Distillate stream cut added reads) result own next user is again = absurd (cc)
-
--- A plan is offered in a turn.
-pub landing_offers : (start : Start) (course : Course) (saw_failure : Bool) (a : List Entry) (plan : PlanValue) (result : Result Receipt LandFault) (own : List ℕ) (next : List Entry) → IsNextPlan a plan.stream plan → LandedAfter start course a plan result own next → (saw_failure ≡ true → (count : ℕ) × (reply_of_landing result ≡ No (reasons.Stopped count))) → Offers start course saw_failure a (entry_of plan) (reply_of_landing result) own next
-landing_offers start course saw_failure a plan result own next planned is again = (plan, planned, refl, result, is, refl, again)
 
 module _ {D : Type 0} {disk : Ghosts D} (hall : Hall D disk) where
   -- ---- replies
@@ -81,17 +77,6 @@ module _ {D : Type 0} {disk : Ghosts D} (hall : Hall D disk) where
         λ h of.
             let said = does.2 h of in
             record { next = said.0; answers = offers (start_of h hall) (course_of h new) (was_told hall old) (course_of h old).history e result does.0 said.0 user said.1 (λ saw_failure. (length (history_of h commits.before), ap reply_of_step (commits.stopped (stopped_longer (opening_of hall) commits.before (seen_of old) commits.grows saw_failure) h of))); ends = said.2 },
-      )
-
-  -- The turn of a plan.
-  pub land_replies : (old new : Session D disk) (plan : PlanValue) (result : Result Receipt LandFault) → Knows hall old (λ h. IsNextPlan h plan.stream plan) → IsSame old new → Lands hall old new plan result → RepliesIn hall old new (CommitsEntry (entry_of plan)) (reply_of_landing result)
-  land_replies old new plan result planned same lands =
-      let does = land_turn hall old new plan result same lands in (
-        does.0,
-        does.1,
-        λ h of.
-            let said = does.2 h of in
-            record { next = said.0; answers = landing_offers (start_of h hall) (course_of h new) (was_told hall old) (course_of h old).history plan result does.0 said.0 (planned h of) said.1 (λ saw_failure. (length (history_of h lands.before), ap reply_of_landing (lands.stopped (stopped_longer (opening_of hall) lands.before (seen_of old) lands.grows saw_failure) h of))); ends = said.2 },
       )
 
   -- An entry of a user was refused after a look.

@@ -5,15 +5,12 @@ use Rattle.std.specs.Option.{is_some}
 use Rattle.std.proofs.Common.{refl, sym, ap, ap₂, ◌∙◌, subst, arith, inl, inr, length-append}
 use Rattle.std.proofs.lemmas.Bool.{or_right}
 use Rattle.btr_hist.specs.declared.entry.Entry.{Entry}
-use Rattle.btr_hist.specs.declared.rejection.Rejection.{Rejection}
-use Rattle.btr_hist.specs.declared.rejection.Rejection.TheVariants as rejections
 use Rattle.btr_hist.specs.Legal.{rejection}
 use Rattle.btr_hist.specs.Answer.{answer}
 use Rattle.btr_text.specs.declared.reply.LineReply.{LineReply}
 use Rattle.btr_text.specs.declared.reply.LineReply.TheVariants as replies
 use Rattle.btr_text.specs.declared.reply.LineReply.TheVariants.{Done, No}
 use Rattle.btr_text.specs.declared.reply.Reason.TheVariants as reasons
-use Rattle.btr_text.specs.Reasons.{reason_of_rejection}
 use Rattle.btr_engine.specs.declared.board.Receipt.{Receipt}
 use Rattle.btr_engine.specs.declared.step.StepFault.{StepFault}
 use Rattle.btr_engine.specs.declared.step.StepFault.TheVariants as steps
@@ -26,9 +23,10 @@ use Rattle.btr_jobs.specs.Course.{Start, Course}
 use Rattle.btr_jobs.specs.Turns.{IsAdded, IsFailed, IsIdle, IsFull, Committed}
 use Rattle.btr_live.specs.Meaning.{Meaning, Commits, Asks, Holds, Current, Refuses}
 use Rattle.btr_live.specs.Replies.{reply_of_answer, reply_of_commit}
-use Rattle.btr_live.specs.Lanes.{reply_of_step, tells_failure}
+use Rattle.btr_live.specs.Lanes.{reply_of_step, is_failure, tells_failure}
 use Rattle.btr_live.specs.Script.{Store, with_entry, after_commit, IsModel, IsDeviceFault, Replies}
 use Rattle.btr_live.specs.OneLane.{Fits}
+use Rattle.btr_live.proofs.ToldLemmas.{rejection_tells}
 use Rattle.btr_live.proofs.TurnEntries.{device_apart}
 
 -- ---- what entries need
@@ -37,20 +35,6 @@ use Rattle.btr_live.proofs.TurnEntries.{device_apart}
 needs_append : (h k : List Entry) → needs_of (h ++ k) ≡ needs_of h + needs_of k
 needs_append [] k = omega arith
 needs_append (e ∷ h) k = let rest = needs_append h k in omega (arith, rest)
-
--- The reason of a rejection tells nothing of a failure.
-quiet_rejection : (why : Rejection) → tells_failure (No (reason_of_rejection why)) ≡ false
-quiet_rejection rejections.NoStream = refl
-quiet_rejection rejections.StreamExists = refl
-quiet_rejection rejections.NotWritable = refl
-quiet_rejection (rejections.OutOfDomain time) = refl
-quiet_rejection rejections.Empty = refl
-quiet_rejection (rejections.TooMany count) = refl
-quiet_rejection rejections.StreamLimit = refl
-quiet_rejection rejections.VersionLimit = refl
-quiet_rejection rejections.BadSpec = refl
-quiet_rejection (rejections.Crowded start) = refl
-quiet_rejection (rejections.TooManyPoints count) = refl
 
 -- Nothing is true and false.
 not_both : {P : Type 0} (b : Bool) → b ≡ false → b ≡ true → P
@@ -135,7 +119,7 @@ module _ (start : Start) (course : Course) (fits : Fits start course) (runs : st
     pub stops : Bool
     pub replied : Replies (store_of start h stopped) m reply (store_of start next stops)
     pub ends : StartsWith course.history next
-    pub known : stops ≡ true → IsLast course next (saw_failure || tells_failure reply)
+    pub known : stops ≡ true → IsLast course next (saw_failure || tells_failure m reply)
     pub moves : Moves (length h + one stopped) own (length next + one stops)
 
   -- If nothing was added, the store is the same.
@@ -148,7 +132,7 @@ module _ (start : Start) (course : Course) (fits : Fits start course) (runs : st
         let l = known is in record {
           last = l.last ∙ sym idle.next;
           failed = l.failed;
-          saw_failure = told_still saw_failure (tells_failure reply) l.saw_failure;
+          saw_failure = told_still saw_failure (tells_failure m reply) l.saw_failure;
         };
     moves = inl (idle.own, ap (λ x. length x + one stopped) idle.next);
   }
@@ -182,13 +166,13 @@ module _ (start : Start) (course : Course) (fits : Fits start course) (runs : st
           known = λ stops. record {
             last = is.last ∙ sym is.next;
             failed = ap is_some is.failed;
-            saw_failure = or_right saw_failure (tells_failure reply) (ap tells_failure replied);
+            saw_failure = or_right saw_failure (is_failure reply) (ap is_failure replied);
           };
           moves = inr (one_more is.own, omega (arith, its));
         }
 
     -- A commit while the store runs.
-    running : ((count : ℕ) → reply ≡ No (reasons.Stopped count) → own ≡ [] → course.history ≡ h → is_some course.failed ≡ true → ⊥) → (result : Result Receipt StepFault) → Committed start course h e result own next → reply ≡ reply_of_step result → Stepped h false saw_failure (Commits e) reply own next
+    running : (is_failure reply ≡ true → own ≡ [] → course.history ≡ h → is_some course.failed ≡ true → ⊥) → (result : Result Receipt StepFault) → Committed start course h e result own next → reply ≡ reply_of_step result → Stepped h false saw_failure (Commits e) reply own next
     running no_stop (Ok receipt) is replied =
         added receipt.version is.2 (record {
           allowed = (refl, λ none. entry_fits h e (begins_fits (h ++ e ∷ []) is.2.follows));
@@ -196,7 +180,7 @@ module _ (start : Start) (course : Course) (fits : Fits start course) (runs : st
           store = next_store h e ∙ sym (ap (λ o. after_commit (store_of start h false) e o) is.0);
         })
     running no_stop (Err (steps.Stopped count)) is replied =
-        absurd (no_stop count replied is.1.own is.0.last (right_if start.stopped (is_some course.failed) runs is.0.stopped))
+        absurd (no_stop (ap is_failure replied) is.1.own is.0.last (right_if start.stopped (is_some course.failed) runs is.0.stopped))
     running no_stop (Err (steps.Rejected why)) is replied =
         let rejected : rejection h e ≡ Some why = is.0 in
         still h false saw_failure (Commits e) reply own next begins (λ stops. absurd (cc)) is.1 (inl (record {
@@ -235,7 +219,7 @@ module _ (start : Start) (course : Course) (fits : Fits start course) (runs : st
     -- A commit after the store was stopped.
     stopped_so : IsLast course h saw_failure → (count : ℕ) → reply ≡ No (reasons.Stopped count) → (result : Result Receipt StepFault) → Committed start course h e result own next → reply ≡ reply_of_step result → Stepped h true saw_failure (Commits e) reply own next
     stopped_so last count refused (Ok receipt) is replied =
-        not_both (tells_failure reply) (ap tells_failure replied) (ap tells_failure refused)
+        not_both (is_failure reply) (ap is_failure replied) (ap is_failure refused)
     stopped_so last count refused (Err (steps.Stopped entries)) is replied =
         still h true saw_failure (Commits e) reply own next begins (λ stops. last) is.1 (inr (inl (inr (inr (record {
           stopped = refl;
@@ -243,15 +227,15 @@ module _ (start : Start) (course : Course) (fits : Fits start course) (runs : st
           store = refl;
         })))))
     stopped_so last count refused (Err (steps.Rejected why)) is replied =
-        not_both (tells_failure reply) (ap tells_failure replied ∙ quiet_rejection why) (ap tells_failure refused)
+        not_both (is_failure reply) (ap is_failure replied ∙ rejection_tells why) (ap is_failure refused)
     stopped_so last count refused (Err steps.Want) is replied =
-        not_both (tells_failure reply) (ap tells_failure replied) (ap tells_failure refused)
+        not_both (is_failure reply) (ap is_failure replied) (ap is_failure refused)
     stopped_so last count refused (Err (steps.DeviceFull need left)) is replied =
-        not_both (tells_failure reply) (ap tells_failure replied) (ap tells_failure refused)
+        not_both (is_failure reply) (ap is_failure replied) (ap is_failure refused)
     stopped_so last count refused (Err steps.DeviceFault) is replied = device_apart count (sym replied ∙ refused)
 
     -- A commit, while the store runs or after it was stopped.
-    committed : (stopped : Bool) → (stopped ≡ true → IsLast course h saw_failure) → (stopped ≡ false → (count : ℕ) → reply ≡ No (reasons.Stopped count) → own ≡ [] → course.history ≡ h → is_some course.failed ≡ true → ⊥) → IsDone start course saw_failure h (Commits e) reply own next → Stepped h stopped saw_failure (Commits e) reply own next
+    committed : (stopped : Bool) → (stopped ≡ true → IsLast course h saw_failure) → (stopped ≡ false → is_failure reply ≡ true → own ≡ [] → course.history ≡ h → is_some course.failed ≡ true → ⊥) → IsDone start course saw_failure h (Commits e) reply own next → Stepped h stopped saw_failure (Commits e) reply own next
     committed true known no_stop is =
         let last = known refl in
         let refused = is.3 last.saw_failure in
@@ -259,7 +243,7 @@ module _ (start : Start) (course : Course) (fits : Fits start course) (runs : st
     committed false known no_stop is = running (no_stop refl) is.0 is.1 is.2
 
   -- What was done in a turn at the history of the store, if the store was stopped only by a failure of the device in a step of before.
-  pub stepped : (h : List Entry) (stopped saw_failure : Bool) (m : Meaning) (reply : LineReply) (own : List ℕ) (next : List Entry) → StartsWith course.history h → (stopped ≡ true → IsLast course h saw_failure) → (stopped ≡ false → (count : ℕ) → reply ≡ No (reasons.Stopped count) → own ≡ [] → course.history ≡ h → is_some course.failed ≡ true → ⊥) → IsDone start course saw_failure h m reply own next → Stepped h stopped saw_failure m reply own next
+  pub stepped : (h : List Entry) (stopped saw_failure : Bool) (m : Meaning) (reply : LineReply) (own : List ℕ) (next : List Entry) → StartsWith course.history h → (stopped ≡ true → IsLast course h saw_failure) → (stopped ≡ false → tells_failure m reply ≡ true → own ≡ [] → course.history ≡ h → is_some course.failed ≡ true → ⊥) → IsDone start course saw_failure h m reply own next → Stepped h stopped saw_failure m reply own next
   stepped h stopped saw_failure (Commits e) reply own next begins known no_stop is = committed h saw_failure e reply own next begins stopped known no_stop is
   stepped h stopped saw_failure (Asks query) reply own next begins known no_stop is =
       elim (is.0) [

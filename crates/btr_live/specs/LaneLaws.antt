@@ -1,4 +1,4 @@
--- The laws of lanes and landings, which the ghost members of jobs cite: what is said is true for ever, and also of who had seen less.
+-- The laws of lanes, which the ghost members of jobs cite: what is said is true for ever, and also of who had seen less.
 use Rattle.std.specs.Prelude.{ℕ, Bool, List, [], ◌∷◌, Option}
 use Rattle.std.proofs.Common.{refl}
 use Rattle.btr_hist.specs.declared.entry.Entry.{Entry}
@@ -10,8 +10,8 @@ use Rattle.btr_gate.proofs.PrefixLemmas.{starts_trans}
 use Rattle.btr_jobs.specs.Course.{Start, Course, GoesOn}
 use Rattle.btr_jobs.specs.TurnLaws.{history_later, committed_lasts, landed_lasts}
 use Rattle.btr_live.specs.Meaning.{Meaning, Commits, Asks, Holds, Current, Refuses}
-use Rattle.btr_live.specs.Lanes.{Offers, Answers, LaneState, begun, RunsLine, RunsLines, RunsLane}
-use Rattle.btr_live.specs.Landings.{IsLanding, Landings}
+use Rattle.btr_live.specs.Lanes.{Offers, Answers, LaneState, begun, RunsLine, RunsLines}
+use Rattle.btr_live.specs.Running.{RunsLane}
 
 module _ (start : Start) (late early : Course) (on : GoesOn start late early) where
   offers_lasts : (saw_failure : Bool) (a : List Entry) (e : Entry) (reply : LineReply) (own : List ℕ) (next : List Entry)
@@ -61,19 +61,6 @@ module _ (start : Start) (late early : Course) (on : GoesOn start late early) wh
       → RunsLane batch start early low lines replies own → RunsLane batch start late low lines replies own
   lane_lasts batch low lines replies own is = (is.0, lines_last batch (begun low) lines replies own is.0 is.1)
 
-  -- So is what a landing did.
-  pub landings_last : (low : List Entry) (own : List ℕ) → Landings start early low own → Landings start late low own
-  landings_last low own are = λ n there.
-      let is : IsLanding start early low n = are n there in record {
-        at = is.at;
-        after = is.after;
-        plan = is.plan;
-        planned = is.planned;
-        result = is.result;
-        next = is.next;
-        landed = landed_lasts start late early is.at is.plan is.result (n ∷ []) is.next on is.landed;
-      }
-
 -- A lane between two lines that knows another history.
 abbrev knowing : LaneState → List Entry → LaneState
 knowing s h = record { history = h; saw_failure = s.saw_failure; waiting = s.waiting }
@@ -102,17 +89,3 @@ module _ (batch : ℕ) (start : Start) (course : Course) where
   lane_lowers low less (line ∷ lines) [] own starts is = absurd is.1
   lane_lowers low less (line ∷ lines) (reply ∷ replies) own starts is =
       (is.0, (is.1.0, is.1.1, is.1.2, is.1.3, line_lowers (begun low) less line reply is.1.0 is.1.2 starts is.1.4, is.1.5))
-
--- A landing is one after less had been seen.
-pub landings_lower : (start : Start) (course : Course) (low less : List Entry) (own : List ℕ)
-    → StartsWith low less → Landings start course low own → Landings start course less own
-landings_lower start course low less own starts are = λ n there.
-    let is : IsLanding start course low n = are n there in record {
-      at = is.at;
-      after = starts_trans is.at low less is.after starts;
-      plan = is.plan;
-      planned = is.planned;
-      result = is.result;
-      next = is.next;
-      landed = is.landed;
-    }

@@ -69,11 +69,19 @@ pub record LaneState : Type 0 where
 abbrev pub begun : List Entry → LaneState
 begun h = record { history = h; saw_failure = false; waiting = none_waiting }
 
--- Whether a reply tells that the device failed, in this line or before it.
-abbrev pub tells_failure : LineReply → Bool
-tells_failure (No reasons.Device) = true
-tells_failure (No (reasons.Stopped entries)) = true
-tells_failure reply = false
+-- Whether a reply is that the device failed, in this turn or before it.
+abbrev pub is_failure : LineReply → Bool
+is_failure (No reasons.Device) = true
+is_failure (No (reasons.Stopped entries)) = true
+is_failure reply = false
+
+-- Whether a reply to what a line asked for tells of a failure in a turn of the lane. Only a commit can tell of one.
+abbrev pub tells_failure : Meaning → LineReply → Bool
+tells_failure (Commits e) reply = is_failure reply
+tells_failure (Asks query) reply = false
+tells_failure (Holds count) reply = false
+tells_failure (Current version) reply = false
+tells_failure (Refuses reason) reply = false
 
 -- A line was admitted to a history that begins with what its lane knew, and had this reply by what it means there. `own` are the
 -- numbers of the entries that it added.
@@ -86,7 +94,7 @@ pub record RunsLine (batch : ℕ) (start : Start) (course : Course) (old : LaneS
   pub means : Means batch admitted old.waiting line asked
   pub answers : Answers start course old.saw_failure admitted asked reply own new.history
   pub waiting : new.waiting ≡ waiting_after old.waiting (fed admitted old.waiting line) asked reply
-  pub saw_failure : new.saw_failure ≡ (old.saw_failure || tells_failure reply)
+  pub saw_failure : new.saw_failure ≡ (old.saw_failure || tells_failure asked reply)
 
 -- The lines of a lane ran in order, each with its reply. `own` are the numbers of the entries that they added, in order.
 abbrev pub RunsLines : ℕ → Start → Course → LaneState → List (Option Line) → List LineReply → List ℕ → LaneState → Type 0
@@ -96,8 +104,3 @@ RunsLines batch start course old (line ∷ lines) [] own new = ⊥
 RunsLines batch start course old (line ∷ lines) (reply ∷ replies) own new =
     (first rest : List ℕ) × (next : LaneState) × (own ≡ first ++ rest)
     × RunsLine batch start course old line reply first next × RunsLines batch start course next lines replies rest new
-
--- All lines of a lane that knew `low` ran, from empty feeds.
-abbrev pub RunsLane : ℕ → Start → Course → List Entry → List (Option Line) → List LineReply → List ℕ → Type 0
-RunsLane batch start course low lines replies own =
-    (last : LaneState) × RunsLines batch start course (begun low) lines replies own last

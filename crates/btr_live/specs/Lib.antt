@@ -5,7 +5,7 @@ pub mod Replies
 pub mod Reasons
 -- lanes
 pub mod Lanes
-pub mod Landings
+pub mod Rounds
 pub mod OneHistory
 -- a whole run
 pub mod Live
@@ -13,13 +13,11 @@ pub mod Live
 pub mod Script
 pub mod OneLane
 pub mod ScriptLaws
--- the laws of lanes
-pub mod LaneLaws
 -- what the private functions promise
 pub mod Serving
 pub mod Running
+pub mod LaneLaws
 pub mod RunningLaws
-pub mod Rounds
 pub mod RoundsLaws
 pub mod Parts
 pub mod PartLaws

@@ -1,5 +1,5 @@
 -- A run of a script: its lanes beside each other, rounds beside them, and a last round after them.
-use Rattle.std.specs.Prelude.{◌≡◌, ℕ, ◌+◌, Bool, true, false, List, [], Option, Some, None, Result, Ok, Err}
+use Rattle.std.specs.Prelude.{◌≡◌, ℕ, ◌+◌, ◌≤◌, Bool, true, false, List, [], length, Option, Some, None, Result, Ok, Err}
 use Rattle.std.specs.declared.alloc.AllocError.{AllocError}
 use Rattle.std.specs.List.{AllByRecursion}
 use Rattle.btr_hist.specs.declared.entry.Entry.{Entry}
@@ -22,20 +22,22 @@ LastRound start course low true None own = ⊥
 LastRound start course low true (Some (Err e)) own = (n : ℕ) → times n own ≡ 0
 LastRound start course low true (Some (Ok report)) own = Brings start course low report own
 
--- A script ran in a session that had seen `low`. `middle` is the course when all lanes had ended, of which their replies are said. The
--- last round had seen it. `own` are the numbers of all that was added.
+-- A script ran in a session that had seen `low`. `middle` is the course when all lanes had ended, of which their replies are said. With
+-- `materialize` one party was beside them at most, and made at most as many rounds as the script has lines. The last round had seen
+-- `middle`. `own` are the numbers of all that was added.
 pub record RunsLive (batch : ℕ) (materialize : Bool) (start : Start) (course : Course) (low : List Entry) (script : List ScriptLine)
     (report : LiveReport) (own : List ℕ) : Type 0 where
   pub middle : Course
   pub goes_on : GoesOn start course middle
   pub after : StartsWith middle.history low
   pub mine : List (List ℕ)
-  pub landed : List ℕ
-  pub lanes : RunsLanes batch start middle low script report.replies.items mine landed
-  pub no_rounds : materialize ≡ false → landed ≡ []
+  pub beside : List (List ℕ)
+  pub lanes : RunsLanes batch (length script) start middle low script report.replies.items mine beside
+  pub no_rounds : materialize ≡ false → beside ≡ []
+  pub one_party : length beside ≤ 1
   pub lastly : List ℕ
   pub last : LastRound start course middle.history materialize report.last lastly
-  pub numbers : (n : ℕ) → times n own ≡ times_all n mine landed + times n lastly
+  pub numbers : (n : ℕ) → times n own ≡ times_all n mine beside + times n lastly
 
 -- A script that ran alone, from the beginning of its hall, makes one history with all that its lanes and rounds added.
 abbrev pub RunsAreOneHistory : Type 0

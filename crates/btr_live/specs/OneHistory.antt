@@ -1,4 +1,4 @@
--- What all replies of a script mean together: one history, which all lanes and the landings beside them made.
+-- What all replies of a script mean together: one history, which all lanes and the parties beside them made.
 use Rattle.std.specs.Prelude.{◌≡◌, ℕ, ◌+◌, ◌==◌, List, [], ◌∷◌, length, map, slice_index_or, if◌then◌else◌, Option}
 use Rattle.std.specs.Option.{is_some}
 use Rattle.btr_hist.specs.declared.entry.Entry.{Entry}
@@ -8,8 +8,8 @@ use Rattle.btr_text.specs.declared.reply.LineReply.{LineReply}
 use Rattle.btr_gate.specs.Prefixes.{StartsWith}
 use Rattle.btr_gate.specs.Numbers.{one, total, times, given}
 use Rattle.btr_jobs.specs.Course.{Start, Course}
-use Rattle.btr_live.specs.Lanes.{RunsLane}
-use Rattle.btr_live.specs.Landings.{Landings}
+use Rattle.btr_live.specs.Lanes.{LaneState, begun, RunsLines}
+use Rattle.btr_live.specs.Rounds.{MakesRounds}
 
 -- ---- lanes of a script
 
@@ -29,25 +29,33 @@ lines_of k script = of_lane k (lanes_of script) (map (λ line. line.line) script
 
 -- ---- all lanes
 
--- The lanes of a script ran beside each other, from the history `low`, with these replies in the order of the script. `mine` are the
--- numbers of the entries of each lane, from lane 0 on, and `landed` those of landings beside the lanes.
-pub record RunsLanes (batch : ℕ) (start : Start) (course : Course) (low : List Entry) (script : List ScriptLine)
-    (replies : List LineReply) (mine : List (List ℕ)) (landed : List ℕ) : Type 0 where
-  pub each : length replies ≡ length script
-  pub lanes : (k : ℕ)
-      → RunsLane batch start course low (lines_of k script) (of_lane k (lanes_of script) replies) (slice_index_or mine k [])
-  pub lands : Landings start course low landed
+-- What a party beside the lanes did, after all of `low` had been seen: it made at most so many rounds. `own` are the numbers of what it
+-- added.
+abbrev pub IsParty : Start → Course → List Entry → ℕ → List ℕ → Type 0
+IsParty start course low rounds own = MakesRounds start rounds low course own
 
--- How often n is a number of an entry of a lane, or of a landing.
-abbrev pub times_all : ℕ → List (List ℕ) → List ℕ → ℕ
-times_all n mine landed = total (times n) mine + times n landed
+-- The lanes of a script ran beside each other, from the history `low`, with these replies in the order of the script. `mine` are the
+-- numbers of the entries of each lane, from lane 0 on, and `lasts` the states of the lanes after their lines. `beside` are the numbers
+-- of the entries of each party beside the lanes, which made at most `rounds` rounds.
+pub record RunsLanes (batch rounds : ℕ) (start : Start) (course : Course) (low : List Entry) (script : List ScriptLine)
+    (replies : List LineReply) (mine beside : List (List ℕ)) : Type 0 where
+  pub each : length replies ≡ length script
+  pub lasts : ℕ → LaneState
+  pub lanes : (k : ℕ) → RunsLines batch start course (begun low) (lines_of k script) (of_lane k (lanes_of script) replies)
+      (slice_index_or mine k []) (lasts k)
+  pub parties : (k : ℕ) → IsParty start course low rounds (slice_index_or beside k [])
+
+-- How often n is a number of an entry of a lane, or of a party beside the lanes.
+abbrev pub times_all : ℕ → List (List ℕ) → List (List ℕ) → ℕ
+times_all n mine beside = total (times n) mine + total (times n) beside
 
 -- One history. It begins with that of the store when the run began, and all lanes ran on it. Each entry since then, and the one in
--- whose step the device failed, is that of exactly one line or one landing.
+-- whose step the device failed, is that of exactly one line or one landing of one party. The last round is a party of its own. Each party
+-- makes at most as many rounds as the script has lines, and one more.
 pub record OneHistory (batch : ℕ) (start : Start) (course : Course) (script : List ScriptLine) (replies : List LineReply) : Type 0 where
   pub begins : StartsWith course.history start.history
   pub mine : List (List ℕ)
-  pub landed : List ℕ
-  pub runs : RunsLanes batch start course start.history script replies mine landed
+  pub beside : List (List ℕ)
+  pub runs : RunsLanes batch (length script + 1) start course start.history script replies mine beside
   pub once : (n : ℕ)
-      → times_all n mine landed ≡ given (length start.history) (length course.history + one (is_some course.failed)) n
+      → times_all n mine beside ≡ given (length start.history) (length course.history + one (is_some course.failed)) n

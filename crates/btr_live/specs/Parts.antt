@@ -1,5 +1,5 @@
 -- Private promises: the parts of a run, which are lanes and the rounds beside them, and what they did.
-use Rattle.std.specs.Prelude.{◌≡◌, ℕ, ◌≤◌, Bool, false, List, [], length, slice_get, Option, Some, None}
+use Rattle.std.specs.Prelude.{◌≡◌, ℕ, ◌≤◌, Bool, List, [], length, slice_get, Option, Some, None}
 use Rattle.std.specs.List.{AllByRecursion}
 use Rattle.std.specs.declared.vec.Vec.{Vec}
 use Rattle.std.specs.Vec.{vec_capacity}
@@ -13,10 +13,10 @@ use Rattle.btr_text.specs.declared.reply.LineReply.{LineReply}
 use Rattle.btr_jobs.specs.Course.{Start, Course}
 use Rattle.btr_live.specs.declared.part.Part.{Part}
 use Rattle.btr_live.specs.declared.part.Part.TheVariants as parts
-use Rattle.btr_live.specs.Rounds.{RoundsDid}
-use Rattle.btr_live.specs.Running.{LaneDid}
+use Rattle.btr_gate.specs.Numbers.{one, total}
+use Rattle.btr_live.specs.Running.{LaneDid, RoundsDid}
 
--- What a part did: a lane ran, or rounds landed plans.
+-- What a part did: a lane ran, or rounds were made.
 abbrev pub PartDid : Start → Course → List Entry → Part → Part → List ℕ → Type 0
 PartDid start course low (parts.Lane was) (parts.Lane now) own = LaneDid start course low was now own
 PartDid start course low (parts.Lane was) (parts.Rounds now) own = ⊥
@@ -47,19 +47,23 @@ replies_in (Some part) = replies_of part
 abbrev pub replies_at : List Part → ℕ → List LineReply
 replies_at all k = replies_in (slice_get all k)
 
--- The part is a lane.
-abbrev pub IsLane : Part → Type 0
-IsLane (parts.Lane lane) = Unit {0}
-IsLane (parts.Rounds rounds) = ⊥
+-- How many parties beside the lanes the part is.
+abbrev pub party_of : Part → ℕ
+party_of (parts.Lane lane) = 0
+party_of (parts.Rounds rounds) = 1
 
--- If the part is a lane, its feeds are due with `batch` points.
-abbrev pub HasBatch : ℕ → Part → Type 0
-HasBatch batch (parts.Lane lane) = lane.batch ≡ batch
-HasBatch batch (parts.Rounds rounds) = Unit {0}
+-- How many parties beside the lanes there are.
+abbrev pub parties_of : List Part → ℕ
+parties_of all = total party_of all
 
--- The feeds of all lanes are due with `batch` points.
-abbrev pub HaveBatch : ℕ → List Part → Type 0
-HaveBatch batch all = AllByRecursion (HasBatch batch) all
+-- The feeds of a lane are due with `batch` points, and rounds are at most so many.
+abbrev pub HasLimits : ℕ → ℕ → Part → Type 0
+HasLimits batch count (parts.Lane lane) = lane.batch ≡ batch
+HasLimits batch count (parts.Rounds rounds) = rounds.count ≡ count
+
+-- All parts have these limits.
+abbrev pub HaveLimits : ℕ → ℕ → List Part → Type 0
+HaveLimits batch count all = AllByRecursion (HasLimits batch count) all
 
 -- ---- before a run
 
@@ -83,11 +87,11 @@ abbrev pub lane_with : ℕ → Vec (Option Line) Global → Part
 lane_with batch list = parts.Lane (record { batch = batch; lines = list.items; replies = [] })
 
 -- The run is prepared for this script: each lane has its lines, and there is room for the replies. There are rounds only if they are
--- wanted.
+-- wanted, at most as many as lines.
 pub record IsPrepared (batch : ℕ) (materialize : Bool) (script : List ScriptLine) (p : Prepared) : Type 0 where
   pub lanes : p.lanes.items ≡ lanes_of script
   pub lines : (k : ℕ) → lines_at p.parts.items k ≡ lines_of k script
-  pub batches : HaveBatch batch p.parts.items
-  pub no_rounds : materialize ≡ false → AllByRecursion IsLane p.parts.items
+  pub limits : HaveLimits batch (length script) p.parts.items
+  pub parties : parties_of p.parts.items ≡ one materialize
   pub empty : p.replies.items ≡ []
   pub room : length script ≤ vec_capacity p.replies

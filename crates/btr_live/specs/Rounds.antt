@@ -1,10 +1,22 @@
--- Private promises: what rounds beside the lanes did.
-use Rattle.std.specs.Prelude.{ℕ, List}
+-- Rounds beside the lanes: each brings all outputs up to date once.
+use Rattle.std.specs.Prelude.{◌≡◌, ◌⊎◌, ℕ, zero, suc, ◌+◌, List}
 use Rattle.btr_hist.specs.declared.entry.Entry.{Entry}
-use Rattle.btr_jobs.specs.Course.{Start, Course}
-use Rattle.btr_live.specs.declared.rounds.Rounds.{Rounds}
-use Rattle.btr_live.specs.Landings.{Landings}
+use Rattle.btr_gate.specs.Prefixes.{StartsWith}
+use Rattle.btr_gate.specs.Numbers.{times}
+use Rattle.btr_jobs.specs.Course.{Start, Course, GoesOn}
+use Rattle.btr_work.specs.declared.report.ReportLine.{ReportLine}
+use Rattle.btr_work.specs.Report.{Brings}
 
--- All that the rounds added are landings.
-abbrev pub RoundsDid : Start → Course → List Entry → Rounds → Rounds → List ℕ → Type 0
-RoundsDid start course low was now own = Landings start course low own
+-- One round, after all of `low` had been seen: each output was brought up to date once. A round that was not begun added nothing: all
+-- lanes had ended, or there was no memory for it.
+abbrev pub MakesRound : Start → Course → List Entry → List ℕ → Type 0
+MakesRound start course low own = ((report : List ReportLine) × Brings start course low report own) ⊎ ((n : ℕ) → times n own ≡ 0)
+
+-- At most so many rounds, one after another. `middle` is the course at the end of a round. Of it the round is said, and the next round
+-- was made after all of its history had been seen. `own` are the numbers of what was added.
+abbrev pub MakesRounds : Start → ℕ → List Entry → Course → List ℕ → Type 0
+MakesRounds start zero low late own = StartsWith late.history low × ((n : ℕ) → times n own ≡ 0)
+MakesRounds start (suc count) low late own =
+    (middle : Course) × GoesOn start late middle × StartsWith middle.history low × (first rest : List ℕ)
+    × MakesRound start middle low first × MakesRounds start count middle.history late rest
+    × ((n : ℕ) → times n own ≡ times n first + times n rest)

@@ -1,4 +1,4 @@
--- Private promises: the lanes of a script as jobs, and their replies in the order of the script.
+-- Private promises: what lanes and rounds did as jobs.
 use Rattle.std.specs.Prelude.{◌≡◌, ℕ, true, ◌||◌, List, Option}
 use Rattle.std.specs.Option.{is_some}
 use Rattle.btr_hist.specs.declared.entry.Entry.{Entry}
@@ -7,7 +7,9 @@ use Rattle.btr_text.specs.declared.reply.LineReply.{LineReply}
 use Rattle.btr_gate.specs.Prefixes.{StartsWith}
 use Rattle.btr_jobs.specs.Course.{Start, Course}
 use Rattle.btr_live.specs.Feeds.{Waiting}
-use Rattle.btr_live.specs.Lanes.{LaneState, begun, RunsLines, RunsLane}
+use Rattle.btr_live.specs.declared.rounds.Rounds.{Rounds}
+use Rattle.btr_live.specs.Lanes.{LaneState, begun, RunsLines}
+use Rattle.btr_live.specs.Rounds.{MakesRounds}
 
 -- The lines of a lane that are to run, and the replies of those that ran.
 pub record LaneValue : Type 0 where
@@ -15,9 +17,18 @@ pub record LaneValue : Type 0 where
   pub lines : List (Option Line)
   pub replies : List LineReply
 
+-- All lines of a lane that knew `low` ran, from empty feeds.
+abbrev pub RunsLane : ℕ → Start → Course → List Entry → List (Option Line) → List LineReply → List ℕ → Type 0
+RunsLane batch start course low lines replies own =
+    (last : LaneState) × RunsLines batch start course (begun low) lines replies own last
+
 -- The lane's lines ran, and it has their replies.
 abbrev pub LaneDid : Start → Course → List Entry → LaneValue → LaneValue → List ℕ → Type 0
 LaneDid start course low was now own = RunsLane was.batch start course low was.lines now.replies own
+
+-- The rounds were made, at most as many as they are to be.
+abbrev pub RoundsDid : Start → Course → List Entry → Rounds → Rounds → List ℕ → Type 0
+RoundsDid start course low was now own = MakesRounds start was.count low course own
 
 -- Lines of a lane ran up to a history that is known; these points wait after them. If a reply was that the device failed, the course
 -- says so.

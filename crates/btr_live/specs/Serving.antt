@@ -5,7 +5,7 @@ use Rattle.btr_base.specs.declared.point.Point.{Point}
 use Rattle.btr_hist.specs.declared.entry.Entry.{Entry}
 use Rattle.btr_text.specs.declared.script.Line.{Line}
 use Rattle.btr_text.specs.declared.reply.LineReply.{LineReply}
-use Rattle.btr_text.specs.declared.reply.LineReply.TheVariants.{No}
+use Rattle.btr_text.specs.declared.reply.LineReply.TheVariants.{Done, No}
 use Rattle.btr_text.specs.declared.reply.Reason.TheVariants as reasons
 use Rattle.btr_feed.specs.Feed.{insert_fault}
 use Rattle.btr_hist.specs.History.{spec_of}
@@ -21,6 +21,9 @@ use Rattle.btr_jobs.specs.Jobs.{Does}
 use Rattle.btr_live.specs.Feeds.{Waiting, with_points, feed_of, fed}
 use Rattle.btr_live.specs.Meaning.{Meaning, Asks, Refuses, feed, refresh}
 use Rattle.btr_live.specs.Replies.{reply_of_answer, reply_to, points_after, waiting_after, Means}
+use Rattle.btr_work.specs.declared.report.Brought.{Brought}
+use Rattle.btr_work.specs.declared.report.Brought.TheVariants.{Landed, Current, Refused}
+use Rattle.btr_live.specs.Reasons.{reason_of_landing}
 use Rattle.btr_live.specs.Lanes.{Answers}
 
 -- What is asked for at a history.
@@ -63,6 +66,12 @@ pub record AddsPoints (batch : ℕ) (w : Waiting) (stream : ℕ) (added : List P
 -- To bring a stream up to date asks for this, or there was no memory to plan it.
 abbrev pub RefreshAsks : ℕ → Asking
 RefreshAsks stream = λ a m. (m ≡ refresh a stream (spec_of a stream)) ⊎ (m ≡ Refuses reasons.Memory)
+
+-- The reply to a line that brings an output up to date, by what became of the output.
+abbrev pub reply_of_brought : Brought → LineReply
+reply_of_brought (Landed version) = Done version
+reply_of_brought (Current version) = Done version
+reply_of_brought (Refused fault) = No (reason_of_landing fault)
 
 -- The reply is that of the history. An answer may lack memory; what is refused is always refused.
 abbrev pub IsAnswerOrNoMemory : List Entry → Meaning → LineReply → Type 0

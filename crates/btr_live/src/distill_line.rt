@@ -1,26 +1,22 @@
 //! The lines of outputs: one defines an output, and one brings it up to date.
-ghost use Rattle.std.specs.Prelude.{◌≡◌, ℕ, Some, IfOk};
+ghost use Rattle.std.specs.Prelude.{◌≡◌, ℕ, Some};
 ghost use Rattle.btr_hist.specs.declared.entry.Entry.TheVariants.{Define as DefineSpec};
-ghost use Rattle.btr_distil.specs.Plan.{entry_of};
 ghost use Rattle.btr_hist.specs.History.{stream_of};
-ghost use Rattle.btr_plan.specs.Next.{IsNext, IsNextPlan};
-ghost use Rattle.btr_hall.specs.Session.{IsSessionOf, Looks};
 ghost use Rattle.btr_text.specs.declared.script.Line.TheVariants as lines;
 ghost use Rattle.btr_jobs.specs.Jobs.{IsAt};
 ghost use Rattle.btr_live.specs.Feeds.{Waiting};
 ghost use Rattle.btr_live.specs.Meaning.{Commits, define, on_stream};
 ghost use Rattle.btr_live.specs.Replies.{Means};
-ghost use Rattle.btr_live.specs.Serving.{AsksFor, Knows, RefreshAsks, RepliesIn, ServesIn};
+ghost use Rattle.btr_live.specs.Serving.{AsksFor, RefreshAsks, ServesIn, reply_of_brought};
 
 use crate::line::commit;
 use crate::reasons::reason_of_landing;
 use btr_disk::Disk;
-use btr_distil::Plan;
 use btr_hall::{Found, Hall, Session};
 use btr_hist::{Entry, Kernel, Spec};
-use btr_plan::{Next, next_plan};
 use btr_text::{LineReply, Reason};
-use std::alloc::{AllocError, Global};
+use btr_work::{Brought, bring_output};
+use std::alloc::Global;
 use std::sync::Wait;
 
 /// `distiller ID KERNEL LEAD GRAIN ID [ID]`: defines an output, whose inputs are the streams with the ids `first` and `second`.
@@ -107,8 +103,8 @@ pub(crate) fn refresh<R: Wait, D: Disk>(
     }
 }
 
-/// Brings an output up to date: one admission, a plan from its snapshot, after the turn, and its landing in another turn. The cost
-/// follows what has changed in its inputs since its latest version.
+/// Brings an output up to date, and returns the reply. Its cost follows what has changed in the inputs since the latest version of the
+/// output.
 fn refresh_stream<R: Wait, D: Disk>(
     rt: &R,
     alloc: Global,
@@ -120,48 +116,16 @@ fn refresh_stream<R: Wait, D: Disk>(
     ensures at { IsAt hall.now session.new }
     ensures serves { ServesIn hall.now session.old session.new (RefreshAsks stream) result }
 {
-    match next_now(rt, alloc, hall, session, stream) {
-        Ok(Next::NotOutput) => LineReply::No(Reason::Plain),
-        Ok(Next::UpToDate { version }) => LineReply::Done { version },
-        Ok(Next::Plan(plan)) => land(rt, alloc, hall, session, &plan),
-        Err(_) => LineReply::No(Reason::Memory),
-    }
+    let brought = bring_output(rt, alloc, hall, session, stream);
+    reply_of_brought(brought)
 }
 
-/// Returns what is planned for a stream, from a snapshot that is taken in a turn. An `Err` means out of memory.
-fn next_now<R: Wait, D: Disk>(
-    rt: &R,
-    alloc: Global,
-    hall: &Hall<D>,
-    session: &mut Session<D>,
-    stream: u32,
-) -> Result<Next, AllocError>
-    requires at { IsAt hall.now session.old }
-    ensures session { IsSessionOf hall.now session.new }
-    ensures looks { Looks hall.now session.old session.new }
-    ensures next { Knows hall.now session.new (λ h. IfOk result (IsNext h stream)) }
+/// The reply to a refresh, by what became of the output.
+fn reply_of_brought(brought: Brought) -> LineReply
+    ensures { result ≡ reply_of_brought brought }
 {
-    let snapshot = session.admit(rt, hall)?;
-    next_plan(alloc, &snapshot, stream)
-}
-
-/// Lands a plan that was made from what the session has seen.
-fn land<R: Wait, D: Disk>(
-    rt: &R,
-    alloc: Global,
-    hall: &Hall<D>,
-    session: &mut Session<D>,
-    plan: &Plan,
-) -> LineReply
-    requires at { IsAt hall.now session.old }
-    requires planned { Knows hall.now session.old (λ h. IsNextPlan h plan.now.stream plan.now) }
-    ensures at { IsAt hall.now session.new }
-    ensures replies { RepliesIn hall.now session.old session.new (Commits (entry_of plan.now)) result }
-{
-    match session.land(rt, alloc, hall, plan) {
-        Ok(receipt) => LineReply::Done {
-            version: receipt.version,
-        },
-        Err(fault) => LineReply::No(reason_of_landing(fault)),
+    match brought {
+        Brought::Landed { version } | Brought::Current { version } => LineReply::Done { version },
+        Brought::Refused(fault) => LineReply::No(reason_of_landing(fault)),
     }
 }

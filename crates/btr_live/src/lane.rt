@@ -4,7 +4,7 @@ ghost use Rattle.std.specs.Vec.{vec_len};
 ghost use Rattle.std.specs.VecDeque.{deque_capacity};
 ghost use Rattle.btr_base.specs.declared.limits.TheConstants.{MAX_COMMIT_POINTS};
 ghost use Rattle.btr_jobs.specs.Jobs.{IsAt, Does};
-ghost use Rattle.btr_live.specs.Lanes.{RunsLane};
+ghost use Rattle.btr_live.specs.Running.{RunsLane};
 
 use crate::feeds::Feeds;
 use crate::line::answer_line;
@@ -14,9 +14,11 @@ use btr_jobs::Job;
 use btr_text::{Line, LineReply, Reason};
 use std::alloc::{AllocError, Global};
 use std::collections::VecDeque;
-use std::marker::Model;
+use std::marker::{Model, Send, Sync};
 use std::mem;
-use std::sync::Wait;
+use std::sync::atomic::{AtomicU32, Ordering};
+use std::sync::{Arc, Wait};
+use std::thread::Threads;
 
 /// The lines of a lane, and their replies. There is room for a reply to each line, so that no lane stops because memory runs out.
 #[derive(Drop)]
@@ -24,6 +26,9 @@ pub(crate) struct Lane {
     batch: u32,
     lines: Vec<Option<Line>>,
     replies: VecDeque<LineReply>,
+
+    /// How many lanes have not ended.
+    running: Arc<AtomicU32>,
 }
 
 impl Model for Lane {
@@ -41,21 +46,25 @@ impl Model for Lane {
 }
 
 impl Lane {
-    /// Makes a lane of lines, whose feeds are due with `batch` points. It takes the memory for the replies.
+    /// Makes a lane of lines, whose feeds are due with `batch` points. It takes the memory for the replies. When its lines have run, it
+    /// takes 1 from `running`.
     pub(crate) fn new(
         alloc: Global,
         batch: u32,
         lines: Vec<Option<Line>>,
+        running: &Arc<AtomicU32>,
     ) -> Result<Lane, AllocError>
         requires least { 1 ≤ batch }
         requires most { batch ≤ MAX_COMMIT_POINTS }
         ensures { IfOk result (λ l. l ≡ record { batch = batch; lines = lines.items; replies = [] }) }
     {
         let replies = VecDeque::with_capacity(alloc, lines.len())?;
+        let running = Arc::try_clone(running)?;
         Ok(Lane {
             batch,
             lines,
             replies,
+            running,
         })
     }
 
@@ -77,8 +86,8 @@ impl Job for Lane {
 
     ghost did = { LaneDid };
 
-    /// Runs the lines.
-    fn run<R: Wait, D: Disk>(
+    /// Runs the lines. Then the lane has ended.
+    fn run<R: Threads + Wait + Sync, D: Disk + Send>(
         &mut self,
         rt: &R,
         alloc: Global,
@@ -96,6 +105,7 @@ impl Job for Lane {
             lines,
             &mut self.replies,
         );
+        self.running.fetch_sub(1, Ordering::SeqCst);
     }
 
     ghost lasts = { lane_did_lasts };

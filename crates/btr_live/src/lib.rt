@@ -14,7 +14,6 @@ mod feed_line;
 mod line;
 mod reasons;
 // what runs beside each other
-mod counting;
 mod lane;
 mod part;
 mod rounds;

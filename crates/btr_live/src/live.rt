@@ -8,7 +8,6 @@ ghost use Rattle.btr_hall.specs.Session.{opening_of};
 ghost use Rattle.btr_jobs.specs.Jobs.{IsAt, Does};
 ghost use Rattle.btr_live.specs.Live.{LastRound, RunsLive};
 
-use crate::counting::Counting;
 use crate::order::in_order;
 use crate::prepare::{LANES, Prepared, prepare};
 use btr_disk::Disk;
@@ -74,8 +73,7 @@ pub fn lanes<R: Threads + Wait + Sync, D: Disk + Send, P: Pace + Sync>(
     let lanes = lanes.as_slice();
     let all = parts.as_mut_slice();
     let workers = workers_for(lanes, materialize);
-    let pace = Counting { pace, running };
-    run_jobs(rt, alloc, hall, session, workers, 0, all, &pace);
+    run_jobs(rt, alloc, hall, session, workers, 0, all, pace);
     in_order(lanes, all, &mut replies);
     let last = last_round(rt, alloc, hall, session, materialize);
     Ok(LiveReport { replies, last })

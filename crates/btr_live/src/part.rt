@@ -9,7 +9,9 @@ use btr_hall::{Hall, Session};
 use btr_jobs::Job;
 use btr_text::{LineReply, Reason};
 use std::alloc::Global;
+use std::marker::{Send, Sync};
 use std::sync::Wait;
+use std::thread::Threads;
 
 /// A part of a run.
 #[derive(Drop)]
@@ -40,7 +42,7 @@ impl Job for Part {
 
     ghost did = { PartDid };
 
-    fn run<R: Wait, D: Disk>(
+    fn run<R: Threads + Wait + Sync, D: Disk + Send>(
         &mut self,
         rt: &R,
         alloc: Global,

@@ -1,9 +1,10 @@
 //! What a run takes memory for before it begins: the lines of each lane, and room for all replies.
-ghost use Rattle.std.specs.Prelude.{◌≡◌, ℕ, ◌<◌, ◌≤◌, false, [], ◌∷◌, ◌++◌, length, map, IfOk, OnOk};
+ghost use Rattle.std.specs.Prelude.{◌≡◌, ℕ, ◌+◌, ◌<◌, ◌≤◌, [], ◌∷◌, ◌++◌, length, map, IfOk, OnOk};
 ghost use Rattle.btr_base.specs.declared.limits.TheConstants.{MAX_COMMIT_POINTS};
 ghost use Rattle.btr_text.specs.Input.{HaveLanes};
+ghost use Rattle.btr_gate.specs.Numbers.{one};
 ghost use Rattle.btr_live.specs.OneHistory.{of_lane, lanes_of, lines_of};
-ghost use Rattle.btr_live.specs.Parts.{lane_with, lines_at, list_at, HasLists, HaveBatch, IsPrepared};
+ghost use Rattle.btr_live.specs.Parts.{lane_with, lines_at, list_at, parties_of, HasLists, HaveLimits, IsPrepared};
 
 use crate::lane::Lane;
 use crate::part::Part;
@@ -28,8 +29,8 @@ pub(crate) struct Prepared {
     pub(crate) replies: Vec<LineReply>,
 }
 
-/// Prepares a run of a script, with rounds beside the lanes or without, which begin only while `running` is not 0. It takes time linear
-/// in the script. An `Err` means out of memory.
+/// Prepares a run of a script, with rounds beside the lanes or without. Each lane takes 1 from `running` when it ends, and rounds begin
+/// only while `running` is not 0. It takes time linear in the script. An `Err` means out of memory.
 pub(crate) fn prepare(
     alloc: Global,
     batch: u32,
@@ -45,7 +46,7 @@ pub(crate) fn prepare(
     let count = script.len();
     let replies = Vec::with_capacity(alloc, count)?;
     let (lanes, lists) = split_lines(alloc, script)?;
-    let mut parts = parts_of(alloc, batch, lists)?;
+    let mut parts = parts_of(alloc, batch, lists, running)?;
     add_rounds(&mut parts, count, materialize, running)?;
     Ok(Prepared {
         lanes,
@@ -98,6 +99,7 @@ fn parts_of(
     alloc: Global,
     batch: u32,
     lists: Vec<Vec<Option<Line>>>,
+    running: &Arc<AtomicU32>,
 ) -> Result<Vec<Part>, AllocError>
     requires least { 1 ≤ batch }
     requires most { batch ≤ MAX_COMMIT_POINTS }
@@ -105,7 +107,7 @@ fn parts_of(
 {
     let mut parts = Vec::new(alloc);
     for lines in lists {
-        let lane = Lane::new(alloc, batch, lines)?;
+        let lane = Lane::new(alloc, batch, lines, running)?;
         parts.push(Part::Lane(lane))?;
     }
     Ok(parts)
@@ -119,8 +121,8 @@ fn add_rounds(
     running: &Arc<AtomicU32>,
 ) -> Result<(), AllocError>
     ensures lines { OnOk result ((k : ℕ) → lines_at parts.new.items k ≡ lines_at parts.old.items k) }
-    ensures batch { (batch : ℕ) → HaveBatch batch parts.old.items → OnOk result (HaveBatch batch parts.new.items) }
-    ensures none { materialize ≡ false → parts.new.items ≡ parts.old.items }
+    ensures limits { (batch : ℕ) → HaveLimits batch count parts.old.items → OnOk result (HaveLimits batch count parts.new.items) }
+    ensures parties { OnOk result (parties_of parts.new.items ≡ parties_of parts.old.items + one materialize) }
 {
     if !materialize {
         return Ok(());

@@ -1,14 +1,16 @@
 //! The rounds of the materializer, which bring outputs up to date beside the lanes.
 ghost use Rattle.btr_jobs.specs.Jobs.{IsAt, Does};
-ghost use Rattle.btr_live.specs.Landings.{Landings};
+ghost use Rattle.btr_live.specs.Rounds.{MakesRound, MakesRounds};
 
 use btr_disk::Disk;
 use btr_hall::{Hall, Session};
 use btr_jobs::Job;
 use btr_work::bring_current_here;
 use std::alloc::Global;
+use std::marker::{Send, Sync};
 use std::sync::atomic::{AtomicU32, Ordering};
 use std::sync::{Arc, Wait};
+use std::thread::Threads;
 
 /// The rounds beside the lanes of a run.
 #[derive(Drop)]
@@ -21,13 +23,13 @@ pub(crate) struct Rounds {
 }
 
 impl Job for Rounds {
-    ghost use Rattle.btr_live.specs.Rounds.{RoundsDid};
+    ghost use Rattle.btr_live.specs.Running.{RoundsDid};
     ghost use Rattle.btr_live.specs.RoundsLaws.{rounds_did_lasts, rounds_did_lowers};
 
     ghost did = { RoundsDid };
 
     /// Makes the rounds, one after another.
-    fn run<R: Wait, D: Disk>(
+    fn run<R: Threads + Wait + Sync, D: Disk + Send>(
         &mut self,
         rt: &R,
         alloc: Global,
@@ -53,7 +55,7 @@ fn make_rounds<R: Wait, D: Disk>(
 )
     requires at { IsAt hall.now session.old }
     ensures at { IsAt hall.now session.new }
-    ensures lands { Does hall.now session.old session.new (λ start course low own. Landings start course low own) }
+    ensures rounds { Does hall.now session.old session.new (λ start course low own. MakesRounds start count low course own) }
 {
     for _ in 0..count {
         make_round(rt, alloc, hall, session, lanes);
@@ -71,7 +73,7 @@ fn make_round<R: Wait, D: Disk>(
 )
     requires at { IsAt hall.now session.old }
     ensures at { IsAt hall.now session.new }
-    ensures lands { Does hall.now session.old session.new (λ start course low own. Landings start course low own) }
+    ensures round { Does hall.now session.old session.new (λ start course low own. MakesRound start course low own) }
 {
     if lanes.load(Ordering::SeqCst) > 0 {
         let _report = bring_current_here(rt, alloc, hall, session);

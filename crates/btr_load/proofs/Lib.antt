@@ -9,3 +9,4 @@ pub mod RowLemmas
 pub mod OfferLemmas
 pub mod AlikeLemmas
 pub mod FitLemmas
+pub mod InOrderLemmas

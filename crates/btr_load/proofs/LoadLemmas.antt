@@ -17,14 +17,16 @@ use Rattle.btr_hall.specs.declared.session.Session.{Session}
 use Rattle.btr_hall.specs.Trace.{history_of}
 use Rattle.btr_hall.specs.Session.{Looks, IsAlone, opening_of, seen_of}
 use Rattle.btr_jobs.specs.Course.{Start, Course, GoesOn}
-use Rattle.btr_jobs.specs.Jobs.{AllDid, Does}
+use Rattle.btr_jobs.specs.Jobs.{AllDid, DidInTurn, Does}
+use Rattle.btr_jobs.proofs.InTurnLemmas.{turn_all}
 use Rattle.btr_jobs.proofs.TurnLemmas.{look_turn}
 use Rattle.btr_load.specs.declared.fate.Fate.{Fate}
 use Rattle.btr_load.specs.declared.fate.Fate.TheVariants.{Output, NotCreated, Committed}
 use Rattle.btr_load.specs.declared.stream.LoadedStream.{LoadedStream}
 use Rattle.btr_load.specs.Batches.{batches_of, last_version}
-use Rattle.btr_load.specs.Work.{FateDid, StreamsDid, IsBlank, FateWorks, Works}
-use Rattle.btr_load.specs.Loads.{IsCommittedTo, IsFound, IsCreated, Opens, OpensEach, Loads}
+use Rattle.btr_load.specs.Work.{FateDid, StreamsDid, StreamsInTurn, IsBlank, FateWorks, Works}
+use Rattle.btr_load.specs.WorkLaws.{works_lasts, works_lowers}
+use Rattle.btr_load.specs.Loads.{IsCommittedTo, IsFound, IsCreated, Opens, OpensEach, Loads, LoadsInTurn}
 use Rattle.btr_load.specs.Plan.{IsPlanned, ArePlanned, AreReady, AreOpened}
 use Rattle.btr_load.proofs.BatchLemmas.{last_blank}
 use Rattle.btr_load.proofs.CreateLemmas.{all_opened_last}
@@ -143,4 +145,26 @@ load_is start late early low rows batch before after streams refused own more sa
       begins = on.begins;
       commits = streams_did start late early.history after streams more ready_now all;
       own = λ n. times_append n own more;
+    }
+
+-- A whole load by one worker: the creates, then the jobs one after another.
+streams_turn : (start : Start) (late : Course) (low : List Entry) (before after : List LoadedStream) (own : List ℕ) → AreReady before → DidInTurn Works start late low before after own → StreamsInTurn start late low after own
+streams_turn start late low [] [] own ready turn = turn
+streams_turn start late low [] (now ∷ after) own ready turn = absurd turn
+streams_turn start late low (was ∷ before) [] own ready turn = absurd turn
+streams_turn start late low (was ∷ before) (now ∷ after) own ready turn =
+    let works = turn.5 in
+    let did = fate_did start turn.0 low (batches_of was.batch was.rows.points) was.fate now.fate turn.3 (works.fate ready.0) in
+    let same : batches_of was.batch was.rows.points ≡ batches_of now.batch now.rows.points =
+    λ i. batches_of (sym works.batch i) (sym works.rows i).points in
+    (turn.0, turn.1, turn.2, turn.3, turn.4, subst (λ b. FateDid start turn.0 low b now.fate turn.3) same did, streams_turn start late turn.0.history before after turn.4 ready.1 turn.6, turn.7)
+
+pub load_turn : (start : Start) (late early : Course) (low : List Entry) (rows : RowListValue) (batch : ℕ) (before after streams : List LoadedStream) (refused : List RefusedRow) (own more : List ℕ) → refused ≡ rows.refused → ArePlanned low batch rows.streams before → AreReady before → GoesOn start late early → AreOpened start early low low before after own early.history → DidInTurn Works start late early.history after streams more → LoadsInTurn start late low rows batch (record { streams = streams; refused = refused }) (own ++ more)
+unfolding load_is
+load_turn start late early low rows batch before after streams refused own more same planned ready on opened turn =
+    let all = turn_all Works start works_lowers works_lasts late early.history after streams more turn in
+    let ready_now = ready_after start early low low before after own early.history opened ready in
+    record {
+      loads = load_is start late early low rows batch before after streams refused own more same planned ready on opened all;
+      in_turn = streams_turn start late early.history after streams more ready_now turn;
     }

@@ -8,6 +8,7 @@ pub mod Loads
 pub mod There
 pub mod Alike
 pub mod Fits
+pub mod InOrder
 -- what private functions promise: the streams before any commit, and after the creates
 pub mod Plan
 -- the laws that the job of a stream cites

@@ -17,7 +17,7 @@ use Rattle.btr_load.specs.declared.fate.Fate.{Fate}
 use Rattle.btr_load.specs.declared.fate.Fate.TheVariants.{Output, NotCreated, Committed}
 use Rattle.btr_load.specs.declared.stream.LoadedStream.{LoadedStream}
 use Rattle.btr_load.specs.Batches.{last_version}
-use Rattle.btr_load.specs.Work.{StreamsDid}
+use Rattle.btr_load.specs.Work.{StreamsDid, StreamsInTurn}
 
 -- What became of rows: the streams in the order of the rows, and the rows that were refused before.
 pub record LoadedValue : Type 0 where
@@ -71,3 +71,9 @@ pub record Loads (start : Start) (course : Course) (low : List Entry) (rows : Ro
   pub begins : StartsWith course.history middle
   pub commits : StreamsDid start course middle loaded.streams committed
   pub own : (n : ℕ) → times n numbers ≡ times n created + times n committed
+
+-- A load by one worker: the streams were committed one after another.
+pub record LoadsInTurn (start : Start) (course : Course) (low : List Entry) (rows : RowListValue) (batch : ℕ) (loaded : LoadedValue)
+    (numbers : List ℕ) : Type 0 where
+  pub loads : Loads start course low rows batch loaded numbers
+  pub in_turn : StreamsInTurn start course loads.middle loaded.streams loads.committed

@@ -7,7 +7,7 @@ use Rattle.btr_engine.specs.declared.step.StepFault.{StepFault}
 use Rattle.btr_engine.specs.declared.step.StepFault.TheVariants.{Want}
 use Rattle.btr_gate.specs.Numbers.{times}
 use Rattle.btr_gate.specs.Prefixes.{StartsWith}
-use Rattle.btr_jobs.specs.Course.{Start, Course}
+use Rattle.btr_jobs.specs.Course.{Start, Course, GoesOn}
 use Rattle.btr_jobs.specs.Turns.{IsIdle, CommittedAfter}
 use Rattle.btr_load.specs.declared.fate.Fate.{Fate}
 use Rattle.btr_load.specs.declared.fate.Fate.TheVariants.{Output, NotCreated, Committed}
@@ -46,6 +46,15 @@ abbrev pub StreamsDid : Start → Course → List Entry → List LoadedStream �
 StreamsDid start course low [] own = (n : ℕ) → times n own ≡ 0
 StreamsDid start course low (s ∷ streams) own =
     (first rest : List ℕ) × StreamDid start course low s first × StreamsDid start course low streams rest
+    × ((n : ℕ) → times n own ≡ times n first + times n rest)
+
+-- The streams were committed one after another. `middle` is the course after the first one. Of it is said what was committed of this
+-- stream, after all of `low` had been seen. The others followed after all of its history. `own` are the numbers of it, in some order.
+abbrev pub StreamsInTurn : Start → Course → List Entry → List LoadedStream → List ℕ → Type 0
+StreamsInTurn start late low [] own = StartsWith late.history low × ((n : ℕ) → times n own ≡ 0)
+StreamsInTurn start late low (s ∷ streams) own =
+    (middle : Course) × GoesOn start late middle × StartsWith middle.history low × (first rest : List ℕ)
+    × StreamDid start middle low s first × StreamsInTurn start late middle.history streams rest
     × ((n : ℕ) → times n own ≡ times n first + times n rest)
 
 -- ---- what private functions promise

@@ -3,6 +3,7 @@
 ghost use Rattle.btr_load.specs.There.{RowsAreDistinct, BatchesAreThere};
 ghost use Rattle.btr_load.specs.Alike.{LoadsAlike};
 ghost use Rattle.btr_load.specs.Fits.{LoadsFit};
+ghost use Rattle.btr_load.specs.InOrder.{LoadsInOrder};
 
 /// Rows that were read have each id once.
 pub fn rows_are_distinct()
@@ -26,4 +27,11 @@ pub fn loads_are_alike()
 /// refused since the device is full.
 pub fn loads_fit()
     ensures { LoadsFit }
+{}
+
+/// One worker has one right outcome, also on a nearly full device: it makes the creates in order, and then commits the batches stream by
+/// stream. Each entry is added if the model accepts it and the blocks that are left suffice. The history and all results are those. This
+/// is so if nobody else added anything, the store was not stopped, the device did not fail, and there was enough memory.
+pub fn loads_in_order()
+    ensures { LoadsInOrder }
 {}

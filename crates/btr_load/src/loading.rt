@@ -2,7 +2,7 @@
 ghost use Rattle.std.specs.Prelude.{◌≡◌, ◌≤◌, [], IfOk, OnErr};
 ghost use Rattle.btr_hall.specs.Session.{IsAlone};
 ghost use Rattle.btr_jobs.specs.Jobs.{IsAt, Does};
-ghost use Rattle.btr_load.specs.Loads.{Loads};
+ghost use Rattle.btr_load.specs.Loads.{Loads, LoadsInTurn};
 
 use crate::loaded::Loaded;
 use crate::opening::open_streams;
@@ -17,9 +17,9 @@ use std::sync::Wait;
 use std::thread::Threads;
 
 /// Loads rows: creates each stream whose id the store does not have, in the order of the rows, and then commits the points of each
-/// stream in batches of this many points. The streams are shared among at most so many workers. The batches of a stream are
-/// committed in order, by one worker; a refused batch does not stop later ones. The rows of an output are not committed. The turns
-/// of `pace` are the streams, from 0 on.
+/// stream in batches of this many points. The streams are shared among at most so many workers; one worker commits them one after
+/// another. The batches of a stream are committed in order, by one worker; a refused batch does not stop later ones. The rows of an
+/// output are not committed. The turns of `pace` are the streams, from 0 on.
 ///
 /// The session is the only one of its hall, before and after. All memory for the result is taken first: an `Err` means out of
 /// memory, and that nothing was added. Memory that runs out later is the result of one batch or create. It takes time linear in the
@@ -41,6 +41,8 @@ pub fn load<R: Threads + Wait + Sync, D: Disk + Send, P: Pace + Sync>(
     ensures alone { IsAlone session.new }
     ensures loads { IfOk result (λ loaded. Does hall.now session.old session.new
         (λ start course low own. Loads start course low rows batch loaded own)) }
+    ensures in_turn { workers ≤ 1 → IfOk result (λ loaded. Does hall.now session.old session.new
+        (λ start course low own. LoadsInTurn start course low rows batch loaded own)) }
     ensures refused { OnErr result (Does hall.now session.old session.new (λ start course low own. own ≡ [])) }
 {
     let snapshot = session.admit(rt, hall)?;

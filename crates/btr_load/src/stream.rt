@@ -13,7 +13,9 @@ use btr_hist::Entry;
 use btr_jobs::Job;
 use btr_rows::{NumberedPoint, StreamRows};
 use std::alloc::{AllocError, Global};
+use std::marker::{Send, Sync};
 use std::sync::Wait;
+use std::thread::Threads;
 
 /// The rows of one stream, and what became of them.
 #[derive(Drop)]
@@ -34,7 +36,7 @@ impl Job for LoadedStream {
 
     ghost did = { Works };
 
-    fn run<R: Wait, D: Disk>(
+    fn run<R: Threads + Wait + Sync, D: Disk + Send>(
         &mut self,
         rt: &R,
         alloc: Global,

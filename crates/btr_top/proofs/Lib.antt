@@ -18,6 +18,8 @@ mod LaneServes
 mod RoundServes
 mod PlaceLemmas
 mod HistoriesFit
+mod PartyServes
+mod RunFits
 mod ScriptFits
 mod PlainStatuses
 mod StoreCompletes

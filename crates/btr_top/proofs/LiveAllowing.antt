@@ -18,9 +18,11 @@ use Rattle.btr_jobs.specs.Turns.{IsIdle, CommittedAfter}
 use Rattle.btr_work.specs.declared.report.ReportLine as brought
 use Rattle.btr_live.specs.declared.live.LiveReport.{LiveReport}
 use Rattle.btr_live.specs.Meaning.{Meaning, Commits, Asks, Holds, Current, Refuses}
-use Rattle.btr_live.specs.Lanes.{Offers, Answers, LaneState, begun, RunsLines, RunsLane}
-use Rattle.btr_live.specs.Landings.{IsLanding, Landings}
-use Rattle.btr_live.specs.LaneLaws.{lane_lasts, landings_last}
+use Rattle.btr_live.specs.Lanes.{Offers, Answers, LaneState, begun, RunsLines}
+use Rattle.btr_live.specs.LaneLaws.{lines_last}
+use Rattle.btr_live.specs.RoundsLaws.{rounds_last}
+use Rattle.btr_live.specs.Rounds.{MakesRounds}
+use Rattle.btr_live.proofs.LandingLemmas.{IsLanding, Landings, rounds_land}
 use Rattle.btr_live.specs.OneHistory.{of_lane, lanes_of, lines_of}
 use Rattle.btr_live.specs.Live.{LastRound, RunsLive}
 use Rattle.btr_bulk.specs.Work.{AddsAllowed}
@@ -63,9 +65,6 @@ module _ (start : Start) (course : Course) where
       (answers_allowed old.saw_failure is.4.admitted is.4.asked reply is.0 is.2.history is.4.answers)
       (lines_allowed batch is.2 lines replies is.1 new is.5)
 
-  lane_allowed : (batch : ℕ) (low : List Entry) (lines : List (Option Line)) (replies : List LineReply) (own : List ℕ) → RunsLane batch start course low lines replies own → AddsAllowed course own
-  lane_allowed batch low lines replies own is = lines_allowed batch (begun low) lines replies own is.0 is.1
-
   landing_allowed : (low : List Entry) (n : ℕ) → IsLanding start course low n → AddsAllowed course (n ∷ [])
   landing_allowed low n is = allows_landed start course is.at is.plan is.result (n ∷ []) is.next is.planned.of is.landed
 
@@ -75,6 +74,9 @@ module _ (start : Start) (course : Course) where
       let n : ℕ = length p + 1 in
       let here : 1 ≤ times n (n ∷ []) = let one = one_same n n (λ i. n) in omega (arith, one) in
       landing_allowed low n (lands n listed) p e starts here legal
+
+  rounds_allowed : (count : ℕ) (low : List Entry) (own : List ℕ) → MakesRounds start count low course own → AddsAllowed course own
+  rounds_allowed count low own is = landings_allowed low own (rounds_land start count course low own is)
 
   -- ---- the last round
 
@@ -105,12 +107,15 @@ live_allowed batch materialize start course low script report own runs p e start
           elim (cases_lt 0 (total (times n) runs.mine)) [
             | inl by_lane ↦
                 in_lists (Allowed p e) n runs.mine
-                (λ k here. lane_allowed start course batch low (lines_of k script) (of_lane k (lanes_of script) report.replies.items) (slice_index_or runs.mine k [])
-                (lane_lasts start course runs.middle runs.goes_on batch low (lines_of k script) (of_lane k (lanes_of script) report.replies.items) (slice_index_or runs.mine k []) (runs.lanes.lanes k))
+                (λ k here. lines_allowed start course batch (begun low) (lines_of k script) (of_lane k (lanes_of script) report.replies.items) (slice_index_or runs.mine k []) (runs.lanes.lasts k)
+                (lines_last start course runs.middle runs.goes_on batch (begun low) (lines_of k script) (of_lane k (lanes_of script) report.replies.items) (slice_index_or runs.mine k []) (runs.lanes.lasts k) (runs.lanes.lanes k))
                 p e starts here legal)
                 by_lane
             | inr no_lane ↦
-                landings_allowed start course low runs.landed (landings_last start course runs.middle runs.goes_on low runs.landed runs.lanes.lands)
-                p e starts (omega (arith, listed, sum, none, no_lane)) legal
+                in_lists (Allowed p e) n runs.beside
+                (λ k here. rounds_allowed start course (length script) low (slice_index_or runs.beside k [])
+                (rounds_last start (length script) course runs.middle low (slice_index_or runs.beside k []) runs.goes_on (runs.lanes.parties k))
+                p e starts here legal)
+                (omega (arith, listed, sum, none, no_lane))
           ]
     ]

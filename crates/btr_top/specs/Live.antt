@@ -96,7 +96,7 @@ pub record LivesStore (batch : ℕ) (materialize : Bool) (script : List ScriptLi
     (said : Result Transcript AllocError) (own : List ℕ) : Type 0 where
   pub report : Option LiveReport
   pub runs : RunsIf batch materialize start course script report own
-  -- all lanes and landings made one history, for every schedule of the threads
+  -- all lanes, and the rounds beside them, made one history, for every schedule of the threads
   pub one_history : IfSome report (λ r. OneHistory batch start course script r.replies.items)
   -- the lines of one lane alone have the model's replies, one after another
   pub one_lane : materialize ≡ false → (lane : ℕ) → AreInLane lane script

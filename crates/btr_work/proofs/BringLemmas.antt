@@ -1,19 +1,22 @@
 -- Lemmas on one output that is brought up to date in a session: from its turns to what became of it.
-use Rattle.std.specs.Prelude.{◌≡◌, ℕ, List, [], ◌++◌, Result, Ok, Err}
-use Rattle.std.proofs.Common.{refl, sym, subst}
+use Rattle.std.specs.Prelude.{◌≡◌, ℕ, Bool, true, false, ◌||◌, List, [], ◌++◌, length, Result, Ok, Err}
+use Rattle.std.proofs.Common.{refl, sym, ap, ◌∙◌, subst}
 use Rattle.btr_disk.specs.declared.disk.Disk.{Ghosts}
 use Rattle.btr_hist.specs.declared.entry.Entry.{Entry}
 use Rattle.btr_distil.specs.Plan.{PlanValue}
 use Rattle.btr_plan.specs.Next.{IsUpToDate}
 use Rattle.btr_engine.specs.declared.board.Receipt.{Receipt}
-use Rattle.btr_engine.specs.Engine.{IsEngineOf}
+use Rattle.btr_engine.specs.declared.engine.Engine.{Engine}
+use Rattle.btr_engine.specs.Engine.{IsEngineOf, is_stopped}
 use Rattle.btr_gate.specs.Prefixes.{StartsWith}
 use Rattle.btr_gate.proofs.PrefixLemmas.{starts_refl}
 use Rattle.btr_hall.specs.declared.land.LandFault.{LandFault}
 use Rattle.btr_hall.specs.declared.land.LandFault.TheVariants as faults
 use Rattle.btr_hall.specs.declared.session.Hall.{Hall}
 use Rattle.btr_hall.specs.declared.session.Session.{Session}
-use Rattle.btr_hall.specs.Trace.{history_of}
+use Rattle.btr_hall.specs.declared.item.Item.{Item}
+use Rattle.btr_hall.specs.Trace.{history_of, has_halt, stopped_in}
+use Rattle.btr_hall.proofs.TraceLemmas.{halt_append}
 use Rattle.btr_hall.specs.Session.{IsSame, Looks, opening_of, seen_of}
 use Rattle.btr_hall.specs.Landing.{Lands}
 use Rattle.btr_jobs.specs.Course.{Start, Course, course_of, start_of}
@@ -23,9 +26,26 @@ use Rattle.btr_jobs.proofs.DoesLemmas.{does_then}
 use Rattle.btr_jobs.proofs.TurnLemmas.{land_turn, look_turn}
 use Rattle.btr_work.specs.declared.report.Brought.{Brought}
 use Rattle.btr_work.specs.declared.report.Brought.TheVariants as brought
-use Rattle.btr_work.specs.Report.{IsPlanLanded, IsBrought}
+use Rattle.btr_work.specs.Report.{IsPlanLanded, IsBrought, IsOfStopped, KnowsStopped}
 use Rattle.btr_work.specs.Bringing.{IsPlannedAt}
 use Rattle.btr_work.specs.ReportLaws.{brought_lowers}
+
+or_more : (a b c : Bool) → (a || b) ≡ true → (a || (b || c)) ≡ true
+or_more true b c is = refl
+or_more false true c is = refl
+or_more false false c is = absurd (cc)
+
+module _ {D : Type 0} {disk : Ghosts D} where
+  -- A list that begins with one after which the store is stopped is one after which it is stopped.
+  pub stopped_longer : (x : Engine D disk) (l k : List (Item D disk)) → StartsWith l k → stopped_in x k ≡ true → stopped_in x l ≡ true
+  stopped_longer x l k starts is =
+      ap (λ b. is_stopped x || b) (ap (has_halt {disk = disk}) starts.1 ∙ halt_append k starts.0)
+      ∙ or_more (is_stopped x) (has_halt k) (has_halt starts.0) is
+
+  -- After a look a session knows what it knew.
+  pub knows_after : (hall : Hall D disk) (old new : Session D disk) → Looks hall old new → KnowsStopped hall old → KnowsStopped hall new
+  knows_after hall old new looks knows =
+      (knows.0, knows.1, stopped_longer (opening_of hall) (seen_of new) (seen_of old) looks.grows knows.2)
 
 -- A refused landing.
 refused-by : (start : Start) (course : Course) (low : List Entry) (output : ℕ) (fault : LandFault) (own : List ℕ) → IsPlanLanded start course low output (Err fault) own → IsBrought start course low output (brought.Refused fault) own
@@ -97,3 +117,33 @@ module _ {D : Type 0} {disk : Ghosts D} (hall : Hall D disk) (output : ℕ) wher
       (λ start late early low a b on starts first second.
       subst (λ own. IsBrought start late low output result (own ++ b)) (sym first.0) (brought_lowers start late early.history low output result b starts second))
       turn does
+
+-- ---- a store that is stopped
+
+module _ {D : Type 0} {disk : Ghosts D} (hall : Hall D disk) (old new : Session D disk) (plan : PlanValue) where
+  stops : (result : Result Receipt LandFault) → Lands hall old new plan result → (knows : KnowsStopped hall old) → (count : ℕ) × (result ≡ Err (faults.Stopped count))
+  stops result lands knows =
+      (length (history_of knows.0 lands.before), lands.stopped (stopped_longer (opening_of hall) lands.before (seen_of old) lands.grows knows.2) knows.0 knows.1)
+
+  -- Nothing is landed.
+  pub lands-stopped : (receipt : Receipt) (version : ℕ) → Lands hall old new plan (Ok receipt) → KnowsStopped hall old → IsOfStopped (brought.Landed version)
+  lands-stopped receipt version lands knows = let is = (stops (Ok receipt) lands knows).1 in absurd (cc)
+
+  -- What is refused is refused for that reason.
+  pub refuses-stopped : (fault : LandFault) → Lands hall old new plan (Err fault) → KnowsStopped hall old → IsOfStopped (brought.Refused fault)
+  refuses-stopped fault lands knows =
+      let is = stops (Err fault) lands knows in
+      of fault is.0 is.1
+    where
+      refused : LandFault → Result Receipt LandFault
+      refused fault = Err fault
+
+      of : (fault : LandFault) (count : ℕ) → refused fault ≡ refused (faults.Stopped count) → IsOfStopped (brought.Refused fault)
+      of (faults.Stopped entries) count is = tt
+      of (faults.Superseded version) count is = absurd (cc)
+      of faults.VersionLimit count is = absurd (cc)
+      of (faults.Crowded at) count is = absurd (cc)
+      of (faults.TooManyPoints points) count is = absurd (cc)
+      of faults.Want count is = tt
+      of (faults.DeviceFull need left) count is = absurd (cc)
+      of faults.DeviceFault count is = absurd (cc)

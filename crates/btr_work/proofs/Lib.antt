@@ -4,5 +4,5 @@ pub mod QuietLemmas
 pub mod OwnLemmas
 pub mod CurrentLemmas
 pub mod AlikeLemmas
-mod BringLemmas
+pub mod BringLemmas
 mod DoneLemmas

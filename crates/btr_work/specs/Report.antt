@@ -1,13 +1,19 @@
 -- What the report says of outputs that were to be brought up to date, level by level.
-use Rattle.std.specs.Prelude.{◌≡◌, ℕ, ◌+◌, List, [], ◌∷◌, map, Result, Ok, Err}
+use Rattle.std.specs.Prelude.{◌≡◌, ℕ, ◌+◌, true, List, [], ◌∷◌, map, Result, Ok, Err}
+use Rattle.btr_disk.specs.declared.disk.Disk.{Ghosts}
 use Rattle.btr_hist.specs.declared.entry.Entry.{Entry}
 use Rattle.btr_distil.specs.Plan.{PlanValue}
 use Rattle.btr_plan.specs.Next.{IsUpToDate, IsNextPlan}
 use Rattle.btr_engine.specs.declared.board.Receipt.{Receipt}
+use Rattle.btr_engine.specs.Engine.{IsEngineOf}
 use Rattle.btr_gate.specs.Prefixes.{StartsWith}
 use Rattle.btr_gate.specs.Numbers.{times}
 use Rattle.btr_hall.specs.declared.land.LandFault.{LandFault}
-use Rattle.btr_hall.specs.declared.land.LandFault.TheVariants.{Want}
+use Rattle.btr_hall.specs.declared.land.LandFault.TheVariants.{Stopped, Want}
+use Rattle.btr_hall.specs.declared.session.Hall.{Hall}
+use Rattle.btr_hall.specs.declared.session.Session.{Session}
+use Rattle.btr_hall.specs.Trace.{stopped_in}
+use Rattle.btr_hall.specs.Session.{opening_of, seen_of}
 use Rattle.btr_jobs.specs.Course.{Start, Course, GoesOn}
 use Rattle.btr_jobs.specs.Turns.{LandedAfter}
 use Rattle.btr_work.specs.declared.report.Brought.{Brought}
@@ -45,6 +51,20 @@ IsBrought start course low output (Landed version) own =
 IsBrought start course low output (Current version) own = IsCurrentAt course low output version own
 IsBrought start course low output (Refused Want) own = own ≡ []
 IsBrought start course low output (Refused fault) own = IsPlanLanded start course low output (Err fault) own
+
+-- What can become of an output if the session had seen that the store is stopped: it is up to date, or it is refused since the store is
+-- stopped, or there was no memory for a plan.
+abbrev pub IsOfStopped : Brought → Type 0
+IsOfStopped (Landed version) = ⊥
+IsOfStopped (Current version) = Unit {0}
+IsOfStopped (Refused (Stopped entries)) = Unit {0}
+IsOfStopped (Refused Want) = Unit {0}
+IsOfStopped (Refused fault) = ⊥
+
+module _ {D : Type 0} {disk : Ghosts D} where
+  -- The session has seen that the store is stopped, with which history the hall may have begun.
+  abbrev pub KnowsStopped : Hall D disk → Session D disk → Type 0
+  KnowsStopped hall s = (h : List Entry) × IsEngineOf h (opening_of hall) × (stopped_in (opening_of hall) (seen_of s) ≡ true)
 
 -- ---- all outputs
 

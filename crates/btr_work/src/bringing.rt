@@ -8,9 +8,8 @@ ghost use Rattle.btr_hall.specs.Session.{Looks, opening_of, seen_of};
 ghost use Rattle.btr_plan.specs.Next.{IsNext};
 ghost use Rattle.btr_jobs.specs.Course.{Start, Course, GoesOn};
 ghost use Rattle.btr_jobs.specs.Jobs.{IsAt, Does};
-ghost use Rattle.btr_work.specs.Report.{IsBrought};
-ghost use Rattle.btr_work.specs.Bringing.{IsPlannedAt};
-ghost use Rattle.btr_work.specs.Bringing.{IsPlannedAt};
+ghost use Rattle.btr_work.specs.Report.{IsBrought, IsOfStopped, KnowsStopped};
+ghost use Rattle.btr_work.specs.Bringing.{IsDone, IsPlannedAt};
 
 use crate::report::Brought;
 use btr_disk::Disk;
@@ -19,7 +18,9 @@ use btr_hall::{Hall, LandFault, Session};
 use btr_jobs::Job;
 use btr_plan::{Next, next_plan};
 use std::alloc::{AllocError, Global};
+use std::marker::{Send, Sync};
 use std::sync::Wait;
+use std::thread::Threads;
 
 /// The work of bringing an output up to date, and what became of it. Before it is done, that is as if there had been no memory.
 #[derive(Drop)]
@@ -28,20 +29,37 @@ pub(crate) struct OutputJob {
     pub(crate) result: Brought,
 }
 
+impl OutputJob {
+    /// Brings the output up to date, and keeps what became of it.
+    pub(crate) fn bring<R: Wait, D: Disk>(
+        &mut self,
+        rt: &R,
+        alloc: Global,
+        hall: &Hall<D>,
+        session: &mut Session<D>,
+    )
+        requires at { IsAt hall.now session.old }
+        ensures at { IsAt hall.now session.new }
+        ensures done { Does hall.now session.old session.new (λ start course low own. IsDone start course low self.old self.new own) }
+    {
+        self.result = bring_output(rt, alloc, hall, session, self.output);
+    }
+}
+
 impl Job for OutputJob {
     ghost use Rattle.btr_work.specs.Bringing.{IsDone};
     ghost use Rattle.btr_work.specs.ReportLaws.{done_lasts, done_lowers};
 
     ghost did = { IsDone };
 
-    fn run<R: Wait, D: Disk>(
+    fn run<R: Threads + Wait + Sync, D: Disk + Send>(
         &mut self,
         rt: &R,
         alloc: Global,
         hall: &Hall<D>,
         session: &mut Session<D>,
     ) {
-        self.result = bring_one(rt, alloc, hall, session, self.output);
+        self.bring(rt, alloc, hall, session);
     }
 
     ghost lasts = { done_lasts };
@@ -49,8 +67,11 @@ impl Job for OutputJob {
     ghost lowers = { done_lowers };
 }
 
-/// Plans what the output needs, and lands it if there is a plan.
-fn bring_one<R: Wait, D: Disk>(
+/// Brings one output up to date: one admission, a plan from its snapshot, after the turn, and its landing in another turn. If the stream
+/// is no output, that is as if there had been no memory.
+///
+/// It costs what the plan and the landing cost, which follows what has changed in the inputs since the latest version of the output.
+pub fn bring_output<R: Wait, D: Disk>(
     rt: &R,
     alloc: Global,
     hall: &Hall<D>,
@@ -60,6 +81,7 @@ fn bring_one<R: Wait, D: Disk>(
     requires at { IsAt hall.now session.old }
     ensures at { IsAt hall.now session.new }
     ensures brought { Does hall.now session.old session.new (λ start course low own. IsBrought start course low output result own) }
+    ensures stopped { KnowsStopped hall.now session.old → IsOfStopped result }
 {
     match plan_output(rt, alloc, hall, session, output) {
         Ok(Next::UpToDate { version }) => Brought::Current { version },
@@ -100,6 +122,7 @@ fn land<R: Wait, D: Disk>(
     requires planned { IsPlannedAt hall.now session.old output plan.now }
     ensures at { IsAt hall.now session.new }
     ensures brought { Does hall.now session.old session.new (λ start course low own. IsBrought start course low output result own) }
+    ensures stopped { KnowsStopped hall.now session.old → IsOfStopped result }
 {
     match session.land(rt, alloc, hall, plan) {
         Ok(receipt) => Brought::Landed {

@@ -5,18 +5,18 @@ ghost use Rattle.btr_jobs.specs.Jobs.{IsAt, Does, AllDid};
 ghost use Rattle.btr_work.specs.Report.{Brings};
 ghost use Rattle.btr_work.specs.Bringing.{IsDone, AreDone, jobs_in};
 
+use crate::bringing::OutputJob;
 use crate::current::prepare_seen;
 use crate::filling::report_of;
 use crate::prepare::Level;
 use crate::report::Report;
 use btr_disk::Disk;
 use btr_hall::{Hall, Session};
-use btr_jobs::{NoPace, run_in_turn};
 use std::alloc::{AllocError, Global};
 use std::sync::Wait;
 
-/// Brings each output up to date once, in this session: [`bring_current`] with one worker. The outputs are done one after another,
-/// level by level.
+/// Brings each output up to date once, in this session: [`bring_current`] with one worker, for a job, which starts no thread. The
+/// outputs are done one after another, level by level.
 ///
 /// [`bring_current`]: crate::bring_current
 pub fn bring_current_here<R: Wait, D: Disk>(
@@ -68,5 +68,23 @@ fn bring_level_here<R: Wait, D: Disk>(
     ensures done { Does hall.now session.old session.new
         (λ start course low own. AllDid IsDone start course low level.old.jobs.items level.new.jobs.items own) }
 {
-    run_in_turn(rt, alloc, hall, session, 0, &mut level.jobs, &NoPace);
+    bring_each(rt, alloc, hall, session, &mut level.jobs);
+}
+
+/// Does jobs one after another.
+fn bring_each<R: Wait, D: Disk>(
+    rt: &R,
+    alloc: Global,
+    hall: &Hall<D>,
+    session: &mut Session<D>,
+    jobs: &mut [OutputJob],
+)
+    requires at { IsAt hall.now session.old }
+    ensures at { IsAt hall.now session.new }
+    ensures jobs { length jobs.new ≡ length jobs.old }
+    ensures done { Does hall.now session.old session.new (λ start course low own. AllDid IsDone start course low jobs.old jobs.new own) }
+{
+    for job in jobs.iter_mut() {
+        job.bring(rt, alloc, hall, session);
+    }
 }

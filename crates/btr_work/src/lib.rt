@@ -1,7 +1,8 @@
 //! Outputs are brought up to date by many workers.
 //!
 //! [`levels`] sorts the outputs of a store by levels: each stands above its inputs. [`bring_current`] brings each output up to date
-//! once, level by level; the outputs of a level are shared among workers. Its [`Report`] says what became of each.
+//! once, level by level; the outputs of a level are shared among workers. Its [`Report`] says what became of each. [`bring_output`]
+//! brings one output up to date.
 #![tactic(auto)]
 
 // which outputs come first
@@ -18,6 +19,7 @@ mod prepare;
 // laws of reports
 mod laws;
 
+pub use bringing::bring_output;
 pub use current::bring_current;
 pub use here::bring_current_here;
 pub use laws::{brought_is_alike, brought_is_current};

@@ -4,6 +4,7 @@ use Rattle.std.proofs.Crossing.{crosses}
 use Rattle.btr_jobs.specs.Jobs.{IsAt, Does}
 use Rattle.btr_jobs.proofs.CrossingLemmas.{worker_send}
 use Rattle.btr_jobs.proofs.RunLemmas.{Did, did_both}
+use Rattle.btr_jobs.proofs.InTurnLemmas.{in_turn_all}
 use Rattle.btr_jobs.proofs.run.+workers.Goals as goal
 
 pub both_halves-join_mut-requires-send-F : goal.both_halves-join_mut-requires-send-F
@@ -13,6 +14,11 @@ both_halves-join_mut-requires-send-F g t c κs within =
     let job = c.requires.crossing.2 in
     let pace = c.requires.crossing.3 in
     search (sendable, crosses, worker_send) depth 40
+
+pub share_out-returns-then-workers-le1-clause-does : goal.share_out-returns-then-workers-le1-clause-does
+share_out-returns-then-workers-le1-clause-does g t c =
+    let laws = g.met.J.Job g.world.𝓛 g.world.𝓜 g.world.𝓡 ((λ s x. x), (λ x. x), (λ x. x), λ x. x) in
+    in_turn_all g.J.Job.did c.args.worker.now.hall.now laws.lasts laws.lowers c.args.worker.now.session c.run_in_turn.new.session c.args.jobs.now c.run_in_turn.new.jobs c.run_in_turn.ensures.in_turn
 
 pub share_out-returns-clause-does : goal.share_out-returns-clause-does
 share_out-returns-clause-does g t c =

@@ -1,9 +1,9 @@
 use Rattle.std.proofs.Common.{◌≡◌, length, take, drop}
-use Rattle.btr_jobs.specs.Jobs.{IsAt, Does, AllDid}
+use Rattle.btr_jobs.specs.Jobs.{IsAt, Does, DidInTurn}
 use Rattle.btr_jobs.proofs.run.run_in_turn.Given as goal
 
 abbrev pub invariant-loop-job : goal.invariant-loop-job
 invariant-loop-job g l =
     IsAt l.hall l.session × (length l.jobs ≡ length l.initial.jobs)
     × (drop l.job-index l.jobs ≡ drop l.job-index l.initial.jobs)
-    × Does l.hall l.initial.session l.session (λ start course low own. AllDid g.J.Job.did start course low (take l.job-index l.initial.jobs) (take l.job-index l.jobs) own)
+    × Does l.hall l.initial.session l.session (λ start course low own. DidInTurn g.J.Job.did start course low (take l.job-index l.initial.jobs) (take l.job-index l.jobs) own)

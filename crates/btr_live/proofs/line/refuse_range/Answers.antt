@@ -1,6 +1,6 @@
 -- The store is stopped, or the stream is an output, or there is no memory.
 use Rattle.std.specs.Prelude.{Err}
-use Rattle.std.proofs.Common.{◌≡◌, ◌∙◌, [], ◌∷◌, sym, refl, true, false}
+use Rattle.std.proofs.Common.{◌∙◌, [], ◌∷◌, sym, refl}
 use Rattle.btr_hist.specs.declared.entry.Entry.TheVariants.{Commit}
 use Rattle.btr_hist.specs.declared.rejection.Rejection.TheVariants.{NotWritable}
 use Rattle.btr_engine.specs.declared.step.StepFault.TheVariants.{Stopped, Rejected, Want}

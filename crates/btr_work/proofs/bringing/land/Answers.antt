@@ -1,4 +1,4 @@
-use Rattle.btr_work.proofs.BringLemmas.{landed-brought, refused-brought}
+use Rattle.btr_work.proofs.BringLemmas.{landed-brought, refused-brought, lands-stopped, refuses-stopped}
 use Rattle.btr_work.proofs.bringing.land.Goals as goal
 
 pub returns-in-Ok-clause-brought : goal.returns-in-Ok-clause-brought
@@ -8,3 +8,11 @@ returns-in-Ok-clause-brought g c =
 pub returns-in-Err-clause-brought : goal.returns-in-Err-clause-brought
 returns-in-Err-clause-brought g c =
     refused-brought c.args.hall.now c.args.output c.args.session.now c.land.new.self c.args.plan.now c.in-Err.fault c.in-Err.ensures.same c.in-Err.ensures.lands c.requires.planned
+
+pub returns-in-Ok-clause-stopped : goal.returns-in-Ok-clause-stopped
+returns-in-Ok-clause-stopped g c =
+    lands-stopped c.args.hall.now c.args.session.now c.land.new.self c.args.plan.now c.in-Ok.receipt c.in-Ok.receipt.version c.in-Ok.ensures.lands
+
+pub returns-in-Err-clause-stopped : goal.returns-in-Err-clause-stopped
+returns-in-Err-clause-stopped g c =
+    refuses-stopped c.args.hall.now c.args.session.now c.land.new.self c.args.plan.now c.in-Err.fault c.in-Err.ensures.lands

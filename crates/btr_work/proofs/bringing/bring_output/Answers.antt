@@ -2,8 +2,8 @@ use Rattle.std.proofs.Common.{subst}
 use Rattle.btr_hall.specs.Trace.{history_of}
 use Rattle.btr_hall.specs.Session.{seen_of}
 use Rattle.btr_plan.specs.Next.{IsNext}
-use Rattle.btr_work.proofs.BringLemmas.{current-brought, look-brought, want-brought}
-use Rattle.btr_work.proofs.bringing.bring_one.Goals as goal
+use Rattle.btr_work.proofs.BringLemmas.{current-brought, look-brought, want-brought, knows_after}
+use Rattle.btr_work.proofs.bringing.bring_output.Goals as goal
 
 pub returns-in-Ok-UpToDate-clause-brought : goal.returns-in-Ok-UpToDate-clause-brought
 returns-in-Ok-UpToDate-clause-brought g c =
@@ -22,3 +22,7 @@ returns-in-Ok-NotOutput-clause-brought g c =
 pub returns-in-Ok-NotOutput-2-clause-brought : goal.returns-in-Ok-NotOutput-2-clause-brought
 returns-in-Ok-NotOutput-2-clause-brought g c =
     want-brought c.args.hall.now c.args.output c.args.session.now c.plan_output.new.session c.plan_output.ensures.looks
+
+pub returns-in-Ok-Plan-clause-stopped : goal.returns-in-Ok-Plan-clause-stopped
+returns-in-Ok-Plan-clause-stopped g c = λ knows.
+    c.land.ensures.stopped (knows_after c.args.hall.now c.args.session.now c.plan_output.new.session c.plan_output.ensures.looks knows)

@@ -1,0 +1,66 @@
+-- A plain store on a device: entries are offered to it one after another, and each is added if the model accepts it and there is room.
+use Rattle.std.specs.Prelude.{◌≡◌, ℕ, ◌+◌, ◌-◌, ◌≤◌, nat_lt, false, List, [], ◌∷◌, ◌++◌, if◌then◌else◌, Option, Some, None, Result, Ok, Err}
+use Rattle.btr_hist.specs.declared.entry.Entry.{Entry}
+use Rattle.btr_hist.specs.declared.rejection.Rejection.{Rejection}
+use Rattle.btr_hist.specs.Legal.{rejection}
+use Rattle.btr_hist.specs.Machine as machine
+use Rattle.btr_engine.specs.declared.board.Receipt.{Receipt}
+use Rattle.btr_engine.specs.declared.step.StepFault.{StepFault}
+use Rattle.btr_engine.specs.declared.step.StepFault.TheVariants as steps
+use Rattle.btr_engine.specs.Body.{need_of}
+use Rattle.btr_hall.specs.Commit.{needs_of}
+use Rattle.btr_jobs.specs.Course.{Start, Course}
+
+-- What the store has: a history, and the blocks that are left.
+pub record Contents : Type 0 where
+  pub history : List Entry
+  pub left : ℕ
+
+-- What becomes of an entry: it is added, with this receipt; the model rejects it; or it needs so many blocks, and only so many are left.
+pub data Outcome : Type 0 where
+  Taken : Receipt → Outcome
+  Rejected : Rejection → Outcome
+  Full : ℕ → ℕ → Outcome
+
+-- The model's receipt of an entry that follows h.
+abbrev pub receipt_of : List Entry → Entry → Receipt
+receipt_of h e = record {
+  number = (machine.receipt h e).number;
+  stream = (machine.receipt h e).stream;
+  version = (machine.receipt h e).version;
+}
+
+-- What becomes of an entry, by the model's rejection of it.
+abbrev pub outcome_by : Contents → Entry → Option Rejection → Outcome
+outcome_by c e (Some why) = Rejected why
+outcome_by c e None = if nat_lt c.left (need_of e) then Full (need_of e) c.left else Taken (receipt_of c.history e)
+
+-- What the store has after an entry of which this became.
+abbrev pub contents_by : Contents → Entry → Outcome → Contents
+contents_by c e (Taken receipt) = record { history = c.history ++ e ∷ []; left = c.left - need_of e }
+contents_by c e (Rejected why) = c
+contents_by c e (Full need left) = c
+
+-- What becomes of an entry that is offered.
+abbrev pub outcome : Contents → Entry → Outcome
+outcome c e = outcome_by c e (rejection c.history e)
+
+-- What the store has after it.
+abbrev pub contents_after : Contents → Entry → Contents
+contents_after c e = contents_by c e (outcome c e)
+
+-- The result of an entry of which this became.
+abbrev pub result_of : Outcome → Result Receipt StepFault
+result_of (Taken receipt) = Ok receipt
+result_of (Rejected why) = Err (steps.Rejected why)
+result_of (Full need left) = Err (steps.DeviceFull need left)
+
+-- What a store had when its hall began.
+abbrev pub first_contents : Start → Contents
+first_contents start = record { history = start.history; left = start.left }
+
+-- The store was not stopped, and the device did not fail. The entries need no more blocks than there were.
+pub record RunsThrough (start : Start) (course : Course) : Type 0 where
+  pub runs : start.stopped ≡ false
+  pub whole : course.failed ≡ None
+  pub fits : needs_of course.history ≤ start.left + needs_of start.history

@@ -1,0 +1,112 @@
+-- Lemmas on a line that brings an output up to date: from what became of the output to the reply.
+use Rattle.std.specs.Prelude.{◌≡◌, ℕ, ◌++◌, Bool, true, List, [], ◌∷◌, Result, Ok, Err}
+use Rattle.std.proofs.Common.{refl, sym, subst, inl, inr}
+use Rattle.btr_disk.specs.declared.disk.Disk.{Ghosts}
+use Rattle.btr_hist.specs.declared.entry.Entry.{Entry}
+use Rattle.btr_distil.specs.Plan.{PlanValue, entry_of}
+use Rattle.btr_plan.specs.Next.{IsNextPlan}
+use Rattle.btr_engine.specs.declared.board.Receipt.{Receipt}
+use Rattle.btr_text.specs.declared.reply.LineReply.{LineReply}
+use Rattle.btr_text.specs.declared.reply.LineReply.TheVariants as replies
+use Rattle.btr_text.specs.declared.reply.Reason.TheVariants as reasons
+use Rattle.btr_gate.specs.Prefixes.{StartsWith}
+use Rattle.btr_gate.proofs.PrefixLemmas.{starts_refl}
+use Rattle.btr_hall.specs.declared.land.LandFault.{LandFault}
+use Rattle.btr_hall.specs.declared.land.LandFault.TheVariants as faults
+use Rattle.btr_hall.specs.declared.session.Hall.{Hall}
+use Rattle.btr_hall.specs.declared.session.Session.{Session}
+use Rattle.btr_jobs.specs.Course.{Start, Course, start_of, course_of}
+use Rattle.btr_jobs.specs.Turns.{Landed, LandedAfter}
+use Rattle.btr_jobs.specs.Jobs.{Does}
+use Rattle.btr_jobs.proofs.CourseLemmas.{history_goes_on}
+use Rattle.btr_work.specs.declared.report.Brought.{Brought}
+use Rattle.btr_work.specs.declared.report.Brought.TheVariants as brought
+use Rattle.btr_work.specs.Report.{IsPlanLanded, IsBrought, IsOfStopped, KnowsStopped}
+use Rattle.btr_live.specs.Meaning.{Commits, Current, Refuses}
+use Rattle.btr_live.specs.Lanes.{reply_of_landing, Offers}
+use Rattle.btr_live.specs.Serving.{Serves, RefreshAsks, reply_of_brought, was_told, ServesIn}
+use Rattle.btr_live.proofs.OutputLines.{refresh-plan, refresh-up_to_date}
+
+module _ (start : Start) (course : Course) where
+  -- The history that is known after a landing begins that of the course.
+  landed_ends : (p : List Entry) (plan : PlanValue) (result : Result Receipt LandFault) (own : List ℕ) (next : List Entry) → StartsWith course.history p → Landed start course p plan result own next → StartsWith course.history next
+  landed_ends p plan (Ok receipt) own next begins is = subst (StartsWith course.history) (sym is.2.next) is.2.follows
+  landed_ends p plan (Err (faults.Stopped entries)) own next begins is = subst (StartsWith course.history) (sym is.1.next) begins
+  landed_ends p plan (Err (faults.Superseded version)) own next begins is = subst (StartsWith course.history) (sym is.3.next) begins
+  landed_ends p plan (Err faults.VersionLimit) own next begins is = subst (StartsWith course.history) (sym is.2.next) begins
+  landed_ends p plan (Err (faults.Crowded at)) own next begins is = subst (StartsWith course.history) (sym is.3.next) begins
+  landed_ends p plan (Err (faults.TooManyPoints count)) own next begins is = subst (StartsWith course.history) (sym is.3.next) begins
+  landed_ends p plan (Err faults.Want) own next begins is = subst (StartsWith course.history) (sym is.2.next) begins
+  landed_ends p plan (Err (faults.DeviceFull need left)) own next begins is = subst (StartsWith course.history) (sym is.3.next) begins
+  landed_ends p plan (Err faults.DeviceFault) own next begins is = subst (StartsWith course.history) (sym is.2.next) begins
+
+  module _ (saw_failure : Bool) (low : List Entry) (stream : ℕ) (own : List ℕ) where
+    -- Who saw the device fail has a reply that says so.
+    abbrev SaysAgain : LineReply → Type 0
+    SaysAgain reply = saw_failure ≡ true → (count : ℕ) × (reply ≡ replies.No (reasons.Stopped count))
+
+    -- A plan was landed.
+    plan_serves : (result : Result Receipt LandFault) → SaysAgain (reply_of_landing result) → IsPlanLanded start course low stream result own → Serves start course saw_failure low (RefreshAsks stream) (reply_of_landing result) own
+    plan_serves result again is =
+        let planned : IsNextPlan is.at is.plan.stream is.plan = subst (λ s. IsNextPlan is.at s is.plan) (sym is.planned.same_stream) is.planned in
+        let offers : Offers start course saw_failure is.at (entry_of is.plan) (reply_of_landing result) own is.next = (is.plan, planned, refl, result, is.landed, refl, again) in record {
+          admitted = is.at;
+          after = is.after;
+          begins = is.seen;
+          asked = Commits (entry_of is.plan);
+          asks = inl (refresh-plan is.at stream is.plan is.planned);
+          replies = record {
+            next = is.next;
+            answers = offers;
+            ends = landed_ends is.landed.0 is.plan result own is.next is.landed.2 is.landed.3;
+          };
+        }
+
+    never_so : (fault : LandFault) → (saw_failure ≡ true → ⊥) → SaysAgain (reply_of_landing (Err fault))
+    never_so fault none = λ told. absurd (none told)
+
+    -- What became of the output is replied.
+    by_brought : (result : Brought) → StartsWith course.history low → (saw_failure ≡ true → IsOfStopped result) → IsBrought start course low stream result own → Serves start course saw_failure low (RefreshAsks stream) (reply_of_brought result) own
+    by_brought (brought.Landed version) begins stopped is =
+        subst (λ v. Serves start course saw_failure low (RefreshAsks stream) (replies.Done v) own) (sym is.1)
+        (plan_serves (Ok is.0) (λ told. absurd (stopped told)) is.2)
+    by_brought (brought.Current version) begins stopped is = record {
+      admitted = is.at;
+      after = is.after;
+      begins = is.seen;
+      asked = Current version;
+      asks = inl (refresh-up_to_date is.at stream version is.current);
+      replies = record {
+        next = is.at;
+        answers = (refl, record { own = is.none; next = refl });
+        ends = is.seen;
+      };
+    }
+    by_brought (brought.Refused faults.Want) begins stopped is = record {
+      admitted = low;
+      after = starts_refl low;
+      begins = begins;
+      asked = Refuses reasons.Memory;
+      asks = inr refl;
+      replies = record { next = low; answers = (refl, record { own = is; next = refl }); ends = begins };
+    }
+    by_brought (brought.Refused (faults.Stopped entries)) begins stopped is = plan_serves (Err (faults.Stopped entries)) (λ told. (entries, refl)) is
+    by_brought (brought.Refused (faults.Superseded version)) begins stopped is =
+        plan_serves (Err (faults.Superseded version)) (never_so (faults.Superseded version) stopped) is
+    by_brought (brought.Refused faults.VersionLimit) begins stopped is = plan_serves (Err faults.VersionLimit) (never_so faults.VersionLimit stopped) is
+    by_brought (brought.Refused (faults.Crowded at)) begins stopped is = plan_serves (Err (faults.Crowded at)) (never_so (faults.Crowded at) stopped) is
+    by_brought (brought.Refused (faults.TooManyPoints count)) begins stopped is =
+        plan_serves (Err (faults.TooManyPoints count)) (never_so (faults.TooManyPoints count) stopped) is
+    by_brought (brought.Refused (faults.DeviceFull need left)) begins stopped is =
+        plan_serves (Err (faults.DeviceFull need left)) (never_so (faults.DeviceFull need left) stopped) is
+    by_brought (brought.Refused faults.DeviceFault) begins stopped is = plan_serves (Err faults.DeviceFault) (never_so faults.DeviceFault stopped) is
+
+-- An output that was brought up to date in a session is what a line asks for, and has its reply.
+pub brought_serves : {D : Type 0} {disk : Ghosts D} (hall : Hall D disk) (old new : Session D disk) (stream : ℕ) (result : Brought) → Does hall old new (λ start course low own. IsBrought start course low stream result own) → (KnowsStopped hall old → IsOfStopped result) → ServesIn hall old new (RefreshAsks stream) (reply_of_brought result)
+brought_serves hall old new stream result does stopped = (
+  does.0,
+  does.1,
+  λ h of.
+      by_brought (start_of h hall) (course_of h new) (was_told hall old) (course_of h old).history stream does.0 result
+      (history_goes_on h new old does.1.seen) (λ told. stopped (h, of, told)) (does.2 h of),
+)

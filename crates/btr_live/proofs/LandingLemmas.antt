@@ -1,0 +1,97 @@
+-- What rounds add are landings of plans.
+use Rattle.std.specs.Prelude.{◌≡◌, ℕ, zero, suc, ◌≤◌, Bool, true, false, List, [], ◌∷◌, Result, Ok, Err, Option, Some, None}
+use Rattle.std.specs.declared.alloc.AllocError.{AllocError}
+use Rattle.std.proofs.Common.{arith, inl, inr}
+use Rattle.std.proofs.lemmas.Bool.{cases_lt}
+use Rattle.btr_hist.specs.declared.entry.Entry.{Entry}
+use Rattle.btr_distil.specs.Plan.{PlanValue}
+use Rattle.btr_plan.specs.Next.{IsNextPlan}
+use Rattle.btr_engine.specs.declared.board.Receipt.{Receipt}
+use Rattle.btr_gate.specs.Numbers.{times}
+use Rattle.btr_gate.specs.Prefixes.{StartsWith}
+use Rattle.btr_gate.proofs.PrefixLemmas.{starts_trans}
+use Rattle.btr_hall.specs.declared.land.LandFault.{LandFault}
+use Rattle.btr_jobs.specs.Course.{Start, Course, GoesOn}
+use Rattle.btr_jobs.specs.Turns.{LandedAfter}
+use Rattle.btr_jobs.specs.TurnLaws.{landed_lasts}
+use Rattle.btr_work.specs.declared.report.ReportLine.{ReportLine}
+use Rattle.btr_work.specs.Report.{Brings}
+use Rattle.btr_work.proofs.OwnLemmas.{brings-number}
+use Rattle.btr_live.specs.Rounds.{MakesRound, MakesRounds}
+use Rattle.btr_live.specs.Live.{LastRound}
+
+-- The number is that of what the landing of one plan added: the model plans it at a history that begins with `low`, and this is what
+-- became of it in a later turn.
+pub record IsLanding (start : Start) (course : Course) (low : List Entry) (n : ℕ) : Type 0 where
+  pub at : List Entry
+  pub after : StartsWith at low
+  pub plan : PlanValue
+  pub planned : IsNextPlan at plan.stream plan
+  pub result : Result Receipt LandFault
+  pub next : List Entry
+  pub landed : LandedAfter start course at plan result (n ∷ []) next
+
+-- Each of these numbers is that of a landing.
+abbrev pub Landings : Start → Course → List Entry → List ℕ → Type 0
+Landings start course low own = (n : ℕ) → 1 ≤ times n own → IsLanding start course low n
+
+-- What a landing did is true for ever.
+pub landings_last : (start : Start) (late early : Course) → GoesOn start late early → (low : List Entry) (own : List ℕ) → Landings start early low own → Landings start late low own
+landings_last start late early on low own are = λ n there.
+    let is : IsLanding start early low n = are n there in record {
+      at = is.at;
+      after = is.after;
+      plan = is.plan;
+      planned = is.planned;
+      result = is.result;
+      next = is.next;
+      landed = landed_lasts start late early is.at is.plan is.result (n ∷ []) is.next on is.landed;
+    }
+
+module _ (start : Start) (course : Course) where
+  -- A landing is one after less had been seen.
+  pub landings_lower : (low less : List Entry) (own : List ℕ) → StartsWith low less → Landings start course low own → Landings start course less own
+  landings_lower low less own starts are = λ n there.
+      let is : IsLanding start course low n = are n there in record {
+        at = is.at;
+        after = starts_trans is.at low less is.after starts;
+        plan = is.plan;
+        planned = is.planned;
+        result = is.result;
+        next = is.next;
+        landed = is.landed;
+      }
+
+  -- No number is that of a landing.
+  nothing_lands : (low : List Entry) (own : List ℕ) → ((n : ℕ) → times n own ≡ 0) → Landings start course low own
+  nothing_lands low own none = λ n there. absurd (let is = none n in omega (arith, is, there))
+
+  -- What brings outputs up to date adds landings.
+  pub brings_lands : (low : List Entry) (report : List ReportLine) (own : List ℕ) → Brings start course low report own → Landings start course low own
+  brings_lands low report own brings = λ n there.
+      let is = brings-number start course low report own brings n (omega (arith, there)) in
+      record { at = is.0; after = is.4; plan = is.1; planned = is.5; result = is.2; next = is.3; landed = is.6 }
+
+  -- So does a round.
+  pub round_lands : (low : List Entry) (own : List ℕ) → MakesRound start course low own → Landings start course low own
+  round_lands low own (inl is) = brings_lands low is.0 own is.1
+  round_lands low own (inr none) = nothing_lands low own none
+
+  -- So does the last round.
+  pub last_lands : (low : List Entry) (materialize : Bool) (last : Option (Result (List ReportLine) AllocError)) (own : List ℕ) → LastRound start course low materialize last own → Landings start course low own
+  last_lands low false None own is = nothing_lands low own is
+  last_lands low false (Some result) own is = absurd is
+  last_lands low true None own is = absurd is
+  last_lands low true (Some (Err e)) own is = nothing_lands low own is
+  last_lands low true (Some (Ok report)) own is = brings_lands low report own is
+
+-- All that rounds add are landings.
+pub rounds_land : (start : Start) (count : ℕ) (course : Course) (low : List Entry) (own : List ℕ) → MakesRounds start count low course own → Landings start course low own
+rounds_land start zero course low own is = nothing_lands start course low own is.1
+rounds_land start (suc count) course low own is = λ n there.
+    elim (cases_lt 0 (times n is.3)) [
+      | inl first ↦ landings_last start course is.0 is.1 low is.3 (round_lands start is.0 low is.3 is.5) n first
+      | inr none ↦
+          landings_lower start course is.0.history low is.4 is.2 (rounds_land start count course is.0.history is.4 is.6) n
+          (let sum = is.7 n in omega (arith, sum, there, none))
+    ]
