@@ -12,19 +12,19 @@ use Rattle.btr_text.specs.Input.{script_of}
 use Rattle.btr_text.specs.declared.script.ScriptLine.{ScriptLine}
 use Rattle.btr_open.specs.Laws.{HeldIsSound, OneHistoryIsHeld}
 use Rattle.btr_jobs.specs.Course.{Start, Course}
+use Rattle.btr_report.specs.declared.line.ReportLine.{ReportLine}
 use Rattle.btr_work.specs.declared.report.Brought.{Brought}
 use Rattle.btr_work.specs.declared.report.Brought.TheVariants as results
 use Rattle.btr_work.specs.declared.report.ReportLine as brought
 use Rattle.btr_live.specs.declared.live.LiveReport.{LiveReport}
 use Rattle.btr_live.specs.Live as runs
-use Rattle.btr_live.specs.Reasons.{reason_of_landing}
 use Rattle.btr_live.specs.Script.{begun}
 use Rattle.btr_live.specs.OneLane.{AreInLane, RunsAlone, store_at}
 use Rattle.btr_bulk.specs.declared.status.Status.{Status}
 use Rattle.btr_bulk.specs.declared.status.Status.TheVariants.{Done}
 use Rattle.btr_bulk.specs.declared.transcript.Transcript.{Transcript}
 use Rattle.btr_bulk.specs.Completes.{IsBenign}
-use Rattle.btr_bulk.specs.Status.{greater, greatest, status_of_reason, status_of_lines}
+use Rattle.btr_bulk.specs.Status.{greater, greatest, status_of_line, status_of_lines}
 use Rattle.btr_bulk.specs.Streams.{id_of}
 use Rattle.btr_bulk.specs.Work.{DoesRightly}
 use Rattle.btr_top.specs.declared.ending.Ending.{Ending}
@@ -42,21 +42,33 @@ use Rattle.btr_top.proofs.StoreCompletes.{opened, began, no_failure, plain_work}
 
 -- ---- the status of a transcript
 
-lines_benign : (status : Status) (h : List Entry) (report : List brought.ReportLine) → IsBenign status → AllByRecursion (λ (line : brought.ReportLine). IsCalm line.result) report → IsBenign (greatest status (round_lines h (Some (Ok report))))
-lines_benign status h [] benign calm = benign
-lines_benign status h (line ∷ report) benign calm = by line.result calm.0
-  where
-    by : (result : Brought) → IsCalm result → IsBenign (greatest status (round_line (id_of h line.output) result ++ round_lines h (Some (Ok report))))
-    by (results.Landed version) is = lines_benign status h report benign calm.1
-    by (results.Current version) is = lines_benign status h report benign calm.1
-    by (results.Refused fault) is =
-        let reason : Status = status_of_reason (reason_of_landing fault) in
-        lines_benign (greater status reason) h report (benign_greater status reason benign is) calm.1
+abbrev AreBenign : List ReportLine → Type 0
+AreBenign all = AllByRecursion (λ (line : ReportLine). IsBenign (status_of_line line)) all
+
+greatest_benign : (s : Status) (all : List ReportLine) → IsBenign s → AreBenign all → IsBenign (greatest s all)
+greatest_benign s [] benign each = benign
+greatest_benign s (line ∷ more) benign each =
+    greatest_benign (greater s (status_of_line line)) more (benign_greater s (status_of_line line) benign each.0) each.1
+
+append_benign : (a b : List ReportLine) → AreBenign a → AreBenign b → AreBenign (a ++ b)
+append_benign [] b first second = second
+append_benign (line ∷ a) b first second = (first.0, append_benign a b first.1 second)
+
+line_benign : (id : ℕ) (result : Brought) → IsCalm result → AreBenign (round_line id result)
+line_benign id (results.Landed version) calm = tt
+line_benign id (results.Current version) calm = tt
+line_benign id (results.Refused fault) calm = (calm, tt)
+
+lines_benign : (h : List Entry) (report : List brought.ReportLine) → AllByRecursion (λ (line : brought.ReportLine). IsCalm line.result) report → AreBenign (round_lines h (Some (Ok report)))
+lines_benign h [] calm = tt
+lines_benign h (line ∷ report) calm =
+    append_benign (round_line (id_of h line.output) line.result) (round_lines h (Some (Ok report)))
+    (line_benign (id_of h line.output) line.result calm.0) (lines_benign h report calm.1)
 
 last_benign : (h : List Entry) (last : LastRound) → LastCalm last → IsBenign (status_of_lines (round_lines h last)) × IsBenign (round_status last)
 last_benign h None calm = (inl refl, inl refl)
 last_benign h (Some (Err error)) calm = (inl refl, inr (inr refl))
-last_benign h (Some (Ok report)) calm = (lines_benign Done h report (inl refl) calm, inl refl)
+last_benign h (Some (Ok report)) calm = (greatest_benign Done (round_lines h (Some (Ok report))) (inl refl) (lines_benign h report calm), inl refl)
 
 benign_live_status : (replies : Status) (course : Course) (last : LastRound) → IsBenign replies → LastCalm last → course.failed ≡ None → IsBenign (greater (greater replies (status_of_lines (round_lines course.history last))) (greater (round_status last) (course_status course)))
 benign_live_status replies course last benign calm sound =

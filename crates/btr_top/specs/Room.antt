@@ -55,7 +55,7 @@ has_landing round output (OfRound other landed) = one (other == round && landed 
 
 -- ---- lines
 
--- The line asks for the entry at a history that begins with `low` and with which `p` begins.
+-- The line asks for the entry at a history that begins with `low`, and with which `p` begins. No points wait for it.
 pub record IsAskedSince (batch : ℕ) (low p : List Entry) (e : Entry) (line : Option Line) : Type 0 where
   pub at : List Entry
   pub since : StartsWith at low
@@ -148,7 +148,7 @@ abbrev pub HasRoomForHistories : ℕ → ℕ → Store → List ScriptLine → T
 HasRoomForHistories batch rounds store script =
     (h : List Entry) → ServesScript batch rounds script store.history h → blocks.needs_of h ≤ store.left + blocks.needs_of store.history
 
--- The rounds of a script: with `--materialize` one for each line, and a last one.
+-- The most rounds of a script: with `--materialize` one for each line, and a last one.
 abbrev pub rounds_of : Bool → List ScriptLine → ℕ
 rounds_of materialize script = if materialize then length script + 1 else 0
 
