@@ -10,8 +10,17 @@ mod AskedLines
 mod BulkCauses
 -- if nothing fails
 mod BenignStatuses
-mod LineNeeds
-mod LanesFit
+mod ServiceLemmas
+mod LineTurns
+mod LineEntries
+mod WaitingPlaces
+mod LaneServes
+mod RoundServes
+mod PlaceLemmas
+mod HistoriesFit
+mod PartyServes
+mod RunFits
+mod ScriptFits
 mod PlainStatuses
 mod StoreCompletes
 mod LiveCompletes

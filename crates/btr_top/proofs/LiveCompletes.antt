@@ -1,7 +1,8 @@
 -- If the device holds a store with room, and nothing fails, `live` runs the whole script.
-use Rattle.std.specs.Prelude.{◌≡◌, ℕ, ◌+◌, ◌≤◌, false, List, [], length, slice_index_or, Option, Some, None, Ok, IfSome}
+use Rattle.std.specs.Prelude.{◌≡◌, ℕ, ◌++◌, Bool, false, List, [], ◌∷◌, Option, Some, None, Ok, Err, IfSome}
+use Rattle.std.specs.List.{AllByRecursion}
 use Rattle.std.specs.Option.{is_some}
-use Rattle.std.proofs.Common.{refl, sym, ◌∙◌, ap, subst, arith, inl, ⊎_elim}
+use Rattle.std.proofs.Common.{refl, sym, ◌∙◌, ap, subst, arith, inl, inr, ⊎_elim}
 use Rattle.btr_io.specs.declared.source.Source.{Ghosts as SourceGhosts}
 use Rattle.btr_io.specs.Faults.{Rose as StreamRose}
 use Rattle.btr_disk.specs.declared.disk.Disk.{Ghosts}
@@ -11,46 +12,72 @@ use Rattle.btr_text.specs.Input.{script_of}
 use Rattle.btr_text.specs.declared.script.ScriptLine.{ScriptLine}
 use Rattle.btr_open.specs.Laws.{HeldIsSound, OneHistoryIsHeld}
 use Rattle.btr_jobs.specs.Course.{Start, Course}
+use Rattle.btr_report.specs.declared.line.ReportLine.{ReportLine}
+use Rattle.btr_work.specs.declared.report.Brought.{Brought}
+use Rattle.btr_work.specs.declared.report.Brought.TheVariants as results
+use Rattle.btr_work.specs.declared.report.ReportLine as brought
 use Rattle.btr_live.specs.declared.live.LiveReport.{LiveReport}
 use Rattle.btr_live.specs.Live as runs
 use Rattle.btr_live.specs.Script.{begun}
-use Rattle.btr_live.specs.OneHistory.{of_lane, lanes_of, lines_of}
-use Rattle.btr_live.specs.Lanes as lanes
-use Rattle.btr_live.specs.LaneLaws.{lines_last}
 use Rattle.btr_live.specs.OneLane.{AreInLane, RunsAlone, store_at}
 use Rattle.btr_bulk.specs.declared.status.Status.{Status}
 use Rattle.btr_bulk.specs.declared.status.Status.TheVariants.{Done}
 use Rattle.btr_bulk.specs.declared.transcript.Transcript.{Transcript}
 use Rattle.btr_bulk.specs.Completes.{IsBenign}
-use Rattle.btr_bulk.specs.Status.{greater, status_of_lines}
-use Rattle.btr_bulk.specs.Work.{DoesRightly, last_number}
-use Rattle.btr_gate.specs.Numbers.{total, times}
-use Rattle.btr_gate.specs.Numbers as numbers
+use Rattle.btr_bulk.specs.Status.{greater, greatest, status_of_line, status_of_lines}
+use Rattle.btr_bulk.specs.Streams.{id_of}
+use Rattle.btr_bulk.specs.Work.{DoesRightly}
 use Rattle.btr_top.specs.declared.ending.Ending.{Ending}
 use Rattle.btr_top.specs.Ending.{status_of}
 use Rattle.btr_top.specs.Status.{status_of_replies}
 use Rattle.btr_top.specs.Script.{HasRead, ExceedsInputLimit}
-use Rattle.btr_top.specs.Live.{LastRound, round_lines, round_status, course_status, SaysLive, SaysIf, RunsIf, LivesStore, ScriptCause, LiveCause, CanLive}
-use Rattle.btr_top.specs.Room.{HasRoomInLane, HasRoomInLanes, HasRoomForScript}
+use Rattle.btr_top.specs.Live.{LastRound, round_line, round_lines, round_status, course_status, SaysIf, RunsIf, LivesStore, ScriptCause, LiveCause, CanLive}
+use Rattle.btr_top.specs.Room.{HasRoomInLane, HasRoomForScript}
 use Rattle.btr_top.specs.Run.{IsPlainStatus}
 use Rattle.btr_top.proofs.BenignStatuses.{benign_greater, benign_script}
 use Rattle.btr_top.proofs.PlainStatuses.{benign_input}
-use Rattle.btr_top.proofs.LanesFit.{lanes_benign}
+use Rattle.btr_top.proofs.RoundServes.{IsCalm}
+use Rattle.btr_top.proofs.RunFits.{LastCalm, run_fits}
 use Rattle.btr_top.proofs.StoreCompletes.{opened, began, no_failure, plain_work}
 
 -- ---- the status of a transcript
 
--- The status of a script without rounds on a device that did not fail is that of its replies.
-abbrev live_status : Status → List Entry → LastRound → Course → Status
-live_status replies h last course =
-    greater (greater replies (status_of_lines (round_lines h last))) (greater (round_status last) (course_status course))
+abbrev AreBenign : List ReportLine → Type 0
+AreBenign all = AllByRecursion (λ (line : ReportLine). IsBenign (status_of_line line)) all
 
-benign_live_status : (replies : Status) (course : Course) → IsBenign replies → course.failed ≡ None → IsBenign (live_status replies course.history None course)
-benign_live_status replies course benign sound =
+greatest_benign : (s : Status) (all : List ReportLine) → IsBenign s → AreBenign all → IsBenign (greatest s all)
+greatest_benign s [] benign each = benign
+greatest_benign s (line ∷ more) benign each =
+    greatest_benign (greater s (status_of_line line)) more (benign_greater s (status_of_line line) benign each.0) each.1
+
+append_benign : (a b : List ReportLine) → AreBenign a → AreBenign b → AreBenign (a ++ b)
+append_benign [] b first second = second
+append_benign (line ∷ a) b first second = (first.0, append_benign a b first.1 second)
+
+line_benign : (id : ℕ) (result : Brought) → IsCalm result → AreBenign (round_line id result)
+line_benign id (results.Landed version) calm = tt
+line_benign id (results.Current version) calm = tt
+line_benign id (results.Refused fault) calm = (calm, tt)
+
+lines_benign : (h : List Entry) (report : List brought.ReportLine) → AllByRecursion (λ (line : brought.ReportLine). IsCalm line.result) report → AreBenign (round_lines h (Some (Ok report)))
+lines_benign h [] calm = tt
+lines_benign h (line ∷ report) calm =
+    append_benign (round_line (id_of h line.output) line.result) (round_lines h (Some (Ok report)))
+    (line_benign (id_of h line.output) line.result calm.0) (lines_benign h report calm.1)
+
+last_benign : (h : List Entry) (last : LastRound) → LastCalm last → IsBenign (status_of_lines (round_lines h last)) × IsBenign (round_status last)
+last_benign h None calm = (inl refl, inl refl)
+last_benign h (Some (Err error)) calm = (inl refl, inr (inr refl))
+last_benign h (Some (Ok report)) calm = (greatest_benign Done (round_lines h (Some (Ok report))) (inl refl) (lines_benign h report calm), inl refl)
+
+benign_live_status : (replies : Status) (course : Course) (last : LastRound) → IsBenign replies → LastCalm last → course.failed ≡ None → IsBenign (greater (greater replies (status_of_lines (round_lines course.history last))) (greater (round_status last) (course_status course)))
+benign_live_status replies course last benign calm sound =
     let device : course_status course ≡ Done = ap (λ (o : Option Entry). if_failed o) sound in
-    benign_greater (greater replies Done) (greater Done (course_status course))
-    (benign_greater replies Done benign (inl refl))
-    (benign_greater Done (course_status course) (inl refl) (inl device))
+    let lines : Status = status_of_lines (round_lines course.history last) in
+    let of_last = last_benign course.history last calm in
+    benign_greater (greater replies lines) (greater (round_status last) (course_status course))
+    (benign_greater replies lines benign of_last.0)
+    (benign_greater (round_status last) (course_status course) of_last.1 (inl device))
   where
     if_failed : Option Entry → Status
     if_failed failed = course_status (record { history = course.history; failed = failed })
@@ -64,84 +91,74 @@ no_last batch start course script report own is = by report.last refl
     by (Some result) some =
         absurd (subst (λ (l : LastRound). runs.LastRound start course is.middle.history false l is.lastly) some is.last)
 
-module _ {S D : Type 0} (source : SourceGhosts S) (disk : Ghosts D) (batch : ℕ) (given rest : S) (old new : D) (sound : HeldIsSound) (one : OneHistoryIsHeld) (can : CanLive source disk batch given old) (source_told : source.is_observable) (told : disk.is_observable) (source_works : StreamRose (source.faults given) (source.faults rest) → ⊥) (device_works : Rose (disk.faults old) (disk.faults new) → ⊥) where
+module _ {S D : Type 0} (source : SourceGhosts S) (disk : Ghosts D) (batch : ℕ) (materialize : Bool) (given rest : S) (old new : D) (sound : HeldIsSound) (one : OneHistoryIsHeld) (can : CanLive source disk batch materialize given old) (source_told : source.is_observable) (told : disk.is_observable) (source_works : StreamRose (source.faults given) (source.faults rest) → ⊥) (device_works : Rose (disk.faults old) (disk.faults new) → ⊥) where
   not_too_long : ExceedsInputLimit source given rest → ⊥
   not_too_long exceeds = omega (arith, exceeds source_told, can.within)
 
   abbrev store : Start
   store = opened disk old new can.history can.blocks can.tail can.holds sound one told device_works
 
-  module _ (lines : List ScriptLine) (all : lines ≡ script_of (source.left given)) (transcript : Transcript) (does : DoesRightly disk (λ start course own. LivesStore batch false lines start course (Ok transcript) own) old new) where
+  module _ (lines : List ScriptLine) (all : lines ≡ script_of (source.left given)) (transcript : Transcript) (does : DoesRightly disk (λ start course own. LivesStore batch materialize lines start course (Ok transcript) own) old new) where
     abbrev What : Start → Course → List ℕ → Type 0
-    What start course own = LivesStore batch false lines start course (Ok transcript) own
+    What start course own = LivesStore batch materialize lines start course (Ok transcript) own
 
     sound_end : does.course.failed ≡ None
     sound_end = no_failure disk old new can.history can.blocks can.tail can.holds sound one told device_works What does
 
     -- The room of the store, as the run found it.
-    room_here : HasRoomForScript batch (store_at does.first) lines
+    room_here : HasRoomForScript batch materialize (store_at does.first) lines
     room_here =
         let same : does.first ≡ store = began disk old new can.history can.blocks can.tail can.holds sound one told device_works What does in
-        subst (λ (s : Start). HasRoomForScript batch (store_at s) lines) (sym same)
-        (subst (λ (ls : List ScriptLine). HasRoomForScript batch (store_at store) ls) (sym all) can.room)
+        subst (λ (s : Start). HasRoomForScript batch materialize (store_at s) lines) (sym same)
+        (subst (λ (ls : List ScriptLine). HasRoomForScript batch materialize (store_at store) ls) (sym all) can.room)
 
-    abbrev Ran : LiveReport → Type 0
-    Ran report = runs.RunsLive batch false does.first does.course does.first.history lines report does.own
+    abbrev Ran : Bool → LiveReport → Type 0
+    Ran rounds report = runs.RunsLive batch rounds does.first does.course does.first.history lines report does.own
 
-    benign_alone : (report : LiveReport) → HasRoomInLane batch (store_at does.first) lines → ((lane : ℕ) → AreInLane lane lines → RunsAlone batch does.first does.course lines report.replies.items) → IsBenign (status_of_replies report.replies.items)
-    benign_alone report room in_lane =
+    abbrev AreCalm : LiveReport → Type 0
+    AreCalm report = IsBenign (status_of_replies report.replies.items) × LastCalm report.last
+
+    benign_alone : (report : LiveReport) → materialize ≡ false → HasRoomInLane batch (store_at does.first) lines → Ran materialize report → ((lane : ℕ) → AreInLane lane lines → RunsAlone batch does.first does.course lines report.replies.items) → AreCalm report
+    benign_alone report none room ran in_lane =
         let alone = in_lane room.lane room.one in
         let running : alone.last.store.stopped ≡ false = alone.stopped ∙ ap (λ (o : Option Entry). is_some o) sound_end in
-        benign_script batch (begun (store_at does.first)) alone.last lines report.replies.items alone.runs room.room running
+        let plain : Ran false report = subst (λ (m : Bool). Ran m report) none ran in
+        let no_rounds : report.last ≡ None = no_last batch does.first does.course lines report does.own plain in (
+          benign_script batch (begun (store_at does.first)) alone.last lines report.replies.items alone.runs room.room running,
+          subst (λ (l : LastRound). LastCalm l) (sym no_rounds) tt,
+        )
 
-    -- All that was added is of the lanes.
-    of_lanes : (report : LiveReport) → (ran : Ran report) → (n : ℕ) → total (times n) ran.mine ≡ numbers.given (length does.first.history) (last_number does.course) n
-    of_lanes report ran n =
-        let none : total (times n) ran.beside ≡ 0 = ap (λ (l : List (List ℕ)). total (times n) l) (ran.no_rounds refl) in
-        let lastly : times n ran.lastly ≡ 0 =
-        (subst (λ (l : LastRound). runs.LastRound does.first does.course ran.middle.history false l ran.lastly) (no_last batch does.first does.course lines report does.own ran) ran.last) n in
-        let numbers : times n does.own ≡ total (times n) ran.mine + total (times n) ran.beside + times n ran.lastly = ran.numbers n in
-        omega (arith, none, lastly, numbers, does.works.each_once n)
+    benign_run : (report : LiveReport) → Ran materialize report → (materialize ≡ false → (lane : ℕ) → AreInLane lane lines → RunsAlone batch does.first does.course lines report.replies.items) → AreCalm report
+    benign_run report ran in_lane =
+        ⊎_elim
+        (λ room. benign_alone report room.0 room.1 ran (in_lane room.0))
+        (λ room. run_fits batch lines does.first does.course does.works.not_stopped sound_end does.works.follows does.works.begins materialize report does.own ran does.works.each_once room)
+        room_here
 
-    benign_lanes : (report : LiveReport) → HasRoomInLanes (store_at does.first) lines → Ran report → IsBenign (status_of_replies report.replies.items)
-    benign_lanes report room ran =
-        lanes_benign batch does.first does.course does.works.not_stopped sound_end does.works.follows lines report.replies.items ran.mine
-        does.works.begins ran.lanes.each ran.lanes.lasts
-        (λ k. lines_last does.first does.course ran.middle ran.goes_on batch (lanes.begun does.first.history) (lines_of k lines) (of_lane k (lanes_of lines) report.replies.items) (slice_index_or ran.mine k []) (ran.lanes.lasts k) (ran.lanes.lanes k))
-        (of_lanes report ran) room.no_refresh room.room
-
-    benign_replies : (report : LiveReport) → Ran report → ((lane : ℕ) → AreInLane lane lines → RunsAlone batch does.first does.course lines report.replies.items) → IsBenign (status_of_replies report.replies.items)
-    benign_replies report ran in_lane =
-        ⊎_elim (λ room. benign_alone report room in_lane) (λ room. benign_lanes report room ran) room_here
-
-    benign_says : (report : LiveReport) → IsBenign (status_of_replies report.replies.items) → report.last ≡ None → SaysLive does.course report transcript → IsBenign transcript.status
-    benign_says report benign none says =
-        subst (λ (s : Status). IsBenign s) (sym says.same_status)
-        (subst (λ (l : LastRound). IsBenign (live_status (status_of_replies report.replies.items) does.course.history l does.course)) (sym none)
-        (benign_live_status (status_of_replies report.replies.items) does.course benign sound_end))
-
-    benign_report : (report : Option LiveReport) → RunsIf batch false does.first does.course lines report does.own → ((lane : ℕ) → AreInLane lane lines → IfSome report (λ r. RunsAlone batch does.first does.course lines r.replies.items)) → SaysIf does.course report (Ok transcript) → IsBenign transcript.status
+    benign_report : (report : Option LiveReport) → RunsIf batch materialize does.first does.course lines report does.own → (materialize ≡ false → (lane : ℕ) → AreInLane lane lines → IfSome report (λ r. RunsAlone batch does.first does.course lines r.replies.items)) → SaysIf does.course report (Ok transcript) → IsBenign transcript.status
     benign_report None ran in_lane says = absurd says
     benign_report (Some report) ran in_lane says =
-        benign_says report (benign_replies report ran in_lane) (no_last batch does.first does.course lines report does.own ran) says
+        let calm = benign_run report ran in_lane in
+        subst (λ (s : Status). IsBenign s) (sym says.same_status)
+        (benign_live_status (status_of_replies report.replies.items) does.course report.last calm.0 calm.1 sound_end)
 
     benign_transcript : IsBenign transcript.status
     benign_transcript =
         let lives = does.what in
-        benign_report lives.report lives.runs (lives.one_lane refl) lives.says
+        benign_report lives.report lives.runs lives.one_lane lives.says
 
-  benign_cause : (input : List ℕ) → HasRead source input given rest → (e : Ending) → ScriptCause disk batch false (script_of input) old new e → IsPlainStatus (status_of e)
+  benign_cause : (input : List ℕ) → HasRead source input given rest → (e : Ending) → ScriptCause disk batch materialize (script_of input) old new e → IsPlainStatus (status_of e)
   benign_cause input read e why =
       let lines : List ScriptLine = script_of input in
       let all : lines ≡ script_of (source.left given) = ap (λ (i : List ℕ). script_of i) (read.all source_told) in
       plain_work disk old new can.history can.blocks can.tail can.holds sound one told device_works
-      (λ said start course own. LivesStore batch false lines start course said own)
+      (λ said start course own. LivesStore batch materialize lines start course said own)
       (λ transcript does. benign_transcript lines all transcript does)
       e why
 
-  pub benign_live : (e : Ending) → LiveCause source disk batch false given rest old new e → IsPlainStatus (status_of e)
+  pub benign_live : (e : Ending) → LiveCause source disk batch materialize given rest old new e → IsPlainStatus (status_of e)
   benign_live e why =
       ⊎_elim
       (λ unread. benign_input source given rest source_works (λ exceeds. not_too_long exceeds) e unread.0)
-      (λ (read : (input : List ℕ) × HasRead source input given rest × ScriptCause disk batch false (script_of input) old new e). benign_cause read.0 read.1 e read.2)
+      (λ (read : (input : List ℕ) × HasRead source input given rest × ScriptCause disk batch materialize (script_of input) old new e). benign_cause read.0 read.1 e read.2)
       why

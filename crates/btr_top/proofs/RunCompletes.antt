@@ -1,5 +1,5 @@
 -- If the device and the input suffice, and nothing fails, a run comes to its end.
-use Rattle.std.specs.Prelude.{Bool, Option, Some, None}
+use Rattle.std.specs.Prelude.{Option, Some, None}
 use Rattle.std.proofs.Common.{refl, sym, subst, inr, ⊎_elim}
 use Rattle.btr_io.specs.declared.source.Source.{Ghosts as SourceGhosts}
 use Rattle.btr_io.specs.Faults.{Rose as StreamRose}
@@ -10,7 +10,6 @@ use Rattle.btr_words.specs.declared.command.Command.TheVariants.{Format, Load, A
 use Rattle.btr_open.specs.Laws.{HeldIsSound, OneHistoryIsHeld}
 use Rattle.btr_top.specs.declared.ending.Ending.{Ending}
 use Rattle.btr_top.specs.Ending.{status_of}
-use Rattle.btr_top.specs.Live.{LiveCause}
 use Rattle.btr_top.specs.Run.{Cause, RunCause, CanRun, IsPlainStatus}
 use Rattle.btr_top.proofs.LiveCompletes.{benign_live}
 use Rattle.btr_top.proofs.AskCompletes.{benign_ask}
@@ -21,8 +20,7 @@ module _ {S D : Type 0} (source : SourceGhosts S) (disk : Ghosts D) (given rest 
   plain_cause None can e why = absurd can
   plain_cause (Some (Format blocks)) can e why = absurd can
   plain_cause (Some (Live batch materialize)) can e why =
-      benign_live source disk batch given rest old new sound one can.1 source_told told source_works device_works e
-      (subst (λ (m : Bool). LiveCause source disk batch m given rest old new e) can.0 why)
+      benign_live source disk batch materialize given rest old new sound one can source_told told source_works device_works e why
   plain_cause (Some Ask) can e why =
       benign_ask source disk given rest old new sound can source_told told source_works device_works e why
   plain_cause (Some (Load workers batch)) can e why =

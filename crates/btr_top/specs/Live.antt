@@ -119,12 +119,12 @@ module _ {S D : Type 0} (source : SourceGhosts S) (disk : Ghosts D) where
   LiveCause batch materialize given rest old new e =
       CommandCause source (λ input. ScriptCause disk batch materialize (script_of input)) given rest old new e
 
-  -- The device holds a store with room for what the lines of the input need, and the input is within the limit.
-  pub record CanLive (batch : ℕ) (given : S) (old : D) : Type 0 where
+  -- The device holds a store with room for what the lines of the input need, and the rounds, and the input is within the limit.
+  pub record CanLive (batch : ℕ) (materialize : Bool) (given : S) (old : D) : Type 0 where
     pub history : List Entry
     pub blocks : ℕ
     pub tail : ℕ
     pub holds : HoldsHistoryTo (disk.size old) (disk.contents old) blocks tail history
     pub within : length (source.left given) ≤ MAX_INPUT
-    pub room : HasRoomForScript batch (record { history = history; left = left blocks tail; stopped = false })
+    pub room : HasRoomForScript batch materialize (record { history = history; left = left blocks tail; stopped = false })
         (script_of (source.left given))

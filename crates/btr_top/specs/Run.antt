@@ -1,5 +1,5 @@
 -- Why a run ends as it does: by its words, its input, its device and its sink; and what is promised if nothing fails.
-use Rattle.std.specs.Prelude.{◌≡◌, ◌⊎◌, ℕ, ◌+◌, false, Option, Some, None}
+use Rattle.std.specs.Prelude.{◌≡◌, ◌⊎◌, ℕ, ◌+◌, Option, Some, None}
 use Rattle.btr_io.specs.declared.source.Source.{Ghosts as SourceGhosts}
 use Rattle.btr_io.specs.declared.sink.Sink.{Ghosts as SinkGhosts}
 use Rattle.btr_io.specs.Bytes.{Gives}
@@ -40,11 +40,11 @@ RunCause source disk command given rest old new e =
     Cause source disk command given rest old new e ⊎ WordsLackMemory given rest old new e
 
 -- The device and the input are such that the command comes to its end if nothing fails: there is a store, with room for all that the
--- command may add. Of `live` it is said for a script without rounds, and of `format` by `CanFormat`.
+-- command may add. Of `format` it is said by `CanFormat`.
 abbrev pub CanRun : {S D : Type 0} → SourceGhosts S → Ghosts D → Option Command → S → D → Type 0
 CanRun source disk None given old = ⊥
 CanRun source disk (Some (Format blocks)) given old = ⊥
-CanRun source disk (Some (Live batch materialize)) given old = (materialize ≡ false) × CanLive source disk batch given old
+CanRun source disk (Some (Live batch materialize)) given old = CanLive source disk batch materialize given old
 CanRun source disk (Some Ask) given old = CanAsk source disk given old
 CanRun source disk (Some (Load workers batch)) given old = CanLoad source disk batch given old
 CanRun source disk (Some (Distil workers)) given old = CanDistil disk old

@@ -23,6 +23,6 @@ mod laws;
 
 pub use btr_live::{lines_keep_legal, refreshes_are_current};
 pub use ending::Ending;
-pub use laws::run_limits_are_these;
+pub use laws::{run_limits_are_these, script_fits};
 pub use run_command::{Outcome, run, run_paced};
 pub use script::MAX_INPUT;
