@@ -24,8 +24,8 @@ module _ {S D : Type 0} (source : SourceGhosts S) (disk : Ghosts D) (given rest 
   plain_cause (Some Ask) can e why =
       benign_ask source disk given rest old new sound can source_told told source_works device_works e why
   plain_cause (Some (Load workers batch)) can e why =
-      benign_load source disk batch given rest old new sound one can source_told told source_works device_works e why
-  plain_cause (Some (Distil workers)) can e why = benign_distil disk old new sound one can told device_works e why.1
+      benign_load source disk workers batch given rest old new sound one can source_told told source_works device_works e why
+  plain_cause (Some (Distil workers)) can e why = benign_distil disk workers old new sound one can told device_works e why.1
   plain_cause (Some (Sample number streams points)) can e why =
       benign_sample disk number streams points old new sound one can told device_works e why.1
 

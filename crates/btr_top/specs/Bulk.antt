@@ -41,8 +41,8 @@ module _ {D : Type 0} (disk : Ghosts D) where
   WorkCause What old new e = OpeningCause disk old new e × IsKept disk old new
 
   -- Why `distil` ends so.
-  abbrev pub DistilCause : D → D → Ending → Type 0
-  DistilCause old new e = WorkCause (λ said start course own. DistilsStore start course said own) old new e
+  abbrev pub DistilCause : ℕ → D → D → Ending → Type 0
+  DistilCause workers old new e = WorkCause (λ said start course own. DistilsStore start course workers said own) old new e
 
   -- Why `sample` ends so.
   abbrev pub SampleCause : ℕ → ℕ → ℕ → D → D → Ending → Type 0
@@ -50,9 +50,9 @@ module _ {D : Type 0} (disk : Ghosts D) where
       WorkCause (λ said start course own. SamplesStore number streams points start course said own) old new e
 
   -- Why `load` ends so, after its rows were read.
-  abbrev pub RowsCause : ℕ → RowListValue → D → D → Ending → Type 0
-  RowsCause batch rows old new e =
-      WorkCause (λ said start course own. LoadsStore start course rows batch said own) old new e
+  abbrev pub RowsCause : ℕ → ℕ → RowListValue → D → D → Ending → Type 0
+  RowsCause workers batch rows old new e =
+      WorkCause (λ said start course own. LoadsStore start course rows batch workers said own) old new e
 
 module _ {D : Type 0} (disk : Ghosts D) where
   -- The device holds a store with room for all that may be landed for its outputs, each at most once.
@@ -72,10 +72,10 @@ module _ {D : Type 0} (disk : Ghosts D) where
     pub room : HasRoomForSample number streams points (record { history = history; left = left blocks tail; stopped = false })
 
 -- Why `load` ends so. Each id has its rows once.
-abbrev pub LoadCause : {S D : Type 0} → SourceGhosts S → Ghosts D → ℕ → S → S → D → D → Ending → Type 0
-LoadCause source disk batch given rest old new e =
+abbrev pub LoadCause : {S D : Type 0} → SourceGhosts S → Ghosts D → ℕ → ℕ → S → S → D → D → Ending → Type 0
+LoadCause source disk workers batch given rest old new e =
     CommandCause source
-    (λ input was now end. AreDistinct (list_of (rows_of input)).streams × RowsCause disk batch (list_of (rows_of input)) was now end)
+    (λ input was now end. AreDistinct (list_of (rows_of input)).streams × RowsCause disk workers batch (list_of (rows_of input)) was now end)
     given rest old new e
 
 -- The device holds a store with room for the rows of the input, and the input is within the limit.

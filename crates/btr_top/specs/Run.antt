@@ -25,8 +25,8 @@ Cause source disk None given rest old new e = (e ≡ Usage) × (rest ≡ given) 
 Cause source disk (Some (Format blocks)) given rest old new e = (rest ≡ given) × FormatCause disk blocks old new e
 Cause source disk (Some (Live batch materialize)) given rest old new e = LiveCause source disk batch materialize given rest old new e
 Cause source disk (Some Ask) given rest old new e = AskCause source disk given rest old new e
-Cause source disk (Some (Load workers batch)) given rest old new e = LoadCause source disk batch given rest old new e
-Cause source disk (Some (Distil workers)) given rest old new e = (rest ≡ given) × DistilCause disk old new e
+Cause source disk (Some (Load workers batch)) given rest old new e = LoadCause source disk workers batch given rest old new e
+Cause source disk (Some (Distil workers)) given rest old new e = (rest ≡ given) × DistilCause disk workers old new e
 Cause source disk (Some (Sample number streams points)) given rest old new e =
     (rest ≡ given) × SampleCause disk number streams points old new e
 

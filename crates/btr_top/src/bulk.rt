@@ -33,7 +33,7 @@ pub(crate) fn run_load<R: Threads + Wait + Sync, S: Source, D: Disk + Send, P: P
     requires { 1 ≤ batch }
     ensures size { D.size result.disk ≡ D.size disk }
     ensures input { S.is_observable → Gives (MAX_INPUT + 1) (S.left source.old) (S.left source.new) }
-    ensures cause { LoadCause ⟦<S as Source>⟧ ⟦<D as Disk>⟧ batch source.old source.new disk result.disk result.ending }
+    ensures cause { LoadCause ⟦<S as Source>⟧ ⟦<D as Disk>⟧ workers batch source.old source.new disk result.disk result.ending }
 {
     match read_input(alloc, source) {
         Ok(input) => load_input(rt, alloc, workers, batch, &input, disk, pace),
@@ -54,7 +54,7 @@ fn load_input<R: Threads + Wait + Sync, D: Disk + Send, P: Pace + Sync>(
     requires { 1 ≤ batch }
     ensures size { D.size result.disk ≡ D.size disk }
     ensures distinct { AreDistinct (list_of (rows_of input.now)).streams }
-    ensures cause { RowsCause ⟦<D as Disk>⟧ batch (list_of (rows_of input.now)) disk result.disk result.ending }
+    ensures cause { RowsCause ⟦<D as Disk>⟧ workers batch (list_of (rows_of input.now)) disk result.disk result.ending }
 {
     // the rows of an input have each id once
     rows_are_distinct();
@@ -79,7 +79,7 @@ fn load_rows<R: Threads + Wait + Sync, D: Disk + Send, P: Pace + Sync>(
 ) -> CommandResult<D>
     requires { 1 ≤ batch }
     ensures size { D.size result.disk ≡ D.size disk }
-    ensures cause { RowsCause ⟦<D as Disk>⟧ batch rows disk result.disk result.ending }
+    ensures cause { RowsCause ⟦<D as Disk>⟧ workers batch rows disk result.disk result.ending }
 {
     match load_store(rt, alloc, rows, batch, workers, pace, disk) {
         Ok(worked) => work_result(worked),
@@ -96,7 +96,7 @@ pub(crate) fn run_distil<R: Threads + Wait + Sync, D: Disk + Send, P: Pace + Syn
     pace: &P,
 ) -> CommandResult<D>
     ensures size { D.size result.disk ≡ D.size disk }
-    ensures cause { DistilCause ⟦<D as Disk>⟧ disk result.disk result.ending }
+    ensures cause { DistilCause ⟦<D as Disk>⟧ workers disk result.disk result.ending }
 {
     match distil_store(rt, alloc, workers, pace, disk) {
         Ok(worked) => work_result(worked),

@@ -13,5 +13,5 @@ returns-in-Err-clause-distinct g c = c.rows_are_distinct.ensures (rows_of c.args
 
 pub returns-in-Ok-clause-cause : goal.returns-in-Ok-clause-cause
 returns-in-Ok-clause-cause g c =
-    subst (λ (rows : RowListValue). RowsCause g.D.Disk c.args.batch rows c.args.disk c.load_rows.result.disk c.load_rows.result.ending) c.in-Ok.ensures
+    subst (λ (rows : RowListValue). RowsCause g.D.Disk c.args.workers c.args.batch rows c.args.disk c.load_rows.result.disk c.load_rows.result.ending) c.in-Ok.ensures
     c.load_rows.ensures.cause

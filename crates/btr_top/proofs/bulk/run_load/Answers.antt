@@ -12,6 +12,6 @@ returns-in-Ok-clause-cause g c =
     inr (
       c.in-Ok.input.items,
       c.in-Ok.ensures.read,
-      subst (λ (bytes : List ℕ). AreDistinct (list_of (rows_of bytes)).streams × RowsCause g.D.Disk c.args.batch (list_of (rows_of bytes)) c.args.disk c.load_input.result.disk c.load_input.result.ending)
+      subst (λ (bytes : List ℕ). AreDistinct (list_of (rows_of bytes)).streams × RowsCause g.D.Disk c.args.workers c.args.batch (list_of (rows_of bytes)) c.args.disk c.load_input.result.disk c.load_input.result.ending)
           c.deref.ensures.value (c.load_input.ensures.distinct, c.load_input.ensures.cause),
     )
