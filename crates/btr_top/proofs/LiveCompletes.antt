@@ -1,5 +1,5 @@
 -- If the device holds a store with room, and nothing fails, `live` runs the whole script.
-use Rattle.std.specs.Prelude.{◌≡◌, ℕ, ◌++◌, Bool, false, List, [], ◌∷◌, length, Option, Some, None, Ok, Err, IfSome}
+use Rattle.std.specs.Prelude.{◌≡◌, ℕ, ◌++◌, Bool, false, List, [], ◌∷◌, Option, Some, None, Ok, Err, IfSome}
 use Rattle.std.specs.List.{AllByRecursion}
 use Rattle.std.specs.Option.{is_some}
 use Rattle.std.proofs.Common.{refl, sym, ◌∙◌, ap, subst, arith, inl, inr, ⊎_elim}
@@ -31,7 +31,7 @@ use Rattle.btr_top.specs.declared.ending.Ending.{Ending}
 use Rattle.btr_top.specs.Ending.{status_of}
 use Rattle.btr_top.specs.Status.{status_of_replies}
 use Rattle.btr_top.specs.Script.{HasRead, ExceedsInputLimit}
-use Rattle.btr_top.specs.Live.{LastRound, round_line, round_lines, round_status, course_status, SaysLive, SaysIf, RunsIf, LivesStore, ScriptCause, LiveCause, CanLive}
+use Rattle.btr_top.specs.Live.{LastRound, round_line, round_lines, round_status, course_status, SaysIf, RunsIf, LivesStore, ScriptCause, LiveCause, CanLive}
 use Rattle.btr_top.specs.Room.{HasRoomInLane, HasRoomForScript}
 use Rattle.btr_top.specs.Run.{IsPlainStatus}
 use Rattle.btr_top.proofs.BenignStatuses.{benign_greater, benign_script}
