@@ -1,7 +1,7 @@
 //! Samples on stores in memory. The expected values are worked out by hand.
 ghost use Rattle.std.specs.Prelude.{◌≤◌, ◌^◌};
 
-use btr_bulk::*;
+use btr_store::*;
 use btr_disk::{Capacity, MemDisk};
 use btr_jobs::NoPace;
 use btr_super::format;

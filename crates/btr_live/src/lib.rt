@@ -12,6 +12,7 @@ mod feeds;
 mod distill_line;
 mod feed_line;
 mod line;
+mod question;
 mod reasons;
 // what runs beside each other
 mod lane;
@@ -29,4 +30,5 @@ pub use laws::{
     runs_are_one_history,
 };
 pub use live::{LiveReport, lanes};
+pub use question::answer_question;
 pub use reasons::{reason_of_landing, reason_of_step};

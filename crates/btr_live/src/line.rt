@@ -1,28 +1,27 @@
 //! One line of a lane: what it asks for is done in turns of the lane's session, and it has its reply.
-ghost use Rattle.std.specs.Prelude.{◌≡◌, ℕ, List, [], ◌∷◌, false, Some, IfOk};
+ghost use Rattle.std.specs.Prelude.{◌≡◌, ℕ, [], ◌∷◌, false, Some, IfOk};
 ghost use Rattle.btr_base.specs.Range.{RangeValue};
-ghost use Rattle.btr_hist.specs.declared.entry.Entry.{Entry as EntrySpec};
 ghost use Rattle.btr_hist.specs.declared.entry.Entry.TheVariants.{Commit as CommitSpec};
 ghost use Rattle.btr_hist.specs.History.{stream_of};
 ghost use Rattle.btr_hist.specs.Query.{of_stream};
-ghost use Rattle.btr_engine.specs.Snapshot.{IsSnapshotOf};
 ghost use Rattle.btr_hall.specs.Found.{IsFound};
 ghost use Rattle.btr_hall.specs.Commit.{is_distillate};
 ghost use Rattle.btr_jobs.specs.Jobs.{IsAt};
 ghost use Rattle.btr_live.specs.Feeds.{waiting_of};
 ghost use Rattle.btr_live.specs.Meaning.{Asks, Commits, delete, on_stream};
 ghost use Rattle.btr_live.specs.Lanes.{reply_of_step};
-ghost use Rattle.btr_live.specs.Serving.{AsksFor, LineAsks, IsAnswerOrNoMemory, Knows, RepliesIn, ServesIn};
+ghost use Rattle.btr_live.specs.Serving.{AsksFor, LineAsks, Knows, RepliesIn, ServesIn};
 
 use crate::distill_line::{define, refresh};
 use crate::feed_line::{discard, feed, flush};
 use crate::feeds::Feeds;
+use crate::question::{answer, answer_stream};
 use crate::reasons::reason_of_step;
 use btr_base::{Bag, Range, Ranges};
 use btr_disk::Disk;
-use btr_engine::{Receipt, Snapshot, StepFault};
+use btr_engine::{Receipt, StepFault};
 use btr_hall::{Found, Hall, Session};
-use btr_hist::{Answer, Entry, Query, StreamQuery};
+use btr_hist::{Entry, Query, StreamQuery};
 use btr_text::{Line, LineReply, Reason};
 use std::alloc::{AllocError, Global};
 use std::sync::Wait;
@@ -254,28 +253,6 @@ fn ask<R: Wait, D: Disk>(
 {
     match session.admit(rt, hall) {
         Ok(snapshot) => answer(alloc, &snapshot, query),
-        Err(_) => LineReply::No(Reason::Memory),
-    }
-}
-
-/// Answers a question about the stream with this id from a snapshot.
-fn answer_stream(alloc: Global, snapshot: &Snapshot, id: u128, query: StreamQuery) -> LineReply
-    ensures { (h : List EntrySpec) → IsSnapshotOf h snapshot.now
-        → IsAnswerOrNoMemory h (on_stream (stream_of h id) (λ stream. Asks (of_stream query stream))) result }
-{
-    match snapshot.find(id) {
-        None => LineReply::No(Reason::Stream),
-        Some(stream) => answer(alloc, snapshot, &query.of(stream)),
-    }
-}
-
-/// Answers a question from a snapshot.
-fn answer(alloc: Global, snapshot: &Snapshot, query: &Query) -> LineReply
-    ensures { (h : List EntrySpec) → IsSnapshotOf h snapshot.now → IsAnswerOrNoMemory h (Asks query.now) result }
-{
-    match snapshot.answer(alloc, query) {
-        Ok(Answer::Found { version, rows }) => LineReply::Found { version, rows },
-        Ok(Answer::Refused(refusal)) => LineReply::No(Reason::of_refusal(refusal)),
         Err(_) => LineReply::No(Reason::Memory),
     }
 }

@@ -10,11 +10,11 @@ use Rattle.btr_text.specs.declared.script.ScriptLine.{ScriptLine}
 use Rattle.btr_open.specs.Laws.{HeldIsSound}
 use Rattle.btr_top.specs.declared.ending.Ending.{Ending}
 use Rattle.btr_top.specs.declared.ending.Ending.TheVariants.{Usage, NoSource, TooLong, OutOfMemory, NoDevice, NoStore, Damaged, Occupied, TooSmall, Formatted, Replied}
-use Rattle.btr_bulk.specs.declared.status.Status.{Status}
+use Rattle.btr_store.specs.declared.status.Status.{Status}
 use Rattle.btr_top.specs.Ending.{status_of}
-use Rattle.btr_bulk.specs.Status.{code_of}
-use Rattle.btr_top.specs.Status.{status_of_replies}
-use Rattle.btr_top.specs.Script.{HasRead, ExceedsInputLimit}
+use Rattle.btr_store.specs.Status.{code_of}
+use Rattle.btr_store.specs.Replies.{status_of_replies}
+use Rattle.btr_top.specs.Command.{HasRead, ExceedsInputLimit}
 use Rattle.btr_top.specs.Ask.{QuestionsCause, AskCause, CanAsk}
 use Rattle.btr_top.specs.Run.{IsPlainStatus}
 use Rattle.btr_top.proofs.BenignStatuses.{benign_code, benign_answers}

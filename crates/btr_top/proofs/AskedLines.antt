@@ -8,15 +8,14 @@ use Rattle.btr_text.specs.declared.reply.LineReply.{LineReply}
 use Rattle.btr_engine.specs.declared.engine.Engine.{Engine}
 use Rattle.btr_engine.specs.Engine.{device, blocks_of, tail_of, IsEngineOf, IsAtRest}
 use Rattle.btr_open.specs.Opening.{IsOpened}
-use Rattle.btr_bulk.specs.declared.transcript.Transcript.{Transcript}
+use Rattle.btr_store.specs.declared.transcript.Transcript.{Transcript}
 use Rattle.btr_top.specs.declared.ending.Ending.{Ending}
 use Rattle.btr_top.specs.declared.ending.Ending.TheVariants.{OutOfMemory, Replied}
 use Rattle.btr_live.specs.Meaning.{question}
 use Rattle.btr_live.specs.Serving.{IsAnswerOrNoMemory}
-use Rattle.btr_top.specs.Script.{IsTranscript}
-use Rattle.btr_top.specs.Ask.{AnswersEach, AnswersAll, QuestionsCause}
-use Rattle.btr_bulk.proofs.WorkLemmas.{held_before}
-use Rattle.btr_top.specs.Saying.{AddsReply, HasAnswered}
+use Rattle.btr_store.specs.Replies.{IsTranscript, AddsReply}
+use Rattle.btr_top.specs.Ask.{AnswersEach, AnswersAll, QuestionsCause, HasAnswered}
+use Rattle.btr_store.proofs.WorkLemmas.{held_before}
 
 AnswersEach-push : (h : List Entry) (lines : List ScriptLine) (replies : List LineReply) (line : ScriptLine) (reply : LineReply) → AnswersEach h lines replies → IsAnswerOrNoMemory h (question h line.line) reply → AnswersEach h (lines ++ line ∷ []) (replies ++ reply ∷ [])
 AnswersEach-push h [] [] line reply answers one = (one, tt)

@@ -22,8 +22,8 @@ use Rattle.btr_text.specs.declared.script.ScriptLine.{ScriptLine}
 use Rattle.btr_text.specs.declared.reply.LineReply.{LineReply}
 use Rattle.btr_text.specs.declared.reply.LineReply.TheVariants.{No}
 use Rattle.btr_text.specs.declared.reply.Reason.TheVariants as reasons
-use Rattle.btr_bulk.specs.declared.status.Status.{Status}
-use Rattle.btr_bulk.specs.declared.status.Status.TheVariants.{Done, OutOfMemory}
+use Rattle.btr_store.specs.declared.status.Status.{Status}
+use Rattle.btr_store.specs.declared.status.Status.TheVariants.{Done, OutOfMemory}
 use Rattle.btr_base.specs.declared.point.Point.{Point}
 use Rattle.btr_base.specs.Bag.{sort}
 use Rattle.btr_feed.specs.Feed.{held, insert_fault}
@@ -36,12 +36,11 @@ use Rattle.btr_live.specs.Meaning.{Meaning, Commits, Asks, Holds, Current, Refus
 use Rattle.btr_live.specs.Meaning.{insert, when_due, unless_fault, feed, flush, meaning, question}
 use Rattle.btr_engine.specs.Body.{need_of}
 use Rattle.btr_live.specs.Replies.{reply_of_answer, reply_of_commit, reply_to, Means}
-use Rattle.btr_live.specs.Script.{Store, State, IsNotDone, Replies, RepliesToLine, RunsScript}
-use Rattle.btr_live.specs.Script.{need_of_meaning, after_line, needs_of}
+use Rattle.btr_live.specs.Script.{Store, State, IsNotDone, Replies, RepliesToLine, RunsScript, need_of_meaning, after_line, needs_of}
 use Rattle.btr_live.specs.Serving.{IsAnswerOrNoMemory}
-use Rattle.btr_bulk.specs.Completes.{IsBenign}
-use Rattle.btr_bulk.specs.Status.{rank, code_of, greater}
-use Rattle.btr_top.specs.Status.{greatest, status_of_reply, status_of_replies}
+use Rattle.btr_store.specs.Completes.{IsBenign}
+use Rattle.btr_store.specs.Status.{rank, code_of, greater}
+use Rattle.btr_store.specs.Replies.{greatest_of_replies, status_of_reply, status_of_replies}
 use Rattle.btr_top.specs.Ask.{AnswersEach}
 use Rattle.btr_top.specs.Run.{IsPlainStatus}
 use Rattle.btr_live.proofs.ScriptLemmas.{ran_all, left_after, need_of_done, none_not_done, line_is}
@@ -233,7 +232,7 @@ within_one s t m reply replied benign runs =
     (λ h. ⊎_elim (λ not. within_not_done s t m reply runs not) (λ lacks. within_reply reply (No reasons.Memory) lacks.replied refl) h)
     replied
 
-ran_out_from : (batch : ℕ) (s t : State) (lines : List ScriptLine) (replies : List LineReply) → RunsScript batch s lines replies t → t.store.stopped ≡ false → greatest OutOfMemory replies ≡ OutOfMemory
+ran_out_from : (batch : ℕ) (s t : State) (lines : List ScriptLine) (replies : List LineReply) → RunsScript batch s lines replies t → t.store.stopped ≡ false → greatest_of_replies OutOfMemory replies ≡ OutOfMemory
 ran_out_from batch s t [] [] script runs = refl
 ran_out_from batch s t [] (reply ∷ replies) script runs = absurd script
 ran_out_from batch s t (line ∷ lines) [] script runs = absurd script
@@ -242,7 +241,7 @@ ran_out_from batch s t (line ∷ lines) (reply ∷ replies) script runs =
     let m : Meaning = script.1 in
     let is : RepliesToLine batch s line.line m reply u = script.2 in
     let one : Within (status_of_reply reply) = within_one s.store u.store m reply is.replied (benign_means batch s line.line m reply u is) (ran_all batch u t lines replies script.3 runs) in
-    ap (λ x. greatest x replies) one ∙ ran_out_from batch u t lines replies script.3 runs
+    ap (λ x. greatest_of_replies x replies) one ∙ ran_out_from batch u t lines replies script.3 runs
 
 memory_next : (status : Status) → IsBenign status → greater status OutOfMemory ≡ OutOfMemory
 memory_next status benign =
@@ -251,7 +250,7 @@ memory_next status benign =
     (λ h. ⊎_elim (λ e. subst (λ s. greater s OutOfMemory ≡ OutOfMemory) (sym e) refl) (λ e. subst (λ s. greater s OutOfMemory ≡ OutOfMemory) (sym e) refl) h)
     benign
 
-benign_from : (batch : ℕ) (status : Status) (s t : State) (lines : List ScriptLine) (replies : List LineReply) → IsBenign status → RunsScript batch s lines replies t → needs_of batch s lines ≤ s.store.left → t.store.stopped ≡ false → IsBenign (greatest status replies)
+benign_from : (batch : ℕ) (status : Status) (s t : State) (lines : List ScriptLine) (replies : List LineReply) → IsBenign status → RunsScript batch s lines replies t → needs_of batch s lines ≤ s.store.left → t.store.stopped ≡ false → IsBenign (greatest_of_replies status replies)
 benign_from batch status s t [] [] benign script room runs = benign
 benign_from batch status s t [] (reply ∷ replies) benign script room runs = absurd script
 benign_from batch status s t (line ∷ lines) [] benign script room runs = absurd script
@@ -268,7 +267,7 @@ benign_from batch status s t (line ∷ lines) (reply ∷ replies) benign script 
     let one : IsBenign (status_of_reply reply) = benign_reply s.store u.store m reply is.replied (benign_means batch s line.line m reply u is) (omega (arith, room, need_of_done batch s line.line m is.means)) running in
     benign_from batch (greater status (status_of_reply reply)) u t lines replies (benign_greater status (status_of_reply reply) benign one) script.3 left runs)
     (λ h. ⊎_elim
-    (λ memory. inr (inr (ap (λ r. greatest (greater status (status_of_reply r)) replies) memory ∙ ap (λ x. greatest x replies) (memory_next status benign) ∙ ran_out_from batch u t lines replies script.3 runs)))
+    (λ memory. inr (inr (ap (λ r. greatest_of_replies (greater status (status_of_reply r)) replies) memory ∙ ap (λ x. greatest_of_replies x replies) (memory_next status benign) ∙ ran_out_from batch u t lines replies script.3 runs)))
     (λ not. absurd (none_not_done s.store u.store m reply (subst (λ (x : Meaning). need_of_meaning x ≤ s.store.left) (sym not.0) (omega (arith, room))) running not.1))
     h)
     (line_is batch s u line.line m reply is)
@@ -299,7 +298,7 @@ benign_answered h (Holds count) reply benign is = along reply (reply_to h (Holds
 benign_answered h (Current version) reply benign is = along reply (reply_to h (Current version)) is benign
 benign_answered h (Refuses reason) reply benign is = along reply (reply_to h (Refuses reason)) is benign
 
-benign_answers_from : (status : Status) (h : List Entry) (lines : List ScriptLine) (replies : List LineReply) → IsBenign status → AnswersEach h lines replies → IsBenign (greatest status replies)
+benign_answers_from : (status : Status) (h : List Entry) (lines : List ScriptLine) (replies : List LineReply) → IsBenign status → AnswersEach h lines replies → IsBenign (greatest_of_replies status replies)
 benign_answers_from status h [] [] benign answers = benign
 benign_answers_from status h [] (reply ∷ replies) benign answers = absurd answers
 benign_answers_from status h (line ∷ lines) [] benign answers = absurd answers

@@ -15,10 +15,10 @@ use Rattle.btr_text.specs.declared.reply.LineReply.{LineReply}
 use Rattle.btr_live.specs.Lanes.{LaneState, begun, RunsLines}
 use Rattle.btr_live.specs.OneHistory.{of_lane, lanes_of, lines_of}
 use Rattle.btr_live.specs.OneLane.{store_at}
-use Rattle.btr_bulk.specs.Completes.{IsBenign}
-use Rattle.btr_bulk.specs.declared.status.Status.{Status}
-use Rattle.btr_bulk.specs.Status.{greater}
-use Rattle.btr_top.specs.Status.{greatest, status_of_reply, status_of_replies}
+use Rattle.btr_store.specs.Completes.{IsBenign}
+use Rattle.btr_store.specs.declared.status.Status.{Status}
+use Rattle.btr_store.specs.Status.{greater}
+use Rattle.btr_store.specs.Replies.{greatest_of_replies, status_of_reply, status_of_replies}
 use Rattle.btr_top.specs.Room.{Purpose, OfRound, has_line, has_landing, Service, HasRoomForHistories}
 use Rattle.btr_top.proofs.BenignStatuses.{benign_greater}
 use Rattle.btr_top.proofs.ServiceLemmas.{counted, lines_had, landings_had, up_to, up_to_least, up_to_sum, Served, served_append, never_full}
@@ -44,7 +44,7 @@ all_lanes (lane ∷ lanes) (reply ∷ all) each benign =
     later k true benign_here = benign_here.1
     later k false benign_here = benign_here
 
-greatest_benign : (s : Status) (all : List LineReply) → IsBenign s → AreBenign all → IsBenign (greatest s all)
+greatest_benign : (s : Status) (all : List LineReply) → IsBenign s → AreBenign all → IsBenign (greatest_of_replies s all)
 greatest_benign s [] benign each = benign
 greatest_benign s (reply ∷ all) benign each = greatest_benign (greater s (status_of_reply reply)) all (benign_greater s (status_of_reply reply) benign each.0) each.1
 

@@ -30,8 +30,8 @@ use Rattle.btr_live.specs.Feeds.{Waiting, with_points, fed}
 use Rattle.btr_live.specs.Meaning.{Meaning, Commits, Asks, Holds, Current, Refuses, on_stream, feed, flush, refresh, if_plain, meaning}
 use Rattle.btr_live.specs.Replies.{reply_of_answer, waiting_after, Means}
 use Rattle.btr_live.specs.Lanes.{Answers, LaneState, RunsLine, RunsLines}
-use Rattle.btr_bulk.specs.Completes.{IsBenign}
-use Rattle.btr_top.specs.Status.{status_of_reply}
+use Rattle.btr_store.specs.Completes.{IsBenign}
+use Rattle.btr_store.specs.Replies.{status_of_reply}
 use Rattle.btr_top.specs.Room.{Purpose, OfLine, OfFeeds, has_line, has_landing, LandsFor, IsAskedSince, IsOfLine, IsAtPlace, IsFeedOf, fed_by, IsFor, Service}
 use Rattle.btr_top.proofs.BenignStatuses.{benign_meaning, along}
 use Rattle.btr_top.proofs.ServiceLemmas.{counted, lines_had, landings_had, up_to, up_to_least, up_to_sum, up_to_above, Above, above_lower, above_append, Served, served_append}

@@ -1,13 +1,9 @@
 -- why a format ends so
 mod FormatCauses
--- what is said of lines and of scripts
-mod ScriptLemmas
-mod SayingLemmas
-mod LiveAllowing
-mod LiveLemmas
 -- why a command ends so
+mod LineLists
 mod AskedLines
-mod BulkCauses
+mod WorkCauses
 -- if nothing fails
 mod BenignStatuses
 mod ServiceLemmas
@@ -24,6 +20,6 @@ mod ScriptFits
 mod PlainStatuses
 mod StoreCompletes
 mod LiveCompletes
-mod BulkCompletes
+mod WorkCompletes
 mod AskCompletes
 mod RunCompletes

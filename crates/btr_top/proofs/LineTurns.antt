@@ -28,8 +28,8 @@ use Rattle.btr_text.specs.declared.reply.LineReply.TheVariants.{Done, No}
 use Rattle.btr_text.specs.declared.reply.Reason.{Reason}
 use Rattle.btr_live.specs.Lanes.{reply_of_step, reply_of_landing, Offers}
 use Rattle.btr_live.specs.Reasons.{reason_of_step, reason_of_landing}
-use Rattle.btr_bulk.specs.Completes.{IsBenign}
-use Rattle.btr_top.specs.Status.{status_of_reply}
+use Rattle.btr_store.specs.Completes.{IsBenign}
+use Rattle.btr_store.specs.Replies.{status_of_reply}
 use Rattle.btr_top.specs.Room.{LandsFor}
 use Rattle.btr_top.proofs.BenignStatuses.{benign_rejection, along}
 

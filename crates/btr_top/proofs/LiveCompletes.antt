@@ -20,18 +20,19 @@ use Rattle.btr_live.specs.declared.live.LiveReport.{LiveReport}
 use Rattle.btr_live.specs.Live as runs
 use Rattle.btr_live.specs.Script.{begun}
 use Rattle.btr_live.specs.OneLane.{AreInLane, RunsAlone, store_at}
-use Rattle.btr_bulk.specs.declared.status.Status.{Status}
-use Rattle.btr_bulk.specs.declared.status.Status.TheVariants.{Done}
-use Rattle.btr_bulk.specs.declared.transcript.Transcript.{Transcript}
-use Rattle.btr_bulk.specs.Completes.{IsBenign}
-use Rattle.btr_bulk.specs.Status.{greater, greatest, status_of_line, status_of_lines}
-use Rattle.btr_bulk.specs.Streams.{id_of}
-use Rattle.btr_bulk.specs.Work.{DoesRightly}
+use Rattle.btr_store.specs.declared.status.Status.{Status}
+use Rattle.btr_store.specs.declared.status.Status.TheVariants.{Done}
+use Rattle.btr_store.specs.declared.transcript.Transcript.{Transcript}
+use Rattle.btr_store.specs.Completes.{IsBenign}
+use Rattle.btr_store.specs.Status.{greater, greatest, status_of_line, status_of_lines}
+use Rattle.btr_store.specs.Streams.{id_of}
+use Rattle.btr_store.specs.Work.{DoesRightly}
 use Rattle.btr_top.specs.declared.ending.Ending.{Ending}
 use Rattle.btr_top.specs.Ending.{status_of}
-use Rattle.btr_top.specs.Status.{status_of_replies}
-use Rattle.btr_top.specs.Script.{HasRead, ExceedsInputLimit}
-use Rattle.btr_top.specs.Live.{LastRound, round_line, round_lines, round_status, course_status, SaysIf, RunsIf, LivesStore, ScriptCause, LiveCause, CanLive}
+use Rattle.btr_store.specs.Replies.{status_of_replies}
+use Rattle.btr_top.specs.Command.{HasRead, ExceedsInputLimit}
+use Rattle.btr_top.specs.Live.{ScriptCause, LiveCause, CanLive}
+use Rattle.btr_store.specs.Live.{LastRound, round_line, round_lines, round_status, course_status, SaysIf, RunsIf, LivesStore}
 use Rattle.btr_top.specs.Room.{HasRoomInLane, HasRoomForScript}
 use Rattle.btr_top.specs.Run.{IsPlainStatus}
 use Rattle.btr_top.proofs.BenignStatuses.{benign_greater, benign_script}

@@ -7,7 +7,7 @@ use Rattle.btr_io.specs.Faults.{Rose as StreamRose}
 use Rattle.btr_top.specs.declared.ending.Ending.{Ending}
 use Rattle.btr_top.specs.declared.ending.Ending.TheVariants.{Usage, NoSource, TooLong, OutOfMemory, NoDevice, NoStore, Damaged, Occupied, TooSmall, Formatted, Replied}
 use Rattle.btr_top.specs.Ending.{status_of, text_of, Writes, Shows}
-use Rattle.btr_top.specs.Script.{InputCause, ExceedsInputLimit}
+use Rattle.btr_top.specs.Command.{InputCause, ExceedsInputLimit}
 use Rattle.btr_top.specs.Run.{IsPlainStatus}
 
 -- if the sink does not fail, what is written makes it no other status

@@ -27,8 +27,8 @@ use Rattle.btr_work.specs.Levels.{outputs, levels_of}
 use Rattle.btr_work.specs.Report.{IsPlanLanded, IsBrought, BringsEach, BringsLevels, Brings}
 use Rattle.btr_work.specs.ReportLaws.{brought_lasts}
 use Rattle.btr_work.proofs.MemberLemmas.{IsIn, Distinct, IsInAny, Graded, groups-graded, graded-above, output-spec, output-level, all-members}
-use Rattle.btr_bulk.specs.Completes.{IsBenign}
-use Rattle.btr_bulk.specs.Status.{status_of_reason}
+use Rattle.btr_store.specs.Completes.{IsBenign}
+use Rattle.btr_store.specs.Status.{status_of_reason}
 use Rattle.btr_live.specs.Reasons.{reason_of_landing}
 use Rattle.btr_top.specs.Room.{OfRound, has_line, has_landing, LandsFor, Service}
 use Rattle.btr_top.proofs.ServiceLemmas.{counted, lines_had, landings_had, Served, served_append}

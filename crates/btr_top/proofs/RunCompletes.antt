@@ -13,7 +13,7 @@ use Rattle.btr_top.specs.Ending.{status_of}
 use Rattle.btr_top.specs.Run.{Cause, RunCause, CanRun, IsPlainStatus}
 use Rattle.btr_top.proofs.LiveCompletes.{benign_live}
 use Rattle.btr_top.proofs.AskCompletes.{benign_ask}
-use Rattle.btr_top.proofs.BulkCompletes.{benign_load, benign_distil, benign_sample}
+use Rattle.btr_top.proofs.WorkCompletes.{benign_load, benign_distil, benign_sample}
 
 module _ {S D : Type 0} (source : SourceGhosts S) (disk : Ghosts D) (given rest : S) (old new : D) (sound : HeldIsSound) (one : OneHistoryIsHeld) (source_told : source.is_observable) (told : disk.is_observable) (source_works : StreamRose (source.faults given) (source.faults rest) → ⊥) (device_works : Rose (disk.faults old) (disk.faults new) → ⊥) where
   plain_cause : (command : Option Command) → CanRun source disk command given old → (e : Ending) → Cause source disk command given rest old new e → IsPlainStatus (status_of e)

@@ -21,8 +21,8 @@ use Rattle.btr_live.specs.OneHistory.{of_lane, lanes_of, lines_of}
 use Rattle.btr_live.specs.OneLane.{store_at}
 use Rattle.btr_live.specs.Rounds.{MakesRounds}
 use Rattle.btr_live.specs.Live.{LastRound, RunsLive}
-use Rattle.btr_bulk.specs.Completes.{IsBenign}
-use Rattle.btr_top.specs.Status.{status_of_replies}
+use Rattle.btr_store.specs.Completes.{IsBenign}
+use Rattle.btr_store.specs.Replies.{status_of_replies}
 use Rattle.btr_top.specs.Room.{HasRoomForHistories, rounds_of}
 use Rattle.btr_top.proofs.RoundServes.{IsCalm, RoundServes, no_round, round_serves}
 use Rattle.btr_top.proofs.HistoriesFit.{PartiesServe, no_party, replies_benign, last_calm}

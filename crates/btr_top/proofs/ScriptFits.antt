@@ -17,11 +17,10 @@ use Rattle.btr_hist.specs.declared.kernel.Spec.{Spec}
 use Rattle.btr_hist.specs.declared.rejection.Rejection.{Rejection}
 use Rattle.btr_hist.specs.declared.rejection.Rejection.TheVariants as rejections
 use Rattle.btr_hist.specs.History.{ids, stream_of, is_output, latest}
-use Rattle.btr_hist.specs.Legal.{rejection, when, change_rejection, points_rejection, next_bag}
+use Rattle.btr_hist.specs.Legal.{rejection, when, change_rejection, points_rejection, next_bag, Follows}
 use Rattle.btr_hist.specs.Query.{of_stream}
 use Rattle.btr_hist.specs.Answer.{is_range}
 use Rattle.btr_hist.proofs.HistoryLemmas.{follows-last, follows-prefix}
-use Rattle.btr_hist.specs.Legal.{Follows}
 use Rattle.btr_hist.proofs.RejectionLemmas.{first_none, rest_none}
 use Rattle.btr_entry.proofs.NumberLemmas.{wide32}
 use Rattle.btr_entry.proofs.SpecLemmas.{length-kernel, length-numbers, length-spec}

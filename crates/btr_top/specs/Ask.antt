@@ -9,13 +9,14 @@ use Rattle.btr_text.specs.Input.{questions_of}
 use Rattle.btr_text.specs.declared.script.ScriptLine.{ScriptLine}
 use Rattle.btr_text.specs.declared.reply.LineReply.{LineReply}
 use Rattle.btr_engine.specs.Holds.{HoldsHistory}
-use Rattle.btr_top.specs.declared.script.TheConstants.{MAX_INPUT}
-use Rattle.btr_bulk.specs.declared.transcript.Transcript.{Transcript}
+use Rattle.btr_top.specs.declared.command.TheConstants.{MAX_INPUT}
+use Rattle.btr_store.specs.declared.transcript.Transcript.{Transcript}
 use Rattle.btr_top.specs.declared.ending.Ending.{Ending}
 use Rattle.btr_top.specs.declared.ending.Ending.TheVariants.{Replied}
 use Rattle.btr_live.specs.Meaning.{question}
 use Rattle.btr_live.specs.Serving.{IsAnswerOrNoMemory}
-use Rattle.btr_top.specs.Script.{IsKept, OpeningCause, IsTranscript, CommandCause}
+use Rattle.btr_top.specs.Command.{IsKept, OpeningCause, CommandCause}
+use Rattle.btr_store.specs.Replies.{IsTranscript}
 
 -- One reply to each line, in order, all from the same history.
 abbrev pub AnswersEach : List Entry → List ScriptLine → List LineReply → Type 0
@@ -52,3 +53,11 @@ module _ {S D : Type 0} (source : SourceGhosts S) (disk : Ghosts D) where
     pub history : List Entry
     pub holds : HoldsHistory (disk.size old) (disk.contents old) history
     pub within : length (source.left given) ≤ MAX_INPUT
+
+-- ---- private promises
+
+-- Each line was answered from the history, and this is the transcript.
+pub record HasAnswered (h : List Entry) (lines : List ScriptLine) (transcript : Transcript) : Type 0 where
+  pub replies : List LineReply
+  pub answers : AnswersEach h lines replies
+  pub is_transcript : IsTranscript replies transcript

@@ -6,8 +6,8 @@ use Rattle.btr_text.specs.Text.{line_text}
 use Rattle.btr_top.specs.declared.ending.Ending.{Ending}
 use Rattle.btr_top.specs.declared.ending.Ending.TheVariants.{Usage, NoSource, TooLong, OutOfMemory, NoDevice, NoStore}
 use Rattle.btr_top.specs.declared.ending.Ending.TheVariants.{Damaged, Occupied, TooSmall, Formatted, Replied}
-use Rattle.btr_top.specs.declared.script.TheConstants.{MAX_INPUT}
-use Rattle.btr_bulk.specs.Status.{code_of}
+use Rattle.btr_top.specs.declared.command.TheConstants.{MAX_INPUT}
+use Rattle.btr_store.specs.Status.{code_of}
 
 -- The status of an ending whose text is written.
 abbrev pub status_of : Ending → ℕ

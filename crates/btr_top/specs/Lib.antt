@@ -1,9 +1,8 @@
--- the input that is read, and the status that replies ask for
-pub mod Status
-pub mod Script
+-- the input that is read, and the store that is opened
+pub mod Command
 pub mod Room
 -- the commands
-pub mod Bulk
+pub mod Work
 pub mod Live
 pub mod Ask
 pub mod Format
@@ -12,5 +11,3 @@ pub mod Ending
 pub mod Run
 -- the limits
 pub mod Laws
--- what the private functions promise
-pub mod Saying

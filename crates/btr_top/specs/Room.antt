@@ -20,7 +20,7 @@ use Rattle.btr_live.specs.Feeds.{none_waiting}
 use Rattle.btr_live.specs.Meaning.{Commits, meaning}
 use Rattle.btr_live.specs.Script.{Store, begun, needs_of}
 use Rattle.btr_live.specs.OneLane.{AreInLane}
-use Rattle.btr_bulk.specs.Completes.{IsPlannedSince}
+use Rattle.btr_store.specs.Completes.{IsPlannedSince}
 
 -- ---- one lane
 

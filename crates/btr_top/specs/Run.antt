@@ -10,12 +10,12 @@ use Rattle.btr_words.specs.declared.command.Command.{Command}
 use Rattle.btr_words.specs.declared.command.Command.TheVariants.{Format, Load, Ask, Distil, Live, Sample}
 use Rattle.btr_top.specs.declared.ending.Ending.{Ending}
 use Rattle.btr_top.specs.declared.ending.Ending.TheVariants.{Usage, OutOfMemory}
-use Rattle.btr_top.specs.declared.script.TheConstants.{MAX_INPUT}
-use Rattle.btr_top.specs.Script.{IsKept}
+use Rattle.btr_top.specs.declared.command.TheConstants.{MAX_INPUT}
+use Rattle.btr_top.specs.Command.{IsKept}
 use Rattle.btr_top.specs.Live.{LiveCause, CanLive}
 use Rattle.btr_top.specs.Ask.{AskCause, CanAsk}
 use Rattle.btr_top.specs.Format.{FormatCause, FormatLeaves, CanFormat}
-use Rattle.btr_top.specs.Bulk.{LoadCause, DistilCause, SampleCause, CanLoad, CanDistil, CanSample}
+use Rattle.btr_top.specs.Work.{LoadCause, DistilCause, SampleCause, CanLoad, CanDistil, CanSample}
 use Rattle.btr_top.specs.Ending.{Shows}
 
 -- Why a run with this command ends so. `given` and `rest` are the source before and after it, `old` and `new` the device. What is

@@ -7,21 +7,21 @@ ghost use Rattle.btr_text.specs.declared.reply.LineReply.{LineReply as ReplySpec
 ghost use Rattle.btr_engine.specs.Engine.{IsEngineOf};
 ghost use Rattle.btr_engine.specs.Snapshot.{IsSnapshotOf};
 ghost use Rattle.btr_open.specs.Opening.{IsOpened};
-ghost use Rattle.btr_top.specs.declared.script.TheConstants.{MAX_INPUT};
+ghost use Rattle.btr_top.specs.declared.command.TheConstants.{MAX_INPUT};
 ghost use Rattle.btr_live.specs.Meaning.{question};
-ghost use Rattle.btr_top.specs.Script.{IsKept};
+ghost use Rattle.btr_top.specs.Command.{IsKept};
 ghost use Rattle.btr_live.specs.Serving.{IsAnswerOrNoMemory};
-ghost use Rattle.btr_top.specs.Ask.{AskCause, QuestionsCause};
-ghost use Rattle.btr_top.specs.Saying.{AddsReply, HasAnswered};
+ghost use Rattle.btr_top.specs.Ask.{AskCause, QuestionsCause, HasAnswered};
+ghost use Rattle.btr_store.specs.Replies.{AddsReply};
 
+use crate::command::{CommandResult, open_refusal, read_input};
 use crate::ending::Ending;
-use crate::question::answer_question;
-use crate::script::{CommandResult, add_reply, no_replies, open_refusal, read_input};
-use btr_bulk::Transcript;
 use btr_disk::Disk;
 use btr_engine::{Engine, Snapshot};
 use btr_io::Source;
+use btr_live::answer_question;
 use btr_open::open_store;
+use btr_store::{Transcript, add_reply, no_replies};
 use btr_text::{Line, ScriptLine, read_questions};
 use std::alloc::{AllocError, Global};
 

@@ -4,9 +4,9 @@ ghost use Rattle.btr_io.specs.Faults.{Rose};
 ghost use Rattle.btr_text.specs.Text.{line_text};
 ghost use Rattle.btr_top.specs.Ending.{NeedsLine, Shows, WrotePrefix, Writes, status_of, text_of};
 
-use crate::script::MAX_INPUT;
-use btr_bulk::Transcript;
+use crate::command::MAX_INPUT;
 use btr_io::{Failed, Sink, write_all};
+use btr_store::Transcript;
 use btr_text::append_line;
 use itoa::Buffer;
 use std::alloc::{AllocError, Global};

@@ -6,14 +6,13 @@
 
 // the commands
 mod ask;
-mod bulk;
+mod distil;
 mod format_store;
 mod live;
+mod load;
+mod sample;
 // what the commands share
-mod question;
-mod saying;
-mod script;
-mod status;
+mod command;
 // how a run ends, and what it writes
 mod ending;
 // the whole
@@ -25,4 +24,4 @@ pub use btr_live::{lines_keep_legal, refreshes_are_current};
 pub use ending::Ending;
 pub use laws::{run_limits_are_these, script_fits};
 pub use run_command::{Outcome, run, run_paced};
-pub use script::MAX_INPUT;
+pub use command::MAX_INPUT;

@@ -1,31 +1,20 @@
 //! The command `live`, which runs the lines of a script in lanes on the store of a device.
-ghost use Rattle.std.specs.Prelude.{◌≡◌, ℕ, ◌+◌, ◌≤◌, false, List, IfErr, IfOk};
+ghost use Rattle.std.specs.Prelude.{◌≡◌, ◌+◌, ◌≤◌};
 ghost use Rattle.btr_base.specs.declared.limits.TheConstants.{MAX_COMMIT_POINTS};
 ghost use Rattle.btr_io.specs.Bytes.{Gives};
-ghost use Rattle.btr_hist.specs.declared.entry.Entry.{Entry as EntrySpec};
-ghost use Rattle.btr_engine.specs.Engine.{is_stopped, IsEngineOf};
 ghost use Rattle.btr_text.specs.Input.{HaveLanes, script_of};
-ghost use Rattle.btr_open.specs.Opening.{IsNotOpened};
-ghost use Rattle.btr_hall.specs.Session.{IsAlone, opening_of};
-ghost use Rattle.btr_jobs.specs.Jobs.{IsAt, Does};
-ghost use Rattle.btr_bulk.specs.Work.{DoesRightly};
-ghost use Rattle.btr_top.specs.declared.script.TheConstants.{MAX_INPUT};
-ghost use Rattle.btr_top.specs.Live.{LiveCause, LivesStore, ScriptCause};
-ghost use Rattle.btr_top.specs.Saying.{Lives};
+ghost use Rattle.btr_top.specs.declared.command.TheConstants.{MAX_INPUT};
+ghost use Rattle.btr_top.specs.Live.{LiveCause, ScriptCause};
 
-use crate::bulk::work_result;
+use crate::command::{CommandResult, open_refusal, read_input, work_result};
 use crate::ending::Ending;
-use crate::saying::say_live;
-use crate::script::{CommandResult, open_refusal, read_input};
-use btr_bulk::{Transcript, Worked, close_hall, open_hall};
 use btr_disk::Disk;
-use btr_hall::{Hall, Session};
 use btr_io::Source;
 use btr_jobs::Pace;
-use btr_live::{lanes, last_is_current, one_lane_is_the_model, runs_are_one_history};
-use btr_open::OpenFault;
+use btr_live::lanes;
+use btr_store::live_store;
 use btr_text::{ScriptLine, read_script};
-use std::alloc::{AllocError, Global};
+use std::alloc::Global;
 use std::sync::Wait;
 use std::thread::Threads;
 
@@ -103,67 +92,5 @@ fn run_lines<R: Threads + Wait + Sync, D: Disk + Send, P: Pace + Sync>(
     match live_store(rt, alloc, batch, materialize, lines, disk, pace) {
         Ok(worked) => work_result(worked),
         Err(fault) => open_refusal(fault),
-    }
-}
-
-/// Opens the store of a device, runs lines on it, and closes it.
-fn live_store<R: Threads + Wait + Sync, D: Disk + Send, P: Pace + Sync>(
-    rt: &R,
-    alloc: Global,
-    batch: u32,
-    materialize: bool,
-    lines: Vec<ScriptLine>,
-    disk: D,
-    pace: &P,
-) -> Result<Worked<D>, OpenFault<D>>
-    requires batch { (1 ≤ batch) × (batch ≤ MAX_COMMIT_POINTS) }
-    requires lanes { HaveLanes lines.items }
-    ensures done { IfOk result (λ w. DoesRightly ⟦<D as Disk>⟧
-        (λ start course own. LivesStore batch materialize lines.items start course w.said own) disk w.disk) }
-    ensures refused { IfErr result (IsNotOpened ⟦<D as Disk>⟧ disk) }
-{
-    // what holds of all scripts that ran alone
-    runs_are_one_history();
-    one_lane_is_the_model();
-    last_is_current();
-    let (hall, mut session) = open_hall(alloc, disk)?;
-    let said = live(
-        rt,
-        alloc,
-        &hall,
-        &mut session,
-        lines,
-        batch,
-        materialize,
-        pace,
-    );
-    let disk = close_hall(hall, session);
-    Ok(Worked { said, disk })
-}
-
-/// Runs lines at a hall, and says their replies and what the last round refused. An `Err` means out of memory.
-fn live<R: Threads + Wait + Sync, D: Disk + Send, P: Pace + Sync>(
-    rt: &R,
-    alloc: Global,
-    hall: &Hall<D>,
-    session: &mut Session<D>,
-    lines: Vec<ScriptLine>,
-    batch: u32,
-    materialize: bool,
-    pace: &P,
-) -> Result<Transcript, AllocError>
-    requires runs { ((h : List EntrySpec) × IsEngineOf h (opening_of hall.now)) × (is_stopped (opening_of hall.now) ≡ false) }
-    requires at { IsAt hall.now session.old }
-    requires alone { IsAlone session.old }
-    requires lanes { HaveLanes lines.items }
-    requires batch { (1 ≤ batch) × (batch ≤ MAX_COMMIT_POINTS) }
-    ensures at { IsAt hall.now session.new }
-    ensures alone { IsAlone session.new }
-    ensures does { Does hall.now session.old session.new
-        (λ start course low own. Lives batch materialize lines.items start course low result own) }
-{
-    match lanes(rt, alloc, hall, session, lines, batch, materialize, pace) {
-        Ok(report) => say_live(rt, alloc, hall, session, &report),
-        Err(error) => Err(error),
     }
 }

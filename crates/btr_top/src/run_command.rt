@@ -2,18 +2,20 @@
 ghost use Rattle.std.specs.Prelude.{◌≡◌, ◌⊎◌, ℕ, ◌+◌, ◌≤◌, ◌^◌, map, string_bytes, Some};
 ghost use Rattle.btr_io.specs.Bytes.{Gives};
 ghost use Rattle.btr_words.specs.declared.command.Command.TheVariants.{Ask, Format};
-ghost use Rattle.btr_top.specs.declared.script.TheConstants.{MAX_INPUT};
+ghost use Rattle.btr_top.specs.declared.command.TheConstants.{MAX_INPUT};
 ghost use Rattle.btr_words.specs.Words.{command_of};
-ghost use Rattle.btr_top.specs.Script.{IsKept};
+ghost use Rattle.btr_top.specs.Command.{IsKept};
 ghost use Rattle.btr_top.specs.Format.{CanFormat, FormatCause, FormatLeaves};
 ghost use Rattle.btr_top.specs.Run.{AllWork, CanRun, DeviceAndSinkWork, Ends, IsPlainStatus, RunCause, Runs};
 
 use crate::ask::run_ask;
-use crate::bulk::{run_distil, run_load, run_sample};
+use crate::command::CommandResult;
+use crate::distil::run_distil;
 use crate::ending::{Ending, show};
 use crate::format_store::format_store;
 use crate::live::run_live;
-use crate::script::CommandResult;
+use crate::load::run_load;
+use crate::sample::run_sample;
 use btr_disk::Disk;
 use btr_io::{Sink, Source};
 use btr_jobs::{NoPace, Pace};

@@ -1,5 +1,5 @@
 -- Each line is one more of those that were answered.
-use Rattle.btr_top.proofs.ScriptLemmas.{split-push}
+use Rattle.btr_top.proofs.LineLists.{split-push}
 use Rattle.btr_top.proofs.AskedLines.{HasAnswered-push}
 use Rattle.btr_top.proofs.ask.answer_questions.Goals as goal
 

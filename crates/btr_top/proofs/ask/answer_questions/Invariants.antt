@@ -2,7 +2,7 @@
 use Rattle.std.proofs.Common.{◌≡◌, ◌++◌, List}
 use Rattle.btr_hist.specs.declared.entry.Entry.{Entry}
 use Rattle.btr_engine.specs.Snapshot.{IsSnapshotOf}
-use Rattle.btr_top.specs.Saying.{HasAnswered}
+use Rattle.btr_top.specs.Ask.{HasAnswered}
 use Rattle.btr_top.proofs.ask.answer_questions.Given as goal
 
 -- the lines up to here were answered, and the others are left

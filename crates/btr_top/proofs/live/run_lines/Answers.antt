@@ -1,6 +1,6 @@
 -- The command ends as its work says.
-use Rattle.btr_top.specs.Live.{LivesStore}
-use Rattle.btr_top.proofs.BulkCauses.{work_cause}
+use Rattle.btr_store.specs.Live.{LivesStore}
+use Rattle.btr_top.proofs.WorkCauses.{work_cause}
 use Rattle.btr_top.proofs.live.run_lines.Goals as goal
 
 pub returns-in-Ok-clause-cause : goal.returns-in-Ok-clause-cause

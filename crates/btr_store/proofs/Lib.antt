@@ -1,0 +1,30 @@
+-- what a crash leaves of the steps of a hall
+mod Moments
+-- how many blocks its entries need
+mod Rooms
+-- what work leaves
+pub mod WorkLemmas
+mod WorksOn
+-- which entries are allowed
+pub mod Allowing
+-- the lines that are written
+pub mod TranscriptLemmas
+mod Benign
+mod StreamLemmas
+-- the work of each command
+mod FewVersions
+mod DistilCompletes
+pub mod DistilLemmas
+mod LoadLineLemmas
+mod LoadCompletes
+mod LoadLemmas
+mod DefineLemmas
+pub mod SampleLineLemmas
+mod SampleLemmas
+mod SampleCompletes
+mod SampleLawLemmas
+-- scripts
+mod ReplyLemmas
+mod LiveLineLemmas
+mod LiveAllowing
+mod LiveLemmas

@@ -1,0 +1,22 @@
+-- The session is alone again, and what is said is what was done.
+use Rattle.btr_jobs.proofs.DoesLemmas.{stays_alone}
+use Rattle.btr_store.proofs.DistilLemmas.{stays_alone as still_alone}
+use Rattle.btr_store.proofs.LiveLemmas.{lives_said, lives_none}
+use Rattle.btr_store.proofs.live.live.Goals as goal
+
+pub say_live-requires-clause-alone : goal.say_live-requires-clause-alone
+say_live-requires-clause-alone g c =
+    stays_alone c.args.session.now c.lanes.new.session c.in-Ok.ensures.runs.0 c.in-Ok.ensures.runs.1 c.requires.alone
+
+pub returns-in-Ok-clause-alone : goal.returns-in-Ok-clause-alone
+returns-in-Ok-clause-alone g c =
+    still_alone c.lanes.new.session c.say_live.new.session c.say_live.ensures.stays
+    (stays_alone c.args.session.now c.lanes.new.session c.in-Ok.ensures.runs.0 c.in-Ok.ensures.runs.1 c.requires.alone)
+
+pub returns-in-Ok-clause-does : goal.returns-in-Ok-clause-does
+returns-in-Ok-clause-does g c =
+    lives_said c.args.batch c.args.materialize c.args.lines.items c.args.hall.now c.args.session.now c.lanes.new.session c.say_live.new.session c.in-Ok.report c.say_live.result c.in-Ok.ensures.runs c.say_live.ensures.stays c.say_live.ensures.says
+
+pub returns-in-Err-clause-does : goal.returns-in-Err-clause-does
+returns-in-Err-clause-does g c =
+    lives_none c.args.batch c.args.materialize c.args.lines.items c.args.hall.now c.args.session.now c.lanes.new.session c.in-Err.error c.in-Err.ensures.refused

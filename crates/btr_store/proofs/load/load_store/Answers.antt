@@ -1,0 +1,37 @@
+-- The work was done on the device, what it added is allowed, and the laws of loads hold of it.
+use Rattle.std.proofs.Common.{inl, inr}
+use Rattle.std.proofs.lemmas.Bool.{cases_lt}
+use Rattle.btr_store.specs.Load.{LoadsRows, LoadsRowsInTurn, LoadsStore}
+use Rattle.btr_store.proofs.WorkLemmas.{does_rightly, does_more}
+use Rattle.btr_store.proofs.LoadLemmas.{loads_if_allowed, loads_store, loads_store_in_order}
+use Rattle.btr_store.proofs.load.load_store.Goals as goal
+
+pub returns-clause-done : goal.returns-clause-done
+returns-clause-done g c =
+    let disk = g.D.Disk in
+    let rows = c.args.rows in
+    let batch = c.args.batch in
+    let workers = c.args.workers in
+    let said = c.load_rows-said.result in
+    let begun = c.in_ok-hall.ensures.begun in
+    let hall = c.in_ok-hall.hall in
+    let session = c.in_ok-hall.session in
+    let last = c.load_rows-said.new.session in
+    let old = c.args.disk in
+    let new = c.close_hall-disk.result in
+    elim (cases_lt 1 workers) [
+      | inl many ↦
+          does_more disk (λ start course own. LoadsRows start course start.history rows batch said own) (λ start course own. LoadsStore start course rows batch workers said own) old new
+          (λ start course own works legal is. loads_store disk old new start course rows batch workers own said works many is)
+          (does_rightly disk (λ start course low own. LoadsRows start course low rows batch said own) old new hall session last
+          (λ start course own is. loads_if_allowed start course start.history rows batch is.loaded own is.loads)
+          begun c.load_rows-said.ensures.does
+          (λ opened own goes. c.close_hall-disk.ensures.works old opened session own begun.begins goes))
+      | inr few ↦
+          does_more disk (λ start course own. LoadsRowsInTurn start course start.history rows batch said own) (λ start course own. LoadsStore start course rows batch workers said own) old new
+          (λ start course own works legal is. loads_store_in_order disk old new start course rows batch workers own said works is)
+          (does_rightly disk (λ start course low own. LoadsRowsInTurn start course low rows batch said own) old new hall session last
+          (λ start course own is. loads_if_allowed start course start.history rows batch is.did.loaded own is.did.loads)
+          begun (c.load_rows-said.ensures.in_turn few)
+          (λ opened own goes. c.close_hall-disk.ensures.works old opened session own begun.begins goes))
+    ]

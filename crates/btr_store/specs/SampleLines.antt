@@ -1,0 +1,66 @@
+-- The lines of a sample.
+use Rattle.std.specs.Prelude.{ℕ, List, [], ◌∷◌, ◌++◌, map, flat_map, length, Option, Some, None}
+use Rattle.std.specs.List.{range_with_len}
+use Rattle.btr_base.specs.declared.limits.TheConstants.{FIRST, END}
+use Rattle.btr_base.specs.Agg.{agg_within}
+use Rattle.btr_hist.specs.declared.entry.Entry.{Entry}
+use Rattle.btr_hist.specs.History.{ids, latest, bag}
+use Rattle.btr_text.specs.declared.reply.Reason.{Reason}
+use Rattle.btr_load.specs.Loads.{LoadedValue}
+use Rattle.btr_work.specs.declared.report.Brought.{Brought}
+use Rattle.btr_work.specs.declared.report.Brought.TheVariants as results
+use Rattle.btr_work.specs.declared.report.ReportLine as brought
+use Rattle.btr_report.specs.declared.line.ReportLine.{ReportLine}
+use Rattle.btr_report.specs.declared.line.ReportLine.TheVariants as lines
+use Rattle.btr_store.specs.declared.define.DefinedOutput.{DefinedOutput}
+use Rattle.btr_store.specs.declared.load_lines.RefusedNumber.{RefusedNumber}
+use Rattle.btr_store.specs.declared.sample.Filled.{Filled}
+use Rattle.btr_store.specs.declared.transcript.Transcript.{Transcript}
+use Rattle.btr_live.specs.Reasons.{reason_of_landing}
+use Rattle.btr_store.specs.Streams.{id_of}
+use Rattle.btr_store.specs.Transcript.{SaysLines}
+use Rattle.btr_store.specs.LoadLines.{AreRefused, row_line, stream_spans}
+
+-- ---- refused outputs
+
+-- The line of an output, if it was refused.
+abbrev pub refusal_line : ℕ → Option Reason → List ReportLine
+refusal_line id None = []
+refusal_line id (Some reason) = lines.OutputRefused id reason ∷ []
+
+-- The line of an output, if it was not defined.
+abbrev pub define_line : DefinedOutput → List ReportLine
+define_line output = refusal_line output.id output.refused
+
+-- Why an output was not brought up to date, if it was not.
+abbrev pub landing_refusal : Brought → Option Reason
+landing_refusal (results.Landed version) = None
+landing_refusal (results.Current version) = None
+landing_refusal (results.Refused fault) = Some (reason_of_landing fault)
+
+-- The line of an output after this history, if it was not brought up to date.
+abbrev pub landing_line : List Entry → brought.ReportLine → List ReportLine
+landing_line h line = refusal_line (id_of h line.output) (landing_refusal line.result)
+
+-- ---- the streams at the end
+
+-- The line of a stream: its latest version, and the aggregate of all its points.
+abbrev pub summary_line : List Entry → ℕ → ℕ → ReportLine
+summary_line h id stream = lines.StreamSummary id (latest h stream) (agg_within FIRST END (bag h stream (latest h stream)))
+
+-- The lines of all streams, in order of creation.
+abbrev pub summary_lines : List Entry → List ReportLine
+summary_lines h = map (λ stream. summary_line h (id_of h stream) stream) (range_with_len 0 (length (ids h)))
+
+-- ---- all lines
+
+-- What was done to the store is in the transcript, and then the streams of this history: refused rows by their numbers, refused
+-- batches, refused outputs, and a line for each stream.
+abbrev pub SaysAll : List Entry → LoadedValue → List DefinedOutput → List brought.ReportLine → Transcript → Type 0
+SaysAll h loaded outputs report t =
+    (rows : List RefusedNumber) × AreRefused loaded rows
+    × SaysLines (map row_line rows ++ flat_map stream_spans loaded.streams ++ flat_map define_line outputs
+    ++ flat_map (landing_line h) report ++ summary_lines h) t
+
+abbrev pub SaysFilled : List Entry → Filled → Transcript → Type 0
+SaysFilled h filled t = SaysAll h filled.loaded filled.outputs.items filled.report t

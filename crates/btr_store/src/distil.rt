@@ -1,0 +1,162 @@
+//! The work of `distil`: each output of a store is brought up to date once.
+ghost use Rattle.std.specs.Prelude.{◌≡◌, ◌≤◌, ℕ, List, map, IfErr, IfOk};
+ghost use Rattle.btr_hist.specs.declared.entry.Entry.{Entry as EntrySpec};
+ghost use Rattle.btr_engine.specs.Engine.{IsEngineOf};
+ghost use Rattle.btr_engine.specs.Snapshot.{IsSnapshotOf};
+ghost use Rattle.btr_open.specs.Opening.{IsNotOpened};
+ghost use Rattle.btr_hall.specs.Trace.{history_of};
+ghost use Rattle.btr_hall.specs.Session.{IsAlone, opening_of, seen_of};
+ghost use Rattle.btr_jobs.specs.Jobs.{IsAt, Does};
+ghost use Rattle.btr_store.specs.Work.{DoesRightly};
+ghost use Rattle.btr_store.specs.Transcript.{SaysLines};
+ghost use Rattle.btr_store.specs.Streams.{AreStreams, Stays};
+ghost use Rattle.btr_store.specs.Distil.{Distils, DistilsInTurn, DistilsStore, output_line, current_line, nothing_of};
+
+use crate::streams::{all_streams, id_of};
+use crate::transcript::Transcript;
+use crate::work::{Worked, close_hall, open_hall};
+use btr_disk::Disk;
+use btr_engine::Snapshot;
+use btr_hall::{Hall, Session};
+use btr_hist::{Reads, Spec, StreamRow};
+use btr_jobs::Pace;
+use btr_live::reason_of_landing;
+use btr_open::OpenFault;
+use btr_report::ReportLine;
+use btr_work::{Brought, Report, ReportLine as BroughtLine, bring_current};
+use std::alloc::{AllocError, Global};
+use std::sync::Wait;
+use std::thread::Threads;
+
+/// Opens the store on a device, brings each output up to date once, its inputs first, and closes the store. It says one line for each
+/// output, in the order in which they were defined: its latest version and the versions of the inputs that this has read, or why it
+/// was not brought up to date. Outputs that do not depend on each other are shared among at most `workers` workers.
+///
+/// In the end each output is up to date whose line is no refusal. If the history was legal, and the memory and the device suffice, the
+/// commits, what they have read, and the lines are those of one worker, which lands the outputs one after another. If there is room
+/// for all that may be landed, and the device does not fail, no line says that it was full or failed.
+///
+/// One worker has one right outcome, also on a nearly full device: it lands the outputs one after another, level by level, each level in
+/// rising order. A landing is added if the model accepts it and the blocks that are left suffice. If the history was legal, the memory
+/// suffices and the device does not fail, the history and the results are those.
+///
+/// It costs the reading of the store, logarithmic time for each stream, and what the outputs need. If there is no memory for the
+/// lines, all outputs may have been brought up to date, or none.
+pub fn distil_store<R: Threads + Wait + Sync, D: Disk + Send, P: Pace + Sync>(
+    rt: &R,
+    alloc: Global,
+    workers: u8,
+    pace: &P,
+    disk: D,
+) -> Result<Worked<D>, OpenFault<D>>
+    ensures done { IfOk result (λ w. DoesRightly ⟦<D as Disk>⟧ (λ start course own. DistilsStore start course workers w.said own)
+        disk w.disk) }
+    ensures refused { IfErr result (IsNotOpened ⟦<D as Disk>⟧ disk) }
+{
+    let (hall, mut session) = open_hall(alloc, disk)?;
+    let said = distil(rt, alloc, &hall, &mut session, workers, pace);
+    let disk = close_hall(hall, session);
+    Ok(Worked { said, disk })
+}
+
+/// Brings each output up to date once, and says what became of each. An `Err` means out of memory.
+fn distil<R: Threads + Wait + Sync, D: Disk + Send, P: Pace + Sync>(
+    rt: &R,
+    alloc: Global,
+    hall: &Hall<D>,
+    session: &mut Session<D>,
+    workers: u8,
+    pace: &P,
+) -> Result<Transcript, AllocError>
+    requires at { IsAt hall.now session.old }
+    requires alone { IsAlone session.old }
+    ensures at { IsAt hall.now session.new }
+    ensures alone { IsAlone session.new }
+    ensures does { Does hall.now session.old session.new (λ start course low own. Distils start course low result own) }
+    ensures in_turn { workers ≤ 1 → Does hall.now session.old session.new
+        (λ start course low own. DistilsInTurn start course low result own) }
+{
+    match bring_current(rt, alloc, hall, session, workers, pace) {
+        Ok(report) => say_report(rt, alloc, hall, session, &report),
+        Err(error) => Err(error),
+    }
+}
+
+/// Says what became of each output, as the store is now. An `Err` means out of memory.
+fn say_report<R: Wait, D: Disk>(
+    rt: &R,
+    alloc: Global,
+    hall: &Hall<D>,
+    session: &mut Session<D>,
+    report: &Report,
+) -> Result<Transcript, AllocError>
+    requires at { IsAt hall.now session.old }
+    requires alone { IsAlone session.old }
+    ensures at { IsAt hall.now session.new }
+    ensures stays { Stays session.old session.new }
+    ensures says { (h : List EntrySpec) → IsEngineOf h (opening_of hall.now)
+        → IfOk result (SaysLines (map (output_line (history_of h (seen_of session.old))) report.now)) }
+{
+    let snapshot = session.admit(rt, hall)?;
+    output_lines(alloc, &snapshot, report)
+}
+
+/// Says what became of each output of this snapshot. An `Err` means out of memory.
+fn output_lines(
+    alloc: Global,
+    snapshot: &Snapshot,
+    report: &Report,
+) -> Result<Transcript, AllocError>
+    ensures { (h : List EntrySpec) → IsSnapshotOf h snapshot.now → IfOk result (SaysLines (map (output_line h) report.now)) }
+{
+    let streams = all_streams(alloc, snapshot)?;
+    let mut transcript = Transcript::new(alloc);
+    for line in report.lines() {
+        transcript.add(&output_line(snapshot, streams.as_slice(), *line))?;
+    }
+    Ok(transcript)
+}
+
+/// Returns the line of an output of this snapshot, which has these streams.
+fn output_line(snapshot: &Snapshot, streams: &[StreamRow], line: BroughtLine) -> ReportLine
+    ensures { (h : List EntrySpec) → IsSnapshotOf h snapshot.now → AreStreams h streams.now → result ≡ output_line h line }
+{
+    let id = id_of(streams, line.output);
+    match line.result {
+        Brought::Landed { .. } | Brought::Current { .. } => {
+            current_line(snapshot, id, line.output)
+        }
+        Brought::Refused(fault) => ReportLine::OutputRefused {
+            id,
+            reason: reason_of_landing(fault),
+        },
+    }
+}
+
+/// Returns the line of an output that is up to date.
+fn current_line(snapshot: &Snapshot, id: u128, output: u32) -> ReportLine
+    ensures { (h : List EntrySpec) → IsSnapshotOf h snapshot.now → result ≡ current_line h id output }
+{
+    let version = snapshot.latest(output).unwrap_or(0);
+    let reads = match snapshot.reads(output, version) {
+        Some(reads) => reads,
+        None => nothing_read(snapshot.spec(output)),
+    };
+    ReportLine::OutputCurrent { id, version, reads }
+}
+
+/// Returns version 0 of each input of an output.
+fn nothing_read(kind: Option<Spec>) -> Reads
+    ensures { result ≡ nothing_of kind }
+{
+    match kind {
+        None => Reads {
+            first: 0,
+            second: None,
+        },
+        Some(spec) => Reads {
+            first: 0,
+            second: spec.second.map(|_| 0),
+        },
+    }
+}

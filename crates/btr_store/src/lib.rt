@@ -1,0 +1,40 @@
+//! Work on a whole store: it is opened, one piece of work is done at its hall, with many threads, and it is closed.
+//!
+//! [`distil_store`] brings each output up to date. What is said of the device afterwards, also after a crash at any moment, is the
+//! same for all work ([`Works`]), also for work of another crate between [`open_hall`] and [`close_hall`].
+//!
+//! [`Works`]: ../specs/Work.antt
+#![tactic(auto)]
+
+// a store is opened, used and closed
+mod work;
+// the work of each command
+mod distil;
+mod load;
+mod load_lines;
+// the work of `live`, and its lines
+mod live;
+mod live_lines;
+// the work of `sample`, its outputs and its lines
+mod define;
+mod sample;
+mod sample_lines;
+// the streams of a snapshot
+mod streams;
+// the lines that are written, and the status that they ask for
+mod replies;
+mod status;
+mod transcript;
+// the limits of a sample
+mod laws;
+
+pub use distil::distil_store;
+pub use laws::sample_limits_are_these;
+pub use live::live_store;
+pub use load::load_store;
+pub use replies::{add_reply, no_replies};
+pub use sample::sample_store;
+pub use status::Status;
+pub use streams::{all_streams, id_of};
+pub use transcript::Transcript;
+pub use work::{Worked, close_hall, open_hall};

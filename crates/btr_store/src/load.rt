@@ -1,0 +1,81 @@
+//! The work of `load`: rows are committed to a store.
+ghost use Rattle.std.specs.Prelude.{◌≡◌, ◌≤◌, ℕ, List, IfErr, IfOk};
+ghost use Rattle.btr_open.specs.Opening.{IsNotOpened};
+ghost use Rattle.btr_hall.specs.Session.{IsAlone};
+ghost use Rattle.btr_jobs.specs.Jobs.{IsAt, Does};
+ghost use Rattle.btr_store.specs.Work.{DoesRightly};
+ghost use Rattle.btr_store.specs.Load.{LoadsRows, LoadsRowsInTurn, LoadsStore};
+
+use crate::load_lines::load_lines;
+use crate::transcript::Transcript;
+use crate::work::{Worked, close_hall, open_hall};
+use btr_disk::Disk;
+use btr_hall::{Hall, Session};
+use btr_jobs::Pace;
+use btr_load::load;
+use btr_open::OpenFault;
+use btr_rows::RowList;
+use std::alloc::{AllocError, Global};
+use std::sync::Wait;
+use std::thread::Threads;
+
+/// Opens the store on a device, loads rows with at most `workers` workers, in batches of `batch` points, and closes the store. It says
+/// a line for each refused row, by its number; then for each stream, in the order of its first row, a line for each refused batch, and
+/// one with the stream's latest version and the points that were committed; and last the numbers of good and of refused rows.
+///
+/// In the end a batch is in the store exactly if it was not refused, and nothing else was added but new streams. If the memory and the
+/// device suffice, each stream is as one worker leaves it, which commits the batches stream by stream. Both is so if the rows list each
+/// id once, as rows that were read do. If there is room for the rows, and the device does not fail, no line says that it was full or
+/// failed.
+///
+/// One worker has one right outcome, also on a nearly full device: it makes the creates in order, and then commits the batches stream by
+/// stream. Each entry is added if the model accepts it and the blocks that are left suffice. If the memory suffices and the device does
+/// not fail, the history and the results are those.
+///
+/// It costs the reading of the store, time linear in the rows, logarithmic time for each stream and each refused row, and what the
+/// entries need. If there is no memory for the lines, all rows may have been loaded, or none.
+pub fn load_store<R: Threads + Wait + Sync, D: Disk + Send, P: Pace + Sync>(
+    rt: &R,
+    alloc: Global,
+    rows: RowList,
+    batch: u32,
+    workers: u8,
+    pace: &P,
+    disk: D,
+) -> Result<Worked<D>, OpenFault<D>>
+    requires batch { 1 ≤ batch }
+    ensures done { IfOk result (λ w. DoesRightly ⟦<D as Disk>⟧ (λ start course own. LoadsStore start course rows batch workers w.said own)
+        disk w.disk) }
+    ensures refused { IfErr result (IsNotOpened ⟦<D as Disk>⟧ disk) }
+{
+    let (hall, mut session) = open_hall(alloc, disk)?;
+    let said = load_rows(rt, alloc, &hall, &mut session, rows, batch, workers, pace);
+    let disk = close_hall(hall, session);
+    Ok(Worked { said, disk })
+}
+
+/// Loads rows, and says what became of them. An `Err` means out of memory.
+fn load_rows<R: Threads + Wait + Sync, D: Disk + Send, P: Pace + Sync>(
+    rt: &R,
+    alloc: Global,
+    hall: &Hall<D>,
+    session: &mut Session<D>,
+    rows: RowList,
+    batch: u32,
+    workers: u8,
+    pace: &P,
+) -> Result<Transcript, AllocError>
+    requires at { IsAt hall.now session.old }
+    requires alone { IsAlone session.old }
+    requires batch { 1 ≤ batch }
+    ensures at { IsAt hall.now session.new }
+    ensures alone { IsAlone session.new }
+    ensures does { Does hall.now session.old session.new (λ start course low own. LoadsRows start course low rows batch result own) }
+    ensures in_turn { workers ≤ 1 → Does hall.now session.old session.new
+        (λ start course low own. LoadsRowsInTurn start course low rows batch result own) }
+{
+    match load(rt, alloc, hall, session, rows, batch, workers, pace) {
+        Ok(loaded) => load_lines(alloc, &loaded),
+        Err(error) => Err(error),
+    }
+}

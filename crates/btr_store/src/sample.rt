@@ -1,0 +1,185 @@
+//! The work of `sample`: an empty store is filled with the points of a generator, and with an output for each stream.
+ghost use Rattle.std.specs.Prelude.{◌≡◌, ℕ, List, [], ◌∷◌, IfErr, IfOk};
+ghost use Rattle.btr_hist.specs.declared.entry.Entry.{Entry as EntrySpec};
+ghost use Rattle.btr_engine.specs.Engine.{IsEngineOf};
+ghost use Rattle.btr_open.specs.Opening.{IsNotOpened};
+ghost use Rattle.btr_hall.specs.Trace.{history_of};
+ghost use Rattle.btr_hall.specs.Session.{IsAlone, opening_of, seen_of};
+ghost use Rattle.btr_jobs.specs.Jobs.{IsAt, Does};
+ghost use Rattle.btr_report.specs.declared.line.ReportLine.TheVariants as lines;
+ghost use Rattle.btr_store.specs.Work.{DoesRightly};
+ghost use Rattle.btr_store.specs.Transcript.{SaysLines};
+ghost use Rattle.btr_store.specs.Streams.{Stays};
+ghost use Rattle.btr_store.specs.Sample.{IsFilled, Samples, rows_of_sample};
+ghost use Rattle.btr_store.specs.SampleLaw.{SamplesStore};
+ghost use Rattle.btr_store.specs.SampleLines.{SaysFilled};
+
+use crate::define::{DefinedOutput, define_outputs};
+use crate::sample_lines::filled_lines;
+use crate::transcript::Transcript;
+use crate::work::{Worked, close_hall, open_hall};
+use btr_disk::Disk;
+use btr_hall::{Hall, Session};
+use btr_jobs::Pace;
+use btr_load::{Loaded, load};
+use btr_open::OpenFault;
+use btr_report::ReportLine;
+use btr_rows::{RowList, read_rows, sample_csv};
+use btr_work::{Report, bring_current};
+use std::alloc::{AllocError, Global};
+use std::sync::Wait;
+use std::thread::Threads;
+
+/// The number of workers that load the rows and that bring the outputs up to date.
+const WORKERS: u8 = 4;
+
+/// The number of points in a batch.
+const BATCH: u32 = 4096;
+
+/// What was done to an empty store.
+#[derive(Drop)]
+pub(crate) struct Filled {
+    /// What became of the rows.
+    pub(crate) loaded: Loaded,
+
+    /// The outputs, in the order of their streams.
+    pub(crate) outputs: Vec<DefinedOutput>,
+
+    /// What became of the outputs when they were brought up to date.
+    pub(crate) report: Report,
+}
+
+/// Opens the store on a device, fills it with a sample if it is empty, and closes it. If it has an entry, it says only that the store
+/// is used, and nothing is added.
+///
+/// A sample is `points` points for each of `streams` streams, from a generator that begins with `number`. They are loaded as rows,
+/// and an output is defined for each stream: the mean of the last 1,000 ns. Then each output is brought up to date. It says a line
+/// for each refused row, refused batch and refused output, and last one for each stream with its version and the aggregate of its
+/// points. The streams are shared among at most 4 workers. The turns of `pace` are those of the load, and then those of the outputs.
+///
+/// If the device does not fail, the store has just what was not refused, and each output without a refusal is up to date in the end. If
+/// the memory suffices too, the streams and the outputs are those that one worker leaves. If there is also room for the sample, no line
+/// says that the device was full. A store that has an entry needs no room.
+///
+/// It costs the reading of the store, time and memory linear in the points, and what the entries need. If there is no memory for the
+/// lines, or for a part of the work, what was done before stays.
+pub fn sample_store<R: Threads + Wait + Sync, D: Disk + Send, P: Pace + Sync>(
+    rt: &R,
+    alloc: Global,
+    number: u32,
+    streams: u32,
+    points: u32,
+    pace: &P,
+    disk: D,
+) -> Result<Worked<D>, OpenFault<D>>
+    ensures done { IfOk result (λ w. DoesRightly ⟦<D as Disk>⟧
+        (λ start course own. SamplesStore number streams points start course w.said own) disk w.disk) }
+    ensures refused { IfErr result (IsNotOpened ⟦<D as Disk>⟧ disk) }
+{
+    let (hall, mut session) = open_hall(alloc, disk)?;
+    let said = sample(
+        rt,
+        alloc,
+        &hall,
+        &mut session,
+        number,
+        streams,
+        points,
+        pace,
+    );
+    let disk = close_hall(hall, session);
+    Ok(Worked { said, disk })
+}
+
+/// Fills the store if it is empty, and says what was done. An `Err` means out of memory.
+fn sample<R: Threads + Wait + Sync, D: Disk + Send, P: Pace + Sync>(
+    rt: &R,
+    alloc: Global,
+    hall: &Hall<D>,
+    session: &mut Session<D>,
+    number: u32,
+    streams: u32,
+    points: u32,
+    pace: &P,
+) -> Result<Transcript, AllocError>
+    requires at { IsAt hall.now session.old }
+    requires alone { IsAlone session.old }
+    ensures at { IsAt hall.now session.new }
+    ensures alone { IsAlone session.new }
+    ensures does { Does hall.now session.old session.new
+        (λ start course low own. Samples number streams points start course low result own) }
+{
+    let snapshot = session.admit(rt, hall)?;
+    match snapshot.entries() {
+        0 => {
+            let filled = fill(rt, alloc, hall, session, number, streams, points, pace)?;
+            say_filled(rt, alloc, hall, session, &filled)
+        }
+        entries => used_line(alloc, entries),
+    }
+}
+
+/// Says that the store has this number of entries. An `Err` means out of memory.
+fn used_line(alloc: Global, entries: u64) -> Result<Transcript, AllocError>
+    ensures { IfOk result (SaysLines (lines.Used entries ∷ [])) }
+{
+    let mut transcript = Transcript::new(alloc);
+    transcript.add(&ReportLine::Used { entries })?;
+    Ok(transcript)
+}
+
+/// Loads the rows of a sample, defines its outputs, and brings them up to date. An `Err` means out of memory.
+fn fill<R: Threads + Wait + Sync, D: Disk + Send, P: Pace + Sync>(
+    rt: &R,
+    alloc: Global,
+    hall: &Hall<D>,
+    session: &mut Session<D>,
+    number: u32,
+    streams: u32,
+    points: u32,
+    pace: &P,
+) -> Result<Filled, AllocError>
+    requires at { IsAt hall.now session.old }
+    requires alone { IsAlone session.old }
+    ensures at { IsAt hall.now session.new }
+    ensures alone { IsAlone session.new }
+    ensures does { Does hall.now session.old session.new
+        (λ start course low own. IsFilled number streams points start course low result own) }
+{
+    let rows = sample_rows(alloc, number, streams, points)?;
+    let loaded = load(rt, alloc, hall, session, rows, BATCH, WORKERS, pace)?;
+    let outputs = define_outputs(rt, alloc, hall, session, streams)?;
+    let report = bring_current(rt, alloc, hall, session, WORKERS, pace)?;
+    Ok(Filled {
+        loaded,
+        outputs,
+        report,
+    })
+}
+
+/// Returns the rows of a sample, as they are read from its text. An `Err` means out of memory.
+fn sample_rows(alloc: Global, number: u32, streams: u32, points: u32) -> Result<RowList, AllocError>
+    ensures { IfOk result (λ rows. rows ≡ rows_of_sample number streams points) }
+{
+    let text = sample_csv(alloc, number, streams, points)?;
+    read_rows(alloc, text.as_slice())
+}
+
+/// Says what was done to a store, and what its streams are now. An `Err` means out of memory.
+fn say_filled<R: Wait, D: Disk>(
+    rt: &R,
+    alloc: Global,
+    hall: &Hall<D>,
+    session: &mut Session<D>,
+    filled: &Filled,
+) -> Result<Transcript, AllocError>
+    requires at { IsAt hall.now session.old }
+    requires alone { IsAlone session.old }
+    ensures at { IsAt hall.now session.new }
+    ensures stays { Stays session.old session.new }
+    ensures says { (h : List EntrySpec) → IsEngineOf h (opening_of hall.now)
+        → IfOk result (SaysFilled (history_of h (seen_of session.old)) filled.now) }
+{
+    let snapshot = session.admit(rt, hall)?;
+    filled_lines(alloc, &snapshot, filled)
+}

@@ -1,0 +1,76 @@
+//! The begin and the end of work on a store: it is opened and has a hall, and the hall is closed.
+ghost use Rattle.std.specs.Prelude.{◌≡◌, ℕ, List, IfErr, IfOk};
+ghost use Rattle.btr_hist.specs.declared.entry.Entry.{Entry as EntrySpec};
+ghost use Rattle.btr_engine.specs.Engine.{IsEngineOf};
+ghost use Rattle.btr_open.specs.declared.opening.OpenCause.TheVariants.{Want};
+ghost use Rattle.btr_open.specs.Opening.{IsNotOpened, IsOpened, KeepsDisk};
+ghost use Rattle.btr_hall.specs.declared.session.Session.{Session as SessionSpec};
+ghost use Rattle.btr_hall.specs.Session.{Begins, IsAlone, opening_of};
+ghost use Rattle.btr_jobs.specs.Course.{course_of, start_of};
+ghost use Rattle.btr_jobs.specs.Jobs.{Goes, IsAt};
+ghost use Rattle.btr_store.specs.Work.{Works};
+ghost use Rattle.btr_store.specs.Closing.{BeginsOn};
+
+use crate::transcript::Transcript;
+use btr_disk::Disk;
+use btr_engine::Engine;
+use btr_hall::{Hall, Session};
+use btr_open::{OpenCause, OpenFault, open_store};
+use std::alloc::{AllocError, Global};
+
+/// What work on a store says, and the device.
+#[derive(Drop)]
+pub struct Worked<D> {
+    /// The lines that say what was done. An `Err` means that there was no memory to do all of it, or for the lines.
+    pub said: Result<Transcript, AllocError>,
+
+    /// The device, as the calls left it.
+    pub disk: D,
+}
+
+/// Opens the store on a device, and makes a hall of it. Returns the hall and its only session. Nothing is written. The fault also says
+/// that memory ran out if there is none for the hall.
+///
+/// It costs the reading of the store. What is done at the hall until [`close_hall`] takes it is work on the device.
+pub fn open_hall<D: Disk>(alloc: Global, disk: D) -> Result<(Hall<D>, Session<D>), OpenFault<D>>
+    ensures begun { IfOk result (λ r. BeginsOn ⟦<D as Disk>⟧ disk r.0 r.1) }
+    ensures refused { IfErr result (IsNotOpened ⟦<D as Disk>⟧ disk) }
+{
+    let engine = open_store(alloc, disk)?;
+    begin_hall(alloc, engine)
+}
+
+/// Makes a hall of an engine that was opened.
+fn begin_hall<D: Disk>(
+    alloc: Global,
+    engine: Engine<D>,
+) -> Result<(Hall<D>, Session<D>), OpenFault<D>>
+    requires some { (h : List EntrySpec) × IsEngineOf h engine }
+    ensures begun { IfOk result (λ r. Begins engine r.0 r.1) }
+    ensures cause { IfErr result (λ fault. fault.cause ≡ Want) }
+    ensures kept { (old : D) → IsOpened ⟦<D as Disk>⟧ old engine → IfErr result (λ fault. KeepsDisk ⟦<D as Disk>⟧ old fault.disk) }
+{
+    match Hall::begin(alloc, engine) {
+        Ok((hall, session)) => Ok((hall, session)),
+        Err((engine, _)) => Err(OpenFault {
+            cause: OpenCause::Want,
+            disk: engine.into_disk(),
+        }),
+    }
+}
+
+/// Closes a hall whose only session is this one, and takes the device out. It takes constant time and no memory, and does not call the
+/// device.
+///
+/// If the hall was opened by [`open_hall`], its contract says what the work at the hall left on the device, also after a crash at any
+/// moment.
+pub fn close_hall<D: Disk>(hall: Hall<D>, session: Session<D>) -> D
+    requires at { IsAt hall session }
+    requires alone { IsAlone session }
+    ensures works { (old : D) (opened : IsOpened ⟦<D as Disk>⟧ old (opening_of hall)) (begun : SessionSpec D ⟦<D as Disk>⟧) (own : List ℕ)
+        → Begins (opening_of hall) hall begun → Goes begun session own
+        → Works ⟦<D as Disk>⟧ (start_of opened.some.0 hall) (course_of opened.some.0 session) own old result }
+{
+    let engine = hall.close(session);
+    engine.into_disk()
+}

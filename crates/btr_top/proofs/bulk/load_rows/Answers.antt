@@ -1,9 +1,0 @@
--- The command ends as its work says.
-use Rattle.btr_bulk.specs.Load.{LoadsStore}
-use Rattle.btr_top.proofs.BulkCauses.{work_cause}
-use Rattle.btr_top.proofs.bulk.load_rows.Goals as goal
-
-pub returns-in-Ok-clause-cause : goal.returns-in-Ok-clause-cause
-returns-in-Ok-clause-cause g c =
-    work_cause g.D.Disk (λ said start course own. LoadsStore start course c.args.rows c.args.batch c.args.workers said own) c.in-Ok.worked.said c.args.disk c.in-Ok.worked.disk c.work_result.result.disk c.work_result.result.ending
-    c.work_result.ensures.ending c.work_result.ensures.disk c.in-Ok.ensures.done

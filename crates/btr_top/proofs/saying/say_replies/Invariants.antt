@@ -1,8 +1,0 @@
--- The loop over the replies.
-use Rattle.std.proofs.Common.{take}
-use Rattle.btr_top.specs.Script.{IsTranscript}
-use Rattle.btr_top.proofs.saying.say_replies.Given as goal
-
--- the replies up to here are said
-abbrev pub invariant-loop-reply : goal.invariant-loop-reply
-invariant-loop-reply l = IsTranscript (take l.reply-index l.replies) l.transcript

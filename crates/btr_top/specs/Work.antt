@@ -1,0 +1,89 @@
+-- The commands `load`, `distil` and `sample`: what they did on the store, and why they end as they do.
+use Rattle.std.specs.Prelude.{◌⊎◌, ℕ, ◌≤◌, false, List, length, Result, Ok, Err}
+use Rattle.std.specs.declared.alloc.AllocError.{AllocError}
+use Rattle.btr_io.specs.declared.source.Source.{Ghosts as SourceGhosts}
+use Rattle.btr_disk.specs.declared.disk.Disk.{Ghosts}
+use Rattle.btr_log.specs.Extents.{left}
+use Rattle.btr_hist.specs.declared.entry.Entry.{Entry}
+use Rattle.btr_engine.specs.Holds.{HoldsHistoryTo}
+use Rattle.btr_rows.specs.Rows.{rows_of}
+use Rattle.btr_rows.specs.Streams.{RowListValue, list_of}
+use Rattle.btr_load.specs.There.{AreDistinct}
+use Rattle.btr_jobs.specs.Course.{Start, Course}
+use Rattle.btr_store.specs.declared.transcript.Transcript.{Transcript}
+use Rattle.btr_store.specs.Completes.{HasRoomForRows, HasRoomForOutputs}
+use Rattle.btr_store.specs.Work.{DoesRightly}
+use Rattle.btr_store.specs.Load.{LoadsStore}
+use Rattle.btr_store.specs.Distil.{DistilsStore}
+use Rattle.btr_store.specs.SampleRoom.{HasRoomForSample}
+use Rattle.btr_store.specs.SampleLaw.{SamplesStore}
+use Rattle.btr_top.specs.declared.command.TheConstants.{MAX_INPUT}
+use Rattle.btr_top.specs.declared.ending.Ending.{Ending}
+use Rattle.btr_top.specs.declared.ending.Ending.TheVariants.{OutOfMemory, Replied}
+use Rattle.btr_top.specs.Command.{IsKept, OpeningCause, CommandCause}
+
+-- How a command ends that did its work and says this of it.
+abbrev pub ending_of : Result Transcript AllocError → Ending
+ending_of (Ok transcript) = Replied transcript
+ending_of (Err error) = OutOfMemory
+
+-- What work does that says this: from a start, over a course, with these numbers of what it added.
+abbrev pub Doing : Type 1
+Doing = Result Transcript AllocError → Start → Course → List ℕ → Type 0
+
+module _ {D : Type 0} (disk : Ghosts D) where
+  -- Why a command ends so that opens a store and does this work on it. If memory runs out the store was not opened and nothing was
+  -- written, or the work was done as far as it says.
+  abbrev pub WorkCause : Doing → D → D → Ending → Type 0
+  WorkCause What old new (Replied transcript) = DoesRightly disk (What (Ok transcript)) old new
+  WorkCause What old new OutOfMemory =
+      IsKept disk old new ⊎ ((error : AllocError) × DoesRightly disk (What (Err error)) old new)
+  WorkCause What old new e = OpeningCause disk old new e × IsKept disk old new
+
+  -- Why `distil` ends so.
+  abbrev pub DistilCause : ℕ → D → D → Ending → Type 0
+  DistilCause workers old new e = WorkCause (λ said start course own. DistilsStore start course workers said own) old new e
+
+  -- Why `sample` ends so.
+  abbrev pub SampleCause : ℕ → ℕ → ℕ → D → D → Ending → Type 0
+  SampleCause number streams points old new e =
+      WorkCause (λ said start course own. SamplesStore number streams points start course said own) old new e
+
+  -- Why `load` ends so, after its rows were read.
+  abbrev pub RowsCause : ℕ → ℕ → RowListValue → D → D → Ending → Type 0
+  RowsCause workers batch rows old new e =
+      WorkCause (λ said start course own. LoadsStore start course rows batch workers said own) old new e
+
+module _ {D : Type 0} (disk : Ghosts D) where
+  -- The device holds a store with room for all that may be landed for its outputs, each at most once.
+  pub record CanDistil (old : D) : Type 0 where
+    pub history : List Entry
+    pub blocks : ℕ
+    pub tail : ℕ
+    pub holds : HoldsHistoryTo (disk.size old) (disk.contents old) blocks tail history
+    pub room : HasRoomForOutputs (record { history = history; left = left blocks tail; stopped = false })
+
+  -- The device holds a store with room for a sample. If the store has an entry, the sample needs no room.
+  pub record CanSample (number streams points : ℕ) (old : D) : Type 0 where
+    pub history : List Entry
+    pub blocks : ℕ
+    pub tail : ℕ
+    pub holds : HoldsHistoryTo (disk.size old) (disk.contents old) blocks tail history
+    pub room : HasRoomForSample number streams points (record { history = history; left = left blocks tail; stopped = false })
+
+-- Why `load` ends so. Each id has its rows once.
+abbrev pub LoadCause : {S D : Type 0} → SourceGhosts S → Ghosts D → ℕ → ℕ → S → S → D → D → Ending → Type 0
+LoadCause source disk workers batch given rest old new e =
+    CommandCause source
+    (λ input was now end. AreDistinct (list_of (rows_of input)).streams × RowsCause disk workers batch (list_of (rows_of input)) was now end)
+    given rest old new e
+
+-- The device holds a store with room for the rows of the input, and the input is within the limit.
+pub record CanLoad {S D : Type 0} (source : SourceGhosts S) (disk : Ghosts D) (batch : ℕ) (given : S) (old : D) : Type 0 where
+  pub history : List Entry
+  pub blocks : ℕ
+  pub tail : ℕ
+  pub holds : HoldsHistoryTo (disk.size old) (disk.contents old) blocks tail history
+  pub within : length (source.left given) ≤ MAX_INPUT
+  pub room : HasRoomForRows (record { history = history; left = left blocks tail; stopped = false })
+      (list_of (rows_of (source.left given))) batch

@@ -1,0 +1,72 @@
+//! What commands share: they read an input, open a store, and say how they end.
+ghost use Rattle.std.specs.Prelude.{◌≡◌, ◌+◌, IfOk, IfErr};
+ghost use Rattle.btr_io.specs.Bytes.{Gives};
+ghost use Rattle.btr_open.specs.Opening.{IsNotOpened};
+ghost use Rattle.btr_top.specs.Command.{HasRead, InputCause, IsKept, OpeningCause};
+ghost use Rattle.btr_top.specs.declared.command.TheConstants.{MAX_INPUT};
+ghost use Rattle.btr_top.specs.Work.{ending_of};
+
+use crate::ending::Ending;
+use btr_disk::Disk;
+use btr_io::{ReadAllFault, Source, read_all};
+use btr_open::{OpenCause, OpenFault};
+use btr_store::Worked;
+use std::alloc::Global;
+
+/// The most bytes of input that are taken: `2^28`.
+pub const MAX_INPUT: u64 = 268435456;
+
+/// How a command ended.
+#[derive(Drop)]
+pub(crate) struct CommandResult<D> {
+    pub(crate) ending: Ending,
+
+    /// The device, as the command's calls left it.
+    pub(crate) disk: D,
+}
+
+/// Reads the source to its end, and returns its bytes. It reads at most one byte more than [`MAX_INPUT`]. An `Err` is how the command
+/// ends then.
+pub(crate) fn read_input<S: Source>(alloc: Global, source: &mut S) -> Result<Vec<u8>, Ending>
+    ensures input { S.is_observable → Gives (MAX_INPUT + 1) (S.left source.old) (S.left source.new) }
+    ensures read { IfOk result (λ bytes. HasRead ⟦<S as Source>⟧ bytes.items source.old source.new) }
+    ensures cause { IfErr result (λ e. InputCause ⟦<S as Source>⟧ source.old source.new e) }
+{
+    match read_all(alloc, source, MAX_INPUT) {
+        Ok(input) => Ok(input),
+        Err(ReadAllFault::Fault) => Err(Ending::NoSource),
+        Err(ReadAllFault::TooLong) => Err(Ending::TooLong),
+        Err(ReadAllFault::Want) => Err(Ending::OutOfMemory),
+    }
+}
+
+/// Returns how a command ends whose store was not opened.
+pub(crate) fn open_refusal<D: Disk>(fault: OpenFault<D>) -> CommandResult<D>
+    ensures size { (old : D) → IsNotOpened ⟦<D as Disk>⟧ old fault → D.size result.disk ≡ D.size old }
+    ensures kept { (old : D) → IsNotOpened ⟦<D as Disk>⟧ old fault → IsKept ⟦<D as Disk>⟧ old result.disk }
+    ensures cause { (old : D) → IsNotOpened ⟦<D as Disk>⟧ old fault → OpeningCause ⟦<D as Disk>⟧ old result.disk result.ending }
+{
+    let ending = match fault.cause {
+        OpenCause::NotAStore => Ending::NoStore,
+        OpenCause::Damaged { block } => Ending::Damaged { block },
+        OpenCause::Fault => Ending::NoDevice,
+        OpenCause::Want => Ending::OutOfMemory,
+    };
+    CommandResult {
+        ending,
+        disk: fault.disk,
+    }
+}
+
+/// Returns how a command ends that did its work.
+pub(crate) fn work_result<D>(worked: Worked<D>) -> CommandResult<D>
+    ensures disk { result.disk ≡ worked.disk }
+    ensures ending { result.ending ≡ ending_of worked.said }
+{
+    let Worked { said, disk } = worked;
+    let ending = match said {
+        Ok(transcript) => Ending::Replied(transcript),
+        Err(_) => Ending::OutOfMemory,
+    };
+    CommandResult { ending, disk }
+}

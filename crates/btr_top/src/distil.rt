@@ -1,0 +1,28 @@
+//! The command `distil`, which brings each output of a store up to date once.
+ghost use Rattle.std.specs.Prelude.{◌≡◌, ◌+◌};
+ghost use Rattle.btr_top.specs.Work.{DistilCause};
+
+use crate::command::{CommandResult, open_refusal, work_result};
+use btr_disk::Disk;
+use btr_jobs::Pace;
+use btr_store::distil_store;
+use std::alloc::Global;
+use std::sync::Wait;
+use std::thread::Threads;
+
+/// `distil`: opens the store, and brings each output up to date once. It reads no input.
+pub(crate) fn run_distil<R: Threads + Wait + Sync, D: Disk + Send, P: Pace + Sync>(
+    rt: &R,
+    alloc: Global,
+    workers: u8,
+    disk: D,
+    pace: &P,
+) -> CommandResult<D>
+    ensures size { D.size result.disk ≡ D.size disk }
+    ensures cause { DistilCause ⟦<D as Disk>⟧ workers disk result.disk result.ending }
+{
+    match distil_store(rt, alloc, workers, pace, disk) {
+        Ok(worked) => work_result(worked),
+        Err(fault) => open_refusal(fault),
+    }
+}
