@@ -7,11 +7,11 @@
 find "$top/crates" -name out -prune -o \( -name '*.rt' -o -name '*.antt' \) -print0 | xargs -0 cat | tr -c "A-Za-z0-9_'-" '\n' | sort -u >words
 find "$top" \( -name out -o -name .git \) -prune -o -type f -print | sed "s|^$top/|/|" | sort >files
 
-# Each named clause of a function, as `FUNCTION.CLAUSE`. What `run_paced` promises `run` promises too.
+# Each named clause of a function, as `FUNCTION.CLAUSE`.
 find "$top"/crates/*/src -name '*.rt' -print0 | xargs -0 awk '
     match($0, /(^| )fn [a-z_0-9]+/) { name = substr($0, RSTART, RLENGTH); sub(/.*fn /, "", name) }
     match($0, /(ensures|requires) [a-z_0-9]+ \{/) { clause = substr($0, RSTART, RLENGTH); split(clause, part, " "); print name "." part[2] }' |
-    sed 's/^run_paced\.\(.*\)/&\nrun.\1/' | sort -u >clauses
+    sort -u >clauses
 
 # Prints the code spans of a document, without its blocks of commands and output.
 spans() {

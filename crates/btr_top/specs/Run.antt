@@ -71,14 +71,19 @@ module _ {S K D : Type 0} (source : SourceGhosts S) (sink : SinkGhosts K) (disk 
     pub source_works : StreamRose (source.faults given) (source.faults rest) → ⊥
     pub others : DeviceAndSinkWork sink disk before after old new
 
-  -- What is said of a run of this command. See `run_paced`, which says the same clause by clause.
+  -- What is said of a run of this command.
   pub record Runs (command : Option Command) (given rest : S) (before after : K) (old new : D) (status : ℕ) : Type 0 where
     pub size : disk.size new ≡ disk.size old
+    -- at most one byte more than the limit is read
     pub input : source.is_observable → Gives (MAX_INPUT + 1) (source.left given) (source.left rest)
+    -- why the run ends so, what the device is then, what a crash leaves of it, and what is written
     pub ends : Ends command given rest before after old new status
     pub format_leaves : disk.is_observable → (blocks : ℕ) → command ≡ Some (Format blocks) → FormatLeaves disk blocks old new
+    -- if a store can be made and nothing fails, one is made, and 9 says only that there is no memory for the line
     pub formats : disk.is_observable → (blocks : ℕ) → command ≡ Some (Format blocks) → CanFormat disk blocks old
         → DeviceAndSinkWork sink disk before after old new → (status ≡ 0) ⊎ (status ≡ 9)
+    -- if there is a store with room for the command and nothing fails, the status is 0, or 1 for what was refused, or 9 without memory
     pub completes : source.is_observable → disk.is_observable → CanRun source disk command given old
         → AllWork given rest before after old new → IsPlainStatus status
+    -- however `ask` ends, nothing is written
     pub kept : command ≡ Some Ask → IsKept disk old new

@@ -48,8 +48,7 @@ pub fn run<R: Threads + Wait + Sync, S: Source, K: Sink, D: Disk + Send>(
     sink: &mut K,
     disk: D,
 ) -> Outcome<D>
-    // all that is said of `run_paced`
-    ensures { Runs ⟦<S as Source>⟧ ⟦<K as Sink>⟧ ⟦<D as Disk>⟧ (command_of (map string_bytes words.now))
+    ensures runs { Runs ⟦<S as Source>⟧ ⟦<K as Sink>⟧ ⟦<D as Disk>⟧ (command_of (map string_bytes words.now))
         source.old source.new sink.old sink.new disk result.disk result.status }
 {
     run_paced(rt, alloc, words, source, sink, disk, &NoPace)
@@ -66,25 +65,36 @@ pub fn run_paced<R: Threads + Wait + Sync, S: Source, K: Sink, D: Disk + Send, P
     disk: D,
     pace: &P,
 ) -> Outcome<D>
+    ensures runs { Runs ⟦<S as Source>⟧ ⟦<K as Sink>⟧ ⟦<D as Disk>⟧ (command_of (map string_bytes words.now))
+        source.old source.new sink.old sink.new disk result.disk result.status }
+{
+    do_and_show(rt, alloc, words, source, sink, disk, pace)
+}
+
+/// Does what the words say, and writes the text of its ending.
+fn do_and_show<R: Threads + Wait + Sync, S: Source, K: Sink, D: Disk + Send, P: Pace + Sync>(
+    rt: &R,
+    alloc: Global,
+    words: &[String],
+    source: &mut S,
+    sink: &mut K,
+    disk: D,
+    pace: &P,
+) -> Outcome<D>
     ensures size { D.size result.disk ≡ D.size disk }
-    // at most one byte more than the limit is read
     ensures input { S.is_observable → Gives (MAX_INPUT + 1) (S.left source.old) (S.left source.new) }
-    // why the run ends so, what the device is then, what a crash leaves of it, and what is written
     ensures ends { Ends ⟦<S as Source>⟧ ⟦<K as Sink>⟧ ⟦<D as Disk>⟧ (command_of (map string_bytes words.now))
         source.old source.new sink.old sink.new disk result.disk result.status }
     ensures format_leaves { D.is_observable → (blocks : ℕ) → command_of (map string_bytes words.now) ≡ Some (Format blocks)
         → FormatLeaves ⟦<D as Disk>⟧ blocks disk result.disk }
-    // if a store can be made and nothing fails, one is made, and 9 says only that there is no memory for the line
     ensures formats { D.is_observable → (blocks : ℕ) → command_of (map string_bytes words.now) ≡ Some (Format blocks)
         → CanFormat ⟦<D as Disk>⟧ blocks disk
         → DeviceAndSinkWork ⟦<K as Sink>⟧ ⟦<D as Disk>⟧ sink.old sink.new disk result.disk
         → (result.status ≡ 0) ⊎ (result.status ≡ 9) }
-    // if there is a store with room for the command and nothing fails, the status is 0, or 1 for what was refused, or 9 without memory
     ensures completes { S.is_observable → D.is_observable
         → CanRun ⟦<S as Source>⟧ ⟦<D as Disk>⟧ (command_of (map string_bytes words.now)) source.old disk
         → AllWork ⟦<S as Source>⟧ ⟦<K as Sink>⟧ ⟦<D as Disk>⟧ source.old source.new sink.old sink.new disk result.disk
         → IsPlainStatus result.status }
-    // however `ask` ends, nothing is written
     ensures kept { command_of (map string_bytes words.now) ≡ Some Ask → IsKept ⟦<D as Disk>⟧ disk result.disk }
 {
     let CommandResult { ending, disk } = dispatch(rt, alloc, words, source, disk, pace);

@@ -3,7 +3,7 @@ use Rattle.std.specs.Prelude.{map, string_bytes}
 use Rattle.btr_words.specs.Words.{command_of}
 use Rattle.btr_top.proofs.PlainStatuses.{benign_shown}
 use Rattle.btr_top.proofs.RunCompletes.{plain_run}
-use Rattle.btr_top.proofs.run_command.run_paced.Goals as goal
+use Rattle.btr_top.proofs.run_command.do_and_show.Goals as goal
 
 pub returns-clause-completes : goal.returns-clause-completes
 returns-clause-completes g c = λ source_told told can works.
