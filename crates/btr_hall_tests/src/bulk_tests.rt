@@ -1,9 +1,9 @@
 //! Samples on stores in memory. The expected values are worked out by hand.
 ghost use Rattle.std.specs.Prelude.{◌≤◌, ◌^◌};
 
-use btr_store::*;
 use btr_disk::{Capacity, MemDisk};
 use btr_jobs::NoPace;
+use btr_store::*;
 use btr_super::format;
 use std::alloc::Global;
 use std::marker::Sync;

@@ -27,9 +27,9 @@ impl Job for Make {
     ghost use Rattle.btr_jobs.specs.Turns.{CommittedAfter};
     ghost use Rattle.btr_jobs.specs.TurnLaws.{committed_lasts, committed_lowers};
 
-    ghost did = { λ start course low was now own.
+    ghost did = { λ start log low was now own.
         (result : Result ReceiptSpec StepFaultSpec) × (next : List EntrySpec)
-        × CommittedAfter start course low (Create was.id) result own next × (now.id ≡ was.id) × (now.result ≡ Some result) };
+        × CommittedAfter start log low (Create was.id) result own next × (now.id ≡ was.id) × (now.result ≡ Some result) };
 
     fn run<R: Threads + Wait + Sync, D: Disk + Send>(
         &mut self,
@@ -45,8 +45,8 @@ impl Job for Make {
     ghost lasts = { λ start late early low was now own on is.
         (is.0, is.1, committed_lasts start late early low (Create was.id) is.0 own is.1 on is.2, is.3, is.4) };
 
-    ghost lowers = { λ start course low less was now own starts is.
-        (is.0, is.1, committed_lowers start course low less (Create was.id) is.0 own is.1 starts is.2, is.3, is.4) };
+    ghost lowers = { λ start log low less was now own starts is.
+        (is.0, is.1, committed_lowers start log low less (Create was.id) is.0 own is.1 starts is.2, is.3, is.4) };
 }
 
 /// Returns jobs that make streams with these ids.

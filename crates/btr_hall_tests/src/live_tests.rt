@@ -6,7 +6,7 @@ use crate::fixture::{begun_empty, close, no_wrong};
 use btr_jobs::{NoPace, Pace};
 use btr_live::*;
 use btr_text::{LineReply, ScriptLine, read_script, write_reply};
-use btr_work::{Brought, Report};
+use btr_work::{Refreshed, Report};
 use std::alloc::{AllocError, Global};
 use std::marker::Sync;
 use std::sync::Wait;
@@ -436,14 +436,14 @@ fn asked_in_order<R: Threads + Wait + Sync>(
     alloc: Global,
     are_rounds_first: bool,
     reply: &[u8],
-    brought: Brought,
+    refreshed: Refreshed,
 ) -> Result<(bool, bool, u64), Fail> {
     let outputs = script(alloc, OUTPUT)?;
     let question = script(alloc, &[b"range W 0 40 latest"])?;
     let pace = InOrder::new(are_rounds_first);
     let (report, entries) = ran(rt, alloc, SOUND, outputs, question, true, &pace)?;
     let has_text = have_text(alloc, &report.replies, reply)?;
-    Ok((has_text, has_result(&report.last, brought), entries))
+    Ok((has_text, has_result(&report.last, refreshed), entries))
 }
 
 /// A round that is made before a lane begins lands what the lane then reads. No round begins after all lanes have ended, so that the
@@ -452,8 +452,8 @@ fn asked_in_order<R: Threads + Wait + Sync>(
 fn rounds_are_made_while_lanes_run(rt: HostRuntime) -> Result<(), Fail> {
     let alloc = rt.alloc();
     let before = b"ok 1 3\n0 10\n10 20\n20 30\n".as_slice();
-    let current = Brought::Current { version: 1 };
-    let landed = Brought::Landed { version: 1 };
+    let current = Refreshed::Current { version: 1 };
+    let landed = Refreshed::Landed { version: 1 };
     assert!(rt; asked_in_order(&rt, alloc, true, before, current)? == (true, true, 4));
     assert!(rt; asked_in_order(&rt, alloc, false, b"ok 0 0\n", landed)? == (true, true, 4));
     Ok(())
@@ -477,12 +477,12 @@ fn a_script_in_one_lane_runs_in_turn(rt: HostRuntime) -> Result<(), Fail> {
 
 /// Whether the last round left the one output, stream 1, at its first version.
 fn is_first_version(last: &Option<Result<Report, AllocError>>) -> bool {
-    has_result(last, Brought::Landed { version: 1 })
-        || has_result(last, Brought::Current { version: 1 })
+    has_result(last, Refreshed::Landed { version: 1 })
+        || has_result(last, Refreshed::Current { version: 1 })
 }
 
 /// Whether the last round had this result for the one output.
-fn has_result(last: &Option<Result<Report, AllocError>>, wanted: Brought) -> bool {
+fn has_result(last: &Option<Result<Report, AllocError>>, wanted: Refreshed) -> bool {
     match last {
         Some(Ok(report)) => match report.lines() {
             [line] => line.result == wanted,

@@ -98,13 +98,13 @@ const ENTRY_5: Result<Receipt, StepFault> = Ok(Receipt {
     version: 3,
 });
 
-/// Whether the fate of a stream is the wanted one.
-fn is_fate(fate: &Fate, wanted: &Wanted<'_>) -> bool {
-    match (fate, wanted) {
-        (Fate::Output, Wanted::Output) => true,
-        (Fate::NotCreated(fault), Wanted::NotCreated(why)) => *fault == *why,
+/// Whether the outcome of a stream is the wanted one.
+fn is_outcome(outcome: &RowsOutcome, wanted: &Wanted<'_>) -> bool {
+    match (outcome, wanted) {
+        (RowsOutcome::Output, Wanted::Output) => true,
+        (RowsOutcome::NotCreated(fault), Wanted::NotCreated(why)) => *fault == *why,
         (
-            Fate::Committed {
+            RowsOutcome::Committed {
                 stream,
                 results,
                 latest,
@@ -115,19 +115,19 @@ fn is_fate(fate: &Fate, wanted: &Wanted<'_>) -> bool {
     }
 }
 
-/// What a load gives: the fates of its streams, and how many rows were refused.
+/// What a load gives: the outcomes of its streams, and how many rows were refused.
 type Given<'a> = (&'a [Wanted<'a>], usize);
 
 /// Whether a load gave what is wanted.
 fn is_given(loaded: &Loaded, wanted: Given<'_>) -> bool {
     let streams = loaded.streams();
-    let (fates, refused) = wanted;
-    streams.len() == fates.len()
+    let (outcomes, refused) = wanted;
+    streams.len() == outcomes.len()
         && loaded.refused().len() == refused
         && streams
             .iter()
-            .zip(fates.iter())
-            .all(|(stream, fate)| is_fate(&stream.fate, fate))
+            .zip(outcomes.iter())
+            .all(|(stream, outcome)| is_outcome(&stream.outcome, outcome))
 }
 
 /// Loads rows, and returns whether the load gave what is wanted.

@@ -177,7 +177,7 @@ fn has_points(
 }
 
 /// Returns whether a report has these lines: outputs, and what became of them.
-fn has_lines(report: &Result<Vec<ReportLine>, AllocError>, wanted: &[(u32, Brought)]) -> bool {
+fn has_lines(report: &Result<Vec<ReportLine>, AllocError>, wanted: &[(u32, Refreshed)]) -> bool {
     match report {
         Ok(lines) => {
             lines.len() == wanted.len()
@@ -189,9 +189,9 @@ fn has_lines(report: &Result<Vec<ReportLine>, AllocError>, wanted: &[(u32, Broug
 }
 
 /// An output that landed its first version, and one that has it already.
-const LANDED: Brought = Brought::Landed { version: 1 };
+const LANDED: Refreshed = Refreshed::Landed { version: 1 };
 
-const CURRENT: Brought = Brought::Current { version: 1 };
+const CURRENT: Refreshed = Refreshed::Current { version: 1 };
 
 /// Returns whether both outputs are landed by so many workers, and are then current; and whether the output above has its points.
 fn lands_both<R: Threads + Wait + Sync>(rt: &R, alloc: Global, workers: u8) -> Result<bool, Fail> {
@@ -224,16 +224,16 @@ fn each_output_reads_what_was_landed_below_it(rt: HostRuntime) -> Result<(), Fai
 }
 
 /// What became of the outputs if the device is full.
-const FULL: &[(u32, Brought)] = &[
+const FULL: &[(u32, Refreshed)] = &[
     (
         1,
-        Brought::Refused(LandFault::DeviceFull { need: 2, left: 0 }),
+        Refreshed::Refused(LandFault::DeviceFull { need: 2, left: 0 }),
     ),
-    (2, Brought::Current { version: 0 }),
+    (2, Refreshed::Current { version: 0 }),
 ];
 
 /// Returns whether both reports say that the device is full, and the number of entries.
-fn brought_on_a_full_device<R: Threads + Wait + Sync>(
+fn refreshed_on_a_full_device<R: Threads + Wait + Sync>(
     rt: &R,
     alloc: Global,
 ) -> Result<(bool, bool, u64), Fail> {
@@ -247,7 +247,7 @@ fn brought_on_a_full_device<R: Threads + Wait + Sync>(
 /// Four entries leave no block on a device of 13 blocks. The output above then has nothing to read.
 #[test]
 fn an_output_is_refused_if_the_device_is_full(rt: HostRuntime) -> Result<(), Fail> {
-    assert!(rt; brought_on_a_full_device(&rt, rt.alloc())? == (true, true, 4));
+    assert!(rt; refreshed_on_a_full_device(&rt, rt.alloc())? == (true, true, 4));
     Ok(())
 }
 

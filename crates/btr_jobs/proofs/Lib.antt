@@ -1,7 +1,7 @@
-pub mod CourseLemmas
+pub mod StateLemmas
 pub mod DoesLemmas
 pub mod TurnLemmas
 pub mod RunLemmas
 pub mod InTurnLemmas
-pub mod ContentsLemmas
+pub mod PlainStoreLemmas
 mod CrossingLemmas

@@ -9,7 +9,7 @@ use Rattle.btr_gate.specs.Prefixes.{StartsWith}
 use Rattle.btr_hall.specs.declared.session.Hall.{Hall}
 use Rattle.btr_hall.specs.declared.session.Session.{Session}
 use Rattle.btr_hall.specs.Session.{Splits, Meets}
-use Rattle.btr_jobs.specs.Course.{Start, Course, GoesOn}
+use Rattle.btr_jobs.specs.States.{StoreState, LogState, GoesOn}
 use Rattle.btr_jobs.specs.Jobs.{Doing, AllDid, IsAt, Does}
 use Rattle.btr_jobs.specs.JobLaws.{all_did_lasts, all_did_append, all_did_one}
 use Rattle.btr_jobs.proofs.DoesLemmas.{does_none, does_then, does_both}
@@ -36,24 +36,24 @@ module _ {A : Type 0} (items now : List A) (i : ℕ) (was done : A) (inside : i 
 module _ {J : Type 0} (did : Doing J) where
   -- What a job did is true for ever, and of a job that had seen less.
   abbrev pub Lasts : Type 0
-  Lasts = (start : Start) (late early : Course) (low : List Entry) (was now : J) (own : List ℕ) → GoesOn start late early → did start early low was now own → did start late low was now own
+  Lasts = (start : StoreState) (late early : LogState) (low : List Entry) (was now : J) (own : List ℕ) → GoesOn start late early → did start early low was now own → did start late low was now own
 
   abbrev pub Lowers : Type 0
-  Lowers = (start : Start) (course : Course) (low less : List Entry) (was now : J) (own : List ℕ) → StartsWith low less → did start course low was now own → did start course less was now own
+  Lowers = (start : StoreState) (log : LogState) (low less : List Entry) (was now : J) (own : List ℕ) → StartsWith low less → did start log low was now own → did start log less was now own
 
   -- These jobs did their part.
-  abbrev pub Did : List J → List J → Start → Course → List Entry → List ℕ → Type 0
-  Did before after start course low own = AllDid did start course low before after own
+  abbrev pub Did : List J → List J → StoreState → LogState → List Entry → List ℕ → Type 0
+  Did before after start log low own = AllDid did start log low before after own
 
   module _ {D : Type 0} {disk : Ghosts D} (hall : Hall D disk) where
     -- No job was done.
     pub did_none : (s : Session D disk) → Does hall s s (Did [] [])
-    did_none s = does_none hall s (Did [] []) (λ start course n. refl)
+    did_none s = does_none hall s (Did [] []) (λ start log n. refl)
 
     -- One job more was done.
-    pub did_more : Lasts → Lowers → (old mid new : Session D disk) (before after : List J) (was now : J) → IsAt hall new → Does hall old mid (Did before after) → Does hall mid new (λ start course low own. did start course low was now own) → Does hall old new (Did (before ++ was ∷ []) (after ++ now ∷ []))
+    pub did_more : Lasts → Lowers → (old mid new : Session D disk) (before after : List J) (was now : J) → IsAt hall new → Does hall old mid (Did before after) → Does hall mid new (λ start log low own. did start log low was now own) → Does hall old new (Did (before ++ was ∷ []) (after ++ now ∷ []))
     did_more lasts lowers old mid new before after was now at all one =
-        does_then hall old mid new (Did before after) (λ start course low own. did start course low was now own) (Did (before ++ was ∷ []) (after ++ now ∷ [])) at
+        does_then hall old mid new (Did before after) (λ start log low own. did start log low was now own) (Did (before ++ was ∷ []) (after ++ now ∷ [])) at
         (λ start late early low a b on starts first second.
         all_did_append did start late low before after a (was ∷ []) (now ∷ []) b
         (all_did_lasts did start late early low (λ w n o. lasts start late early low w n o on) before after a first)

@@ -32,10 +32,10 @@ use Rattle.btr_hall.specs.Landing.{step_result, Lands}
 use Rattle.btr_hall.specs.Landing as landing
 use Rattle.btr_hall.proofs.TraceLemmas.{entries_append, halt_append, engine_of_list, length_of_list, list_push}
 use Rattle.btr_hall.proofs.LandLemmas.{history_starts}
-use Rattle.btr_jobs.specs.Course.{failed_in, start_with, course_of, start_of}
+use Rattle.btr_jobs.specs.States.{failed_in, start_with, log_of, start_of}
 use Rattle.btr_jobs.specs.Turns.{IsAdded, IsFailed, IsIdle, IsStopped, IsFull, Committed, CommittedAfter, Landed, LandedAfter}
 use Rattle.btr_jobs.specs.Jobs.{IsAt, Goes, Does}
-use Rattle.btr_jobs.proofs.CourseLemmas.{course_at, failed_halt, failed_append, history_goes_on}
+use Rattle.btr_jobs.proofs.StateLemmas.{log_at, failed_halt, failed_append, history_goes_on}
 
 runs_before : (a b : Bool) → ((a || b) ≡ true → ⊥) → b ≡ false
 runs_before true true never = absurd (never refl)
@@ -63,7 +63,7 @@ module _ {D : Type 0} {disk : Ghosts D} where
     number p n is = ap (λ k. k ∷ []) (long ∙ is)
 
     -- An entry was added.
-    added_by : (e : Entry) (y : Engine D disk) → after ≡ before ++ Added (shown e) (shown y) ∷ [] → has_halt before ≡ false → IsAdded (course_at h after) (history_of h before) e (length after ∷ []) (history_of h before ++ e ∷ [])
+    added_by : (e : Entry) (y : Engine D disk) → after ≡ before ++ Added (shown e) (shown y) ∷ [] → has_halt before ≡ false → IsAdded (log_at h after) (history_of h before) e (length after ∷ []) (history_of h before ++ e ∷ [])
     added_by e y seen runs =
         let p = history_of h before in
         let history : history_of h after ≡ p ++ e ∷ [] =
@@ -80,7 +80,7 @@ module _ {D : Type 0} {disk : Ghosts D} where
         }
 
     -- The device failed.
-    failed_by : (e : Entry) (y : Engine D disk) → after ≡ before ++ Halted (shown e) (shown y) ∷ [] → has_halt before ≡ false → IsFailed (course_at h after) (history_of h before) e (length after ∷ []) (history_of h before)
+    failed_by : (e : Entry) (y : Engine D disk) → after ≡ before ++ Halted (shown e) (shown y) ∷ [] → has_halt before ≡ false → IsFailed (log_at h after) (history_of h before) e (length after ∷ []) (history_of h before)
     failed_by e y seen runs =
         let p = history_of h before in
         let history : history_of h after ≡ p =
@@ -100,7 +100,7 @@ module _ {D : Type 0} {disk : Ghosts D} where
     idle_by : IsIdle (history_of h before) [] (history_of h before)
     idle_by = record { own = refl; next = refl }
 
-    stopped_by : (entries : ℕ) → after ≡ before ++ [] → stopped_in x before ≡ true → entries ≡ length (history_of h before) → IsStopped (start_with h x) (course_at h after) (history_of h before) entries
+    stopped_by : (entries : ℕ) → after ≡ before ++ [] → stopped_in x before ≡ true → entries ≡ length (history_of h before) → IsStopped (start_with h x) (log_at h after) (history_of h before) entries
     stopped_by entries seen stopped is =
         let same : after ≡ before = seen ∙ append-nil before in
         let halt : is_some (failed_in after) ≡ has_halt before = failed_halt after ∙ ap (has_halt {disk = disk}) same in
@@ -121,7 +121,7 @@ module _ {D : Type 0} {disk : Ghosts D} where
     abbrev pub numbers : Result Receipt StepFault → List ℕ
     numbers result = option_to_list (number_by result (length after))
 
-    committed_by : (e : Entry) (y : Engine D disk) (result : Result Receipt StepFault) → after ≡ before ++ option_to_list (item_by result e y) → (stopped_in x before ≡ true → result ≡ Err (steps.Stopped (length (history_of h before)))) → commit.CommitReplies x before (history_of h before) e result → (next : List Entry) × Committed (start_with h x) (course_at h after) (history_of h before) e result (numbers result) next × StartsWith (history_of h after) next
+    committed_by : (e : Entry) (y : Engine D disk) (result : Result Receipt StepFault) → after ≡ before ++ option_to_list (item_by result e y) → (stopped_in x before ≡ true → result ≡ Err (steps.Stopped (length (history_of h before)))) → commit.CommitReplies x before (history_of h before) e result → (next : List Entry) × Committed (start_with h x) (log_at h after) (history_of h before) e result (numbers result) next × StartsWith (history_of h after) next
     committed_by e y (Ok receipt) seen stopped says =
         let added = added_by e y seen (runs_before (is_stopped x) (has_halt before) (λ is. let not = stopped is in cc)) in
         (history_of h before ++ e ∷ [], (says.0, says.1, added), added.follows)
@@ -137,7 +137,7 @@ module _ {D : Type 0} {disk : Ghosts D} where
         let failed = failed_by e y seen (runs_before (is_stopped x) (has_halt before) (λ is. let not = stopped is in cc)) in
         (history_of h before, (says, failed), history_starts h after before (Halted (shown e) (shown y) ∷ [], seen))
 
-    landed_by : (plan : PlanValue) (y : Engine D disk) (result : Result Receipt LandFault) → after ≡ before ++ option_to_list (item_by (step_result result) (entry_of plan) y) → (stopped_in x before ≡ true → result ≡ Err (faults.Stopped (length (history_of h before)))) → landing.LandingReplies x before (history_of h before) plan result → (next : List Entry) × Landed (start_with h x) (course_at h after) (history_of h before) plan result (numbers (step_result result)) next × StartsWith (history_of h after) next
+    landed_by : (plan : PlanValue) (y : Engine D disk) (result : Result Receipt LandFault) → after ≡ before ++ option_to_list (item_by (step_result result) (entry_of plan) y) → (stopped_in x before ≡ true → result ≡ Err (faults.Stopped (length (history_of h before)))) → landing.LandingReplies x before (history_of h before) plan result → (next : List Entry) × Landed (start_with h x) (log_at h after) (history_of h before) plan result (numbers (step_result result)) next × StartsWith (history_of h after) next
     landed_by plan y (Ok receipt) seen stopped says =
         let added = added_by (entry_of plan) y seen (runs_before (is_stopped x) (has_halt before) (λ is. let not = stopped is in cc)) in
         (history_of h before ++ entry_of plan ∷ [], (says.0, says.2, added), added.follows)
@@ -201,7 +201,7 @@ module _ {D : Type 0} {disk : Ghosts D} where
         goes_by old new commits.before _ same ends commits.grows commits.mine
         (step_climbs commits.before (seen_of new) e (engine_of hall new) result commits.seen)
 
-    says : (h : List Entry) → IsEngineOf h (opening_of hall) → (next : List Entry) × Committed (start_of h hall) (course_of h new) (history_of h commits.before) e result (option_to_list (number_by result (length (seen_of new)))) next × StartsWith (course_of h new).history next
+    says : (h : List Entry) → IsEngineOf h (opening_of hall) → (next : List Entry) × Committed (start_of h hall) (log_of h new) (history_of h commits.before) e result (option_to_list (number_by result (length (seen_of new)))) next × StartsWith (log_of h new).history next
     says h of =
         committed_by h (opening_of hall) commits.before (seen_of new) of trace_after e (engine_of hall new) result commits.seen (λ stopped. commits.stopped stopped h of) (commits.replies h of)
 
@@ -210,7 +210,7 @@ module _ {D : Type 0} {disk : Ghosts D} where
     commit_at is = record { own = is; trace = trace_after }
 
     -- The turn of an entry, after all that the session had seen.
-    pub commit_turn : Does hall old new (λ start course low own. (next : List Entry) × CommittedAfter start course low e result own next × StartsWith course.history next)
+    pub commit_turn : Does hall old new (λ start log low own. (next : List Entry) × CommittedAfter start log low e result own next × StartsWith log.history next)
     commit_turn = (
       option_to_list (number_by result (length (seen_of new))),
       goes,
@@ -220,12 +220,12 @@ module _ {D : Type 0} {disk : Ghosts D} where
     )
 
     -- The turn of an entry by a session that is alone: its history is what the session had seen.
-    pub commit_turn_alone : IsAlone old → Does hall old new (λ start course low own. (next : List Entry) × Committed start course low e result own next × StartsWith course.history next)
+    pub commit_turn_alone : IsAlone old → Does hall old new (λ start log low own. (next : List Entry) × Committed start log low e result own next × StartsWith log.history next)
     commit_turn_alone alone = (
       option_to_list (number_by result (length (seen_of new))),
       goes,
       λ h of.
-          subst (λ l. (next : List Entry) × Committed (start_of h hall) (course_of h new) (history_of h l) e result (option_to_list (number_by result (length (seen_of new)))) next × StartsWith (course_of h new).history next) (commits.alone alone) (says h of),
+          subst (λ l. (next : List Entry) × Committed (start_of h hall) (log_of h new) (history_of h l) e result (option_to_list (number_by result (length (seen_of new)))) next × StartsWith (log_of h new).history next) (commits.alone alone) (says h of),
     )
 
   -- ---- the turn of a plan
@@ -239,7 +239,7 @@ module _ {D : Type 0} {disk : Ghosts D} where
         goes_by old new lands.before _ same plan_ends lands.grows lands.mine
         (step_climbs lands.before (seen_of new) (entry_of plan) (engine_of hall new) (step_result result) lands.seen)
 
-    plan_says : (h : List Entry) → IsEngineOf h (opening_of hall) → (next : List Entry) × Landed (start_of h hall) (course_of h new) (history_of h lands.before) plan result (option_to_list (number_by (step_result result) (length (seen_of new)))) next × StartsWith (course_of h new).history next
+    plan_says : (h : List Entry) → IsEngineOf h (opening_of hall) → (next : List Entry) × Landed (start_of h hall) (log_of h new) (history_of h lands.before) plan result (option_to_list (number_by (step_result result) (length (seen_of new)))) next × StartsWith (log_of h new).history next
     plan_says h of =
         landed_by h (opening_of hall) lands.before (seen_of new) of lands.trace plan (engine_of hall new) result lands.seen (λ stopped. lands.stopped stopped h of) (lands.replies h of)
 
@@ -248,7 +248,7 @@ module _ {D : Type 0} {disk : Ghosts D} where
     land_at is = record { own = is; trace = lands.trace }
 
     -- The turn of a plan, after all that the session had seen.
-    pub land_turn : Does hall old new (λ start course low own. (next : List Entry) × LandedAfter start course low plan result own next × StartsWith course.history next)
+    pub land_turn : Does hall old new (λ start log low own. (next : List Entry) × LandedAfter start log low plan result own next × StartsWith log.history next)
     land_turn = (
       option_to_list (number_by (step_result result) (length (seen_of new))),
       plan_goes,
@@ -258,12 +258,12 @@ module _ {D : Type 0} {disk : Ghosts D} where
     )
 
     -- The turn of a plan by a session that is alone: its history is what the session had seen.
-    pub land_turn_alone : IsAlone old → Does hall old new (λ start course low own. (next : List Entry) × Landed start course low plan result own next × StartsWith course.history next)
+    pub land_turn_alone : IsAlone old → Does hall old new (λ start log low own. (next : List Entry) × Landed start log low plan result own next × StartsWith log.history next)
     land_turn_alone alone = (
       option_to_list (number_by (step_result result) (length (seen_of new))),
       plan_goes,
       λ h of.
-          subst (λ l. (next : List Entry) × Landed (start_of h hall) (course_of h new) (history_of h l) plan result (option_to_list (number_by (step_result result) (length (seen_of new)))) next × StartsWith (course_of h new).history next) (lands.alone alone) (plan_says h of),
+          subst (λ l. (next : List Entry) × Landed (start_of h hall) (log_of h new) (history_of h l) plan result (option_to_list (number_by (step_result result) (length (seen_of new)))) next × StartsWith (log_of h new).history next) (lands.alone alone) (plan_says h of),
     )
 
   -- ---- a turn that adds nothing
@@ -274,7 +274,7 @@ module _ {D : Type 0} {disk : Ghosts D} where
     look_at is = record { own = is; trace = looks.trace }
 
     -- A look adds nothing. What it says of the history that the session has then seen, it says after all that it had seen.
-    pub look_turn : (Fact : List Entry → Type 0) → ((h : List Entry) → IsEngineOf h (opening_of hall) → Fact (history_of h (seen_of new))) → Does hall old new (λ start course low own. (own ≡ []) × StartsWith course.history low × Fact course.history)
+    pub look_turn : (Fact : List Entry → Type 0) → ((h : List Entry) → IsEngineOf h (opening_of hall) → Fact (history_of h (seen_of new))) → Does hall old new (λ start log low own. (own ≡ []) × StartsWith log.history low × Fact log.history)
     look_turn Fact fact = (
       [],
       goes_by old new (seen_of new) [] looks.same (starts_refl (seen_of new)) looks.grows (looks.mine ∙ sym (append-nil (mine_of old))) tt,

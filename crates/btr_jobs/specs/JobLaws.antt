@@ -4,24 +4,24 @@ use Rattle.std.proofs.Common.{suc, refl, ap, ◌∙◌, arith}
 use Rattle.btr_hist.specs.declared.entry.Entry.{Entry}
 use Rattle.btr_gate.specs.Numbers.{times}
 use Rattle.btr_gate.proofs.NumberLemmas.{times_append}
-use Rattle.btr_jobs.specs.Course.{Start, Course}
+use Rattle.btr_jobs.specs.States.{StoreState, LogState}
 use Rattle.btr_jobs.specs.Jobs.{Doing, AllDid}
 
 module _ {J : Type 0} where
   -- What is said of each job may be put for another thing, which it implies.
-  pub all_did_implied : (did more : Doing J) (start : Start) (course next : Course) (low less : List Entry)
-      → ((was now : J) (own : List ℕ) → did start course low was now own → more start next less was now own)
+  pub all_did_implied : (did more : Doing J) (start : StoreState) (log next : LogState) (low less : List Entry)
+      → ((was now : J) (own : List ℕ) → did start log low was now own → more start next less was now own)
       → (before after : List J) (own : List ℕ)
-      → AllDid did start course low before after own → AllDid more start next less before after own
-  all_did_implied did more start course next low less implies [] [] own all = all
-  all_did_implied did more start course next low less implies [] (now ∷ after) own all = absurd all
-  all_did_implied did more start course next low less implies (was ∷ before) [] own all = absurd all
-  all_did_implied did more start course next low less implies (was ∷ before) (now ∷ after) own all =
-      let rest = all_did_implied did more start course next low less implies before after all.1 all.3 in
+      → AllDid did start log low before after own → AllDid more start next less before after own
+  all_did_implied did more start log next low less implies [] [] own all = all
+  all_did_implied did more start log next low less implies [] (now ∷ after) own all = absurd all
+  all_did_implied did more start log next low less implies (was ∷ before) [] own all = absurd all
+  all_did_implied did more start log next low less implies (was ∷ before) (now ∷ after) own all =
+      let rest = all_did_implied did more start log next low less implies before after all.1 all.3 in
       (all.0, all.1, implies was now all.0 all.2, rest, all.4)
 
   -- If what is said of a job is true for ever, it is so of all jobs.
-  pub all_did_lasts : (did : Doing J) (start : Start) (late early : Course) (low : List Entry)
+  pub all_did_lasts : (did : Doing J) (start : StoreState) (late early : LogState) (low : List Entry)
       → ((was now : J) (own : List ℕ) → did start early low was now own → did start late low was now own)
       → (before after : List J) (own : List ℕ)
       → AllDid did start early low before after own → AllDid did start late low before after own
@@ -29,17 +29,17 @@ module _ {J : Type 0} where
       all_did_implied did did start early late low low lasts before after own all
 
   -- If what is said of a job is true of one that had seen less, it is so of all jobs.
-  pub all_did_lowers : (did : Doing J) (start : Start) (course : Course) (low less : List Entry)
-      → ((was now : J) (own : List ℕ) → did start course low was now own → did start course less was now own)
+  pub all_did_lowers : (did : Doing J) (start : StoreState) (log : LogState) (low less : List Entry)
+      → ((was now : J) (own : List ℕ) → did start log low was now own → did start log less was now own)
       → (before after : List J) (own : List ℕ)
-      → AllDid did start course low before after own → AllDid did start course less before after own
-  all_did_lowers did start course low less lowers before after own all =
-      all_did_implied did did start course course low less lowers before after own all
+      → AllDid did start log low before after own → AllDid did start log less before after own
+  all_did_lowers did start log low less lowers before after own all =
+      all_did_implied did did start log log low less lowers before after own all
 
-  module _ (did : Doing J) (start : Start) (course : Course) (low : List Entry) where
+  module _ (did : Doing J) (start : StoreState) (log : LogState) (low : List Entry) where
     -- The order of the numbers does not matter.
     pub all_did_alike : (before after : List J) (own other : List ℕ) → ((n : ℕ) → times n other ≡ times n own)
-        → AllDid did start course low before after own → AllDid did start course low before after other
+        → AllDid did start log low before after own → AllDid did start log low before after other
     all_did_alike [] [] own other alike all = λ n. alike n ∙ all n
     all_did_alike [] (now ∷ after) own other alike all = absurd all
     all_did_alike (was ∷ before) [] own other alike all = absurd all
@@ -47,8 +47,8 @@ module _ {J : Type 0} where
 
     -- Jobs after jobs.
     pub all_did_append : (before after : List J) (own : List ℕ) (more_before more_after : List J) (more : List ℕ)
-        → AllDid did start course low before after own → AllDid did start course low more_before more_after more
-        → AllDid did start course low (before ++ more_before) (after ++ more_after) (own ++ more)
+        → AllDid did start log low before after own → AllDid did start log low more_before more_after more
+        → AllDid did start log low (before ++ more_before) (after ++ more_after) (own ++ more)
     all_did_append [] [] own more_before more_after more all then =
         all_did_alike more_before more_after more (own ++ more) (λ n.
         let both = times_append n own more in let none = all n in omega (arith, both, none)) then
@@ -67,13 +67,13 @@ module _ {J : Type 0} where
     )
 
     -- One job.
-    pub all_did_one : (was now : J) (own : List ℕ) → did start course low was now own
-        → AllDid did start course low (was ∷ []) (now ∷ []) own
+    pub all_did_one : (was now : J) (own : List ℕ) → did start log low was now own
+        → AllDid did start log low (was ∷ []) (now ∷ []) own
     all_did_one was now own one = (own, [], one, (λ n. refl), λ n. omega arith)
 
     -- Each job is still in its place.
     pub all_did_length : (before after : List J) (own : List ℕ)
-        → AllDid did start course low before after own → length after ≡ length before
+        → AllDid did start log low before after own → length after ≡ length before
     all_did_length [] [] own all = refl
     all_did_length [] (now ∷ after) own all = absurd all
     all_did_length (was ∷ before) [] own all = absurd all

@@ -11,30 +11,30 @@ use Rattle.btr_hall.specs.declared.session.Session.{Session}
 use Rattle.btr_hall.specs.Trace.{IsTraceOf}
 use Rattle.btr_hall.specs.Session as session
 use Rattle.btr_hall.specs.Session.{IsSessionOf, opening_of, seen_of, mine_of, share_of}
-use Rattle.btr_jobs.specs.Course.{Start, Course, GoesOn, course_of, start_of}
+use Rattle.btr_jobs.specs.States.{StoreState, LogState, GoesOn, log_of, start_of}
 
--- What a kind of job does: after this course of a hall that began so, a job that had seen this history went from its first state to
+-- What a kind of job does: after this state of the log of a hall that began so, a job that had seen this history went from its first state to
 -- its second, and these are the numbers of what it added.
 abbrev pub Doing : Type 0 → Type 1
-Doing J = Start → Course → List Entry → J → J → List ℕ → Type 0
+Doing J = StoreState → LogState → List Entry → J → J → List ℕ → Type 0
 
 -- Each job did its part, after all of `low` had been seen. `own` are the numbers of what they added, in some order.
-abbrev pub AllDid : {J : Type 0} → Doing J → Start → Course → List Entry → List J → List J → List ℕ → Type 0
-AllDid did start course low [] [] own = (n : ℕ) → times n own ≡ 0
-AllDid did start course low [] (now ∷ after) own = ⊥
-AllDid did start course low (was ∷ before) [] own = ⊥
-AllDid did start course low (was ∷ before) (now ∷ after) own =
-    (first rest : List ℕ) × did start course low was now first × AllDid did start course low before after rest
+abbrev pub AllDid : {J : Type 0} → Doing J → StoreState → LogState → List Entry → List J → List J → List ℕ → Type 0
+AllDid did start log low [] [] own = (n : ℕ) → times n own ≡ 0
+AllDid did start log low [] (now ∷ after) own = ⊥
+AllDid did start log low (was ∷ before) [] own = ⊥
+AllDid did start log low (was ∷ before) (now ∷ after) own =
+    (first rest : List ℕ) × did start log low was now first × AllDid did start log low before after rest
     × ((n : ℕ) → times n own ≡ times n first + times n rest)
 
--- The jobs were done one after another. `middle` is the course after the first one. Of it is said what this job did, after all of
+-- The jobs were done one after another. `middle` is the log after the first one. Of it is said what this job did, after all of
 -- `low` had been seen. The others followed after all of its history. `own` are the numbers of what they added, in some order.
-abbrev pub DidInTurn : {J : Type 0} → Doing J → Start → Course → List Entry → List J → List J → List ℕ → Type 0
+abbrev pub DidInTurn : {J : Type 0} → Doing J → StoreState → LogState → List Entry → List J → List J → List ℕ → Type 0
 DidInTurn did start late low [] [] own = StartsWith late.history low × ((n : ℕ) → times n own ≡ 0)
 DidInTurn did start late low [] (now ∷ after) own = ⊥
 DidInTurn did start late low (was ∷ before) [] own = ⊥
 DidInTurn did start late low (was ∷ before) (now ∷ after) own =
-    (middle : Course) × GoesOn start late middle × StartsWith middle.history low × (first rest : List ℕ)
+    (middle : LogState) × GoesOn start late middle × StartsWith middle.history low × (first rest : List ℕ)
     × did start middle low was now first × DidInTurn did start late middle.history before after rest
     × ((n : ℕ) → times n own ≡ times n first + times n rest)
 
@@ -54,6 +54,6 @@ module _ {D : Type 0} {disk : Ghosts D} where
     pub paths : (path : ℕ → Bool) → on_path path (share_of new) ≡ on_path path (share_of old)
 
   -- A session went on, and with the numbers that it added this is true of each history with which the hall may have begun.
-  abbrev pub Does : Hall D disk → Session D disk → Session D disk → (Start → Course → List Entry → List ℕ → Type 0) → Type 0
+  abbrev pub Does : Hall D disk → Session D disk → Session D disk → (StoreState → LogState → List Entry → List ℕ → Type 0) → Type 0
   Does hall old new What = (own : List ℕ) × Goes old new own
-      × ((h : List Entry) → IsEngineOf h (opening_of hall) → What (start_of h hall) (course_of h new) (course_of h old).history own)
+      × ((h : List Entry) → IsEngineOf h (opening_of hall) → What (start_of h hall) (log_of h new) (log_of h old).history own)

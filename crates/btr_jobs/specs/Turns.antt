@@ -18,20 +18,20 @@ use Rattle.btr_gate.specs.Prefixes.{StartsWith}
 use Rattle.btr_hall.specs.declared.land.LandFault.{LandFault}
 use Rattle.btr_hall.specs.declared.land.LandFault.TheVariants as faults
 use Rattle.btr_hall.specs.Commit.{needs_of}
-use Rattle.btr_jobs.specs.Course.{Start, Course}
+use Rattle.btr_jobs.specs.States.{StoreState, LogState}
 
 -- ---- what a turn adds: `p` is the history when it began, then come the numbers of what it added and the history after it
 
 -- The entry follows the history of the turn, for ever.
-pub record IsAdded (course : Course) (p : List Entry) (e : Entry) (numbers : List ℕ) (after : List Entry) : Type 0 where
-  pub follows : StartsWith course.history (p ++ e ∷ [])
+pub record IsAdded (log : LogState) (p : List Entry) (e : Entry) (numbers : List ℕ) (after : List Entry) : Type 0 where
+  pub follows : StartsWith log.history (p ++ e ∷ [])
   pub own : numbers ≡ (length p + 1) ∷ []
   pub next : after ≡ p ++ e ∷ []
 
 -- The device failed in the step of the entry, and nothing follows the history of the turn.
-pub record IsFailed (course : Course) (p : List Entry) (e : Entry) (numbers : List ℕ) (after : List Entry) : Type 0 where
-  pub last : course.history ≡ p
-  pub failed : course.failed ≡ Some e
+pub record IsFailed (log : LogState) (p : List Entry) (e : Entry) (numbers : List ℕ) (after : List Entry) : Type 0 where
+  pub last : log.history ≡ p
+  pub failed : log.failed ≡ Some e
   pub own : numbers ≡ (length p + 1) ∷ []
   pub next : after ≡ p
 
@@ -43,13 +43,13 @@ pub record IsIdle (p : List Entry) (numbers : List ℕ) (after : List Entry) : T
 -- ---- why nothing was added
 
 -- The store was stopped, with this number of entries: when the hall began, or since the device failed. Nothing follows.
-pub record IsStopped (start : Start) (course : Course) (p : List Entry) (count : ℕ) : Type 0 where
-  pub stopped : (start.stopped || is_some course.failed) ≡ true
-  pub last : course.history ≡ p
+pub record IsStopped (start : StoreState) (log : LogState) (p : List Entry) (count : ℕ) : Type 0 where
+  pub stopped : (start.stopped || is_some log.failed) ≡ true
+  pub last : log.history ≡ p
   pub entries : count ≡ length p
 
 -- The entry needs more blocks than are left. What is left and what the history needs are together what they were at the start.
-pub record IsFull (start : Start) (p : List Entry) (e : Entry) (needed room : ℕ) : Type 0 where
+pub record IsFull (start : StoreState) (p : List Entry) (e : Entry) (needed room : ℕ) : Type 0 where
   pub need : needed ≡ need_of e
   pub left : room + needs_of p ≡ start.left + needs_of start.history
   pub short : room < needed
@@ -57,44 +57,44 @@ pub record IsFull (start : Start) (p : List Entry) (e : Entry) (needed room : �
 -- ---- entries
 
 -- The result of an entry in a turn.
-abbrev pub Committed : Start → Course → List Entry → Entry → Result Receipt StepFault → List ℕ → List Entry → Type 0
-Committed start course p e (Ok receipt) own next = (rejection p e ≡ None) × IsReceipt p e receipt × IsAdded course p e own next
-Committed start course p e (Err (steps.Stopped entries)) own next = IsStopped start course p entries × IsIdle p own next
-Committed start course p e (Err (steps.Rejected why)) own next = (rejection p e ≡ Some why) × IsIdle p own next
-Committed start course p e (Err steps.Want) own next = MayLackMemory (rejection p e) × IsIdle p own next
-Committed start course p e (Err (steps.DeviceFull need left)) own next =
+abbrev pub Committed : StoreState → LogState → List Entry → Entry → Result Receipt StepFault → List ℕ → List Entry → Type 0
+Committed start log p e (Ok receipt) own next = (rejection p e ≡ None) × IsReceipt p e receipt × IsAdded log p e own next
+Committed start log p e (Err (steps.Stopped entries)) own next = IsStopped start log p entries × IsIdle p own next
+Committed start log p e (Err (steps.Rejected why)) own next = (rejection p e ≡ Some why) × IsIdle p own next
+Committed start log p e (Err steps.Want) own next = MayLackMemory (rejection p e) × IsIdle p own next
+Committed start log p e (Err (steps.DeviceFull need left)) own next =
     (rejection p e ≡ None) × IsFull start p e need left × IsIdle p own next
-Committed start course p e (Err steps.DeviceFault) own next = (rejection p e ≡ None) × IsFailed course p e own next
+Committed start log p e (Err steps.DeviceFault) own next = (rejection p e ≡ None) × IsFailed log p e own next
 
 -- The result of an entry, in a turn after all of `low` had been seen.
-abbrev pub CommittedAfter : Start → Course → List Entry → Entry → Result Receipt StepFault → List ℕ → List Entry → Type 0
-CommittedAfter start course low e result own next =
-    (p : List Entry) × StartsWith p low × StartsWith course.history p × Committed start course p e result own next
+abbrev pub CommittedAfter : StoreState → LogState → List Entry → Entry → Result Receipt StepFault → List ℕ → List Entry → Type 0
+CommittedAfter start log low e result own next =
+    (p : List Entry) × StartsWith p low × StartsWith log.history p × Committed start log p e result own next
 
 -- ---- plans
 
 -- The result of a plan in a turn.
-abbrev pub Landed : Start → Course → List Entry → PlanValue → Result Receipt LandFault → List ℕ → List Entry → Type 0
-Landed start course p plan (Ok receipt) own next =
+abbrev pub Landed : StoreState → LogState → List Entry → PlanValue → Result Receipt LandFault → List ℕ → List Entry → Type 0
+Landed start log p plan (Ok receipt) own next =
     (reply_to p plan ≡ Accepted (machine.receipt p (entry_of plan))) × IsReceipt p (entry_of plan) receipt
-    × IsAdded course p (entry_of plan) own next
-Landed start course p plan (Err (faults.Stopped entries)) own next = IsStopped start course p entries × IsIdle p own next
-Landed start course p plan (Err (faults.Superseded version)) own next =
+    × IsAdded log p (entry_of plan) own next
+Landed start log p plan (Err (faults.Stopped entries)) own next = IsStopped start log p entries × IsIdle p own next
+Landed start log p plan (Err (faults.Superseded version)) own next =
     (reply_to p plan ≡ Superseded version) × (plan.base < version) × (version ≡ latest p plan.stream) × IsIdle p own next
-Landed start course p plan (Err faults.VersionLimit) own next =
+Landed start log p plan (Err faults.VersionLimit) own next =
     IsCurrent p plan × (reply_to p plan ≡ Rejected rejections.VersionLimit) × IsIdle p own next
-Landed start course p plan (Err (faults.Crowded at)) own next =
+Landed start log p plan (Err (faults.Crowded at)) own next =
     IsCurrent p plan × (rejection p (entry_of plan) ≡ Some (rejections.Crowded at)) × (Legal p → ⊥) × IsIdle p own next
-Landed start course p plan (Err (faults.TooManyPoints count)) own next =
+Landed start log p plan (Err (faults.TooManyPoints count)) own next =
     IsCurrent p plan × (rejection p (entry_of plan) ≡ Some (rejections.TooManyPoints count)) × (Legal p → ⊥) × IsIdle p own next
-Landed start course p plan (Err faults.Want) own next =
+Landed start log p plan (Err faults.Want) own next =
     IsCurrent p plan × MayLackMemory (rejection p (entry_of plan)) × IsIdle p own next
-Landed start course p plan (Err (faults.DeviceFull need left)) own next =
+Landed start log p plan (Err (faults.DeviceFull need left)) own next =
     IsCurrent p plan × (rejection p (entry_of plan) ≡ None) × IsFull start p (entry_of plan) need left × IsIdle p own next
-Landed start course p plan (Err faults.DeviceFault) own next =
-    IsCurrent p plan × (rejection p (entry_of plan) ≡ None) × IsFailed course p (entry_of plan) own next
+Landed start log p plan (Err faults.DeviceFault) own next =
+    IsCurrent p plan × (rejection p (entry_of plan) ≡ None) × IsFailed log p (entry_of plan) own next
 
 -- The result of a plan, in a turn after all of `low` had been seen.
-abbrev pub LandedAfter : Start → Course → List Entry → PlanValue → Result Receipt LandFault → List ℕ → List Entry → Type 0
-LandedAfter start course low plan result own next =
-    (p : List Entry) × StartsWith p low × StartsWith course.history p × Landed start course p plan result own next
+abbrev pub LandedAfter : StoreState → LogState → List Entry → PlanValue → Result Receipt LandFault → List ℕ → List Entry → Type 0
+LandedAfter start log low plan result own next =
+    (p : List Entry) × StartsWith p low × StartsWith log.history p × Landed start log p plan result own next

@@ -2,7 +2,7 @@
 ghost use Rattle.std.specs.Prelude.{◌≡◌, ℕ, List};
 ghost use Rattle.btr_hist.specs.declared.entry.Entry.{Entry as EntrySpec};
 ghost use Rattle.btr_gate.specs.Prefixes.{StartsWith};
-ghost use Rattle.btr_jobs.specs.Course.{Start, Course, GoesOn};
+ghost use Rattle.btr_jobs.specs.States.{StoreState, LogState, GoesOn};
 ghost use Rattle.btr_jobs.specs.Jobs.{IsAt, Does};
 
 use btr_disk::Disk;
@@ -14,9 +14,9 @@ use std::thread::Threads;
 
 /// A piece of work at a hall, done in one session. Its state says what became of it.
 pub trait Job {
-    // After this course of a hall that began so, a job that had seen this history went from the first state to the second. These are
+    // After this state of the log of a hall that began so, a job that had seen this history went from the first state to the second. These are
     // the numbers of what it added.
-    ghost did: { Start → Course → List EntrySpec → Self → Self → List ℕ → Type 0 };
+    ghost did: { StoreState → LogState → List EntrySpec → Self → Self → List ℕ → Type 0 };
 
     /// Does the work, in turns of this session, on this thread.
     fn run<R: Threads + Wait + Sync, D: Disk + Send>(
@@ -28,13 +28,13 @@ pub trait Job {
     )
         requires at { IsAt hall.now session.old }
         ensures at { IsAt hall.now session.new }
-        ensures does { Does hall.now session.old session.new (λ start course low own. did start course low self.old self.new own) };
+        ensures does { Does hall.now session.old session.new (λ start log low own. did start log low self.old self.new own) };
 
     // It is true for ever.
-    ghost lasts: { (start : Start) (late early : Course) (low : List EntrySpec) (was now : Self) (own : List ℕ)
+    ghost lasts: { (start : StoreState) (late early : LogState) (low : List EntrySpec) (was now : Self) (own : List ℕ)
         → GoesOn start late early → did start early low was now own → did start late low was now own };
 
     // It is true of a job that had seen less.
-    ghost lowers: { (start : Start) (course : Course) (low less : List EntrySpec) (was now : Self) (own : List ℕ)
-        → StartsWith low less → did start course low was now own → did start course less was now own };
+    ghost lowers: { (start : StoreState) (log : LogState) (low less : List EntrySpec) (was now : Self) (own : List ℕ)
+        → StartsWith low less → did start log low was now own → did start log less was now own };
 }

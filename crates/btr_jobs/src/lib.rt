@@ -4,7 +4,7 @@
 //! For any number of workers each job did its part after all that had been seen before ([`AllDid`]). With one worker each job followed
 //! all that the one before it had seen ([`DidInTurn`]). Nothing is said of which workers run beside each other; a [`Pace`] learns it.
 //!
-//! `specs/Contents.antt` has a plain store on a device, to which entries are offered one after another. One worker leaves what it has.
+//! `specs/PlainStore.antt` has a plain store on a device, to which entries are offered one after another. One worker leaves what it has.
 //!
 //! [`AllDid`]: ../specs/Jobs.antt
 //! [`DidInTurn`]: ../specs/Jobs.antt

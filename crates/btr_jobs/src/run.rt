@@ -32,9 +32,9 @@ pub fn run_jobs<R: Threads + Wait + Sync, D: Disk + Send, J: Job + Send, P: Pace
     requires at { IsAt hall.now session.old }
     ensures at { IsAt hall.now session.new }
     ensures jobs { length jobs.new ≡ length jobs.old }
-    ensures does { Does hall.now session.old session.new (λ start course low own. AllDid J.did start course low jobs.old jobs.new own) }
+    ensures does { Does hall.now session.old session.new (λ start log low own. AllDid J.did start log low jobs.old jobs.new own) }
     ensures in_turn { workers ≤ 1 → Does hall.now session.old session.new
-        (λ start course low own. DidInTurn J.did start course low jobs.old jobs.new own) }
+        (λ start log low own. DidInTurn J.did start log low jobs.old jobs.new own) }
 {
     let other = session.split(hall);
     let mut worker = Worker {
@@ -65,9 +65,9 @@ fn share_out<R: Threads + Wait + Sync, D: Disk + Send, J: Job + Send, P: Pace + 
     ensures at { IsAt worker.old.hall.now worker.new.session }
     ensures jobs { length jobs.new ≡ length jobs.old }
     ensures does { Does worker.old.hall.now worker.old.session worker.new.session
-        (λ start course low own. AllDid J.did start course low jobs.old jobs.new own) }
+        (λ start log low own. AllDid J.did start log low jobs.old jobs.new own) }
     ensures in_turn { workers ≤ 1 → Does worker.old.hall.now worker.old.session worker.new.session
-        (λ start course low own. DidInTurn J.did start course low jobs.old jobs.new own) }
+        (λ start log low own. DidInTurn J.did start log low jobs.old jobs.new own) }
 {
     if workers <= 1 || jobs.len() <= 1 {
         let hall = worker.hall;
@@ -118,23 +118,23 @@ fn both_halves<R: Threads + Wait + Sync, D: Disk + Send, J: Job + Send, P: Pace 
     ensures worker { IsAt worker.old.hall.now worker.new.session }
     ensures other { IsAt other.old.hall.now other.new.session }
     ensures low { Does worker.old.hall.now worker.old.session worker.new.session
-        (λ start course seen own. AllDid J.did start course seen low.old low.new own) }
+        (λ start log seen own. AllDid J.did start log seen low.old low.new own) }
     ensures high { Does other.old.hall.now other.old.session other.new.session
-        (λ start course seen own. AllDid J.did start course seen high.old high.new own) }
+        (λ start log seen own. AllDid J.did start log seen high.old high.new own) }
 {
     let mut left = ||
         requires { IsSync R.row × IsSend D.row × IsSend J.row × IsSync P.row × IsAt worker.now.hall.now worker.now.session }
         ensures hall { worker.exit.now.hall ≡ worker.entry.now.hall }
         ensures at { IsAt worker.entry.now.hall.now worker.exit.now.session }
         ensures does { Does worker.entry.now.hall.now worker.entry.now.session worker.exit.now.session
-            (λ start course seen own. AllDid J.did start course seen low.entry.now low.exit.now own) }
+            (λ start log seen own. AllDid J.did start log seen low.entry.now low.exit.now own) }
     { share_out(rt, alloc, pace, here, first, worker, low) };
     let mut right = ||
         requires { IsSync R.row × IsSend D.row × IsSend J.row × IsSync P.row × IsAt other.now.hall.now other.now.session }
         ensures hall { other.exit.now.hall ≡ other.entry.now.hall }
         ensures at { IsAt other.entry.now.hall.now other.exit.now.session }
         ensures does { Does other.entry.now.hall.now other.entry.now.session other.exit.now.session
-            (λ start course seen own. AllDid J.did start course seen high.entry.now high.exit.now own) }
+            (λ start log seen own. AllDid J.did start log seen high.entry.now high.exit.now own) }
     { share_out(rt, alloc, pace, there, next, other, high) };
     join_mut(rt, &mut left, &mut right);
 }
@@ -167,7 +167,7 @@ fn run_in_turn<R: Threads + Wait + Sync, D: Disk + Send, J: Job + Send, P: Pace 
     ensures at { IsAt hall.now session.new }
     ensures jobs { length jobs.new ≡ length jobs.old }
     ensures in_turn { Does hall.now session.old session.new
-        (λ start course low own. DidInTurn J.did start course low jobs.old jobs.new own) }
+        (λ start log low own. DidInTurn J.did start log low jobs.old jobs.new own) }
 {
     let mut turn = first;
     for job in jobs.iter_mut() {

@@ -11,7 +11,7 @@ use Rattle.btr_gate.proofs.PrefixLemmas.{starts_refl}
 use Rattle.btr_hall.specs.declared.session.Hall.{Hall}
 use Rattle.btr_hall.specs.declared.session.Session.{Session}
 use Rattle.btr_hall.specs.Session.{Looks}
-use Rattle.btr_jobs.specs.Course.{Start, Course, course_of}
+use Rattle.btr_jobs.specs.States.{StoreState, LogState, log_of}
 use Rattle.btr_jobs.specs.Jobs.{IsAt}
 use Rattle.btr_jobs.proofs.DoesLemmas.{goes_none}
 use Rattle.btr_live.specs.Meaning.{Meaning, Commits, Asks, Holds, Current, Refuses, on_stream, meaning}
@@ -33,12 +33,12 @@ pub asks_question : (found : Option ℕ) (query : StreamQuery) → IsQuestion (o
 asks_question None query = tt
 asks_question (Some stream) query = tt
 
-question_answers : (start : Start) (course : Course) (saw_failure : Bool) (a : List Entry) (m : Meaning) (reply : LineReply) → IsQuestion m → IsAnswerOrNoMemory a m reply → Answers start course saw_failure a m reply [] a
-question_answers start course saw_failure a (Commits e) reply is answer = absurd is
-question_answers start course saw_failure a (Asks query) reply is answer = (answer, record { own = refl; next = refl })
-question_answers start course saw_failure a (Holds count) reply is answer = (answer, record { own = refl; next = refl })
-question_answers start course saw_failure a (Current version) reply is answer = (answer, record { own = refl; next = refl })
-question_answers start course saw_failure a (Refuses reason) reply is answer = (answer, record { own = refl; next = refl })
+question_answers : (start : StoreState) (log : LogState) (saw_failure : Bool) (a : List Entry) (m : Meaning) (reply : LineReply) → IsQuestion m → IsAnswerOrNoMemory a m reply → Answers start log saw_failure a m reply [] a
+question_answers start log saw_failure a (Commits e) reply is answer = absurd is
+question_answers start log saw_failure a (Asks query) reply is answer = (answer, record { own = refl; next = refl })
+question_answers start log saw_failure a (Holds count) reply is answer = (answer, record { own = refl; next = refl })
+question_answers start log saw_failure a (Current version) reply is answer = (answer, record { own = refl; next = refl })
+question_answers start log saw_failure a (Refuses reason) reply is answer = (answer, record { own = refl; next = refl })
 
 module _ {D : Type 0} {disk : Ghosts D} (hall : Hall D disk) where
   -- A question is answered from what is seen in a look.
@@ -49,7 +49,7 @@ module _ {D : Type 0} {disk : Ghosts D} (hall : Hall D disk) where
         goes_none new,
         λ h of.
             let said = answers h of in
-            let seen = (course_of h new).history in record {
+            let seen = (log_of h new).history in record {
               admitted = seen;
               after = starts_refl seen;
               begins = starts_refl seen;

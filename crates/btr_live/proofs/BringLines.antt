@@ -15,30 +15,30 @@ use Rattle.btr_hall.specs.declared.land.LandFault.{LandFault}
 use Rattle.btr_hall.specs.declared.land.LandFault.TheVariants as faults
 use Rattle.btr_hall.specs.declared.session.Hall.{Hall}
 use Rattle.btr_hall.specs.declared.session.Session.{Session}
-use Rattle.btr_jobs.specs.Course.{Start, Course, start_of, course_of}
+use Rattle.btr_jobs.specs.States.{StoreState, LogState, start_of, log_of}
 use Rattle.btr_jobs.specs.Turns.{Landed, LandedAfter}
 use Rattle.btr_jobs.specs.Jobs.{Does}
-use Rattle.btr_jobs.proofs.CourseLemmas.{history_goes_on}
-use Rattle.btr_work.specs.declared.report.Brought.{Brought}
-use Rattle.btr_work.specs.declared.report.Brought.TheVariants as brought
-use Rattle.btr_work.specs.Report.{IsPlanLanded, IsBrought, IsOfStopped, KnowsStopped}
+use Rattle.btr_jobs.proofs.StateLemmas.{history_goes_on}
+use Rattle.btr_work.specs.declared.report.Refreshed.{Refreshed}
+use Rattle.btr_work.specs.declared.report.Refreshed.TheVariants as refreshed
+use Rattle.btr_work.specs.Report.{IsPlanLanded, IsRefreshed, IsOfStopped, KnowsStopped}
 use Rattle.btr_live.specs.Meaning.{Commits, Current, Refuses}
 use Rattle.btr_live.specs.Lanes.{reply_of_landing, Offers}
 use Rattle.btr_live.specs.Serving.{Serves, RefreshAsks, reply_of_brought, was_told, ServesIn}
 use Rattle.btr_live.proofs.OutputLines.{refresh-plan, refresh-up_to_date}
 
-module _ (start : Start) (course : Course) where
-  -- The history that is known after a landing begins that of the course.
-  landed_ends : (p : List Entry) (plan : PlanValue) (result : Result Receipt LandFault) (own : List ℕ) (next : List Entry) → StartsWith course.history p → Landed start course p plan result own next → StartsWith course.history next
-  landed_ends p plan (Ok receipt) own next begins is = subst (StartsWith course.history) (sym is.2.next) is.2.follows
-  landed_ends p plan (Err (faults.Stopped entries)) own next begins is = subst (StartsWith course.history) (sym is.1.next) begins
-  landed_ends p plan (Err (faults.Superseded version)) own next begins is = subst (StartsWith course.history) (sym is.3.next) begins
-  landed_ends p plan (Err faults.VersionLimit) own next begins is = subst (StartsWith course.history) (sym is.2.next) begins
-  landed_ends p plan (Err (faults.Crowded at)) own next begins is = subst (StartsWith course.history) (sym is.3.next) begins
-  landed_ends p plan (Err (faults.TooManyPoints count)) own next begins is = subst (StartsWith course.history) (sym is.3.next) begins
-  landed_ends p plan (Err faults.Want) own next begins is = subst (StartsWith course.history) (sym is.2.next) begins
-  landed_ends p plan (Err (faults.DeviceFull need left)) own next begins is = subst (StartsWith course.history) (sym is.3.next) begins
-  landed_ends p plan (Err faults.DeviceFault) own next begins is = subst (StartsWith course.history) (sym is.2.next) begins
+module _ (start : StoreState) (log : LogState) where
+  -- The history that is known after a landing begins that of the log.
+  landed_ends : (p : List Entry) (plan : PlanValue) (result : Result Receipt LandFault) (own : List ℕ) (next : List Entry) → StartsWith log.history p → Landed start log p plan result own next → StartsWith log.history next
+  landed_ends p plan (Ok receipt) own next begins is = subst (StartsWith log.history) (sym is.2.next) is.2.follows
+  landed_ends p plan (Err (faults.Stopped entries)) own next begins is = subst (StartsWith log.history) (sym is.1.next) begins
+  landed_ends p plan (Err (faults.Superseded version)) own next begins is = subst (StartsWith log.history) (sym is.3.next) begins
+  landed_ends p plan (Err faults.VersionLimit) own next begins is = subst (StartsWith log.history) (sym is.2.next) begins
+  landed_ends p plan (Err (faults.Crowded at)) own next begins is = subst (StartsWith log.history) (sym is.3.next) begins
+  landed_ends p plan (Err (faults.TooManyPoints count)) own next begins is = subst (StartsWith log.history) (sym is.3.next) begins
+  landed_ends p plan (Err faults.Want) own next begins is = subst (StartsWith log.history) (sym is.2.next) begins
+  landed_ends p plan (Err (faults.DeviceFull need left)) own next begins is = subst (StartsWith log.history) (sym is.3.next) begins
+  landed_ends p plan (Err faults.DeviceFault) own next begins is = subst (StartsWith log.history) (sym is.2.next) begins
 
   module _ (saw_failure : Bool) (low : List Entry) (stream : ℕ) (own : List ℕ) where
     -- Who saw the device fail has a reply that says so.
@@ -46,10 +46,10 @@ module _ (start : Start) (course : Course) where
     SaysAgain reply = saw_failure ≡ true → (count : ℕ) × (reply ≡ replies.No (reasons.Stopped count))
 
     -- A plan was landed.
-    plan_serves : (result : Result Receipt LandFault) → SaysAgain (reply_of_landing result) → IsPlanLanded start course low stream result own → Serves start course saw_failure low (RefreshAsks stream) (reply_of_landing result) own
+    plan_serves : (result : Result Receipt LandFault) → SaysAgain (reply_of_landing result) → IsPlanLanded start log low stream result own → Serves start log saw_failure low (RefreshAsks stream) (reply_of_landing result) own
     plan_serves result again is =
         let planned : IsNextPlan is.at is.plan.stream is.plan = subst (λ s. IsNextPlan is.at s is.plan) (sym is.planned.same_stream) is.planned in
-        let offers : Offers start course saw_failure is.at (entry_of is.plan) (reply_of_landing result) own is.next = (is.plan, planned, refl, result, is.landed, refl, again) in record {
+        let offers : Offers start log saw_failure is.at (entry_of is.plan) (reply_of_landing result) own is.next = (is.plan, planned, refl, result, is.landed, refl, again) in record {
           admitted = is.at;
           after = is.after;
           begins = is.seen;
@@ -66,11 +66,11 @@ module _ (start : Start) (course : Course) where
     never_so fault none = λ told. absurd (none told)
 
     -- What became of the output is replied.
-    by_brought : (result : Brought) → StartsWith course.history low → (saw_failure ≡ true → IsOfStopped result) → IsBrought start course low stream result own → Serves start course saw_failure low (RefreshAsks stream) (reply_of_brought result) own
-    by_brought (brought.Landed version) begins stopped is =
-        subst (λ v. Serves start course saw_failure low (RefreshAsks stream) (replies.Done v) own) (sym is.1)
+    by_brought : (result : Refreshed) → StartsWith log.history low → (saw_failure ≡ true → IsOfStopped result) → IsRefreshed start log low stream result own → Serves start log saw_failure low (RefreshAsks stream) (reply_of_brought result) own
+    by_brought (refreshed.Landed version) begins stopped is =
+        subst (λ v. Serves start log saw_failure low (RefreshAsks stream) (replies.Done v) own) (sym is.1)
         (plan_serves (Ok is.0) (λ told. absurd (stopped told)) is.2)
-    by_brought (brought.Current version) begins stopped is = record {
+    by_brought (refreshed.Current version) begins stopped is = record {
       admitted = is.at;
       after = is.after;
       begins = is.seen;
@@ -82,7 +82,7 @@ module _ (start : Start) (course : Course) where
         ends = is.seen;
       };
     }
-    by_brought (brought.Refused faults.Want) begins stopped is = record {
+    by_brought (refreshed.Refused faults.Want) begins stopped is = record {
       admitted = low;
       after = starts_refl low;
       begins = begins;
@@ -90,23 +90,23 @@ module _ (start : Start) (course : Course) where
       asks = inr refl;
       replies = record { next = low; answers = (refl, record { own = is; next = refl }); ends = begins };
     }
-    by_brought (brought.Refused (faults.Stopped entries)) begins stopped is = plan_serves (Err (faults.Stopped entries)) (λ told. (entries, refl)) is
-    by_brought (brought.Refused (faults.Superseded version)) begins stopped is =
+    by_brought (refreshed.Refused (faults.Stopped entries)) begins stopped is = plan_serves (Err (faults.Stopped entries)) (λ told. (entries, refl)) is
+    by_brought (refreshed.Refused (faults.Superseded version)) begins stopped is =
         plan_serves (Err (faults.Superseded version)) (never_so (faults.Superseded version) stopped) is
-    by_brought (brought.Refused faults.VersionLimit) begins stopped is = plan_serves (Err faults.VersionLimit) (never_so faults.VersionLimit stopped) is
-    by_brought (brought.Refused (faults.Crowded at)) begins stopped is = plan_serves (Err (faults.Crowded at)) (never_so (faults.Crowded at) stopped) is
-    by_brought (brought.Refused (faults.TooManyPoints count)) begins stopped is =
+    by_brought (refreshed.Refused faults.VersionLimit) begins stopped is = plan_serves (Err faults.VersionLimit) (never_so faults.VersionLimit stopped) is
+    by_brought (refreshed.Refused (faults.Crowded at)) begins stopped is = plan_serves (Err (faults.Crowded at)) (never_so (faults.Crowded at) stopped) is
+    by_brought (refreshed.Refused (faults.TooManyPoints count)) begins stopped is =
         plan_serves (Err (faults.TooManyPoints count)) (never_so (faults.TooManyPoints count) stopped) is
-    by_brought (brought.Refused (faults.DeviceFull need left)) begins stopped is =
+    by_brought (refreshed.Refused (faults.DeviceFull need left)) begins stopped is =
         plan_serves (Err (faults.DeviceFull need left)) (never_so (faults.DeviceFull need left) stopped) is
-    by_brought (brought.Refused faults.DeviceFault) begins stopped is = plan_serves (Err faults.DeviceFault) (never_so faults.DeviceFault stopped) is
+    by_brought (refreshed.Refused faults.DeviceFault) begins stopped is = plan_serves (Err faults.DeviceFault) (never_so faults.DeviceFault stopped) is
 
 -- An output that was brought up to date in a session is what a line asks for, and has its reply.
-pub brought_serves : {D : Type 0} {disk : Ghosts D} (hall : Hall D disk) (old new : Session D disk) (stream : ℕ) (result : Brought) → Does hall old new (λ start course low own. IsBrought start course low stream result own) → (KnowsStopped hall old → IsOfStopped result) → ServesIn hall old new (RefreshAsks stream) (reply_of_brought result)
-brought_serves hall old new stream result does stopped = (
+pub refreshed_serves : {D : Type 0} {disk : Ghosts D} (hall : Hall D disk) (old new : Session D disk) (stream : ℕ) (result : Refreshed) → Does hall old new (λ start log low own. IsRefreshed start log low stream result own) → (KnowsStopped hall old → IsOfStopped result) → ServesIn hall old new (RefreshAsks stream) (reply_of_brought result)
+refreshed_serves hall old new stream result does stopped = (
   does.0,
   does.1,
   λ h of.
-      by_brought (start_of h hall) (course_of h new) (was_told hall old) (course_of h old).history stream does.0 result
+      by_brought (start_of h hall) (log_of h new) (was_told hall old) (log_of h old).history stream does.0 result
       (history_goes_on h new old does.1.seen) (λ told. stopped (h, of, told)) (does.2 h of),
 )

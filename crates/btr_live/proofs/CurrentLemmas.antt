@@ -8,15 +8,15 @@ use Rattle.btr_text.specs.declared.script.ScriptLine.{ScriptLine}
 use Rattle.btr_gate.specs.Numbers.{one, total, times, given}
 use Rattle.btr_gate.proofs.NumberLemmas.{given_inside, given_below, given_above}
 use Rattle.btr_gate.proofs.PrefixLemmas.{starts_length}
-use Rattle.btr_jobs.specs.Course.{Start, Course, GoesOn}
-use Rattle.btr_work.specs.Report.{Brings}
+use Rattle.btr_jobs.specs.States.{StoreState, LogState, GoesOn}
+use Rattle.btr_work.specs.Report.{Refreshes}
 use Rattle.btr_work.specs.Laws.{AreAllSince}
-use Rattle.btr_work.proofs.CurrentLemmas.{brought-current}
+use Rattle.btr_work.proofs.CurrentLemmas.{refreshed-current}
 use Rattle.btr_live.specs.declared.live.LiveReport.{LiveReport}
-use Rattle.btr_live.specs.OneHistory.{of_lane, lanes_of, lines_of, RunsLanes, times_all}
+use Rattle.btr_live.specs.OneHistory.{of_lane, lanes_of, lane_lines, RunsLanes, times_all}
 use Rattle.btr_live.specs.Live.{LastRound, LastIsCurrent}
 use Rattle.btr_live.specs.Lanes.{begun}
-use Rattle.btr_live.proofs.LandingLemmas.{Landings, brings_lands, rounds_land}
+use Rattle.btr_live.proofs.LandingLemmas.{Landings, refreshes_lands, rounds_land}
 use Rattle.btr_live.proofs.NumberBounds.{lines_inside, landing_within}
 
 -- A number that is in one of the lists is in a list at some place.
@@ -29,24 +29,24 @@ in_lists P n (l ∷ ls) each some =
     ]
 
 -- If nothing failed in the end, nothing failed before.
-earlier_sound : (start : Start) (late early : Course) → GoesOn start late early → late.failed ≡ None → early.failed ≡ None
+earlier_sound : (start : StoreState) (late early : LogState) → GoesOn start late early → late.failed ≡ None → early.failed ≡ None
 earlier_sound start late early on sound = by early.failed refl
   where
     by : (failed : Option Entry) → early.failed ≡ failed → early.failed ≡ None
     by None is = is
     by (Some e) is =
         let same = on.ends (or_right start.stopped (is_some early.failed) (ap is_some is)) in
-        let failed : late.failed ≡ Some e = ap (λ (c : Course). c.failed) same ∙ is in
+        let failed : late.failed ≡ Some e = ap (λ (c : LogState). c.failed) same ∙ is in
         absurd (cc)
 
-module _ (batch rounds : ℕ) (start : Start) (middle : Course) (sound : middle.failed ≡ None) (low : List Entry) (script : List ScriptLine) (report : LiveReport) (mine beside : List (List ℕ)) (runs : RunsLanes batch rounds start middle low script report.replies.items mine beside) where
+module _ (batch rounds : ℕ) (start : StoreState) (middle : LogState) (sound : middle.failed ≡ None) (low : List Entry) (script : List ScriptLine) (report : LiveReport) (mine beside : List (List ℕ)) (runs : RunsLanes batch rounds start middle low script report.replies.items mine beside) where
   -- What lanes and rounds added is in the history in the end of the lanes.
   all_inside : (n : ℕ) → 1 ≤ times_all n mine beside → n ≤ length middle.history
   all_inside n some =
       elim (cases_lt 0 (total (times n) mine)) [
         | inl by_lane ↦
             in_lists (n ≤ length middle.history) n mine
-            (λ k here. lines_inside start middle sound n batch (begun low) (lines_of k script) (of_lane k (lanes_of script) report.replies.items) (slice_index_or mine k []) (runs.lasts k) (runs.lanes k) here)
+            (λ k here. lines_inside start middle sound n batch (begun low) (lane_lines k script) (of_lane k (lanes_of script) report.replies.items) (slice_index_or mine k []) (runs.lasts k) (runs.lanes k) here)
             by_lane
         | inr none ↦
             in_lists (n ≤ length middle.history) n beside
@@ -54,29 +54,29 @@ module _ (batch rounds : ℕ) (start : Start) (middle : Course) (sound : middle.
             (omega (arith, some, none))
       ]
 
-module _ (start : Start) (course middle : Course) (first : List Entry) (low_starts : length first ≤ length middle.history) (more : length middle.history ≤ length course.history) (sound : course.failed ≡ None) (own lastly rest : ℕ → ℕ) where
+module _ (start : StoreState) (log middle : LogState) (first : List Entry) (low_starts : length first ≤ length middle.history) (more : length middle.history ≤ length log.history) (sound : log.failed ≡ None) (own lastly rest : ℕ → ℕ) where
   -- The numbers after the lanes are those of the last round.
-  last_all : ((n : ℕ) → own n ≡ given (length first) (length course.history + one (is_some course.failed)) n) → ((n : ℕ) → own n ≡ rest n + lastly n) → ((n : ℕ) → 1 ≤ rest n → n ≤ length middle.history) → ((n : ℕ) → 1 ≤ lastly n → length middle.history < n) → (n : ℕ) → lastly n ≡ given (length middle.history) (length course.history + one (is_some course.failed)) n
+  last_all : ((n : ℕ) → own n ≡ given (length first) (length log.history + one (is_some log.failed)) n) → ((n : ℕ) → own n ≡ rest n + lastly n) → ((n : ℕ) → 1 ≤ rest n → n ≤ length middle.history) → ((n : ℕ) → 1 ≤ lastly n → length middle.history < n) → (n : ℕ) → lastly n ≡ given (length middle.history) (length log.history + one (is_some log.failed)) n
   last_all all sum inside above n =
-      let none : one (is_some course.failed) ≡ 0 = ap (λ f. one (is_some f)) sound in
+      let none : one (is_some log.failed) ≡ 0 = ap (λ f. one (is_some f)) sound in
       let every = all n in
       let both = sum n in
       elim (cases_lt (length middle.history) n) [
         | inl later ↦
             let no_rest : rest n ≡ 0 = zero_if (rest n) (λ some. absurd (let low = inside n some in omega (arith, low, later))) in
-            elim (cases_lt (length course.history) n) [
+            elim (cases_lt (length log.history) n) [
               | inl past ↦
-                  let a = given_above (length first) (length course.history + one (is_some course.failed)) n (omega (arith, past, none)) in
-                  let b = given_above (length middle.history) (length course.history + one (is_some course.failed)) n (omega (arith, past, none)) in
+                  let a = given_above (length first) (length log.history + one (is_some log.failed)) n (omega (arith, past, none)) in
+                  let b = given_above (length middle.history) (length log.history + one (is_some log.failed)) n (omega (arith, past, none)) in
                   omega (arith, every, both, no_rest, a, b)
               | inr within ↦
-                  let a = given_inside (length first) (length course.history + one (is_some course.failed)) n (omega (arith, later, low_starts)) (omega (arith, within)) in
-                  let b = given_inside (length middle.history) (length course.history + one (is_some course.failed)) n later (omega (arith, within)) in
+                  let a = given_inside (length first) (length log.history + one (is_some log.failed)) n (omega (arith, later, low_starts)) (omega (arith, within)) in
+                  let b = given_inside (length middle.history) (length log.history + one (is_some log.failed)) n later (omega (arith, within)) in
                   omega (arith, every, both, no_rest, a, b)
             ]
         | inr early ↦
             let no_last : lastly n ≡ 0 = zero_if (lastly n) (λ some. absurd (let high = above n some in omega (arith, high, early))) in
-            no_last ∙ sym (given_below (length middle.history) (length course.history + one (is_some course.failed)) n early)
+            no_last ∙ sym (given_below (length middle.history) (length log.history + one (is_some log.failed)) n early)
       ]
     where
       zero_if : (k : ℕ) → (1 ≤ k → k ≡ 0) → k ≡ 0
@@ -84,15 +84,15 @@ module _ (start : Start) (course middle : Course) (first : List Entry) (low_star
       zero_if (suc k) none = none (omega arith)
 
 pub last_current : LastIsCurrent
-last_current batch start course script report own last runs all follows sound is =
+last_current batch start log script report own last runs all follows sound is =
     let middle = runs.middle in
-    let middle_sound = earlier_sound start course middle runs.goes_on sound in
-    let brings : Brings start course middle.history last runs.lastly = subst (λ r. LastRound start course middle.history true r runs.lastly) is runs.last in
-    let lands : Landings start course middle.history runs.lastly = brings_lands start course middle.history last runs.lastly brings in
-    let since : AreAllSince middle.history course runs.lastly =
-    last_all start course middle start.history (starts_length middle.history start.history runs.after) (starts_length course.history middle.history runs.goes_on.begins) sound
+    let middle_sound = earlier_sound start log middle runs.goes_on sound in
+    let refreshes : Refreshes start log middle.history last runs.lastly = subst (λ r. LastRound start log middle.history true r runs.lastly) is runs.last in
+    let lands : Landings start log middle.history runs.lastly = refreshes_lands start log middle.history last runs.lastly refreshes in
+    let since : AreAllSince middle.history log runs.lastly =
+    last_all start log middle start.history (starts_length middle.history start.history runs.after) (starts_length log.history middle.history runs.goes_on.begins) sound
     (λ n. times n own) (λ n. times n runs.lastly) (λ n. times_all n runs.mine runs.beside)
     all runs.numbers
     (λ n some. all_inside batch (length script) start middle middle_sound start.history script report runs.mine runs.beside runs.lanes n some)
-    (λ n some. (landing_within start course sound n middle.history (lands n some)).above) in
-    brought-current start course middle.history last runs.lastly brings follows since
+    (λ n some. (landing_within start log sound n middle.history (lands n some)).above) in
+    refreshed-current start log middle.history last runs.lastly refreshes follows since

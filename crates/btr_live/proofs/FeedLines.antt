@@ -20,7 +20,7 @@ use Rattle.btr_text.specs.declared.reply.LineReply.{LineReply}
 use Rattle.btr_text.specs.declared.reply.LineReply.TheVariants as replies
 use Rattle.btr_text.specs.declared.reply.Reason.TheVariants as reasons
 use Rattle.btr_live.specs.Feeds.{Waiting, with_points, feed_of, fed}
-use Rattle.btr_live.specs.Meaning.{Meaning, Holds, Refuses, on_stream, if_plain, insert, when_due, reason_of_fault, unless_fault, feed, flush, meaning}
+use Rattle.btr_live.specs.Meaning.{Meaning, Holds, Refuses, on_stream, if_plain, insert_points, when_due, reason_of_fault, unless_fault, feed, flush, meaning}
 use Rattle.btr_live.specs.Replies.{points_after, left_over, waiting_after, Means}
 use Rattle.btr_live.specs.Serving.{LineAsks, AddsPoints}
 use Rattle.btr_live.proofs.WaitingLemmas.{at_stream, with_points-own, with_points-twice}
@@ -132,7 +132,7 @@ module _ (batch : ℕ) (h : List Entry) (w : Waiting) where
   flush_of_none stream [] is = refl
   flush_of_none stream (p ∷ ps) is = absurd (omega (arith, eqb-true (length (p ∷ ps)) 0 is))
 
-  flush_of_some : (stream : ℕ) (points : List Point) → (length points == 0) ≡ false → flush stream points ≡ insert stream points
+  flush_of_some : (stream : ℕ) (points : List Point) → (length points == 0) ≡ false → flush stream points ≡ insert_points stream points
   flush_of_some stream [] is = absurd (cc)
   flush_of_some stream (p ∷ ps) is = refl
 
@@ -143,9 +143,9 @@ module _ (batch : ℕ) (h : List Entry) (w : Waiting) where
       (flushed_points id stream is)
       (with_points-own stream w)
 
-  pub flush_some : (id stream : ℕ) (reply : LineReply) (after : Waiting) → stream_of h id ≡ Some stream → is_output h stream ≡ false → (length (w stream) == 0) ≡ false → after ≡ with_points stream (left_over (w stream) reply) w → LineAsks batch w (Some (lines.Flush id)) reply after h (insert stream (w stream))
+  pub flush_some : (id stream : ℕ) (reply : LineReply) (after : Waiting) → stream_of h id ≡ Some stream → is_output h stream ≡ false → (length (w stream) == 0) ≡ false → after ≡ with_points stream (left_over (w stream) reply) w → LineAsks batch w (Some (lines.Flush id)) reply after h (insert_points stream (w stream))
   flush_some id stream reply after is plain some waiting =
-      feed_line (Some (lines.Flush id)) stream (w stream) (insert stream (w stream)) reply after
+      feed_line (Some (lines.Flush id)) stream (w stream) (insert_points stream (w stream)) reply after
       (inl (sym (flush_means id stream false is plain ∙ flush_of_some stream (w stream) some)))
       (flushed_points id stream is)
       waiting
@@ -188,7 +188,7 @@ module _ (batch : ℕ) (w : Waiting) (stream : ℕ) (added : List Point) (result
     waiting = waiting;
   }
 
-  pub added_due : (count : ℕ) (reply : LineReply) (after : Waiting) → result ≡ Ok (Due count) → Due count ≡ held (feed_of batch stream (w stream ++ added)) → after ≡ with_points stream (left_over (w stream ++ added) reply) w → AddsPoints batch w stream added (insert stream (w stream ++ added)) reply after
+  pub added_due : (count : ℕ) (reply : LineReply) (after : Waiting) → result ≡ Ok (Due count) → Due count ≡ held (feed_of batch stream (w stream ++ added)) → after ≡ with_points stream (left_over (w stream ++ added) reply) w → AddsPoints batch w stream added (insert_points stream (w stream ++ added)) reply after
   added_due count reply after is due waiting = record {
     means = inl (sym (asked_if (Due count) (no_fault (insert_fault (feed_of batch stream (w stream)) added) result (Due count) fails is) due));
     waiting = waiting;

@@ -9,14 +9,14 @@ use Rattle.btr_gate.specs.Numbers.{one, times}
 use Rattle.btr_gate.specs.Prefixes.{StartsWith}
 use Rattle.btr_gate.proofs.NumberLemmas.{times_append}
 use Rattle.btr_gate.proofs.PrefixLemmas.{starts_trans}
-use Rattle.btr_jobs.specs.Course.{Start, Course, GoesOn}
+use Rattle.btr_jobs.specs.States.{StoreState, LogState, GoesOn}
 use Rattle.btr_jobs.specs.Jobs.{AllDid}
 use Rattle.btr_live.specs.declared.part.Part.{Part}
 use Rattle.btr_live.specs.declared.live.LiveReport.{LiveReport}
 use Rattle.btr_live.specs.Lanes.{begun, RunsLines}
 use Rattle.btr_live.specs.LaneLaws.{lines_last}
 use Rattle.btr_live.specs.RoundsLaws.{rounds_last, rounds_lower}
-use Rattle.btr_live.specs.OneHistory.{of_lane, lanes_of, lines_of, IsParty, RunsLanes, times_all}
+use Rattle.btr_live.specs.OneHistory.{of_lane, lanes_of, lane_lines, IsParty, RunsLanes, times_all}
 use Rattle.btr_live.specs.Parts.{PartDid, HaveLimits, parties_of, lines_at, replies_at}
 use Rattle.btr_live.specs.Live.{LastRound, RunsLive, RunsAreOneHistory}
 use Rattle.btr_live.proofs.LaneLemmas.{lane_each}
@@ -25,39 +25,39 @@ use Rattle.btr_live.proofs.RoundLemmas.{rounds_most, last_makes}
 use Rattle.btr_live.proofs.OrderLemmas.{of_lane-length}
 
 -- All lanes ran, with these replies.
-pub record RanLanes (batch : ℕ) (materialize : Bool) (start : Start) (course : Course) (low : List Entry) (script : List ScriptLine) (replies : List LineReply) (own : List ℕ) : Type 0 where
+pub record RanLanes (batch : ℕ) (materialize : Bool) (start : StoreState) (log : LogState) (low : List Entry) (script : List ScriptLine) (replies : List LineReply) (own : List ℕ) : Type 0 where
   pub mine : List (List ℕ)
   pub beside : List (List ℕ)
-  pub lanes : RunsLanes batch (length script) start course low script replies mine beside
+  pub lanes : RunsLanes batch (length script) start log low script replies mine beside
   pub count : length beside ≡ one materialize
   pub numbers : (n : ℕ) → times n own ≡ times_all n mine beside
 
-module _ (batch : ℕ) (script : List ScriptLine) (before after : List Part) (have : HaveLimits batch (length script) before) (lines : (k : ℕ) → lines_at before k ≡ lines_of k script) where
+module _ (batch : ℕ) (script : List ScriptLine) (before after : List Part) (have : HaveLimits batch (length script) before) (lines : (k : ℕ) → lines_at before k ≡ lane_lines k script) where
   -- Each lane has as many replies as lines.
-  pub replies_each : (start : Start) (course : Course) (low : List Entry) (own : List ℕ) → StartsWith course.history low → AllDid PartDid start course low before after own → (k : ℕ) → length (replies_at after k) ≡ length (lines_of k script)
-  replies_each start course low own starts did k =
-      let ran : RanParts batch (length script) start course low before after own = ran_parts batch (length script) start course low starts before after own have did in
-      lane_each batch start course low (lines_at before k) (replies_at after k) (slice_index_or ran.mine k []) (ran.lanes k) ∙ ap length (lines k)
+  pub replies_each : (start : StoreState) (log : LogState) (low : List Entry) (own : List ℕ) → StartsWith log.history low → AllDid PartDid start log low before after own → (k : ℕ) → length (replies_at after k) ≡ length (lane_lines k script)
+  replies_each start log low own starts did k =
+      let ran : RanParts batch (length script) start log low before after own = ran_parts batch (length script) start log low starts before after own have did in
+      lane_each batch start log low (lines_at before k) (replies_at after k) (slice_index_or ran.mine k []) (ran.lanes k) ∙ ap length (lines k)
 
   -- Each lane has as many replies as the script has lines of it.
-  pub left_each : (lanes : List ℕ) → lanes ≡ lanes_of script → (start : Start) (course : Course) (low : List Entry) (own : List ℕ) → StartsWith course.history low → AllDid PartDid start course low before after own → (k : ℕ) → length (replies_at after k) ≡ length (of_lane k lanes lanes)
-  left_each lanes same start course low own starts did k =
-      replies_each start course low own starts did k
+  pub left_each : (lanes : List ℕ) → lanes ≡ lanes_of script → (start : StoreState) (log : LogState) (low : List Entry) (own : List ℕ) → StartsWith log.history low → AllDid PartDid start log low before after own → (k : ℕ) → length (replies_at after k) ≡ length (of_lane k lanes lanes)
+  left_each lanes same start log low own starts did k =
+      replies_each start log low own starts did k
       ∙ of_lane-length k (lanes_of script) (map (λ (line : ScriptLine). line.line) script) (lanes_of script) (length-map script (λ (line : ScriptLine). line.line) ∙ sym (length-map script (λ (line : ScriptLine). line.lane))) refl
       ∙ sym (ap (λ ls. length (of_lane k ls ls)) same)
 
   -- The parts did what all lanes and rounds do.
-  pub lanes_ran : (materialize : Bool) → parties_of before ≡ one materialize → (replies : List LineReply) → length replies ≡ length script → ((k : ℕ) → of_lane k (lanes_of script) replies ≡ replies_at after k) → (start : Start) (course : Course) (low : List Entry) (own : List ℕ) → StartsWith course.history low → AllDid PartDid start course low before after own → RanLanes batch materialize start course low script replies own
-  lanes_ran materialize parties replies each told start course low own starts did =
-      let ran : RanParts batch (length script) start course low before after own = ran_parts batch (length script) start course low starts before after own have did in record {
+  pub lanes_ran : (materialize : Bool) → parties_of before ≡ one materialize → (replies : List LineReply) → length replies ≡ length script → ((k : ℕ) → of_lane k (lanes_of script) replies ≡ replies_at after k) → (start : StoreState) (log : LogState) (low : List Entry) (own : List ℕ) → StartsWith log.history low → AllDid PartDid start log low before after own → RanLanes batch materialize start log low script replies own
+  lanes_ran materialize parties replies each told start log low own starts did =
+      let ran : RanParts batch (length script) start log low before after own = ran_parts batch (length script) start log low starts before after own have did in record {
         mine = ran.mine;
         beside = ran.beside;
         lanes = record {
           each = each;
           lasts = λ k. (ran.lanes k).0;
           lanes = λ k.
-              subst (λ rs. RunsLines batch start course (begun low) (lines_of k script) rs (slice_index_or ran.mine k []) (ran.lanes k).0) (sym (told k))
-              (subst (λ ls. RunsLines batch start course (begun low) ls (replies_at after k) (slice_index_or ran.mine k []) (ran.lanes k).0) (lines k) (ran.lanes k).1);
+              subst (λ rs. RunsLines batch start log (begun low) (lane_lines k script) rs (slice_index_or ran.mine k []) (ran.lanes k).0) (sym (told k))
+              (subst (λ ls. RunsLines batch start log (begun low) ls (replies_at after k) (slice_index_or ran.mine k []) (ran.lanes k).0) (lines k) (ran.lanes k).1);
           parties = ran.parties;
         };
         count = ran.count ∙ parties;
@@ -73,7 +73,7 @@ one_most true = omega arith
 one_most false = omega arith
 
 -- The last round after the lanes.
-pub live_ran : (batch : ℕ) (materialize : Bool) (script : List ScriptLine) (report : LiveReport) (start : Start) (late early : Course) (low : List Entry) (a b : List ℕ) → GoesOn start late early → StartsWith early.history low → RanLanes batch materialize start early low script report.replies.items a → LastRound start late early.history materialize report.last b → RunsLive batch materialize start late low script report (a ++ b)
+pub live_ran : (batch : ℕ) (materialize : Bool) (script : List ScriptLine) (report : LiveReport) (start : StoreState) (late early : LogState) (low : List Entry) (a b : List ℕ) → GoesOn start late early → StartsWith early.history low → RanLanes batch materialize start early low script report.replies.items a → LastRound start late early.history materialize report.last b → RunsLive batch materialize start late low script report (a ++ b)
 live_ran batch materialize script report start late early low a b on starts ran last = record {
   middle = early;
   goes_on = on;
@@ -94,24 +94,24 @@ live_ran batch materialize script report start late early low a b on starts ran 
 -- ---- one history
 
 pub one_history : RunsAreOneHistory
-one_history batch materialize start course script report own runs all = record {
-  begins = starts_trans course.history runs.middle.history start.history runs.goes_on.begins runs.after;
+one_history batch materialize start log script report own runs all = record {
+  begins = starts_trans log.history runs.middle.history start.history runs.goes_on.begins runs.after;
   mine = runs.mine;
   beside = runs.lastly ∷ runs.beside;
   runs = record {
     each = runs.lanes.each;
     lasts = runs.lanes.lasts;
     lanes = λ k.
-        lines_last start course runs.middle runs.goes_on batch (begun start.history) (lines_of k script) (of_lane k (lanes_of script) report.replies.items) (slice_index_or runs.mine k []) (runs.lanes.lasts k) (runs.lanes.lanes k);
-    parties = λ k. elim k as (λ k. IsParty start course start.history (length script + 1) (slice_index_or (runs.lastly ∷ runs.beside) k [])) [
+        lines_last start log runs.middle runs.goes_on batch (begun start.history) (lane_lines k script) (of_lane k (lanes_of script) report.replies.items) (slice_index_or runs.mine k []) (runs.lanes.lasts k) (runs.lanes.lanes k);
+    parties = λ k. elim k as (λ k. IsParty start log start.history (length script + 1) (slice_index_or (runs.lastly ∷ runs.beside) k [])) [
       | zero ↦
-          rounds_most start 1 (length script + 1) course start.history runs.lastly (omega arith)
-          (rounds_lower start 1 course runs.middle.history start.history runs.lastly runs.after
-          (last_makes start course runs.middle.history materialize report.last runs.lastly runs.goes_on.begins runs.last))
+          rounds_most start 1 (length script + 1) log start.history runs.lastly (omega arith)
+          (rounds_lower start 1 log runs.middle.history start.history runs.lastly runs.after
+          (last_makes start log runs.middle.history materialize report.last runs.lastly runs.goes_on.begins runs.last))
       | suc k ↦
           let party : List ℕ = slice_index_or runs.beside k [] in
-          rounds_most start (length script) (length script + 1) course start.history party (omega arith)
-          (rounds_last start (length script) course runs.middle start.history party runs.goes_on (runs.lanes.parties k))
+          rounds_most start (length script) (length script + 1) log start.history party (omega arith)
+          (rounds_last start (length script) log runs.middle start.history party runs.goes_on (runs.lanes.parties k))
     ];
   };
   once = λ n.

@@ -6,7 +6,7 @@ use Rattle.btr_hist.specs.declared.entry.Entry.{Entry}
 use Rattle.btr_text.specs.declared.script.Line.{Line}
 use Rattle.btr_text.specs.declared.reply.LineReply.{LineReply}
 use Rattle.btr_gate.proofs.PrefixLemmas.{starts_refl, starts_trans}
-use Rattle.btr_jobs.specs.Course.{Start, Course, GoesOn}
+use Rattle.btr_jobs.specs.States.{StoreState, LogState, GoesOn}
 use Rattle.btr_live.specs.Feeds.{Waiting, none_waiting, fed}
 use Rattle.btr_live.specs.Replies.{waiting_after, Means}
 use Rattle.btr_live.specs.Lanes.{LaneState, begun, tells_failure, RunsLine, RunsLines}
@@ -21,15 +21,15 @@ either false b P first second is = second is
 
 -- ---- one line more
 
-lines_push : (batch : ℕ) (start : Start) (course : Course) (old : LaneState) (lines : List (Option Line)) (replies : List LineReply) (own : List ℕ) (mid : LaneState) (line : Option Line) (reply : LineReply) (more : List ℕ) (new : LaneState) → RunsLines batch start course old lines replies own mid → RunsLine batch start course mid line reply more new → RunsLines batch start course old (lines ++ line ∷ []) (replies ++ reply ∷ []) (own ++ more) new
-lines_push batch start course old [] [] own mid line reply more new is ran =
-    (more, [], new, ap (λ l. l ++ more) is.0 ∙ sym (append-nil more), subst (λ s. RunsLine batch start course s line reply more new) is.1 ran, (refl, refl))
-lines_push batch start course old [] (r ∷ rs) own mid line reply more new is ran = absurd is
-lines_push batch start course old (l ∷ ls) [] own mid line reply more new is ran = absurd is
-lines_push batch start course old (l ∷ ls) (r ∷ rs) own mid line reply more new is ran =
-    (is.0, is.1 ++ more, is.2, ap (λ k. k ++ more) is.3 ∙ append_assoc is.0 is.1 more, is.4, lines_push batch start course is.2 ls rs is.1 mid line reply more new is.5 ran)
+lines_push : (batch : ℕ) (start : StoreState) (log : LogState) (old : LaneState) (lines : List (Option Line)) (replies : List LineReply) (own : List ℕ) (mid : LaneState) (line : Option Line) (reply : LineReply) (more : List ℕ) (new : LaneState) → RunsLines batch start log old lines replies own mid → RunsLine batch start log mid line reply more new → RunsLines batch start log old (lines ++ line ∷ []) (replies ++ reply ∷ []) (own ++ more) new
+lines_push batch start log old [] [] own mid line reply more new is ran =
+    (more, [], new, ap (λ l. l ++ more) is.0 ∙ sym (append-nil more), subst (λ s. RunsLine batch start log s line reply more new) is.1 ran, (refl, refl))
+lines_push batch start log old [] (r ∷ rs) own mid line reply more new is ran = absurd is
+lines_push batch start log old (l ∷ ls) [] own mid line reply more new is ran = absurd is
+lines_push batch start log old (l ∷ ls) (r ∷ rs) own mid line reply more new is ran =
+    (is.0, is.1 ++ more, is.2, ap (λ k. k ++ more) is.3 ∙ append_assoc is.0 is.1 more, is.4, lines_push batch start log is.2 ls rs is.1 mid line reply more new is.5 ran)
 
-module _ (batch : ℕ) (start : Start) (late early : Course) (low : List Entry) (lines : List (Option Line)) (replies : List LineReply) (line : Option Line) (reply : LineReply) (w after : Waiting) (a b : List ℕ) (saw_failure : Bool) (on : GoesOn start late early) (same : saw_failure ≡ has_failed start early) (first : RunsTo batch start early low lines replies a w) (second : Serves start late saw_failure early.history (LineAsks batch w line reply after) reply b) where
+module _ (batch : ℕ) (start : StoreState) (late early : LogState) (low : List Entry) (lines : List (Option Line)) (replies : List LineReply) (line : Option Line) (reply : LineReply) (w after : Waiting) (a b : List ℕ) (saw_failure : Bool) (on : GoesOn start late early) (same : saw_failure ≡ has_failed start early) (first : RunsTo batch start early low lines replies a w) (second : Serves start late saw_failure early.history (LineAsks batch w line reply after) reply b) where
   -- The lane after one line more.
   abbrev state_after : LaneState
   state_after = record { history = second.replies.next; saw_failure = first.last.saw_failure || tells_failure second.asked reply; waiting = after }
@@ -64,22 +64,22 @@ module _ (batch : ℕ) (start : Start) (late early : Course) (low : List Entry) 
   }
 
 -- There is a reply to each line.
-lines_each : (batch : ℕ) (start : Start) (course : Course) (old : LaneState) (lines : List (Option Line)) (replies : List LineReply) (own : List ℕ) (new : LaneState) → RunsLines batch start course old lines replies own new → length replies ≡ length lines
-lines_each batch start course old [] [] own new is = refl
-lines_each batch start course old [] (r ∷ rs) own new is = absurd is
-lines_each batch start course old (l ∷ ls) [] own new is = absurd is
-lines_each batch start course old (l ∷ ls) (r ∷ rs) own new is = ap suc (lines_each batch start course is.2 ls rs is.1 new is.5)
+lines_each : (batch : ℕ) (start : StoreState) (log : LogState) (old : LaneState) (lines : List (Option Line)) (replies : List LineReply) (own : List ℕ) (new : LaneState) → RunsLines batch start log old lines replies own new → length replies ≡ length lines
+lines_each batch start log old [] [] own new is = refl
+lines_each batch start log old [] (r ∷ rs) own new is = absurd is
+lines_each batch start log old (l ∷ ls) [] own new is = absurd is
+lines_each batch start log old (l ∷ ls) (r ∷ rs) own new is = ap suc (lines_each batch start log is.2 ls rs is.1 new is.5)
 
-pub lane_each : (batch : ℕ) (start : Start) (course : Course) (low : List Entry) (lines : List (Option Line)) (replies : List LineReply) (own : List ℕ) → RunsLane batch start course low lines replies own → length replies ≡ length lines
-lane_each batch start course low lines replies own is = lines_each batch start course (begun low) lines replies own is.0 is.1
+pub lane_each : (batch : ℕ) (start : StoreState) (log : LogState) (low : List Entry) (lines : List (Option Line)) (replies : List LineReply) (own : List ℕ) → RunsLane batch start log low lines replies own → length replies ≡ length lines
+lane_each batch start log low lines replies own is = lines_each batch start log (begun low) lines replies own is.0 is.1
 
 -- No line ran yet.
-pub runs_none : (batch : ℕ) (start : Start) (course : Course) → RunsTo batch start course course.history [] [] [] none_waiting
-runs_none batch start course = record {
-  last = begun course.history;
+pub runs_none : (batch : ℕ) (start : StoreState) (log : LogState) → RunsTo batch start log log.history [] [] [] none_waiting
+runs_none batch start log = record {
+  last = begun log.history;
   runs = (refl, refl);
   waits = refl;
-  ends = starts_refl course.history;
+  ends = starts_refl log.history;
   failed = λ is. absurd (cc);
 }
 

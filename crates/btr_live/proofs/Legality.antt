@@ -27,7 +27,7 @@ use Rattle.btr_live.specs.Feeds.{Waiting, feed_of}
 use Rattle.btr_live.specs.Meaning.{Meaning, Commits, Asks, Holds, Current, Refuses, on_stream, delete, on_second, land, refresh, if_plain}
 use Rattle.btr_live.specs.Meaning.{when_due, unless_fault, feed, flush, meaning}
 use Rattle.btr_live.specs.Replies.{Means}
-use Rattle.btr_live.specs.Script.{Store, State, after, after_commit, IsNotDone, Replies, RunsScript}
+use Rattle.btr_live.specs.Script.{Store, State, after_asked, after_commit, IsNotDone, RepliesTo, RunsScript}
 
 -- ---- what lines commit
 
@@ -139,7 +139,7 @@ legal_after_commit s e None same computed legal = legal-push s.history e legal (
 legal_after_commit s e (Some why) same computed legal = legal
 
 -- What the model does keeps the history legal.
-legal_after : (s : Store) (m : Meaning) → IsComputedIn s.history m → Legal s.history → Legal (after s m).history
+legal_after : (s : Store) (m : Meaning) → IsComputedIn s.history m → Legal s.history → Legal (after_asked s m).history
 legal_after s (Commits e) computed legal = legal_after_commit s e (rejection s.history e) refl computed legal
 legal_after s (Asks query) computed legal = legal
 legal_after s (Holds count) computed legal = legal
@@ -166,7 +166,7 @@ legal_not_done s t (Current version) reply h legal = absurd h
 legal_not_done s t (Refuses reason) reply h legal = absurd h
 
 -- The history stays legal, whatever is replied.
-legal_reply : (s t : Store) (m : Meaning) (reply : LineReply) → IsComputedIn s.history m → Replies s m reply t → Legal s.history → Legal t.history
+legal_reply : (s t : Store) (m : Meaning) (reply : LineReply) → IsComputedIn s.history m → RepliesTo s m reply t → Legal s.history → Legal t.history
 legal_reply s t m reply computed replied legal =
     ⊎_elim
     (λ model. subst (λ (x : Store). Legal x.history) (sym model.store) (legal_after s m computed legal))

@@ -25,7 +25,7 @@ use Rattle.btr_gate.proofs.NumberLemmas.{given_inside, times_append}
 use Rattle.btr_gate.proofs.PrefixLemmas.{starts_refl, starts_trans, starts_length, starts_whole}
 use Rattle.btr_work.specs.declared.report.ReportLine.{ReportLine}
 use Rattle.btr_work.specs.Laws.{AreAllSince}
-use Rattle.btr_jobs.specs.Course.{Start, Course}
+use Rattle.btr_jobs.specs.States.{StoreState, LogState}
 use Rattle.btr_jobs.specs.Turns.{IsIdle, Committed, CommittedAfter}
 use Rattle.btr_plan.specs.Next.{IsNextPlan}
 use Rattle.btr_live.specs.declared.live.LiveReport.{LiveReport}
@@ -33,12 +33,12 @@ use Rattle.btr_live.specs.Feeds.{none_waiting, fed}
 use Rattle.btr_live.specs.Meaning.{Meaning, Commits, Asks, Holds, Current, Refuses}
 use Rattle.btr_live.specs.Replies.{waiting_after, Means}
 use Rattle.btr_live.specs.Lanes.{reply_of_step, Offers, Answers, LaneState, tells_failure, RunsLine, RunsLines}
-use Rattle.btr_live.specs.Lanes.{begun as lane_begun}
+use Rattle.btr_live.specs.Lanes.{begun_state as lane_begun}
 use Rattle.btr_live.specs.LaneLaws.{lines_last}
-use Rattle.btr_live.specs.OneHistory.{of_lane, lanes_of, lines_of}
+use Rattle.btr_live.specs.OneHistory.{of_lane, lanes_of, lane_lines}
 use Rattle.btr_live.specs.Live.{LastRound, RunsLive}
-use Rattle.btr_live.specs.Script.{State, begun, RepliesToLine, RunsScript}
-use Rattle.btr_live.specs.OneLane.{AreInLane, store_at, Fits, OneLaneIsTheModel}
+use Rattle.btr_live.specs.Script.{State, begun_state, RepliesToLine, RunsScript}
+use Rattle.btr_live.specs.OneLane.{AreInLane, store_at, FitsLeft, OneLaneIsTheModel}
 use Rattle.btr_live.proofs.NumberLemmas.{given_rest, in_one}
 use Rattle.btr_live.proofs.TurnEntries.{Adds, adds_none, adds_above, committed_adds, landed_adds, next_current, IsStepOf, as_step}
 use Rattle.btr_live.proofs.StoreSteps.{IsDone, IsLast, all_numbers, room, store_of, Stepped, stepped, at_most}
@@ -65,10 +65,10 @@ no_items lane k (line ∷ script) (item ∷ items) other in_lane =
     ∙ no_items lane k script items other in_lane.1
 
 -- A lane without lines added nothing.
-no_lines : (batch : ℕ) (start : Start) (course : Course) (old : LaneState) (lines : List (Option Line)) (replies : List LineReply) (own : List ℕ) (new : LaneState) → lines ≡ [] → RunsLines batch start course old lines replies own new → own ≡ []
-no_lines batch start course old [] [] own new none is = is.0
-no_lines batch start course old [] (reply ∷ replies) own new none is = absurd is
-no_lines batch start course old (line ∷ lines) replies own new none is = absurd (cc)
+no_lines : (batch : ℕ) (start : StoreState) (log : LogState) (old : LaneState) (lines : List (Option Line)) (replies : List LineReply) (own : List ℕ) (new : LaneState) → lines ≡ [] → RunsLines batch start log old lines replies own new → own ≡ []
+no_lines batch start log old [] [] own new none is = is.0
+no_lines batch start log old [] (reply ∷ replies) own new none is = absurd is
+no_lines batch start log old (line ∷ lines) replies own new none is = absurd (cc)
 
 -- A number that is not at least 1 is 0.
 none_if : (k : ℕ) → (1 ≤ k → ⊥) → k ≡ 0
@@ -85,26 +85,26 @@ not_failed false none = refl
 
 -- ---- what one line did
 
-module _ (start : Start) (course : Course) (all : Follows course.history) where
+module _ (start : StoreState) (log : LogState) (all : Follows log.history) where
   -- A line was answered in a turn, which may have seen more than it was admitted to.
   record InTurn (saw_failure : Bool) (a : List Entry) (m : Meaning) (reply : LineReply) (own : List ℕ) (next : List Entry) : Type 0 where
     pub at : List Entry
     pub after : StartsWith at a
-    pub begins : StartsWith course.history at
+    pub begins : StartsWith log.history at
     pub adds : Adds at reply own next
     pub stops : saw_failure ≡ true → own ≡ []
-    pub done : a ≡ at → IsDone start course saw_failure at m reply own next
+    pub done : a ≡ at → IsDone start log saw_failure at m reply own next
 
   -- An entry was offered, but no distillate.
   abbrev OffersPlain : Bool → List Entry → Entry → LineReply → List ℕ → List Entry → Type 0
   OffersPlain saw_failure a e reply own next =
-      (result : Result Receipt StepFault) × CommittedAfter start course a e result own next × (reply ≡ reply_of_step result)
+      (result : Result Receipt StepFault) × CommittedAfter start log a e result own next × (reply ≡ reply_of_step result)
       × (saw_failure ≡ true → (count : ℕ) × (reply ≡ No (reasons.Stopped count)))
 
   -- The turn of an entry that is no distillate.
   plain_turn : (saw_failure : Bool) (a : List Entry) (e : Entry) (reply : LineReply) (own : List ℕ) (next : List Entry) → OffersPlain saw_failure a e reply own next → InTurn saw_failure a (Commits e) reply own next
   plain_turn saw_failure a e reply own next is =
-      let adds : Adds is.1.0 reply own next = subst (λ r. Adds is.1.0 r own next) (sym is.2) (committed_adds start course is.1.0 e is.0 own next is.1.3) in record {
+      let adds : Adds is.1.0 reply own next = subst (λ r. Adds is.1.0 r own next) (sym is.2) (committed_adds start log is.1.0 e is.0 own next is.1.3) in record {
         at = is.1.0;
         after = is.1.1;
         begins = is.1.2;
@@ -114,10 +114,10 @@ module _ (start : Start) (course : Course) (all : Follows course.history) where
       }
 
   -- The turn of a distillate: its plan is that of the history of the turn.
-  landing_turn : (saw_failure : Bool) (a : List Entry) (stream : ℕ) (cut : List RangeValue) (added : List Point) (reads : Reads) (reply : LineReply) (own : List ℕ) (next : List Entry) → Offers start course saw_failure a (entries.Distillate stream cut added reads) reply own next → InTurn saw_failure a (Commits (entries.Distillate stream cut added reads)) reply own next
+  landing_turn : (saw_failure : Bool) (a : List Entry) (stream : ℕ) (cut : List RangeValue) (added : List Point) (reads : Reads) (reply : LineReply) (own : List ℕ) (next : List Entry) → Offers start log saw_failure a (entries.Distillate stream cut added reads) reply own next → InTurn saw_failure a (Commits (entries.Distillate stream cut added reads)) reply own next
   landing_turn saw_failure a stream cut added reads reply own next is =
       let at : List Entry = is.4.0 in
-      let adds : Adds at reply own next = subst (λ r. Adds at r own next) (sym is.5) (landed_adds start course at is.0 is.3 own next is.4.3) in record {
+      let adds : Adds at reply own next = subst (λ r. Adds at r own next) (sym is.5) (landed_adds start log at is.0 is.3 own next is.4.3) in record {
         at = at;
         after = is.4.1;
         begins = is.4.2;
@@ -125,13 +125,13 @@ module _ (start : Start) (course : Course) (all : Follows course.history) where
         stops = λ heard. let refused = is.6 heard in adds.stops refused.0 refused.1;
         done = λ same.
             let made : IsNextPlan at stream is.0 = subst (λ x. IsNextPlan x stream is.0) same is.1 in
-            let step : IsStepOf start course all at is.4.2 is.0 made.of (next_current at stream is.0 made) is.3 own next =
-            as_step start course all at is.4.2 is.0 made.of (next_current at stream is.0 made) is.3 own next is.4.3 in
-            (step.step, subst (λ e. Committed start course at e step.step own next) is.2 step.committed, is.5 ∙ step.same, is.6);
+            let step : IsStepOf start log all at is.4.2 is.0 made.of (next_current at stream is.0 made) is.3 own next =
+            as_step start log all at is.4.2 is.0 made.of (next_current at stream is.0 made) is.3 own next is.4.3 in
+            (step.step, subst (λ e. Committed start log at e step.step own next) is.2 step.committed, is.5 ∙ step.same, is.6);
       }
 
   -- What is no commit was answered at the history to which the line was admitted.
-  idle_turn : (saw_failure : Bool) (a : List Entry) (m : Meaning) (reply : LineReply) (own : List ℕ) (next : List Entry) → StartsWith course.history a → IsIdle a own next → IsDone start course saw_failure a m reply own next → InTurn saw_failure a m reply own next
+  idle_turn : (saw_failure : Bool) (a : List Entry) (m : Meaning) (reply : LineReply) (own : List ℕ) (next : List Entry) → StartsWith log.history a → IsIdle a own next → IsDone start log saw_failure a m reply own next → InTurn saw_failure a m reply own next
   idle_turn saw_failure a m reply own next begins idle done = record {
     at = a;
     after = starts_refl a;
@@ -142,7 +142,7 @@ module _ (start : Start) (course : Course) (all : Follows course.history) where
   }
 
   -- The turn of a line.
-  in_turn : (saw_failure : Bool) (a : List Entry) (m : Meaning) (reply : LineReply) (own : List ℕ) (next : List Entry) → StartsWith course.history a → Answers start course saw_failure a m reply own next → InTurn saw_failure a m reply own next
+  in_turn : (saw_failure : Bool) (a : List Entry) (m : Meaning) (reply : LineReply) (own : List ℕ) (next : List Entry) → StartsWith log.history a → Answers start log saw_failure a m reply own next → InTurn saw_failure a m reply own next
   in_turn saw_failure a (Commits (entries.Create id)) reply own next begins is = plain_turn saw_failure a (entries.Create id) reply own next is
   in_turn saw_failure a (Commits (entries.Define id spec)) reply own next begins is = plain_turn saw_failure a (entries.Define id spec) reply own next is
   in_turn saw_failure a (Commits (entries.Commit stream cut added)) reply own next begins is = plain_turn saw_failure a (entries.Commit stream cut added) reply own next is
@@ -157,28 +157,28 @@ module _ (start : Start) (course : Course) (all : Follows course.history) where
 
   -- The lane knows all entries so far, and all that follow are its own.
   record Alone (s : LaneState) (stopped : Bool) (own : List ℕ) : Type 0 where
-    pub begins : StartsWith course.history s.history
-    pub known : stopped ≡ true → IsLast course s.history s.saw_failure
-    pub numbers : (n : ℕ) → times n own ≡ given (length s.history + one stopped) (all_numbers course) n
+    pub begins : StartsWith log.history s.history
+    pub known : stopped ≡ true → IsLast log s.history s.saw_failure
+    pub numbers : (n : ℕ) → times n own ≡ given (length s.history + one stopped) (all_numbers log) n
 
   -- A history is no longer than the one that the lane knows, if it has no number more.
-  no_longer : (s : LaneState) (stopped : Bool) (own : List ℕ) (at : List Entry) → Alone s stopped own → StartsWith course.history at → length at ≤ length s.history + one stopped → length at ≤ length s.history
+  no_longer : (s : LaneState) (stopped : Bool) (own : List ℕ) (at : List Entry) → Alone s stopped own → StartsWith log.history at → length at ≤ length s.history + one stopped → length at ≤ length s.history
   no_longer s true own at alone begins high =
       let last = alone.known refl in
-      let same : length course.history ≡ length s.history = ap (λ (x : List Entry). length x) last.last in
-      let inside = starts_length course.history at begins in
+      let same : length log.history ≡ length s.history = ap (λ (x : List Entry). length x) last.last in
+      let inside = starts_length log.history at begins in
       omega (arith, same, inside)
   no_longer s false own at alone begins high = omega (arith, high)
 
   -- The turn of its next line is at the history that it knows, since nobody else has the next number.
-  same_history : (s : LaneState) (stopped : Bool) (own first rest : List ℕ) (at : List Entry) → Alone s stopped own → own ≡ first ++ rest → StartsWith at s.history → StartsWith course.history at → ((n : ℕ) → 1 ≤ times n first → length at < n) → ((n : ℕ) → 1 ≤ times n rest → length at < n) → at ≡ s.history
+  same_history : (s : LaneState) (stopped : Bool) (own first rest : List ℕ) (at : List Entry) → Alone s stopped own → own ≡ first ++ rest → StartsWith at s.history → StartsWith log.history at → ((n : ℕ) → 1 ≤ times n first → length at < n) → ((n : ℕ) → 1 ≤ times n rest → length at < n) → at ≡ s.history
   same_history s stopped own first rest at alone split after begins above later =
       let n : ℕ = length s.history + one stopped + 1 in
       elim (cases_lt (length s.history + one stopped) (length at)) [
         | inr high ↦ starts_whole at s.history after (no_longer s stopped own at alone begins high)
         | inl low ↦
-            let inside = starts_length course.history at begins in
-            let once = given_inside (length s.history + one stopped) (all_numbers course) n (omega arith) (omega (arith, low, inside)) in
+            let inside = starts_length log.history at begins in
+            let once = given_inside (length s.history + one stopped) (all_numbers log) n (omega arith) (omega (arith, low, inside)) in
             let every = alone.numbers n in
             let sum = ap (times n) split in
             let both = times_append n first rest in
@@ -188,11 +188,11 @@ module _ (start : Start) (course : Course) (all : Follows course.history) where
       ]
 
   -- After the last line it knows all entries, and whether the device failed.
-  all_known : (s : LaneState) (stopped : Bool) (own : List ℕ) → Alone s stopped own → own ≡ [] → (s.history ≡ course.history) × (stopped ≡ is_some course.failed)
+  all_known : (s : LaneState) (stopped : Bool) (own : List ℕ) → Alone s stopped own → own ≡ [] → (s.history ≡ log.history) × (stopped ≡ is_some log.failed)
   all_known s true own alone none = let last = alone.known refl in (sym last.last, sym last.failed)
   all_known s false own alone none =
-      let n : ℕ = all_numbers course in
-      let long = starts_length course.history s.history alone.begins in
+      let n : ℕ = all_numbers log in
+      let long = starts_length log.history s.history alone.begins in
       elim (cases_lt (length s.history + one false) n) [
         | inl low ↦
             let once = given_inside (length s.history + one false) n n low (omega arith) in
@@ -200,8 +200,8 @@ module _ (start : Start) (course : Course) (all : Follows course.history) where
             let no = ap (times n) none in
             absurd (omega (arith, once, every, no))
         | inr high ↦ (
-          sym (starts_whole course.history s.history alone.begins (omega (arith, high))),
-          not_failed (is_some course.failed) (omega (arith, high, long)),
+          sym (starts_whole log.history s.history alone.begins (omega (arith, high))),
+          not_failed (is_some log.failed) (omega (arith, high, long)),
         )
       ]
 
@@ -209,16 +209,16 @@ module _ (start : Start) (course : Course) (all : Follows course.history) where
 
   module _ (batch : ℕ) where
     -- The turn of a line that ran.
-    turn_of : (old : LaneState) (line : Option Line) (reply : LineReply) (own : List ℕ) (new : LaneState) → (is : RunsLine batch start course old line reply own new) → InTurn old.saw_failure is.admitted is.asked reply own new.history
+    turn_of : (old : LaneState) (line : Option Line) (reply : LineReply) (own : List ℕ) (new : LaneState) → (is : RunsLine batch start log old line reply own new) → InTurn old.saw_failure is.admitted is.asked reply own new.history
     turn_of old line reply own new is = in_turn old.saw_failure is.admitted is.asked reply own new.history is.begins is.answers
 
     -- Each number of lines is above the history that their lane knew.
-    lines_above : (n : ℕ) (old : LaneState) (lines : List (Option Line)) (replies : List LineReply) (own : List ℕ) (new : LaneState) → RunsLines batch start course old lines replies own new → 1 ≤ times n own → length old.history < n
+    lines_above : (n : ℕ) (old : LaneState) (lines : List (Option Line)) (replies : List LineReply) (own : List ℕ) (new : LaneState) → RunsLines batch start log old lines replies own new → 1 ≤ times n own → length old.history < n
     lines_above n old [] [] own new is some = let none = ap (times n) is.0 in absurd (omega (arith, some, none))
     lines_above n old [] (reply ∷ replies) own new is some = absurd is
     lines_above n old (line ∷ lines) [] own new is some = absurd is
     lines_above n old (line ∷ lines) (reply ∷ replies) own new is some =
-        let ran : RunsLine batch start course old line reply is.0 is.2 = is.4 in
+        let ran : RunsLine batch start log old line reply is.0 is.2 = is.4 in
         let turn : InTurn old.saw_failure ran.admitted ran.asked reply is.0 is.2.history = turn_of old line reply is.0 is.2 ran in
         let low = starts_length turn.at old.history (starts_trans turn.at ran.admitted old.history turn.after ran.after) in
         let high = starts_length is.2.history turn.at turn.adds.later in
@@ -232,12 +232,12 @@ module _ (start : Start) (course : Course) (all : Follows course.history) where
         ]
 
     -- Lines add nothing after a reply said that the device failed.
-    lines_told : (n : ℕ) (old : LaneState) (lines : List (Option Line)) (replies : List LineReply) (own : List ℕ) (new : LaneState) → RunsLines batch start course old lines replies own new → old.saw_failure ≡ true → times n own ≡ 0
+    lines_told : (n : ℕ) (old : LaneState) (lines : List (Option Line)) (replies : List LineReply) (own : List ℕ) (new : LaneState) → RunsLines batch start log old lines replies own new → old.saw_failure ≡ true → times n own ≡ 0
     lines_told n old [] [] own new is heard = ap (times n) is.0
     lines_told n old [] (reply ∷ replies) own new is heard = absurd is
     lines_told n old (line ∷ lines) [] own new is heard = absurd is
     lines_told n old (line ∷ lines) (reply ∷ replies) own new is heard =
-        let ran : RunsLine batch start course old line reply is.0 is.2 = is.4 in
+        let ran : RunsLine batch start log old line reply is.0 is.2 = is.4 in
         let turn : InTurn old.saw_failure ran.admitted ran.asked reply is.0 is.2.history = turn_of old line reply is.0 is.2 ran in
         let none : times n is.0 ≡ 0 = ap (times n) (turn.stops heard) in
         let still : is.2.saw_failure ≡ true = ran.saw_failure ∙ ap (λ t. t || tells_failure ran.asked reply) heard in
@@ -248,24 +248,24 @@ module _ (start : Start) (course : Course) (all : Follows course.history) where
 
     -- ---- all lines of a lane that runs alone
 
-    module _ (fits : Fits start course) (runs : start.stopped ≡ false) where
+    module _ (fits : FitsLeft start log) (runs : start.stopped ≡ false) where
       -- The state of the model of a lane between two lines.
       abbrev state_of : LaneState → Bool → State
       state_of s stopped = record { store = store_of start s.history stopped; waiting = s.waiting }
 
-      -- Lines had the model's replies, and the store is then that of the course.
+      -- Lines had the model's replies, and the store is then that of the log.
       record RanAlone (s : State) (script : List ScriptLine) (replies : List LineReply) : Type 0 where
         pub last : State
         pub replied : RunsScript batch s script replies last
-        pub history : last.store.history ≡ course.history
-        pub stopped : last.store.stopped ≡ is_some course.failed
+        pub history : last.store.history ≡ log.history
+        pub stopped : last.store.stopped ≡ is_some log.failed
 
       -- If the store was not stopped before, nobody had seen the device fail before.
-      not_before : (s : LaneState) (stopped : Bool) (own first rest : List ℕ) → Alone s stopped own → own ≡ first ++ rest → stopped ≡ false → first ≡ [] → ((n : ℕ) → times n rest ≡ 0) → course.history ≡ s.history → is_some course.failed ≡ true → ⊥
+      not_before : (s : LaneState) (stopped : Bool) (own first rest : List ℕ) → Alone s stopped own → own ≡ first ++ rest → stopped ≡ false → first ≡ [] → ((n : ℕ) → times n rest ≡ 0) → log.history ≡ s.history → is_some log.failed ≡ true → ⊥
       not_before s stopped own first rest alone split not none no_rest last failed =
-          let n : ℕ = all_numbers course in
-          let same : length course.history ≡ length s.history = ap (λ (x : List Entry). length x) last in
-          let one_failed : one (is_some course.failed) ≡ 1 = ap one failed in
+          let n : ℕ = all_numbers log in
+          let same : length log.history ≡ length s.history = ap (λ (x : List Entry). length x) last in
+          let one_failed : one (is_some log.failed) ≡ 1 = ap one failed in
           let zero_stopped : one stopped ≡ 0 = ap one not in
           let once = given_inside (length s.history + one stopped) n n (omega (arith, same, one_failed, zero_stopped)) (omega arith) in
           let every = alone.numbers n in
@@ -276,7 +276,7 @@ module _ (start : Start) (course : Course) (all : Follows course.history) where
           omega (arith, once, every, sum, both, no_first, no_more)
 
       -- The lines have the model's replies, one after another.
-      lines_alone : (s : LaneState) (stopped : Bool) (script : List ScriptLine) (replies : List LineReply) (own : List ℕ) (new : LaneState) → Alone s stopped own → RunsLines batch start course s (map (λ (line : ScriptLine). line.line) script) replies own new → RanAlone (state_of s stopped) script replies
+      lines_alone : (s : LaneState) (stopped : Bool) (script : List ScriptLine) (replies : List LineReply) (own : List ℕ) (new : LaneState) → Alone s stopped own → RunsLines batch start log s (map (λ (line : ScriptLine). line.line) script) replies own new → RanAlone (state_of s stopped) script replies
       lines_alone s stopped [] [] own new alone is =
           let ends = all_known s stopped own alone is.0 in
           record { last = state_of s stopped; replied = refl; history = ends.0; stopped = ends.1 }
@@ -284,7 +284,7 @@ module _ (start : Start) (course : Course) (all : Follows course.history) where
       lines_alone s stopped (line ∷ script) [] own new alone is = absurd is
       lines_alone s stopped (line ∷ script) (reply ∷ replies) own new alone is =
           let after : LaneState = is.2 in
-          let ran : RunsLine batch start course s line.line reply is.0 after = is.4 in
+          let ran : RunsLine batch start log s line.line reply is.0 after = is.4 in
           let turn : InTurn s.saw_failure ran.admitted ran.asked reply is.0 after.history = turn_of s line.line reply is.0 after ran in
           let later : (n : ℕ) → 1 ≤ times n is.1 → length turn.at < n = λ n some.
           let above = lines_above n after (map (λ (line : ScriptLine). line.line) script) replies is.1 new is.5 some in
@@ -297,21 +297,21 @@ module _ (start : Start) (course : Course) (all : Follows course.history) where
           (let less = starts_length turn.at ran.admitted turn.after in
           let same : length turn.at ≡ length s.history = ap (λ (x : List Entry). length x) at_is in
           omega (arith, less, same)) in
-          let done : IsDone start course s.saw_failure s.history ran.asked reply is.0 after.history =
-          subst (λ h. IsDone start course s.saw_failure h ran.asked reply is.0 after.history) at_is (turn.done (admitted_is ∙ sym at_is)) in
-          let no_stop : stopped ≡ false → tells_failure ran.asked reply ≡ true → is.0 ≡ [] → course.history ≡ s.history → is_some course.failed ≡ true → ⊥ =
+          let done : IsDone start log s.saw_failure s.history ran.asked reply is.0 after.history =
+          subst (λ h. IsDone start log s.saw_failure h ran.asked reply is.0 after.history) at_is (turn.done (admitted_is ∙ sym at_is)) in
+          let no_stop : stopped ≡ false → tells_failure ran.asked reply ≡ true → is.0 ≡ [] → log.history ≡ s.history → is_some log.failed ≡ true → ⊥ =
           λ not tells none.
           not_before s stopped own is.0 is.1 alone is.3 not none
           (λ n. lines_told n after (map (λ (line : ScriptLine). line.line) script) replies is.1 new is.5 (ran.saw_failure ∙ or_right s.saw_failure (tells_failure ran.asked reply) tells)) in
-          let step : Stepped start course fits runs s.history stopped s.saw_failure ran.asked reply is.0 after.history =
-          stepped start course fits runs s.history stopped s.saw_failure ran.asked reply is.0 after.history alone.begins alone.known no_stop done in
-          let known : step.stops ≡ true → IsLast course after.history after.saw_failure = λ stops.
+          let step : Stepped start log fits runs s.history stopped s.saw_failure ran.asked reply is.0 after.history =
+          stepped start log fits runs s.history stopped s.saw_failure ran.asked reply is.0 after.history alone.begins alone.known no_stop done in
+          let known : step.stops ≡ true → IsLast log after.history after.saw_failure = λ stops.
           let l = step.known stops in record { last = l.last; failed = l.failed; saw_failure = ran.saw_failure ∙ l.saw_failure } in
           let next : Alone after step.stops is.1 = record {
             begins = step.ends;
             known = known;
-            numbers = given_rest (length s.history + one stopped) (length after.history + one step.stops) (all_numbers course) is.0 is.1 own is.3
-                (at_most course after.history step.stops after.saw_failure step.ends known) step.moves alone.numbers;
+            numbers = given_rest (length s.history + one stopped) (length after.history + one step.stops) (all_numbers log) is.0 is.1 own is.3
+                (at_most log after.history step.stops after.saw_failure step.ends known) step.moves alone.numbers;
           } in
           let replied : RepliesToLine batch (state_of s stopped) line.line ran.asked reply (state_of after step.stops) = record {
             means = subst (λ h. Means batch h s.waiting line.line ran.asked) admitted_is ran.means;
@@ -328,60 +328,60 @@ module _ (start : Start) (course : Course) (all : Follows course.history) where
 -- ---- a whole run
 
 -- Without a last round no number is added after the lanes.
-no_last : (start : Start) (course : Course) (low : List Entry) (last : Option (Result (List ReportLine) AllocError)) (own : List ℕ) → LastRound start course low false last own → (n : ℕ) → times n own ≡ 0
-no_last start course low None own is = is
-no_last start course low (Some result) own is = absurd is
+no_last : (start : StoreState) (log : LogState) (low : List Entry) (last : Option (Result (List ReportLine) AllocError)) (own : List ℕ) → LastRound start log low false last own → (n : ℕ) → times n own ≡ 0
+no_last start log low None own is = is
+no_last start log low (Some result) own is = absurd is
 
 -- The state of a store with the history of its beginning.
-abbrev state_with : Start → ℕ → Bool → State
+abbrev state_with : StoreState → ℕ → Bool → State
 state_with start left stopped = record { store = record { history = start.history; left = left; stopped = stopped }; waiting = none_waiting }
 
 -- A lane begins with the store of its run.
-begun_same : (start : Start) → start.stopped ≡ false → state_with start (room start start.history) false ≡ begun (store_at start)
+begun_same : (start : StoreState) → start.stopped ≡ false → state_with start (room start start.history) false ≡ begun_state (store_at start)
 begun_same start runs =
     let same : room start start.history ≡ start.left = omega arith in
     ap₂ (λ left stopped. state_with start left stopped) same (sym runs)
 
-module _ (batch lane : ℕ) (start : Start) (course : Course) (script : List ScriptLine) (report : LiveReport) (own : List ℕ) (runs : RunsLive batch false start course start.history script report own) (all : AreAllSince start.history course own) (in_lane : AreInLane lane script) where
+module _ (batch lane : ℕ) (start : StoreState) (log : LogState) (script : List ScriptLine) (report : LiveReport) (own : List ℕ) (runs : RunsLive batch false start log start.history script report own) (all : AreAllSince start.history log own) (in_lane : AreInLane lane script) where
   -- No other lane has a number.
   other_none : (k : ℕ) → (k ≡ lane → ⊥) → slice_index_or runs.mine k [] ≡ []
   other_none k other =
-      no_lines batch start runs.middle (lane_begun start.history) (lines_of k script) (of_lane k (lanes_of script) report.replies.items) (slice_index_or runs.mine k []) (runs.lanes.lasts k)
+      no_lines batch start runs.middle (lane_begun start.history) (lane_lines k script) (of_lane k (lanes_of script) report.replies.items) (slice_index_or runs.mine k []) (runs.lanes.lasts k)
       (no_items lane k script (map (λ (line : ScriptLine). line.line) script) other in_lane) (runs.lanes.lanes k)
 
   -- All numbers are those of the one lane.
-  mine_all : (n : ℕ) → times n (slice_index_or runs.mine lane []) ≡ given (length start.history + one false) (all_numbers course) n
+  mine_all : (n : ℕ) → times n (slice_index_or runs.mine lane []) ≡ given (length start.history + one false) (all_numbers log) n
   mine_all n =
       let sum = runs.numbers n in
       let only = in_one n lane runs.mine (λ k other. ap (times n) (other_none k other)) in
       let no_party : total (times n) runs.beside ≡ 0 = ap (λ (l : List (List ℕ)). total (times n) l) (runs.no_rounds refl) in
-      let no_more = no_last start course runs.middle.history report.last runs.lastly runs.last n in
+      let no_more = no_last start log runs.middle.history report.last runs.lastly runs.last n in
       let every = all n in
       let low : length start.history + one false ≡ length start.history = omega arith in
-      let same = ap (λ low. given low (all_numbers course) n) low in
+      let same = ap (λ low. given low (all_numbers log) n) low in
       omega (arith, sum, only, no_party, no_more, every, same)
 
-  -- The lane ran on the course, and its lines and replies are all lines and replies.
-  lane_ran : RunsLines batch start course (lane_begun start.history) (map (λ (line : ScriptLine). line.line) script) report.replies.items (slice_index_or runs.mine lane []) (runs.lanes.lasts lane)
+  -- The lane ran on the log, and its lines and replies are all lines and replies.
+  lane_ran : RunsLines batch start log (lane_begun start.history) (map (λ (line : ScriptLine). line.line) script) report.replies.items (slice_index_or runs.mine lane []) (runs.lanes.lasts lane)
   lane_ran =
       let lines : List (Option Line) = map (λ (line : ScriptLine). line.line) script in
-      let all_lines : lines_of lane script ≡ lines = all_items lane script lines in_lane (length-map script (λ (line : ScriptLine). line.line)) in
+      let all_lines : lane_lines lane script ≡ lines = all_items lane script lines in_lane (length-map script (λ (line : ScriptLine). line.line)) in
       let all_replies : of_lane lane (lanes_of script) report.replies.items ≡ report.replies.items = all_items lane script report.replies.items in_lane runs.lanes.each in
-      subst (λ ls. RunsLines batch start course (lane_begun start.history) ls report.replies.items (slice_index_or runs.mine lane []) (runs.lanes.lasts lane)) all_lines
-      (subst (λ rs. RunsLines batch start course (lane_begun start.history) (lines_of lane script) rs (slice_index_or runs.mine lane []) (runs.lanes.lasts lane)) all_replies
-      (lines_last start course runs.middle runs.goes_on batch (lane_begun start.history) (lines_of lane script) (of_lane lane (lanes_of script) report.replies.items) (slice_index_or runs.mine lane []) (runs.lanes.lasts lane) (runs.lanes.lanes lane)))
+      subst (λ ls. RunsLines batch start log (lane_begun start.history) ls report.replies.items (slice_index_or runs.mine lane []) (runs.lanes.lasts lane)) all_lines
+      (subst (λ rs. RunsLines batch start log (lane_begun start.history) (lane_lines lane script) rs (slice_index_or runs.mine lane []) (runs.lanes.lasts lane)) all_replies
+      (lines_last start log runs.middle runs.goes_on batch (lane_begun start.history) (lane_lines lane script) (of_lane lane (lanes_of script) report.replies.items) (slice_index_or runs.mine lane []) (runs.lanes.lasts lane) (runs.lanes.lanes lane)))
 
 -- A script in one lane that ran alone has the model's replies.
 pub one_lane : OneLaneIsTheModel
-one_lane batch lane start course script report own runs all sound follows fits in_lane =
-    let ran = lane_ran batch lane start course script report own runs all in_lane in
-    let alone : Alone start course follows (lane_begun start.history) false (slice_index_or runs.mine lane []) = record {
-      begins = starts_trans course.history runs.middle.history start.history runs.goes_on.begins runs.after;
+one_lane batch lane start log script report own runs all sound follows fits in_lane =
+    let ran = lane_ran batch lane start log script report own runs all in_lane in
+    let alone : Alone start log follows (lane_begun start.history) false (slice_index_or runs.mine lane []) = record {
+      begins = starts_trans log.history runs.middle.history start.history runs.goes_on.begins runs.after;
       known = λ stops. absurd (cc);
-      numbers = mine_all batch lane start course script report own runs all in_lane;
+      numbers = mine_all batch lane start log script report own runs all in_lane;
     } in
-    let by_itself : RanAlone start course follows batch fits sound (state_with start (room start start.history) false) script report.replies.items =
-    lines_alone start course follows batch fits sound (lane_begun start.history) false script report.replies.items (slice_index_or runs.mine lane []) (runs.lanes.lasts lane) alone ran in record {
+    let by_itself : RanAlone start log follows batch fits sound (state_with start (room start start.history) false) script report.replies.items =
+    lines_alone start log follows batch fits sound (lane_begun start.history) false script report.replies.items (slice_index_or runs.mine lane []) (runs.lanes.lasts lane) alone ran in record {
       last = by_itself.last;
       runs = subst (λ s. RunsScript batch s script report.replies.items by_itself.last) (begun_same start sound) by_itself.replied;
       history = by_itself.history;

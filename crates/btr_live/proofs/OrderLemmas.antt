@@ -5,7 +5,7 @@ use Rattle.std.proofs.lemmas.List.{append-nil, append_assoc}
 use Rattle.btr_text.specs.declared.reply.LineReply.{LineReply}
 use Rattle.btr_text.specs.declared.script.ScriptLine.{ScriptLine}
 use Rattle.btr_text.specs.Input.{HaveLanes}
-use Rattle.btr_live.specs.OneHistory.{of_lane, lanes_of, lines_of}
+use Rattle.btr_live.specs.OneHistory.{of_lane, lanes_of, lane_lines}
 
 module _ {A : Type 0} (k : ℕ) where
   -- The items of a lane, with those of more lines.
@@ -96,11 +96,11 @@ pub lanes-push : (script : List ScriptLine) (line : ScriptLine) → lanes_of (sc
 lanes-push [] line = refl
 lanes-push (first ∷ script) line = ap (λ l. first.lane ∷ l) (lanes-push script line)
 
-pub lines-push : (k : ℕ) (script : List ScriptLine) (line : ScriptLine) → lines_of k (script ++ line ∷ []) ≡ lines_of k script ++ of_lane k (line.lane ∷ []) (line.line ∷ [])
+pub lines-push : (k : ℕ) (script : List ScriptLine) (line : ScriptLine) → lane_lines k (script ++ line ∷ []) ≡ lane_lines k script ++ of_lane k (line.lane ∷ []) (line.line ∷ [])
 lines-push k [] line = refl
 lines-push k (first ∷ script) line =
     let rest = lines-push k script line in
-    elim (first.lane == k) as (λ t. cond t (first.line ∷ lines_of k (script ++ line ∷ [])) (lines_of k (script ++ line ∷ [])) ≡ cond t (first.line ∷ lines_of k script) (lines_of k script) ++ of_lane k (line.lane ∷ []) (line.line ∷ [])) [
+    elim (first.lane == k) as (λ t. cond t (first.line ∷ lane_lines k (script ++ line ∷ [])) (lane_lines k (script ++ line ∷ [])) ≡ cond t (first.line ∷ lane_lines k script) (lane_lines k script) ++ of_lane k (line.lane ∷ []) (line.line ∷ [])) [
       | true ↦ ap (λ l. first.line ∷ l) rest
       | false ↦ rest
     ]

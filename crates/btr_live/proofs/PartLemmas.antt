@@ -11,7 +11,7 @@ use Rattle.btr_text.specs.declared.reply.LineReply.{LineReply}
 use Rattle.btr_hist.specs.declared.entry.Entry.{Entry}
 use Rattle.btr_gate.specs.Numbers.{total, times}
 use Rattle.btr_gate.specs.Prefixes.{StartsWith}
-use Rattle.btr_jobs.specs.Course.{Start, Course}
+use Rattle.btr_jobs.specs.States.{StoreState, LogState}
 use Rattle.btr_jobs.specs.Jobs.{AllDid}
 use Rattle.btr_live.specs.Lanes.{begun}
 use Rattle.btr_live.specs.Rounds.{MakesRounds}
@@ -24,32 +24,32 @@ use Rattle.btr_live.proofs.RoundLemmas.{no_rounds}
 use Rattle.btr_live.specs.Parts.{PartDid, HaveLimits, parties_of, lines_at, replies_of, replies_in, replies_at, lane_with, list_in, list_at}
 
 -- All parts together: each lane ran, and the other numbers are those of parties, which made at most so many rounds.
-pub record RanParts (batch rounds : ℕ) (start : Start) (course : Course) (low : List Entry) (before after : List Part) (own : List ℕ) : Type 0 where
+pub record RanParts (batch rounds : ℕ) (start : StoreState) (log : LogState) (low : List Entry) (before after : List Part) (own : List ℕ) : Type 0 where
   pub mine : List (List ℕ)
   pub beside : List (List ℕ)
-  pub lanes : (k : ℕ) → RunsLane batch start course low (lines_at before k) (replies_at after k) (slice_index_or mine k [])
-  pub parties : (k : ℕ) → IsParty start course low rounds (slice_index_or beside k [])
+  pub lanes : (k : ℕ) → RunsLane batch start log low (lines_at before k) (replies_at after k) (slice_index_or mine k [])
+  pub parties : (k : ℕ) → IsParty start log low rounds (slice_index_or beside k [])
   pub count : length beside ≡ parties_of before
   pub numbers : (n : ℕ) → times n own ≡ total (times n) mine + total (times n) beside
 
-module _ (batch rounds : ℕ) (start : Start) (course : Course) (low : List Entry) (starts : StartsWith course.history low) where
-  pub ran_parts : (before after : List Part) (own : List ℕ) → HaveLimits batch rounds before → AllDid PartDid start course low before after own → RanParts batch rounds start course low before after own
+module _ (batch rounds : ℕ) (start : StoreState) (log : LogState) (low : List Entry) (starts : StartsWith log.history low) where
+  pub ran_parts : (before after : List Part) (own : List ℕ) → HaveLimits batch rounds before → AllDid PartDid start log low before after own → RanParts batch rounds start log low before after own
   ran_parts [] [] own have did = record {
     mine = [];
     beside = [];
     lanes = λ k. (begun low, (refl, refl));
-    parties = λ k. no_rounds start rounds course low [] starts (λ n. refl);
+    parties = λ k. no_rounds start rounds log low [] starts (λ n. refl);
     count = refl;
     numbers = λ n. did n;
   }
   ran_parts [] (p ∷ after) own have did = absurd did
   ran_parts (p ∷ before) [] own have did = absurd did
   ran_parts (parts.Lane was ∷ before) (parts.Lane now ∷ after) own have did =
-      let rest : RanParts batch rounds start course low before after did.1 = ran_parts before after did.1 have.1 did.3 in
-      let first : RunsLane batch start course low was.lines now.replies did.0 = subst (λ b. RunsLane b start course low was.lines now.replies did.0) have.0 did.2 in record {
+      let rest : RanParts batch rounds start log low before after did.1 = ran_parts before after did.1 have.1 did.3 in
+      let first : RunsLane batch start log low was.lines now.replies did.0 = subst (λ b. RunsLane b start log low was.lines now.replies did.0) have.0 did.2 in record {
         mine = did.0 ∷ rest.mine;
         beside = rest.beside;
-        lanes = λ k. elim k as (λ k. RunsLane batch start course low (lines_at (parts.Lane was ∷ before) k) (replies_at (parts.Lane now ∷ after) k) (slice_index_or (did.0 ∷ rest.mine) k [])) [
+        lanes = λ k. elim k as (λ k. RunsLane batch start log low (lines_at (parts.Lane was ∷ before) k) (replies_at (parts.Lane now ∷ after) k) (slice_index_or (did.0 ∷ rest.mine) k [])) [
           | zero ↦ first
           | suc k ↦ rest.lanes k
         ];
@@ -63,15 +63,15 @@ module _ (batch rounds : ℕ) (start : Start) (course : Course) (low : List Entr
   ran_parts (parts.Lane was ∷ before) (parts.Rounds now ∷ after) own have did = absurd did.2
   ran_parts (parts.Rounds was ∷ before) (parts.Lane now ∷ after) own have did = absurd did.2
   ran_parts (parts.Rounds was ∷ before) (parts.Rounds now ∷ after) own have did =
-      let rest : RanParts batch rounds start course low before after did.1 = ran_parts before after did.1 have.1 did.3 in
-      let party : IsParty start course low rounds did.0 = subst (λ r. MakesRounds start r low course did.0) have.0 did.2 in record {
+      let rest : RanParts batch rounds start log low before after did.1 = ran_parts before after did.1 have.1 did.3 in
+      let party : IsParty start log low rounds did.0 = subst (λ r. MakesRounds start r low log did.0) have.0 did.2 in record {
         mine = [] ∷ rest.mine;
         beside = did.0 ∷ rest.beside;
-        lanes = λ k. elim k as (λ k. RunsLane batch start course low (lines_at (parts.Rounds was ∷ before) k) (replies_at (parts.Rounds now ∷ after) k) (slice_index_or ([] ∷ rest.mine) k [])) [
+        lanes = λ k. elim k as (λ k. RunsLane batch start log low (lines_at (parts.Rounds was ∷ before) k) (replies_at (parts.Rounds now ∷ after) k) (slice_index_or ([] ∷ rest.mine) k [])) [
           | zero ↦ (begun low, (refl, refl))
           | suc k ↦ rest.lanes k
         ];
-        parties = λ k. elim k as (λ k. IsParty start course low rounds (slice_index_or (did.0 ∷ rest.beside) k [])) [
+        parties = λ k. elim k as (λ k. IsParty start log low rounds (slice_index_or (did.0 ∷ rest.beside) k [])) [
           | zero ↦ party
           | suc k ↦ rest.parties k
         ];

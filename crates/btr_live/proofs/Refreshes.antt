@@ -21,7 +21,7 @@ use Rattle.btr_text.specs.Reasons.{reason_of_rejection}
 use Rattle.btr_engine.specs.Body.{need_of}
 use Rattle.btr_live.specs.Meaning.{Meaning, Commits, Current, Refuses, on_stream, land, refresh, meaning}
 use Rattle.btr_live.specs.Replies.{reply_of_commit}
-use Rattle.btr_live.specs.Script.{Store, after_commit, IsNotDone, Replies}
+use Rattle.btr_live.specs.Script.{Store, after_commit, IsNotDone, RepliesTo}
 use Rattle.btr_live.specs.ScriptLaws.{RefreshesAreCurrent}
 
 -- ---- the same versions
@@ -96,7 +96,7 @@ same_version : (a b : ℕ) → Done a ≡ Done b → a ≡ b
 same_version a b is = cc
 
 -- A line that is refused has no version.
-refused_so : (s t : Store) (r : Reason) (version : ℕ) → Replies s (Refuses r) (Done version) t → ⊥
+refused_so : (s t : Store) (r : Reason) (version : ℕ) → RepliesTo s (Refuses r) (Done version) t → ⊥
 refused_so s t r version replied =
     ⊎_elim
     (λ model. not_refused version r model.replied)
@@ -104,7 +104,7 @@ refused_so s t r version replied =
     replied
 
 -- An output that was up to date stays so.
-current_so : (s t : Store) (stream : ℕ) (spec : Spec) (version : ℕ) → reads s.history stream spec (latest s.history stream) ≡ latest_reads s.history spec → Replies s (Current (latest s.history stream)) (Done version) t → IsRefreshed s t stream spec version
+current_so : (s t : Store) (stream : ℕ) (spec : Spec) (version : ℕ) → reads s.history stream spec (latest s.history stream) ≡ latest_reads s.history spec → RepliesTo s (Current (latest s.history stream)) (Done version) t → IsRefreshed s t stream spec version
 current_so s t stream spec version same replied =
     ⊎_elim
     (λ model.
@@ -134,7 +134,7 @@ not_done s t e version h =
     h
 
 -- The commit of the next version, if it is done.
-committed_so : (s t : Store) (stream : ℕ) (spec : Spec) (version : ℕ) → Replies s (Commits (next_commit s.history stream spec)) (Done version) t → IsRefreshed s t stream spec version
+committed_so : (s t : Store) (stream : ℕ) (spec : Spec) (version : ℕ) → RepliesTo s (Commits (next_commit s.history stream spec)) (Done version) t → IsRefreshed s t stream spec version
 committed_so s t stream spec version replied =
     ⊎_elim
     (λ model. accepted_so s t stream spec version (rejection s.history (next_commit s.history stream spec)) model.replied model.store)
@@ -145,13 +145,13 @@ committed_so s t stream spec version replied =
     replied
 
 -- A refresh of an output, if it is done.
-done_so : (s t : Store) (stream : ℕ) (spec : Spec) (version : ℕ) → Replies s (refresh s.history stream (Some spec)) (Done version) t → IsRefreshed s t stream spec version
+done_so : (s t : Store) (stream : ℕ) (spec : Spec) (version : ℕ) → RepliesTo s (refresh s.history stream (Some spec)) (Done version) t → IsRefreshed s t stream spec version
 done_so s t stream spec version replied =
     let h : List Entry = s.history in
     let old : Reads = has_read h stream spec in
     let new : Reads = is_to_read h stream spec in
-    let along : (m : Meaning) → refresh h stream (Some spec) ≡ m → Replies s m (Done version) t =
-    λ m is. subst (λ (x : Meaning). Replies s x (Done version) t) is replied in
+    let along : (m : Meaning) → refresh h stream (Some spec) ≡ m → RepliesTo s m (Done version) t =
+    λ m is. subst (λ (x : Meaning). RepliesTo s x (Done version) t) is replied in
     ⊎_elim
     (λ same. current_so s t stream spec version (same_reads-true old new same) (along (Current (latest h stream)) (ap (λ b. asked_if h stream spec b) same)))
     (λ differs. committed_so s t stream spec version (along (Commits (next_commit h stream spec)) (ap (λ b. asked_if h stream spec b) differs)))
@@ -164,6 +164,6 @@ refreshes_current batch s t id stream version spec m is found output =
     let asked : meaning batch h s.waiting (Some (lines.Refresh id)) ≡ refresh h stream (Some spec) =
     ap (λ o. on_stream o (λ n. refresh h n (spec_of h n))) found ∙ ap (λ o. refresh h stream o) output in
     ⊎_elim
-    (λ means. done_so s.store t.store stream spec version (subst (λ (x : Meaning). Replies s.store x (Done version) t.store) (means ∙ asked) is.replied))
-    (λ lacks. absurd (refused_so s.store t.store reasons.Memory version (subst (λ (x : Meaning). Replies s.store x (Done version) t.store) lacks.1 is.replied)))
+    (λ means. done_so s.store t.store stream spec version (subst (λ (x : Meaning). RepliesTo s.store x (Done version) t.store) (means ∙ asked) is.replied))
+    (λ lacks. absurd (refused_so s.store t.store reasons.Memory version (subst (λ (x : Meaning). RepliesTo s.store x (Done version) t.store) lacks.1 is.replied)))
     is.means

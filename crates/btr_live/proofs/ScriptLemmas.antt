@@ -13,8 +13,8 @@ use Rattle.btr_text.specs.declared.reply.Reason.TheVariants as reasons
 use Rattle.btr_engine.specs.Body.{need_of}
 use Rattle.btr_live.specs.Feeds.{Waiting, fed}
 use Rattle.btr_live.specs.Meaning.{Meaning, Commits, Asks, Holds, Current, Refuses, meaning}
-use Rattle.btr_live.specs.Replies.{reply_to, waiting_after, Means}
-use Rattle.btr_live.specs.Script.{Store, State, after, after_commit, IsModel, IsNotDone, Replies, RepliesToLine, RunsScript}
+use Rattle.btr_live.specs.Replies.{model_reply, waiting_after, Means}
+use Rattle.btr_live.specs.Script.{Store, State, after_asked, after_commit, IsModel, IsNotDone, RepliesTo, RepliesToLine, RunsScript}
 use Rattle.btr_live.specs.Script.{need_of_meaning, after_model, after_line}
 
 -- ---- stopped stores
@@ -25,7 +25,7 @@ same_after_commit s e None = λ i. s.stopped
 same_after_commit s e (Some why) = λ i. s.stopped
 
 -- Nothing that the model does stops a store.
-same_after : (s : Store) (m : Meaning) → (after s m).stopped ≡ s.stopped
+same_after : (s : Store) (m : Meaning) → (after_asked s m).stopped ≡ s.stopped
 same_after s (Commits e) = same_after_commit s e (rejection s.history e)
 same_after s (Asks query) = λ i. s.stopped
 same_after s (Holds count) = λ i. s.stopped
@@ -46,7 +46,7 @@ not_done_before s t (Current version) reply h runs = absurd h
 not_done_before s t (Refuses reason) reply h runs = absurd h
 
 -- A store that runs after a reply ran before it.
-pub ran_before : (s t : Store) (m : Meaning) (reply : LineReply) → Replies s m reply t → t.stopped ≡ false → s.stopped ≡ false
+pub ran_before : (s t : Store) (m : Meaning) (reply : LineReply) → RepliesTo s m reply t → t.stopped ≡ false → s.stopped ≡ false
 ran_before s t m reply replied runs =
     ⊎_elim
     (λ model. sym (ap (λ (x : Store). x.stopped) model.store ∙ same_after s m) ∙ runs)
@@ -69,7 +69,7 @@ left_after_commit s e None = omega arith
 left_after_commit s e (Some why) = omega arith
 
 -- No more blocks are gone after what is asked for than it needs.
-pub left_after : (s : Store) (m : Meaning) → s.left ≤ (after s m).left + need_of_meaning m
+pub left_after : (s : Store) (m : Meaning) → s.left ≤ (after_asked s m).left + need_of_meaning m
 left_after s (Commits e) = left_after_commit s e (rejection s.history e)
 left_after s (Asks query) = omega arith
 left_after s (Holds count) = omega arith
@@ -118,12 +118,12 @@ same_state a b v w stores waits =
 after_meaning : (batch : ℕ) (s t : State) (line : Option Line) (m : Meaning) (reply : LineReply) → m ≡ meaning batch s.store.history s.waiting line → IsModel s.store m reply t.store → t.waiting ≡ waiting_after s.waiting (fed s.store.history s.waiting line) m reply → t ≡ after_line batch s line
 after_meaning batch s t line m reply means model waiting =
     let f : Option (ℕ × List Point) = fed s.store.history s.waiting line in
-    same_state t.store (after s.store m) t.waiting (waiting_after s.waiting f m (reply_to s.store.history m)) model.store
+    same_state t.store (after_asked s.store m) t.waiting (waiting_after s.waiting f m (model_reply s.store.history m)) model.store
     (waiting ∙ ap (λ r. waiting_after s.waiting f m r) model.replied)
     ∙ ap (λ x. after_model s f x) means
 
 -- The reply to what had no memory to begin says so.
-memory : (s t : Store) (reply : LineReply) → Replies s (Refuses reasons.Memory) reply t → reply ≡ No reasons.Memory
+memory : (s t : Store) (reply : LineReply) → RepliesTo s (Refuses reasons.Memory) reply t → reply ≡ No reasons.Memory
 memory s t reply replied =
     ⊎_elim (λ model. model.replied) (λ h. ⊎_elim (λ not. absurd not) (λ lacks. lacks.replied) h) replied
 
@@ -135,5 +135,5 @@ line_is batch s t line m reply is =
     (λ model. inl (after_meaning batch s t line m reply means model is.waiting))
     (λ h. ⊎_elim (λ not. inr (inr (means, not))) (λ lacks. inr (inl lacks.replied)) h)
     is.replied)
-    (λ lacks. inr (inl (memory s.store t.store reply (subst (λ (x : Meaning). Replies s.store x reply t.store) lacks.1 is.replied))))
+    (λ lacks. inr (inl (memory s.store t.store reply (subst (λ (x : Meaning). RepliesTo s.store x reply t.store) lacks.1 is.replied))))
     is.means

@@ -23,11 +23,11 @@ use Rattle.btr_hall.specs.Trace.{history_of}
 use Rattle.btr_hall.specs.Session.{IsSame, Looks, opening_of, seen_of}
 use Rattle.btr_hall.specs.Commit.{Commits, is_distillate}
 use Rattle.btr_hall.specs.Landing.{Lands}
-use Rattle.btr_jobs.specs.Course.{Start, Course, course_of, start_of}
+use Rattle.btr_jobs.specs.States.{StoreState, LogState, log_of, start_of}
 use Rattle.btr_jobs.specs.Turns.{Committed, CommittedAfter, LandedAfter}
 use Rattle.btr_jobs.specs.Jobs.{IsAt}
 use Rattle.btr_jobs.proofs.DoesLemmas.{goes_none, does_then}
-use Rattle.btr_jobs.proofs.CourseLemmas.{history_goes_on}
+use Rattle.btr_jobs.proofs.StateLemmas.{history_goes_on}
 use Rattle.btr_jobs.proofs.TurnLemmas.{commit_turn, land_turn, look_turn}
 use Rattle.btr_live.specs.Meaning.{Meaning, Commits as CommitsEntry, Holds, Current, Refuses}
 use Rattle.btr_live.specs.Lanes.{reply_of_step, reply_of_landing, Offers, Answers}
@@ -37,24 +37,24 @@ use Rattle.btr_live.proofs.ToldLemmas.{answers_told, stopped_longer}
 -- ---- entries
 
 -- A user's entry is offered in a turn.
-pub offers : (start : Start) (course : Course) (saw_failure : Bool) (a : List Entry) (e : Entry) (result : Result Receipt StepFault) (own : List ℕ) (next : List Entry) → is_distillate e ≡ false → CommittedAfter start course a e result own next → (saw_failure ≡ true → (count : ℕ) × (reply_of_step result ≡ No (reasons.Stopped count))) → Offers start course saw_failure a e (reply_of_step result) own next
-offers start course saw_failure a (entries.Create id) result own next user is again = (result, is, refl, again)
-offers start course saw_failure a (entries.Define id spec) result own next user is again = (result, is, refl, again)
-offers start course saw_failure a (entries.Commit stream cut added) result own next user is again = (result, is, refl, again)
-offers start course saw_failure a (entries.Distillate stream cut added reads) result own next user is again = absurd (cc)
+pub offers : (start : StoreState) (log : LogState) (saw_failure : Bool) (a : List Entry) (e : Entry) (result : Result Receipt StepFault) (own : List ℕ) (next : List Entry) → is_distillate e ≡ false → CommittedAfter start log a e result own next → (saw_failure ≡ true → (count : ℕ) × (reply_of_step result ≡ No (reasons.Stopped count))) → Offers start log saw_failure a e (reply_of_step result) own next
+offers start log saw_failure a (entries.Create id) result own next user is again = (result, is, refl, again)
+offers start log saw_failure a (entries.Define id spec) result own next user is again = (result, is, refl, again)
+offers start log saw_failure a (entries.Commit stream cut added) result own next user is again = (result, is, refl, again)
+offers start log saw_failure a (entries.Distillate stream cut added reads) result own next user is again = absurd (cc)
 
 module _ {D : Type 0} {disk : Ghosts D} (hall : Hall D disk) where
   -- ---- replies
 
   -- A reply that takes no turn.
-  pub here_replies : (s : Session D disk) (m : Meaning) (reply : LineReply) → ((h : List Entry) → IsEngineOf h (opening_of hall) → Answers (start_of h hall) (course_of h s) (was_told hall s) (course_of h s).history m reply [] (course_of h s).history) → RepliesIn hall s s m reply
+  pub here_replies : (s : Session D disk) (m : Meaning) (reply : LineReply) → ((h : List Entry) → IsEngineOf h (opening_of hall) → Answers (start_of h hall) (log_of h s) (was_told hall s) (log_of h s).history m reply [] (log_of h s).history) → RepliesIn hall s s m reply
   here_replies s m reply answers = (
     [],
     goes_none s,
     λ h of. record {
-      next = (course_of h s).history;
+      next = (log_of h s).history;
       answers = answers h of;
-      ends = starts_refl (course_of h s).history;
+      ends = starts_refl (log_of h s).history;
     },
   )
 
@@ -76,21 +76,21 @@ module _ {D : Type 0} {disk : Ghosts D} (hall : Hall D disk) where
         does.1,
         λ h of.
             let said = does.2 h of in
-            record { next = said.0; answers = offers (start_of h hall) (course_of h new) (was_told hall old) (course_of h old).history e result does.0 said.0 user said.1 (λ saw_failure. (length (history_of h commits.before), ap reply_of_step (commits.stopped (stopped_longer (opening_of hall) commits.before (seen_of old) commits.grows saw_failure) h of))); ends = said.2 },
+            record { next = said.0; answers = offers (start_of h hall) (log_of h new) (was_told hall old) (log_of h old).history e result does.0 said.0 user said.1 (λ saw_failure. (length (history_of h commits.before), ap reply_of_step (commits.stopped (stopped_longer (opening_of hall) commits.before (seen_of old) commits.grows saw_failure) h of))); ends = said.2 },
       )
 
   -- An entry of a user was refused after a look.
-  pub look_commits : (old new : Session D disk) (e : Entry) (result : Result Receipt StepFault) → is_distillate e ≡ false → Looks hall old new → ((h : List Entry) → IsEngineOf h (opening_of hall) → Committed (start_of h hall) (course_of h new) (course_of h new).history e result [] (course_of h new).history) → ((h : List Entry) → IsEngineOf h (opening_of hall) → was_told hall new ≡ true → (count : ℕ) × (reply_of_step result ≡ No (reasons.Stopped count))) → RepliesIn hall old new (CommitsEntry e) (reply_of_step result)
+  pub look_commits : (old new : Session D disk) (e : Entry) (result : Result Receipt StepFault) → is_distillate e ≡ false → Looks hall old new → ((h : List Entry) → IsEngineOf h (opening_of hall) → Committed (start_of h hall) (log_of h new) (log_of h new).history e result [] (log_of h new).history) → ((h : List Entry) → IsEngineOf h (opening_of hall) → was_told hall new ≡ true → (count : ℕ) × (reply_of_step result ≡ No (reasons.Stopped count))) → RepliesIn hall old new (CommitsEntry e) (reply_of_step result)
   look_commits old new e result user looks says again =
       let does = look_turn hall old new looks (λ _. Unit {0}) (λ h of. tt) in (
         does.0,
         does.1,
         λ h of.
-            let seen = (course_of h new).history in
+            let seen = (log_of h new).history in
             let none : [] ≡ does.0 = sym (does.2 h of).0 in record {
               next = seen;
-              answers = offers (start_of h hall) (course_of h new) (was_told hall old) (course_of h old).history e result does.0 seen user
-                  (seen, history_goes_on h new old looks.grows, starts_refl seen, subst (λ own. Committed (start_of h hall) (course_of h new) seen e result own seen) none (says h of))
+              answers = offers (start_of h hall) (log_of h new) (was_told hall old) (log_of h old).history e result does.0 seen user
+                  (seen, history_goes_on h new old looks.grows, starts_refl seen, subst (λ own. Committed (start_of h hall) (log_of h new) seen e result own seen) none (says h of))
                   (λ saw_failure. again h of (stopped_longer (opening_of hall) (seen_of new) (seen_of old) looks.grows saw_failure));
               ends = starts_refl seen;
             },
@@ -104,8 +104,8 @@ module _ {D : Type 0} {disk : Ghosts D} (hall : Hall D disk) where
     does.0,
     does.1,
     λ h of. record {
-      admitted = (course_of h old).history;
-      after = starts_refl (course_of h old).history;
+      admitted = (log_of h old).history;
+      after = starts_refl (log_of h old).history;
       begins = history_goes_on h new old does.1.seen;
       asked = m;
       asks = asks h of;
@@ -117,9 +117,9 @@ module _ {D : Type 0} {disk : Ghosts D} (hall : Hall D disk) where
   pub after_look : (old mid new : Session D disk) (asking : Asking) (reply : LineReply) → IsAt hall new → Looks hall old mid → ServesIn hall mid new asking reply → ServesIn hall old new asking reply
   after_look old mid new asking reply at looks serves =
       does_then hall old mid new
-      (λ start course low own. (own ≡ []) × StartsWith course.history low × Unit {0})
-      (λ start course low own. Serves start course (was_told hall mid) low asking reply own)
-      (λ start course low own. Serves start course (was_told hall old) low asking reply own)
+      (λ start log low own. (own ≡ []) × StartsWith log.history low × Unit {0})
+      (λ start log low own. Serves start log (was_told hall mid) low asking reply own)
+      (λ start log low own. Serves start log (was_told hall old) low asking reply own)
       at
       (λ start late early low a b on starts first second. record {
         admitted = second.admitted;

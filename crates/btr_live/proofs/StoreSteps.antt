@@ -19,13 +19,13 @@ use Rattle.btr_gate.specs.Numbers.{one}
 use Rattle.btr_gate.specs.Prefixes.{StartsWith}
 use Rattle.btr_gate.proofs.PrefixLemmas.{starts_length}
 use Rattle.btr_hall.specs.Commit.{needs_of}
-use Rattle.btr_jobs.specs.Course.{Start, Course}
+use Rattle.btr_jobs.specs.States.{StoreState, LogState}
 use Rattle.btr_jobs.specs.Turns.{IsAdded, IsFailed, IsIdle, IsFull, Committed}
 use Rattle.btr_live.specs.Meaning.{Meaning, Commits, Asks, Holds, Current, Refuses}
 use Rattle.btr_live.specs.Replies.{reply_of_answer, reply_of_commit}
 use Rattle.btr_live.specs.Lanes.{reply_of_step, is_failure, tells_failure}
-use Rattle.btr_live.specs.Script.{Store, with_entry, after_commit, IsModel, IsDeviceFault, Replies}
-use Rattle.btr_live.specs.OneLane.{Fits}
+use Rattle.btr_live.specs.Script.{Store, store_with_entry, after_commit, IsModel, IsDeviceFault, RepliesTo}
+use Rattle.btr_live.specs.OneLane.{FitsLeft}
 use Rattle.btr_live.proofs.ToldLemmas.{rejection_tells}
 use Rattle.btr_live.proofs.TurnEntries.{device_apart}
 
@@ -51,32 +51,32 @@ told_still true b is = refl
 told_still false b is = absurd (cc)
 
 -- What was done in a turn at the history to which the line was admitted. Who saw the device fail gets a reply that says so again.
-abbrev pub IsDone : Start → Course → Bool → List Entry → Meaning → LineReply → List ℕ → List Entry → Type 0
-IsDone start course saw_failure h (Commits e) reply own next =
-    (result : Result Receipt StepFault) × Committed start course h e result own next × (reply ≡ reply_of_step result)
+abbrev pub IsDone : StoreState → LogState → Bool → List Entry → Meaning → LineReply → List ℕ → List Entry → Type 0
+IsDone start log saw_failure h (Commits e) reply own next =
+    (result : Result Receipt StepFault) × Committed start log h e result own next × (reply ≡ reply_of_step result)
     × (saw_failure ≡ true → (count : ℕ) × (reply ≡ No (reasons.Stopped count)))
-IsDone start course saw_failure h (Asks query) reply own next =
+IsDone start log saw_failure h (Asks query) reply own next =
     ((reply ≡ reply_of_answer (answer h query)) ⊎ (reply ≡ No reasons.Memory)) × IsIdle h own next
-IsDone start course saw_failure h (Holds count) reply own next = (reply ≡ replies.Held count) × IsIdle h own next
-IsDone start course saw_failure h (Current version) reply own next = (reply ≡ Done version) × IsIdle h own next
-IsDone start course saw_failure h (Refuses reason) reply own next = (reply ≡ No reason) × IsIdle h own next
+IsDone start log saw_failure h (Holds count) reply own next = (reply ≡ replies.Held count) × IsIdle h own next
+IsDone start log saw_failure h (Current version) reply own next = (reply ≡ Done version) × IsIdle h own next
+IsDone start log saw_failure h (Refuses reason) reply own next = (reply ≡ No reason) × IsIdle h own next
 
 -- The device failed in the step of the entry after this history, and a reply said so.
-pub record IsLast (course : Course) (h : List Entry) (heard : Bool) : Type 0 where
-  pub last : course.history ≡ h
-  pub failed : is_some course.failed ≡ true
+pub record IsLast (log : LogState) (h : List Entry) (heard : Bool) : Type 0 where
+  pub last : log.history ≡ h
+  pub failed : is_some log.failed ≡ true
   pub saw_failure : heard ≡ true
 
 -- The number of all entries, with that in whose step the device failed.
-abbrev pub all_numbers : Course → ℕ
-all_numbers course = length course.history + one (is_some course.failed)
+abbrev pub all_numbers : LogState → ℕ
+all_numbers log = length log.history + one (is_some log.failed)
 
 -- Nothing was added, or what has the next number.
 abbrev pub Moves : ℕ → List ℕ → ℕ → Type 0
 Moves low own next = ((own ≡ []) × (next ≡ low)) ⊎ ((own ≡ (low + 1) ∷ []) × (next ≡ low + 1))
 
 -- The blocks that are left after a history.
-abbrev pub room : Start → List Entry → ℕ
+abbrev pub room : StoreState → List Entry → ℕ
 room start h = (start.left + needs_of start.history) - needs_of h
 
 -- A store with these entries.
@@ -84,14 +84,14 @@ abbrev store_with : List Entry → ℕ → Bool → Store
 store_with h left stopped = record { history = h; left = left; stopped = stopped }
 
 -- The store of a history.
-abbrev pub store_of : Start → List Entry → Bool → Store
+abbrev pub store_of : StoreState → List Entry → Bool → Store
 store_of start h stopped = store_with h (room start h) stopped
 
-module _ (start : Start) (course : Course) (fits : Fits start course) (runs : start.stopped ≡ false) where
-  -- A history that begins that of the course fits.
-  begins_fits : (h : List Entry) → StartsWith course.history h → needs_of h ≤ start.left + needs_of start.history
+module _ (start : StoreState) (log : LogState) (fits : FitsLeft start log) (runs : start.stopped ≡ false) where
+  -- A history that begins that of the log fits.
+  begins_fits : (h : List Entry) → StartsWith log.history h → needs_of h ≤ start.left + needs_of start.history
   begins_fits h begins =
-      let all = needs_append course.history (option_to_list course.failed) in
+      let all = needs_append log.history (option_to_list log.failed) in
       let split = ap needs_of begins.1 in
       let both = needs_append h begins.0 in
       omega (arith, fits, all, split, both)
@@ -101,14 +101,14 @@ module _ (start : Start) (course : Course) (fits : Fits start course) (runs : st
   entry_fits h e enough = let sum = needs_append h (e ∷ []) in omega (arith, enough, sum)
 
   -- The entry in whose step the device failed fits.
-  failed_fits : (h : List Entry) (e : Entry) → course.history ≡ h → course.failed ≡ Some e → needs_of (h ++ e ∷ []) ≤ start.left + needs_of start.history
+  failed_fits : (h : List Entry) (e : Entry) → log.history ≡ h → log.failed ≡ Some e → needs_of (h ++ e ∷ []) ≤ start.left + needs_of start.history
   failed_fits h e last failed =
-      let same : needs_of (course.history ++ option_to_list course.failed) ≡ needs_of (h ++ e ∷ []) =
+      let same : needs_of (log.history ++ option_to_list log.failed) ≡ needs_of (h ++ e ∷ []) =
       ap₂ (λ (x : List Entry) (o : Option Entry). needs_of (x ++ option_to_list o)) last failed in
       omega (arith, fits, same)
 
   -- The store of a history with one entry more.
-  next_store : (h : List Entry) (e : Entry) → store_of start (h ++ e ∷ []) false ≡ with_entry (store_of start h false) e
+  next_store : (h : List Entry) (e : Entry) → store_of start (h ++ e ∷ []) false ≡ store_with_entry (store_of start h false) e
   next_store h e =
       let sum = needs_append h (e ∷ []) in
       let same : room start (h ++ e ∷ []) ≡ room start h - need_of e = omega (arith, sum) in
@@ -117,17 +117,17 @@ module _ (start : Start) (course : Course) (fits : Fits start course) (runs : st
   -- What was done is what the model does or its reason, and the store goes on to the next history.
   pub record Stepped (h : List Entry) (stopped saw_failure : Bool) (m : Meaning) (reply : LineReply) (own : List ℕ) (next : List Entry) : Type 0 where
     pub stops : Bool
-    pub replied : Replies (store_of start h stopped) m reply (store_of start next stops)
-    pub ends : StartsWith course.history next
-    pub known : stops ≡ true → IsLast course next (saw_failure || tells_failure m reply)
+    pub replied : RepliesTo (store_of start h stopped) m reply (store_of start next stops)
+    pub ends : StartsWith log.history next
+    pub known : stops ≡ true → IsLast log next (saw_failure || tells_failure m reply)
     pub moves : Moves (length h + one stopped) own (length next + one stops)
 
   -- If nothing was added, the store is the same.
-  still : (h : List Entry) (stopped saw_failure : Bool) (m : Meaning) (reply : LineReply) (own : List ℕ) (next : List Entry) → StartsWith course.history h → (stopped ≡ true → IsLast course h saw_failure) → IsIdle h own next → Replies (store_of start h stopped) m reply (store_of start h stopped) → Stepped h stopped saw_failure m reply own next
+  still : (h : List Entry) (stopped saw_failure : Bool) (m : Meaning) (reply : LineReply) (own : List ℕ) (next : List Entry) → StartsWith log.history h → (stopped ≡ true → IsLast log h saw_failure) → IsIdle h own next → RepliesTo (store_of start h stopped) m reply (store_of start h stopped) → Stepped h stopped saw_failure m reply own next
   still h stopped saw_failure m reply own next begins known idle replied = record {
     stops = stopped;
-    replied = subst (λ x. Replies (store_of start h stopped) m reply (store_of start x stopped)) (sym idle.next) replied;
-    ends = subst (λ x. StartsWith course.history x) (sym idle.next) begins;
+    replied = subst (λ x. RepliesTo (store_of start h stopped) m reply (store_of start x stopped)) (sym idle.next) replied;
+    ends = subst (λ x. StartsWith log.history x) (sym idle.next) begins;
     known = λ is.
         let l = known is in record {
           last = l.last ∙ sym idle.next;
@@ -137,7 +137,7 @@ module _ (start : Start) (course : Course) (fits : Fits start course) (runs : st
     moves = inl (idle.own, ap (λ x. length x + one stopped) idle.next);
   }
 
-  module _ (h : List Entry) (saw_failure : Bool) (e : Entry) (reply : LineReply) (own : List ℕ) (next : List Entry) (begins : StartsWith course.history h) where
+  module _ (h : List Entry) (saw_failure : Bool) (e : Entry) (reply : LineReply) (own : List ℕ) (next : List Entry) (begins : StartsWith log.history h) where
     -- The next number of a store that is not stopped.
     one_more : own ≡ (length h + 1) ∷ [] → own ≡ (length h + one false + 1) ∷ []
     one_more is =
@@ -145,24 +145,24 @@ module _ (start : Start) (course : Course) (fits : Fits start course) (runs : st
         is ∙ ap (λ k. k ∷ []) same
 
     -- If the entry was added, the store has it.
-    added : (version : ℕ) → IsAdded course h e own next → IsModel (store_of start h false) (Commits e) reply (store_of start (h ++ e ∷ []) false) → Stepped h false saw_failure (Commits e) reply own next
+    added : (version : ℕ) → IsAdded log h e own next → IsModel (store_of start h false) (Commits e) reply (store_of start (h ++ e ∷ []) false) → Stepped h false saw_failure (Commits e) reply own next
     added version is model =
         let long = length-append h (e ∷ []) in
         let its : length next ≡ length (h ++ e ∷ []) = ap (λ (x : List Entry). length x) is.next in record {
           stops = false;
-          replied = subst (λ x. Replies (store_of start h false) (Commits e) reply (store_of start x false)) (sym is.next) (inl model);
-          ends = subst (λ x. StartsWith course.history x) (sym is.next) is.follows;
+          replied = subst (λ x. RepliesTo (store_of start h false) (Commits e) reply (store_of start x false)) (sym is.next) (inl model);
+          ends = subst (λ x. StartsWith log.history x) (sym is.next) is.follows;
           known = λ stops. absurd (cc);
           moves = inr (one_more is.own, omega (arith, long, its));
         }
 
     -- If the device failed in the step of the entry, the store is stopped.
-    failed : IsFailed course h e own next → reply ≡ No reasons.Device → IsDeviceFault (store_of start h false) e reply (store_of start h true) → Stepped h false saw_failure (Commits e) reply own next
+    failed : IsFailed log h e own next → reply ≡ No reasons.Device → IsDeviceFault (store_of start h false) e reply (store_of start h true) → Stepped h false saw_failure (Commits e) reply own next
     failed is replied fault =
         let its : length next ≡ length h = ap (λ (x : List Entry). length x) is.next in record {
           stops = true;
-          replied = subst (λ x. Replies (store_of start h false) (Commits e) reply (store_of start x true)) (sym is.next) (inr (inl (inr (inl fault))));
-          ends = subst (λ x. StartsWith course.history x) (sym is.next) begins;
+          replied = subst (λ x. RepliesTo (store_of start h false) (Commits e) reply (store_of start x true)) (sym is.next) (inr (inl (inr (inl fault))));
+          ends = subst (λ x. StartsWith log.history x) (sym is.next) begins;
           known = λ stops. record {
             last = is.last ∙ sym is.next;
             failed = ap is_some is.failed;
@@ -172,7 +172,7 @@ module _ (start : Start) (course : Course) (fits : Fits start course) (runs : st
         }
 
     -- A commit while the store runs.
-    running : (is_failure reply ≡ true → own ≡ [] → course.history ≡ h → is_some course.failed ≡ true → ⊥) → (result : Result Receipt StepFault) → Committed start course h e result own next → reply ≡ reply_of_step result → Stepped h false saw_failure (Commits e) reply own next
+    running : (is_failure reply ≡ true → own ≡ [] → log.history ≡ h → is_some log.failed ≡ true → ⊥) → (result : Result Receipt StepFault) → Committed start log h e result own next → reply ≡ reply_of_step result → Stepped h false saw_failure (Commits e) reply own next
     running no_stop (Ok receipt) is replied =
         added receipt.version is.2 (record {
           allowed = (refl, λ none. entry_fits h e (begins_fits (h ++ e ∷ []) is.2.follows));
@@ -180,7 +180,7 @@ module _ (start : Start) (course : Course) (fits : Fits start course) (runs : st
           store = next_store h e ∙ sym (ap (λ o. after_commit (store_of start h false) e o) is.0);
         })
     running no_stop (Err (steps.Stopped count)) is replied =
-        absurd (no_stop (ap is_failure replied) is.1.own is.0.last (right_if start.stopped (is_some course.failed) runs is.0.stopped))
+        absurd (no_stop (ap is_failure replied) is.1.own is.0.last (right_if start.stopped (is_some log.failed) runs is.0.stopped))
     running no_stop (Err (steps.Rejected why)) is replied =
         let rejected : rejection h e ≡ Some why = is.0 in
         still h false saw_failure (Commits e) reply own next begins (λ stops. absurd (cc)) is.1 (inl (record {
@@ -217,7 +217,7 @@ module _ (start : Start) (course : Course) (fits : Fits start course) (runs : st
         })
 
     -- A commit after the store was stopped.
-    stopped_so : IsLast course h saw_failure → (count : ℕ) → reply ≡ No (reasons.Stopped count) → (result : Result Receipt StepFault) → Committed start course h e result own next → reply ≡ reply_of_step result → Stepped h true saw_failure (Commits e) reply own next
+    stopped_so : IsLast log h saw_failure → (count : ℕ) → reply ≡ No (reasons.Stopped count) → (result : Result Receipt StepFault) → Committed start log h e result own next → reply ≡ reply_of_step result → Stepped h true saw_failure (Commits e) reply own next
     stopped_so last count refused (Ok receipt) is replied =
         not_both (is_failure reply) (ap is_failure replied) (ap is_failure refused)
     stopped_so last count refused (Err (steps.Stopped entries)) is replied =
@@ -235,7 +235,7 @@ module _ (start : Start) (course : Course) (fits : Fits start course) (runs : st
     stopped_so last count refused (Err steps.DeviceFault) is replied = device_apart count (sym replied ∙ refused)
 
     -- A commit, while the store runs or after it was stopped.
-    committed : (stopped : Bool) → (stopped ≡ true → IsLast course h saw_failure) → (stopped ≡ false → is_failure reply ≡ true → own ≡ [] → course.history ≡ h → is_some course.failed ≡ true → ⊥) → IsDone start course saw_failure h (Commits e) reply own next → Stepped h stopped saw_failure (Commits e) reply own next
+    committed : (stopped : Bool) → (stopped ≡ true → IsLast log h saw_failure) → (stopped ≡ false → is_failure reply ≡ true → own ≡ [] → log.history ≡ h → is_some log.failed ≡ true → ⊥) → IsDone start log saw_failure h (Commits e) reply own next → Stepped h stopped saw_failure (Commits e) reply own next
     committed true known no_stop is =
         let last = known refl in
         let refused = is.3 last.saw_failure in
@@ -243,7 +243,7 @@ module _ (start : Start) (course : Course) (fits : Fits start course) (runs : st
     committed false known no_stop is = running (no_stop refl) is.0 is.1 is.2
 
   -- What was done in a turn at the history of the store, if the store was stopped only by a failure of the device in a step of before.
-  pub stepped : (h : List Entry) (stopped saw_failure : Bool) (m : Meaning) (reply : LineReply) (own : List ℕ) (next : List Entry) → StartsWith course.history h → (stopped ≡ true → IsLast course h saw_failure) → (stopped ≡ false → tells_failure m reply ≡ true → own ≡ [] → course.history ≡ h → is_some course.failed ≡ true → ⊥) → IsDone start course saw_failure h m reply own next → Stepped h stopped saw_failure m reply own next
+  pub stepped : (h : List Entry) (stopped saw_failure : Bool) (m : Meaning) (reply : LineReply) (own : List ℕ) (next : List Entry) → StartsWith log.history h → (stopped ≡ true → IsLast log h saw_failure) → (stopped ≡ false → tells_failure m reply ≡ true → own ≡ [] → log.history ≡ h → is_some log.failed ≡ true → ⊥) → IsDone start log saw_failure h m reply own next → Stepped h stopped saw_failure m reply own next
   stepped h stopped saw_failure (Commits e) reply own next begins known no_stop is = committed h saw_failure e reply own next begins stopped known no_stop is
   stepped h stopped saw_failure (Asks query) reply own next begins known no_stop is =
       elim (is.0) [
@@ -258,10 +258,10 @@ module _ (start : Start) (course : Course) (fits : Fits start course) (runs : st
       still h stopped saw_failure (Refuses reason) reply own next begins known is.1 (inl (record { allowed = tt; replied = is.0; store = refl }))
 
 -- No more entries are known than there are.
-pub at_most : (course : Course) (h : List Entry) (stopped saw_failure : Bool) → StartsWith course.history h → (stopped ≡ true → IsLast course h saw_failure) → length h + one stopped ≤ all_numbers course
-at_most course h true saw_failure begins known =
+pub at_most : (log : LogState) (h : List Entry) (stopped saw_failure : Bool) → StartsWith log.history h → (stopped ≡ true → IsLast log h saw_failure) → length h + one stopped ≤ all_numbers log
+at_most log h true saw_failure begins known =
     let last = known refl in
-    let same : length course.history ≡ length h = ap (λ (x : List Entry). length x) last.last in
-    let one_failed : one (is_some course.failed) ≡ 1 = ap one last.failed in
+    let same : length log.history ≡ length h = ap (λ (x : List Entry). length x) last.last in
+    let one_failed : one (is_some log.failed) ≡ 1 = ap one last.failed in
     omega (arith, same, one_failed)
-at_most course h false saw_failure begins known = let long = starts_length course.history h begins in omega (arith, long)
+at_most log h false saw_failure begins known = let long = starts_length log.history h begins in omega (arith, long)

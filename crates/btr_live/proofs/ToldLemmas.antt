@@ -26,16 +26,16 @@ use Rattle.btr_hall.specs.declared.session.Session.{Session}
 use Rattle.btr_hall.specs.Trace.{has_halt, stopped_in}
 use Rattle.btr_hall.specs.Session.{opening_of, seen_of}
 use Rattle.btr_hall.proofs.TraceLemmas.{halt_append}
-use Rattle.btr_jobs.specs.Course.{Start, Course, course_of, start_of}
+use Rattle.btr_jobs.specs.States.{StoreState, LogState, log_of, start_of}
 use Rattle.btr_jobs.specs.Turns.{Committed, CommittedAfter, Landed, LandedAfter}
-use Rattle.btr_jobs.proofs.CourseLemmas.{failed_halt}
+use Rattle.btr_jobs.proofs.StateLemmas.{failed_halt}
 use Rattle.btr_live.specs.Meaning.{Meaning, Commits, Asks, Holds, Current, Refuses}
 use Rattle.btr_live.specs.Lanes.{reply_of_step, reply_of_landing, Offers, Answers, is_failure, tells_failure}
 use Rattle.btr_live.specs.Serving.{was_told}
 
 -- Whether the store was stopped from the beginning, or its device has failed.
-abbrev pub has_failed : Start → Course → Bool
-has_failed start course = start.stopped || is_some course.failed
+abbrev pub has_failed : StoreState → LogState → Bool
+has_failed start log = start.stopped || is_some log.failed
 
 never : (P : Type 0) → false ≡ true → P
 never P is = absurd (cc)
@@ -56,11 +56,11 @@ rejection_tells rejections.BadSpec = refl
 rejection_tells (rejections.Crowded at) = refl
 rejection_tells (rejections.TooManyPoints count) = refl
 
-module _ (start : Start) (course : Course) where
-  stopped_by : (e : Entry) → course.failed ≡ Some e → has_failed start course ≡ true
-  stopped_by e is = or_right start.stopped (is_some course.failed) (ap is_some is)
+module _ (start : StoreState) (log : LogState) where
+  stopped_by : (e : Entry) → log.failed ≡ Some e → has_failed start log ≡ true
+  stopped_by e is = or_right start.stopped (is_some log.failed) (ap is_some is)
 
-  step_tells : (p : List Entry) (e : Entry) (result : Result Receipt StepFault) (own : List ℕ) (next : List Entry) → Committed start course p e result own next → is_failure (reply_of_step result) ≡ true → has_failed start course ≡ true
+  step_tells : (p : List Entry) (e : Entry) (result : Result Receipt StepFault) (own : List ℕ) (next : List Entry) → Committed start log p e result own next → is_failure (reply_of_step result) ≡ true → has_failed start log ≡ true
   step_tells p e (Ok receipt) own next is tells = never _ tells
   step_tells p e (Err (steps.Stopped entries)) own next is tells = is.0.stopped
   step_tells p e (Err (steps.Rejected why)) own next is tells = never _ (sym (rejection_tells why) ∙ tells)
@@ -68,7 +68,7 @@ module _ (start : Start) (course : Course) where
   step_tells p e (Err (steps.DeviceFull need left)) own next is tells = never _ tells
   step_tells p e (Err steps.DeviceFault) own next is tells = stopped_by e is.1.failed
 
-  landing_tells : (p : List Entry) (plan : PlanValue) (result : Result Receipt LandFault) (own : List ℕ) (next : List Entry) → Landed start course p plan result own next → is_failure (reply_of_landing result) ≡ true → has_failed start course ≡ true
+  landing_tells : (p : List Entry) (plan : PlanValue) (result : Result Receipt LandFault) (own : List ℕ) (next : List Entry) → Landed start log p plan result own next → is_failure (reply_of_landing result) ≡ true → has_failed start log ≡ true
   landing_tells p plan (Ok receipt) own next is tells = never _ tells
   landing_tells p plan (Err (faults.Stopped entries)) own next is tells = is.0.stopped
   landing_tells p plan (Err (faults.Superseded version)) own next is tells = never _ tells
@@ -79,13 +79,13 @@ module _ (start : Start) (course : Course) where
   landing_tells p plan (Err (faults.DeviceFull need left)) own next is tells = never _ tells
   landing_tells p plan (Err faults.DeviceFault) own next is tells = stopped_by (entry_of plan) is.2.failed
 
-  step_after : (a : List Entry) (e : Entry) (result : Result Receipt StepFault) (reply : LineReply) (own : List ℕ) (next : List Entry) → CommittedAfter start course a e result own next → reply ≡ reply_of_step result → is_failure reply ≡ true → has_failed start course ≡ true
+  step_after : (a : List Entry) (e : Entry) (result : Result Receipt StepFault) (reply : LineReply) (own : List ℕ) (next : List Entry) → CommittedAfter start log a e result own next → reply ≡ reply_of_step result → is_failure reply ≡ true → has_failed start log ≡ true
   step_after a e result reply own next is same tells = step_tells is.0 e result own next is.3 (ap is_failure (sym same) ∙ tells)
 
-  landing_after : (a : List Entry) (plan : PlanValue) (result : Result Receipt LandFault) (reply : LineReply) (own : List ℕ) (next : List Entry) → LandedAfter start course a plan result own next → reply ≡ reply_of_landing result → is_failure reply ≡ true → has_failed start course ≡ true
+  landing_after : (a : List Entry) (plan : PlanValue) (result : Result Receipt LandFault) (reply : LineReply) (own : List ℕ) (next : List Entry) → LandedAfter start log a plan result own next → reply ≡ reply_of_landing result → is_failure reply ≡ true → has_failed start log ≡ true
   landing_after a plan result reply own next is same tells = landing_tells is.0 plan result own next is.3 (ap is_failure (sym same) ∙ tells)
 
-  offers_tells : (saw_failure : Bool) (a : List Entry) (e : Entry) (reply : LineReply) (own : List ℕ) (next : List Entry) → Offers start course saw_failure a e reply own next → is_failure reply ≡ true → has_failed start course ≡ true
+  offers_tells : (saw_failure : Bool) (a : List Entry) (e : Entry) (reply : LineReply) (own : List ℕ) (next : List Entry) → Offers start log saw_failure a e reply own next → is_failure reply ≡ true → has_failed start log ≡ true
   offers_tells saw_failure a (entries.Create id) reply own next is tells = step_after a (entries.Create id) is.0 reply own next is.1 is.2 tells
   offers_tells saw_failure a (entries.Define id spec) reply own next is tells = step_after a (entries.Define id spec) is.0 reply own next is.1 is.2 tells
   offers_tells saw_failure a (entries.Commit stream cut added) reply own next is tells =
@@ -94,7 +94,7 @@ module _ (start : Start) (course : Course) where
       landing_after a is.0 is.3 reply own next is.4 is.5 tells
 
   -- A reply to what a line asks for tells of a failure only if there was one.
-  pub answers_tell : (saw_failure : Bool) (a : List Entry) (m : Meaning) (reply : LineReply) (own : List ℕ) (next : List Entry) → Answers start course saw_failure a m reply own next → tells_failure m reply ≡ true → has_failed start course ≡ true
+  pub answers_tell : (saw_failure : Bool) (a : List Entry) (m : Meaning) (reply : LineReply) (own : List ℕ) (next : List Entry) → Answers start log saw_failure a m reply own next → tells_failure m reply ≡ true → has_failed start log ≡ true
   answers_tell saw_failure a (Commits e) reply own next is tells = offers_tells saw_failure a e reply own next is tells
   answers_tell saw_failure a (Asks query) reply own next is tells = never _ tells
   answers_tell saw_failure a (Holds count) reply own next is tells = never _ tells
@@ -103,7 +103,7 @@ module _ (start : Start) (course : Course) where
 
   -- ---- who saw the device fail
 
-  offers_told : (more saw_failure : Bool) → (saw_failure ≡ true → more ≡ true) → (a : List Entry) (e : Entry) (reply : LineReply) (own : List ℕ) (next : List Entry) → Offers start course more a e reply own next → Offers start course saw_failure a e reply own next
+  offers_told : (more saw_failure : Bool) → (saw_failure ≡ true → more ≡ true) → (a : List Entry) (e : Entry) (reply : LineReply) (own : List ℕ) (next : List Entry) → Offers start log more a e reply own next → Offers start log saw_failure a e reply own next
   offers_told more saw_failure implies a (entries.Create id) reply own next is = (is.0, is.1, is.2, λ t. is.3 (implies t))
   offers_told more saw_failure implies a (entries.Define id spec) reply own next is = (is.0, is.1, is.2, λ t. is.3 (implies t))
   offers_told more saw_failure implies a (entries.Commit stream cut added) reply own next is = (is.0, is.1, is.2, λ t. is.3 (implies t))
@@ -111,7 +111,7 @@ module _ (start : Start) (course : Course) where
       (is.0, is.1, is.2, is.3, is.4, is.5, λ t. is.6 (implies t))
 
   -- What is replied to who saw it is also replied to who did not.
-  pub answers_told : (more saw_failure : Bool) → (saw_failure ≡ true → more ≡ true) → (a : List Entry) (m : Meaning) (reply : LineReply) (own : List ℕ) (next : List Entry) → Answers start course more a m reply own next → Answers start course saw_failure a m reply own next
+  pub answers_told : (more saw_failure : Bool) → (saw_failure ≡ true → more ≡ true) → (a : List Entry) (m : Meaning) (reply : LineReply) (own : List ℕ) (next : List Entry) → Answers start log more a m reply own next → Answers start log saw_failure a m reply own next
   answers_told more saw_failure implies a (Commits e) reply own next is = offers_told more saw_failure implies a e reply own next is
   answers_told more saw_failure implies a (Asks query) reply own next is = is
   answers_told more saw_failure implies a (Holds count) reply own next is = is
@@ -144,6 +144,6 @@ module _ {D : Type 0} {disk : Ghosts D} where
       ap (λ b. is_stopped x || b) (ap (has_halt {disk = disk}) starts.1 ∙ halt_append k starts.0)
       ∙ or_more (is_stopped x) (has_halt k) (has_halt starts.0) is
 
-  -- A session has seen that the store is stopped exactly if its course says so.
-  pub told_failed : (h : List Entry) (hall : Hall D disk) (s : Session D disk) → was_told hall s ≡ has_failed (start_of h hall) (course_of h s)
+  -- A session has seen that the store is stopped exactly if its log says so.
+  pub told_failed : (h : List Entry) (hall : Hall D disk) (s : Session D disk) → was_told hall s ≡ has_failed (start_of h hall) (log_of h s)
   told_failed h hall s = ap (λ b. is_stopped (opening_of hall) || b) (sym (failed_halt (seen_of s)))

@@ -29,7 +29,7 @@ use Rattle.btr_gate.proofs.NumberLemmas.{one_other}
 use Rattle.btr_gate.proofs.PrefixLemmas.{starts_refl, starts_append}
 use Rattle.btr_hall.specs.declared.land.LandFault.{LandFault}
 use Rattle.btr_hall.specs.declared.land.LandFault.TheVariants as faults
-use Rattle.btr_jobs.specs.Course.{Start, Course}
+use Rattle.btr_jobs.specs.States.{StoreState, LogState}
 use Rattle.btr_jobs.specs.Turns.{IsAdded, IsFailed, IsIdle, Committed, Landed}
 use Rattle.btr_live.specs.Lanes.{reply_of_step, reply_of_landing}
 
@@ -72,9 +72,9 @@ adds_above p reply own next adds n some =
       ]
     ]
 
-module _ (start : Start) (course : Course) (p : List Entry) where
+module _ (start : StoreState) (log : LogState) (p : List Entry) where
   -- A turn of an entry that was added has the next number.
-  adds_one : (e : Entry) (version : ℕ) (own : List ℕ) (next : List Entry) → IsAdded course p e own next → Adds p (Done version) own next
+  adds_one : (e : Entry) (version : ℕ) (own : List ℕ) (next : List Entry) → IsAdded log p e own next → Adds p (Done version) own next
   adds_one e version own next is = record {
     numbers = inr is.own;
     later = subst (λ h. StartsWith h p) (sym is.next) (starts_append p (e ∷ []));
@@ -82,7 +82,7 @@ module _ (start : Start) (course : Course) (p : List Entry) where
   }
 
   -- A turn in which the device failed has the next number.
-  adds_failed : (e : Entry) (own : List ℕ) (next : List Entry) → IsFailed course p e own next → Adds p (No reasons.Device) own next
+  adds_failed : (e : Entry) (own : List ℕ) (next : List Entry) → IsFailed log p e own next → Adds p (No reasons.Device) own next
   adds_failed e own next is = record {
     numbers = inr is.own;
     later = subst (λ h. StartsWith h p) (sym is.next) (starts_refl p);
@@ -90,7 +90,7 @@ module _ (start : Start) (course : Course) (p : List Entry) where
   }
 
   -- What a turn of an entry added.
-  pub committed_adds : (e : Entry) (result : Result Receipt StepFault) (own : List ℕ) (next : List Entry) → Committed start course p e result own next → Adds p (reply_of_step result) own next
+  pub committed_adds : (e : Entry) (result : Result Receipt StepFault) (own : List ℕ) (next : List Entry) → Committed start log p e result own next → Adds p (reply_of_step result) own next
   committed_adds e (Ok receipt) own next is = adds_one e receipt.version own next is.2
   committed_adds e (Err (steps.Stopped entries)) own next is = adds_none p (reply_of_step (Err (steps.Stopped entries))) own next is.1
   committed_adds e (Err (steps.Rejected why)) own next is = adds_none p (reply_of_step (Err (steps.Rejected why))) own next is.1
@@ -99,7 +99,7 @@ module _ (start : Start) (course : Course) (p : List Entry) where
   committed_adds e (Err steps.DeviceFault) own next is = adds_failed e own next is.1
 
   -- What a turn of a plan added.
-  pub landed_adds : (plan : PlanValue) (result : Result Receipt LandFault) (own : List ℕ) (next : List Entry) → Landed start course p plan result own next → Adds p (reply_of_landing result) own next
+  pub landed_adds : (plan : PlanValue) (result : Result Receipt LandFault) (own : List ℕ) (next : List Entry) → Landed start log p plan result own next → Adds p (reply_of_landing result) own next
   landed_adds plan (Ok receipt) own next is = adds_one (entry_of plan) receipt.version own next is.2
   landed_adds plan (Err (faults.Stopped entries)) own next is = adds_none p (reply_of_landing (Err (faults.Stopped entries))) own next is.1
   landed_adds plan (Err (faults.Superseded version)) own next is = adds_none p (reply_of_landing (Err (faults.Superseded version))) own next is.3
@@ -132,16 +132,16 @@ limit_so : (h : List Entry) (e : Entry) (full : Bool) (rest : Option Rejection) 
 limit_so h e true rest is = refl
 limit_so h e false rest is = absurd (cc)
 
-module _ (start : Start) (course : Course) (all : Follows course.history) where
-  -- Each history that begins that of a course follows too.
-  pub follows_at : (h : List Entry) → StartsWith course.history h → Follows h
+module _ (start : StoreState) (log : LogState) (all : Follows log.history) where
+  -- Each history that begins that of a state of the log follows too.
+  pub follows_at : (h : List Entry) → StartsWith log.history h → Follows h
   follows_at h begins = follows-prefix h begins.0 (subst Follows begins.1 all)
 
-  module _ (h : List Entry) (begins : StartsWith course.history h) (plan : PlanValue) (made : IsPlanOf h plan) (current : IsCurrent h plan) where
+  module _ (h : List Entry) (begins : StartsWith log.history h) (plan : PlanValue) (made : IsPlanOf h plan) (current : IsCurrent h plan) where
     -- A turn of a plan is one of its entry, with the same reply.
     pub record IsStepOf (result : Result Receipt LandFault) (own : List ℕ) (next : List Entry) : Type 0 where
       pub step : Result Receipt StepFault
-      pub committed : Committed start course h (entry_of plan) step own next
+      pub committed : Committed start log h (entry_of plan) step own next
       pub same : reply_of_landing result ≡ reply_of_step step
 
     -- The entry of such a landing is rejected for that reason.
@@ -153,7 +153,7 @@ module _ (start : Start) (course : Course) (all : Follows course.history) where
         ∙ limit_so h (entry_of plan) full rest (sym (reply-current h plan made current).0 ∙ is)
 
     -- What a turn of a plan says is said by one of its entry. A plan that is current is not superseded.
-    pub as_step : (result : Result Receipt LandFault) (own : List ℕ) (next : List Entry) → Landed start course h plan result own next → IsStepOf result own next
+    pub as_step : (result : Result Receipt LandFault) (own : List ℕ) (next : List Entry) → Landed start log h plan result own next → IsStepOf result own next
     as_step (Ok receipt) own next is = record {
       step = Ok receipt;
       committed = (follows-last h (entry_of plan) (follows_at (h ++ entry_of plan ∷ []) is.2.follows), is.1, is.2);

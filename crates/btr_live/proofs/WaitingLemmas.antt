@@ -6,7 +6,7 @@ use Rattle.std.proofs.lemmas.Option.{slice_get_past}
 use Rattle.btr_base.specs.declared.point.Point.{Point}
 use Rattle.btr_board.proofs.ListLemmas.{set-same, set-other, push-same, push-other}
 use Rattle.btr_feed.specs.Feed.{FeedValue}
-use Rattle.btr_live.specs.Feeds.{Waiting, with_points, FeedsValue, points_at, waiting_of, HaveThreshold, KeepsFeeds}
+use Rattle.btr_live.specs.Feeds.{Waiting, with_points, FeedsValue, feed_points, waiting_of, HaveThreshold, KeepsFeeds}
 
 -- ---- the points of streams
 
@@ -44,25 +44,25 @@ with_points-own stream w =
 
 pub waiting-set : (batch : ℕ) (feeds : List FeedValue) (stream : ℕ) (feed : FeedValue) → stream < length feeds → waiting_of (record { batch = batch; feeds = set feeds stream feed }) ≡ with_points stream feed.points (waiting_of (record { batch = batch; feeds = feeds }))
 waiting-set batch feeds stream feed low =
-    let old : Waiting = λ other. points_at (slice_get feeds other) in
-    let new : Waiting = λ other. points_at (slice_get (set feeds stream feed) other) in
+    let old : Waiting = λ other. feed_points (slice_get feeds other) in
+    let new : Waiting = λ other. feed_points (slice_get (set feeds stream feed) other) in
     same_waiting new (with_points stream feed.points old) (λ other.
     with_points-is stream feed.points old other (new other)
-    (λ e. ap new e ∙ ap points_at (set-same feeds stream feed low))
-    (λ ne. ap points_at (set-other feeds stream feed other ne)))
+    (λ e. ap new e ∙ ap feed_points (set-same feeds stream feed low))
+    (λ ne. ap feed_points (set-other feeds stream feed other ne)))
 
 pub waiting-push : (batch : ℕ) (feeds : List FeedValue) (stream : ℕ) (feed : FeedValue) → length feeds ≡ stream → waiting_of (record { batch = batch; feeds = feeds ++ feed ∷ [] }) ≡ with_points stream feed.points (waiting_of (record { batch = batch; feeds = feeds }))
 waiting-push batch feeds stream feed is =
-    let old : Waiting = λ other. points_at (slice_get feeds other) in
-    let new : Waiting = λ other. points_at (slice_get (feeds ++ feed ∷ []) other) in
+    let old : Waiting = λ other. feed_points (slice_get feeds other) in
+    let new : Waiting = λ other. feed_points (slice_get (feeds ++ feed ∷ []) other) in
     same_waiting new (with_points stream feed.points old) (λ other.
     with_points-is stream feed.points old other (new other)
-    (λ e. ap new (e ∙ sym is) ∙ ap points_at (push-same feeds feed))
-    (λ ne. ap points_at (push-other feeds feed other (λ e. ne (e ∙ is)))))
+    (λ e. ap new (e ∙ sym is) ∙ ap feed_points (push-same feeds feed))
+    (λ ne. ap feed_points (push-other feeds feed other (λ e. ne (e ∙ is)))))
 
 -- no points wait for a stream after the last feed
-pub waiting-past : (feeds : List FeedValue) (stream : ℕ) → length feeds ≤ stream → points_at (slice_get feeds stream) ≡ []
-waiting-past feeds stream high = ap points_at (slice_get_past feeds stream high)
+pub waiting-past : (feeds : List FeedValue) (stream : ℕ) → length feeds ≤ stream → feed_points (slice_get feeds stream) ≡ []
+waiting-past feeds stream high = ap feed_points (slice_get_past feeds stream high)
 
 -- a feed without points is the same as none
 pub waiting-push_empty : (f : FeedsValue) (feed : FeedValue) → feed.points ≡ [] → waiting_of (record f { feeds = f.feeds ++ feed ∷ [] }) ≡ waiting_of f

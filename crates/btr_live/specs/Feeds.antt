@@ -47,13 +47,13 @@ pub record FeedsValue : Type 0 where
   pub feeds : List FeedValue
 
 -- The points of the feed that was looked up, if there is one.
-abbrev pub points_at : Option FeedValue → List Point
-points_at None = []
-points_at (Some feed) = feed.points
+abbrev pub feed_points : Option FeedValue → List Point
+feed_points None = []
+feed_points (Some feed) = feed.points
 
 -- The points that wait for each stream.
 abbrev pub waiting_of : FeedsValue → Waiting
-waiting_of f = λ stream. points_at (slice_get f.feeds stream)
+waiting_of f = λ stream. feed_points (slice_get f.feeds stream)
 
 -- Each feed has this threshold.
 abbrev pub HaveThreshold : ℕ → List FeedValue → Type 0

@@ -7,13 +7,13 @@ use Rattle.btr_text.specs.declared.script.Line.{Line}
 use Rattle.btr_text.specs.declared.reply.LineReply.{LineReply}
 use Rattle.btr_gate.specs.Prefixes.{StartsWith}
 use Rattle.btr_gate.proofs.PrefixLemmas.{starts_trans}
-use Rattle.btr_jobs.specs.Course.{Start, Course, GoesOn}
+use Rattle.btr_jobs.specs.States.{StoreState, LogState, GoesOn}
 use Rattle.btr_jobs.specs.TurnLaws.{history_later, committed_lasts, landed_lasts}
 use Rattle.btr_live.specs.Meaning.{Meaning, Commits, Asks, Holds, Current, Refuses}
 use Rattle.btr_live.specs.Lanes.{Offers, Answers, LaneState, begun, RunsLine, RunsLines}
 use Rattle.btr_live.specs.Running.{RunsLane}
 
-module _ (start : Start) (late early : Course) (on : GoesOn start late early) where
+module _ (start : StoreState) (late early : LogState) (on : GoesOn start late early) where
   offers_lasts : (saw_failure : Bool) (a : List Entry) (e : Entry) (reply : LineReply) (own : List ℕ) (next : List Entry)
       → Offers start early saw_failure a e reply own next → Offers start late saw_failure a e reply own next
   offers_lasts saw_failure a (entries.Create id) reply own next is =
@@ -65,11 +65,11 @@ module _ (start : Start) (late early : Course) (on : GoesOn start late early) wh
 abbrev knowing : LaneState → List Entry → LaneState
 knowing s h = record { history = h; saw_failure = s.saw_failure; waiting = s.waiting }
 
-module _ (batch : ℕ) (start : Start) (course : Course) where
+module _ (batch : ℕ) (start : StoreState) (log : LogState) where
   -- What a line replied is true of a lane that had seen less.
   pub line_lowers : (old : LaneState) (less : List Entry) (line : Option Line) (reply : LineReply) (own : List ℕ) (new : LaneState)
-      → StartsWith old.history less → RunsLine batch start course old line reply own new
-      → RunsLine batch start course (knowing old less) line reply own new
+      → StartsWith old.history less → RunsLine batch start log old line reply own new
+      → RunsLine batch start log (knowing old less) line reply own new
   line_lowers old less line reply own new starts is = record {
     admitted = is.admitted;
     after = starts_trans is.admitted old.history less is.after starts;
@@ -83,7 +83,7 @@ module _ (batch : ℕ) (start : Start) (course : Course) where
 
   -- So is what a lane did.
   pub lane_lowers : (low less : List Entry) (lines : List (Option Line)) (replies : List LineReply) (own : List ℕ)
-      → StartsWith low less → RunsLane batch start course low lines replies own → RunsLane batch start course less lines replies own
+      → StartsWith low less → RunsLane batch start log low lines replies own → RunsLane batch start log less lines replies own
   lane_lowers low less [] [] own starts is = (begun less, (is.1.0, refl))
   lane_lowers low less [] (reply ∷ replies) own starts is = absurd is.1
   lane_lowers low less (line ∷ lines) [] own starts is = absurd is.1

@@ -14,7 +14,7 @@ use Rattle.btr_engine.specs.declared.board.Receipt.{Receipt}
 use Rattle.btr_engine.specs.declared.step.StepFault.{StepFault}
 use Rattle.btr_gate.specs.Prefixes.{StartsWith}
 use Rattle.btr_hall.specs.declared.land.LandFault.{LandFault}
-use Rattle.btr_jobs.specs.Course.{Start, Course}
+use Rattle.btr_jobs.specs.States.{StoreState, LogState}
 use Rattle.btr_jobs.specs.Turns.{IsIdle, CommittedAfter, LandedAfter}
 use Rattle.btr_live.specs.Feeds.{Waiting, none_waiting, fed}
 use Rattle.btr_live.specs.Meaning.{Meaning, Commits, Asks, Holds, Current, Refuses}
@@ -38,23 +38,23 @@ reply_of_landing (Err fault) = No (reason_of_landing fault)
 -- The entry was offered in a turn after `a`, and this is the reply. `own` are the numbers of what the turn added, and the history that
 -- is known after it begins with `next`. A distillate is that of a plan of `a`: it is refused if its output has another version since.
 -- Who saw the device fail gets a reply that says so again.
-abbrev pub Offers : Start → Course → Bool → List Entry → Entry → LineReply → List ℕ → List Entry → Type 0
-Offers start course saw_failure a (entries.Distillate stream cut added reads) reply own next =
+abbrev pub Offers : StoreState → LogState → Bool → List Entry → Entry → LineReply → List ℕ → List Entry → Type 0
+Offers start log saw_failure a (entries.Distillate stream cut added reads) reply own next =
     (plan : PlanValue) × IsNextPlan a stream plan × (entry_of plan ≡ entries.Distillate stream cut added reads)
-    × (result : Result Receipt LandFault) × LandedAfter start course a plan result own next × (reply ≡ reply_of_landing result)
+    × (result : Result Receipt LandFault) × LandedAfter start log a plan result own next × (reply ≡ reply_of_landing result)
     × (saw_failure ≡ true → (count : ℕ) × (reply ≡ No (reasons.Stopped count)))
-Offers start course saw_failure a e reply own next =
-    (result : Result Receipt StepFault) × CommittedAfter start course a e result own next × (reply ≡ reply_of_step result)
+Offers start log saw_failure a e reply own next =
+    (result : Result Receipt StepFault) × CommittedAfter start log a e result own next × (reply ≡ reply_of_step result)
     × (saw_failure ≡ true → (count : ℕ) × (reply ≡ No (reasons.Stopped count)))
 
 -- What a line asked for that was admitted to `a` had this reply. Memory may run out in an answer.
-abbrev pub Answers : Start → Course → Bool → List Entry → Meaning → LineReply → List ℕ → List Entry → Type 0
-Answers start course saw_failure a (Commits e) reply own next = Offers start course saw_failure a e reply own next
-Answers start course saw_failure a (Asks query) reply own next =
+abbrev pub Answers : StoreState → LogState → Bool → List Entry → Meaning → LineReply → List ℕ → List Entry → Type 0
+Answers start log saw_failure a (Commits e) reply own next = Offers start log saw_failure a e reply own next
+Answers start log saw_failure a (Asks query) reply own next =
     ((reply ≡ reply_of_answer (answer a query)) ⊎ (reply ≡ No reasons.Memory)) × IsIdle a own next
-Answers start course saw_failure a (Holds count) reply own next = (reply ≡ replies.Held count) × IsIdle a own next
-Answers start course saw_failure a (Current version) reply own next = (reply ≡ Done version) × IsIdle a own next
-Answers start course saw_failure a (Refuses reason) reply own next = (reply ≡ No reason) × IsIdle a own next
+Answers start log saw_failure a (Holds count) reply own next = (reply ≡ replies.Held count) × IsIdle a own next
+Answers start log saw_failure a (Current version) reply own next = (reply ≡ Done version) × IsIdle a own next
+Answers start log saw_failure a (Refuses reason) reply own next = (reply ≡ No reason) × IsIdle a own next
 
 -- ---- lines
 
@@ -85,22 +85,22 @@ tells_failure (Refuses reason) reply = false
 
 -- A line was admitted to a history that begins with what its lane knew, and had this reply by what it means there. `own` are the
 -- numbers of the entries that it added.
-pub record RunsLine (batch : ℕ) (start : Start) (course : Course) (old : LaneState) (line : Option Line) (reply : LineReply)
+pub record RunsLine (batch : ℕ) (start : StoreState) (log : LogState) (old : LaneState) (line : Option Line) (reply : LineReply)
     (own : List ℕ) (new : LaneState) : Type 0 where
   pub admitted : List Entry
   pub after : StartsWith admitted old.history
-  pub begins : StartsWith course.history admitted
+  pub begins : StartsWith log.history admitted
   pub asked : Meaning
   pub means : Means batch admitted old.waiting line asked
-  pub answers : Answers start course old.saw_failure admitted asked reply own new.history
+  pub answers : Answers start log old.saw_failure admitted asked reply own new.history
   pub waiting : new.waiting ≡ waiting_after old.waiting (fed admitted old.waiting line) asked reply
   pub saw_failure : new.saw_failure ≡ (old.saw_failure || tells_failure asked reply)
 
 -- The lines of a lane ran in order, each with its reply. `own` are the numbers of the entries that they added, in order.
-abbrev pub RunsLines : ℕ → Start → Course → LaneState → List (Option Line) → List LineReply → List ℕ → LaneState → Type 0
-RunsLines batch start course old [] [] own new = (own ≡ []) × (new ≡ old)
-RunsLines batch start course old [] (reply ∷ replies) own new = ⊥
-RunsLines batch start course old (line ∷ lines) [] own new = ⊥
-RunsLines batch start course old (line ∷ lines) (reply ∷ replies) own new =
+abbrev pub RunsLines : ℕ → StoreState → LogState → LaneState → List (Option Line) → List LineReply → List ℕ → LaneState → Type 0
+RunsLines batch start log old [] [] own new = (own ≡ []) × (new ≡ old)
+RunsLines batch start log old [] (reply ∷ replies) own new = ⊥
+RunsLines batch start log old (line ∷ lines) [] own new = ⊥
+RunsLines batch start log old (line ∷ lines) (reply ∷ replies) own new =
     (first rest : List ℕ) × (next : LaneState) × (own ≡ first ++ rest)
-    × RunsLine batch start course old line reply first next × RunsLines batch start course next lines replies rest new
+    × RunsLine batch start log old line reply first next × RunsLines batch start log next lines replies rest new

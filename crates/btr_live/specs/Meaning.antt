@@ -76,13 +76,13 @@ if_plain output asked = if output then Refuses reasons.Output else asked
 -- ---- feeds
 
 -- To commit the points that wait, as one insert.
-abbrev pub insert : ℕ → List Point → Meaning
-insert stream points = Commits (entries.Commit stream [] (sort points))
+abbrev pub insert_points : ℕ → List Point → Meaning
+insert_points stream points = Commits (entries.Commit stream [] (sort points))
 
 -- To commit the points if they are due.
 abbrev pub when_due : ℕ → List Point → Held → Meaning
 when_due stream points (Buffered count) = Holds count
-when_due stream points (Due count) = insert stream points
+when_due stream points (Due count) = insert_points stream points
 
 -- The reason why a feed does not accept points.
 abbrev pub reason_of_fault : FeedFault → Reason
@@ -103,7 +103,7 @@ feed batch stream points added = unless_fault (insert_fault (feed_of batch strea
 -- To commit the points that wait for a stream.
 abbrev pub flush : ℕ → List Point → Meaning
 flush stream [] = Refuses reasons.Empty
-flush stream (p ∷ ps) = insert stream (p ∷ ps)
+flush stream (p ∷ ps) = insert_points stream (p ∷ ps)
 
 -- ---- lines
 

@@ -7,7 +7,7 @@ use Rattle.btr_text.specs.declared.script.ScriptLine.{ScriptLine}
 use Rattle.btr_text.specs.declared.reply.LineReply.{LineReply}
 use Rattle.btr_gate.specs.Prefixes.{StartsWith}
 use Rattle.btr_gate.specs.Numbers.{one, total, times, given}
-use Rattle.btr_jobs.specs.Course.{Start, Course}
+use Rattle.btr_jobs.specs.States.{StoreState, LogState}
 use Rattle.btr_live.specs.Lanes.{LaneState, begun, RunsLines}
 use Rattle.btr_live.specs.Rounds.{MakesRounds}
 
@@ -24,26 +24,26 @@ abbrev pub lanes_of : List ScriptLine → List ℕ
 lanes_of script = map (λ line. line.lane) script
 
 -- The lines of lane k, in order.
-abbrev pub lines_of : ℕ → List ScriptLine → List (Option Line)
-lines_of k script = of_lane k (lanes_of script) (map (λ line. line.line) script)
+abbrev pub lane_lines : ℕ → List ScriptLine → List (Option Line)
+lane_lines k script = of_lane k (lanes_of script) (map (λ line. line.line) script)
 
 -- ---- all lanes
 
 -- What a party beside the lanes did, after all of `low` had been seen: it made at most so many rounds. `own` are the numbers of what it
 -- added.
-abbrev pub IsParty : Start → Course → List Entry → ℕ → List ℕ → Type 0
-IsParty start course low rounds own = MakesRounds start rounds low course own
+abbrev pub IsParty : StoreState → LogState → List Entry → ℕ → List ℕ → Type 0
+IsParty start log low rounds own = MakesRounds start rounds low log own
 
 -- The lanes of a script ran beside each other, from the history `low`, with these replies in the order of the script. `mine` are the
 -- numbers of the entries of each lane, from lane 0 on, and `lasts` the states of the lanes after their lines. `beside` are the numbers
 -- of the entries of each party beside the lanes, which made at most `rounds` rounds.
-pub record RunsLanes (batch rounds : ℕ) (start : Start) (course : Course) (low : List Entry) (script : List ScriptLine)
+pub record RunsLanes (batch rounds : ℕ) (start : StoreState) (log : LogState) (low : List Entry) (script : List ScriptLine)
     (replies : List LineReply) (mine beside : List (List ℕ)) : Type 0 where
   pub each : length replies ≡ length script
   pub lasts : ℕ → LaneState
-  pub lanes : (k : ℕ) → RunsLines batch start course (begun low) (lines_of k script) (of_lane k (lanes_of script) replies)
+  pub lanes : (k : ℕ) → RunsLines batch start log (begun low) (lane_lines k script) (of_lane k (lanes_of script) replies)
       (slice_index_or mine k []) (lasts k)
-  pub parties : (k : ℕ) → IsParty start course low rounds (slice_index_or beside k [])
+  pub parties : (k : ℕ) → IsParty start log low rounds (slice_index_or beside k [])
 
 -- How often n is a number of an entry of a lane, or of a party beside the lanes.
 abbrev pub times_all : ℕ → List (List ℕ) → List (List ℕ) → ℕ
@@ -52,10 +52,10 @@ times_all n mine beside = total (times n) mine + total (times n) beside
 -- One history. It begins with that of the store when the run began, and all lanes ran on it. Each entry since then, and the one in
 -- whose step the device failed, is that of exactly one line or one landing of one party. The last round is a party of its own. Each party
 -- makes at most as many rounds as the script has lines, and one more.
-pub record OneHistory (batch : ℕ) (start : Start) (course : Course) (script : List ScriptLine) (replies : List LineReply) : Type 0 where
-  pub begins : StartsWith course.history start.history
+pub record OneHistory (batch : ℕ) (start : StoreState) (log : LogState) (script : List ScriptLine) (replies : List LineReply) : Type 0 where
+  pub begins : StartsWith log.history start.history
   pub mine : List (List ℕ)
   pub beside : List (List ℕ)
-  pub runs : RunsLanes batch (length script + 1) start course start.history script replies mine beside
+  pub runs : RunsLanes batch (length script + 1) start log start.history script replies mine beside
   pub once : (n : ℕ)
-      → times_all n mine beside ≡ given (length start.history) (length course.history + one (is_some course.failed)) n
+      → times_all n mine beside ≡ given (length start.history) (length log.history + one (is_some log.failed)) n

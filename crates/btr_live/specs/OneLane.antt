@@ -6,10 +6,10 @@ use Rattle.btr_hist.specs.Legal.{Follows}
 use Rattle.btr_text.specs.declared.script.ScriptLine.{ScriptLine}
 use Rattle.btr_text.specs.declared.reply.LineReply.{LineReply}
 use Rattle.btr_hall.specs.Commit.{needs_of}
-use Rattle.btr_jobs.specs.Course.{Start, Course}
+use Rattle.btr_jobs.specs.States.{StoreState, LogState}
 use Rattle.btr_work.specs.Laws.{AreAllSince}
 use Rattle.btr_live.specs.declared.live.LiveReport.{LiveReport}
-use Rattle.btr_live.specs.Script.{Store, State, begun, RunsScript}
+use Rattle.btr_live.specs.Script.{Store, State, begun_state, RunsScript}
 use Rattle.btr_live.specs.Live.{RunsLive}
 
 -- All lines of a script are in this lane.
@@ -17,24 +17,24 @@ abbrev pub AreInLane : ℕ → List ScriptLine → Type 0
 AreInLane lane script = AllByRecursion (λ line. line.lane ≡ lane) script
 
 -- The store with which a run began.
-abbrev pub store_at : Start → Store
+abbrev pub store_at : StoreState → Store
 store_at start = record { history = start.history; left = start.left; stopped = start.stopped }
 
--- The replies are those of the model, one line after another. The store is then that of the course: it is stopped if the device failed.
-pub record RunsAlone (batch : ℕ) (start : Start) (course : Course) (script : List ScriptLine) (replies : List LineReply) : Type 0 where
+-- The replies are those of the model, one line after another. The store is then that of the log: it is stopped if the device failed.
+pub record RunsAlone (batch : ℕ) (start : StoreState) (log : LogState) (script : List ScriptLine) (replies : List LineReply) : Type 0 where
   pub last : State
-  pub runs : RunsScript batch (begun (store_at start)) script replies last
-  pub history : last.store.history ≡ course.history
-  pub stopped : last.store.stopped ≡ is_some course.failed
+  pub runs : RunsScript batch (begun_state (store_at start)) script replies last
+  pub history : last.store.history ≡ log.history
+  pub stopped : last.store.stopped ≡ is_some log.failed
 
--- The blocks that the entries of a course need, with that in whose step the device failed, are no more than there were.
-abbrev pub Fits : Start → Course → Type 0
-Fits start course = needs_of (course.history ++ option_to_list course.failed) ≤ start.left + needs_of start.history
+-- The blocks that the entries of a state of the log need, with that in whose step the device failed, are no more than there were.
+abbrev pub FitsLeft : StoreState → LogState → Type 0
+FitsLeft start log = needs_of (log.history ++ option_to_list log.failed) ≤ start.left + needs_of start.history
 
 -- A script in one lane that ran alone, without rounds beside it, has the model's replies. Each entry has to follow those before it.
 abbrev pub OneLaneIsTheModel : Type 0
 OneLaneIsTheModel =
-    (batch lane : ℕ) (start : Start) (course : Course) (script : List ScriptLine) (report : LiveReport) (own : List ℕ)
-    → RunsLive batch false start course start.history script report own → AreAllSince start.history course own
-    → start.stopped ≡ false → Follows course.history → Fits start course → AreInLane lane script
-    → RunsAlone batch start course script report.replies.items
+    (batch lane : ℕ) (start : StoreState) (log : LogState) (script : List ScriptLine) (report : LiveReport) (own : List ℕ)
+    → RunsLive batch false start log start.history script report own → AreAllSince start.history log own
+    → start.stopped ≡ false → Follows log.history → FitsLeft start log → AreInLane lane script
+    → RunsAlone batch start log script report.replies.items

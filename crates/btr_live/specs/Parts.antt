@@ -6,22 +6,22 @@ use Rattle.std.specs.Vec.{vec_capacity}
 use Rattle.std.specs.declared.alloc.Global.{Global}
 use Rattle.btr_text.specs.declared.script.ScriptLine.{ScriptLine}
 use Rattle.btr_live.specs.declared.prepare.Prepared.{Prepared}
-use Rattle.btr_live.specs.OneHistory.{lanes_of, lines_of}
+use Rattle.btr_live.specs.OneHistory.{lanes_of, lane_lines}
 use Rattle.btr_hist.specs.declared.entry.Entry.{Entry}
 use Rattle.btr_text.specs.declared.script.Line.{Line}
 use Rattle.btr_text.specs.declared.reply.LineReply.{LineReply}
-use Rattle.btr_jobs.specs.Course.{Start, Course}
+use Rattle.btr_jobs.specs.States.{StoreState, LogState}
 use Rattle.btr_live.specs.declared.part.Part.{Part}
 use Rattle.btr_live.specs.declared.part.Part.TheVariants as parts
 use Rattle.btr_gate.specs.Numbers.{one, total}
 use Rattle.btr_live.specs.Running.{LaneDid, RoundsDid}
 
 -- What a part did: a lane ran, or rounds were made.
-abbrev pub PartDid : Start → Course → List Entry → Part → Part → List ℕ → Type 0
-PartDid start course low (parts.Lane was) (parts.Lane now) own = LaneDid start course low was now own
-PartDid start course low (parts.Lane was) (parts.Rounds now) own = ⊥
-PartDid start course low (parts.Rounds was) (parts.Lane now) own = ⊥
-PartDid start course low (parts.Rounds was) (parts.Rounds now) own = RoundsDid start course low was now own
+abbrev pub PartDid : StoreState → LogState → List Entry → Part → Part → List ℕ → Type 0
+PartDid start log low (parts.Lane was) (parts.Lane now) own = LaneDid start log low was now own
+PartDid start log low (parts.Lane was) (parts.Rounds now) own = ⊥
+PartDid start log low (parts.Rounds was) (parts.Lane now) own = ⊥
+PartDid start log low (parts.Rounds was) (parts.Rounds now) own = RoundsDid start log low was now own
 
 -- The lines of a part that was looked up, if it is a lane.
 abbrev pub lines_in : Option Part → List (Option Line)
@@ -80,7 +80,7 @@ list_at lists k = list_in (slice_get lists k)
 pub record HasLists (script : List ScriptLine) (lanes : List ℕ) (lists : List (Vec (Option Line) Global)) : Type 0 where
   pub lanes_are : lanes ≡ lanes_of script
   pub count : length lists ≡ 8
-  pub lines : (k : ℕ) → list_at lists k ≡ lines_of k script
+  pub lines : (k : ℕ) → list_at lists k ≡ lane_lines k script
 
 -- A lane of a list of lines, before it runs.
 abbrev pub lane_with : ℕ → Vec (Option Line) Global → Part
@@ -88,9 +88,9 @@ lane_with batch list = parts.Lane (record { batch = batch; lines = list.items; r
 
 -- The run is prepared for this script: each lane has its lines, and there is room for the replies. There are rounds only if they are
 -- wanted, at most as many as lines.
-pub record IsPrepared (batch : ℕ) (materialize : Bool) (script : List ScriptLine) (p : Prepared) : Type 0 where
+pub record IsRunPrepared (batch : ℕ) (materialize : Bool) (script : List ScriptLine) (p : Prepared) : Type 0 where
   pub lanes : p.lanes.items ≡ lanes_of script
-  pub lines : (k : ℕ) → lines_at p.parts.items k ≡ lines_of k script
+  pub lines : (k : ℕ) → lines_at p.parts.items k ≡ lane_lines k script
   pub limits : HaveLimits batch (length script) p.parts.items
   pub parties : parties_of p.parts.items ≡ one materialize
   pub empty : p.replies.items ≡ []

@@ -32,12 +32,12 @@ reply_of_commit h e None = Done (receipt h e).version
 reply_of_commit h e (Some why) = No (reason_of_rejection why)
 
 -- The model's reply to what is asked for.
-abbrev pub reply_to : List Entry → Meaning → LineReply
-reply_to h (Commits e) = reply_of_commit h e (rejection h e)
-reply_to h (Asks query) = reply_of_answer (answer h query)
-reply_to h (Holds count) = replies.Held count
-reply_to h (Current version) = Done version
-reply_to h (Refuses reason) = No reason
+abbrev pub model_reply : List Entry → Meaning → LineReply
+model_reply h (Commits e) = reply_of_commit h e (rejection h e)
+model_reply h (Asks query) = reply_of_answer (answer h query)
+model_reply h (Holds count) = replies.Held count
+model_reply h (Current version) = Done version
+model_reply h (Refuses reason) = No reason
 
 -- ---- the points that wait
 

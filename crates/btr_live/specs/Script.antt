@@ -15,7 +15,7 @@ use Rattle.btr_engine.specs.Stage.{MayLackMemory}
 use Rattle.btr_base.specs.declared.point.Point.{Point}
 use Rattle.btr_live.specs.Feeds.{Waiting, none_waiting, fed}
 use Rattle.btr_live.specs.Meaning.{Meaning, Commits, Asks, Holds, Current, Refuses, meaning}
-use Rattle.btr_live.specs.Replies.{reply_to, waiting_after, Means}
+use Rattle.btr_live.specs.Replies.{model_reply, waiting_after, Means}
 
 -- ---- a store
 
@@ -26,24 +26,24 @@ pub record Store : Type 0 where
   pub stopped : Bool
 
 -- The store with one entry more.
-abbrev pub with_entry : Store → Entry → Store
-with_entry s e = record { history = s.history ++ e ∷ []; left = s.left - need_of e; stopped = s.stopped }
+abbrev pub store_with_entry : Store → Entry → Store
+store_with_entry s e = record { history = s.history ++ e ∷ []; left = s.left - need_of e; stopped = s.stopped }
 
 -- The store that takes no more entries.
-abbrev pub stopped_at : Store → Store
-stopped_at s = record { history = s.history; left = s.left; stopped = true }
+abbrev pub stopped_store : Store → Store
+stopped_store s = record { history = s.history; left = s.left; stopped = true }
 
 abbrev pub after_commit : Store → Entry → Option Rejection → Store
-after_commit s e None = with_entry s e
+after_commit s e None = store_with_entry s e
 after_commit s e (Some why) = s
 
 -- The store after what was asked for, by the model.
-abbrev pub after : Store → Meaning → Store
-after s (Commits e) = after_commit s e (rejection s.history e)
-after s (Asks query) = s
-after s (Holds count) = s
-after s (Current version) = s
-after s (Refuses reason) = s
+abbrev pub after_asked : Store → Meaning → Store
+after_asked s (Commits e) = after_commit s e (rejection s.history e)
+after_asked s (Asks query) = s
+after_asked s (Holds count) = s
+after_asked s (Current version) = s
+after_asked s (Refuses reason) = s
 
 -- ---- the reply to what is asked for
 
@@ -58,11 +58,11 @@ Allows s (Refuses reason) = Unit {0}
 -- The reply is the model's, and so is the store after it.
 pub record IsModel (s : Store) (m : Meaning) (reply : LineReply) (t : Store) : Type 0 where
   pub allowed : Allows s m
-  pub replied : reply ≡ reply_to s.history m
-  pub store : t ≡ after s m
+  pub replied : reply ≡ model_reply s.history m
+  pub store : t ≡ after_asked s m
 
 -- The model accepts the entry, but there are too few blocks for it.
-pub record IsFull (s : Store) (e : Entry) (reply : LineReply) (t : Store) : Type 0 where
+pub record LacksRoom (s : Store) (e : Entry) (reply : LineReply) (t : Store) : Type 0 where
   pub not_stopped : s.stopped ≡ false
   pub allowed : rejection s.history e ≡ None
   pub short : s.left < need_of e
@@ -75,10 +75,10 @@ pub record IsDeviceFault (s : Store) (e : Entry) (reply : LineReply) (t : Store)
   pub allowed : rejection s.history e ≡ None
   pub fits : need_of e ≤ s.left
   pub replied : reply ≡ No reasons.Device
-  pub store : t ≡ stopped_at s
+  pub store : t ≡ stopped_store s
 
 -- The store was stopped before.
-pub record IsStopped (s : Store) (reply : LineReply) (t : Store) : Type 0 where
+pub record WasStopped (s : Store) (reply : LineReply) (t : Store) : Type 0 where
   pub stopped : s.stopped ≡ true
   pub replied : reply ≡ No (reasons.Stopped (length s.history))
   pub store : t ≡ s
@@ -99,15 +99,15 @@ pub record IsOutOfMemory (s : Store) (m : Meaning) (reply : LineReply) (t : Stor
 
 -- The entry was not committed, for a reason that the model does not have.
 abbrev pub IsNotDone : Store → Meaning → LineReply → Store → Type 0
-IsNotDone s (Commits e) reply t = IsFull s e reply t ⊎ IsDeviceFault s e reply t ⊎ IsStopped s reply t
+IsNotDone s (Commits e) reply t = LacksRoom s e reply t ⊎ IsDeviceFault s e reply t ⊎ WasStopped s reply t
 IsNotDone s (Asks query) reply t = ⊥
 IsNotDone s (Holds count) reply t = ⊥
 IsNotDone s (Current version) reply t = ⊥
 IsNotDone s (Refuses reason) reply t = ⊥
 
 -- The reply to what is asked for, and the store after it: by the model, or with the reason why it was not done.
-abbrev pub Replies : Store → Meaning → LineReply → Store → Type 0
-Replies s m reply t = IsModel s m reply t ⊎ IsNotDone s m reply t ⊎ IsOutOfMemory s m reply t
+abbrev pub RepliesTo : Store → Meaning → LineReply → Store → Type 0
+RepliesTo s m reply t = IsModel s m reply t ⊎ IsNotDone s m reply t ⊎ IsOutOfMemory s m reply t
 
 -- ---- the reply to one line
 
@@ -117,13 +117,13 @@ pub record State : Type 0 where
   pub waiting : Waiting
 
 -- The state of a store when a run begins.
-abbrev pub begun : Store → State
-begun s = record { store = s; waiting = none_waiting }
+abbrev pub begun_state : Store → State
+begun_state s = record { store = s; waiting = none_waiting }
 
 -- The reply to a line of which this is done, and the state after it.
 pub record RepliesToLine (batch : ℕ) (s : State) (line : Option Line) (m : Meaning) (reply : LineReply) (t : State) : Type 0 where
   pub means : Means batch s.store.history s.waiting line m
-  pub replied : Replies s.store m reply t.store
+  pub replied : RepliesTo s.store m reply t.store
   pub waiting : t.waiting ≡ waiting_after s.waiting (fed s.store.history s.waiting line) m reply
 
 -- ---- a script
@@ -146,7 +146,7 @@ need_of_meaning (Refuses reason) = 0
 
 -- The state after what is asked for, by the model, of a line that changes this feed, if it changes one.
 abbrev pub after_model : State → Option (ℕ × List Point) → Meaning → State
-after_model s f m = record { store = after s.store m; waiting = waiting_after s.waiting f m (reply_to s.store.history m) }
+after_model s f m = record { store = after_asked s.store m; waiting = waiting_after s.waiting f m (model_reply s.store.history m) }
 
 -- The state after a line, by the model.
 abbrev pub after_line : ℕ → State → Option Line → State
@@ -154,10 +154,10 @@ after_line batch s line =
     after_model s (fed s.store.history s.waiting line) (meaning batch s.store.history s.waiting line)
 
 -- The blocks that lines need, one after another, by the model.
-abbrev pub needs_of : ℕ → State → List ScriptLine → ℕ
-needs_of batch s [] = 0
-needs_of batch s (line ∷ lines) =
-    need_of_meaning (meaning batch s.store.history s.waiting line.line) + needs_of batch (after_line batch s line.line) lines
+abbrev pub script_needs : ℕ → State → List ScriptLine → ℕ
+script_needs batch s [] = 0
+script_needs batch s (line ∷ lines) =
+    need_of_meaning (meaning batch s.store.history s.waiting line.line) + script_needs batch (after_line batch s line.line) lines
 
 -- The text of replies.
 abbrev pub text_of_replies : List LineReply → List ℕ

@@ -16,13 +16,13 @@ use Rattle.btr_hall.specs.declared.session.Hall.{Hall}
 use Rattle.btr_hall.specs.declared.session.Session.{Session}
 use Rattle.btr_hall.specs.Trace.{history_of, stopped_in}
 use Rattle.btr_hall.specs.Session.{opening_of, seen_of}
-use Rattle.btr_jobs.specs.Course.{Start, Course}
+use Rattle.btr_jobs.specs.States.{StoreState, LogState}
 use Rattle.btr_jobs.specs.Jobs.{Does}
 use Rattle.btr_live.specs.Feeds.{Waiting, with_points, feed_of, fed}
 use Rattle.btr_live.specs.Meaning.{Meaning, Asks, Refuses, feed, refresh}
-use Rattle.btr_live.specs.Replies.{reply_of_answer, reply_to, points_after, waiting_after, Means}
-use Rattle.btr_work.specs.declared.report.Brought.{Brought}
-use Rattle.btr_work.specs.declared.report.Brought.TheVariants.{Landed, Current, Refused}
+use Rattle.btr_live.specs.Replies.{reply_of_answer, model_reply, points_after, waiting_after, Means}
+use Rattle.btr_work.specs.declared.report.Refreshed.{Refreshed}
+use Rattle.btr_work.specs.declared.report.Refreshed.TheVariants.{Landed, Current, Refused}
 use Rattle.btr_live.specs.Reasons.{reason_of_landing}
 use Rattle.btr_live.specs.Lanes.{Answers}
 
@@ -35,21 +35,21 @@ abbrev pub AsksFor : (List Entry → Meaning) → Asking
 AsksFor asked = λ a m. m ≡ asked a
 
 -- What was asked for after `low` had this reply. `saw_failure` is whether the session had seen the device fail.
-pub record Replies (start : Start) (course : Course) (saw_failure : Bool) (low : List Entry) (m : Meaning) (reply : LineReply)
+pub record HasReply (start : StoreState) (log : LogState) (saw_failure : Bool) (low : List Entry) (m : Meaning) (reply : LineReply)
     (own : List ℕ) : Type 0 where
   pub next : List Entry
-  pub answers : Answers start course saw_failure low m reply own next
-  pub ends : StartsWith course.history next
+  pub answers : Answers start log saw_failure low m reply own next
+  pub ends : StartsWith log.history next
 
 -- What was asked for at a history that begins with `low` had this reply.
-pub record Serves (start : Start) (course : Course) (saw_failure : Bool) (low : List Entry) (asking : Asking) (reply : LineReply)
+pub record Serves (start : StoreState) (log : LogState) (saw_failure : Bool) (low : List Entry) (asking : Asking) (reply : LineReply)
     (own : List ℕ) : Type 0 where
   pub admitted : List Entry
   pub after : StartsWith admitted low
-  pub begins : StartsWith course.history admitted
+  pub begins : StartsWith log.history admitted
   pub asked : Meaning
   pub asks : asking admitted asked
-  pub replies : Replies start course saw_failure admitted asked reply own
+  pub replies : HasReply start log saw_failure admitted asked reply own
 
 -- What a line asks for, if these points wait before it, and those after it had this reply.
 abbrev pub LineAsks : ℕ → Waiting → Option Line → LineReply → Waiting → Asking
@@ -68,7 +68,7 @@ abbrev pub RefreshAsks : ℕ → Asking
 RefreshAsks stream = λ a m. (m ≡ refresh a stream (spec_of a stream)) ⊎ (m ≡ Refuses reasons.Memory)
 
 -- The reply to a line that brings an output up to date, by what became of the output.
-abbrev pub reply_of_brought : Brought → LineReply
+abbrev pub reply_of_brought : Refreshed → LineReply
 reply_of_brought (Landed version) = Done version
 reply_of_brought (Current version) = Done version
 reply_of_brought (Refused fault) = No (reason_of_landing fault)
@@ -76,7 +76,7 @@ reply_of_brought (Refused fault) = No (reason_of_landing fault)
 -- The reply is that of the history. An answer may lack memory; what is refused is always refused.
 abbrev pub IsAnswerOrNoMemory : List Entry → Meaning → LineReply → Type 0
 IsAnswerOrNoMemory h (Asks query) reply = (reply ≡ reply_of_answer (answer h query)) ⊎ (reply ≡ No reasons.Memory)
-IsAnswerOrNoMemory h asked reply = reply ≡ reply_to h asked
+IsAnswerOrNoMemory h asked reply = reply ≡ model_reply h asked
 
 module _ {D : Type 0} {disk : Ghosts D} where
   -- This is true of the history that the session has seen, with whichever history the hall began.
@@ -90,9 +90,9 @@ module _ {D : Type 0} {disk : Ghosts D} where
   -- What was asked for, at what the session had seen, had this reply.
   abbrev pub RepliesIn : Hall D disk → Session D disk → Session D disk → Meaning → LineReply → Type 0
   RepliesIn hall old new m reply =
-      Does hall old new (λ start course low own. Replies start course (was_told hall old) low m reply own)
+      Does hall old new (λ start log low own. HasReply start log (was_told hall old) low m reply own)
 
   -- What was asked for, at what the session had then seen, had this reply.
   abbrev pub ServesIn : Hall D disk → Session D disk → Session D disk → Asking → LineReply → Type 0
   ServesIn hall old new asking reply =
-      Does hall old new (λ start course low own. Serves start course (was_told hall old) low asking reply own)
+      Does hall old new (λ start log low own. Serves start log (was_told hall old) low asking reply own)

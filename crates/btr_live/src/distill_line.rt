@@ -15,7 +15,7 @@ use btr_disk::Disk;
 use btr_hall::{Found, Hall, Session};
 use btr_hist::{Entry, Kernel, Spec};
 use btr_text::{LineReply, Reason};
-use btr_work::{Brought, bring_output};
+use btr_work::{Refreshed, refresh_output};
 use std::alloc::Global;
 use std::sync::Wait;
 
@@ -116,16 +116,18 @@ fn refresh_stream<R: Wait, D: Disk>(
     ensures at { IsAt hall.now session.new }
     ensures serves { ServesIn hall.now session.old session.new (RefreshAsks stream) result }
 {
-    let brought = bring_output(rt, alloc, hall, session, stream);
-    reply_of_brought(brought)
+    let refreshed = refresh_output(rt, alloc, hall, session, stream);
+    reply_of_brought(refreshed)
 }
 
 /// The reply to a refresh, by what became of the output.
-fn reply_of_brought(brought: Brought) -> LineReply
-    ensures { result ≡ reply_of_brought brought }
+fn reply_of_brought(refreshed: Refreshed) -> LineReply
+    ensures { result ≡ reply_of_brought refreshed }
 {
-    match brought {
-        Brought::Landed { version } | Brought::Current { version } => LineReply::Done { version },
-        Brought::Refused(fault) => LineReply::No(reason_of_landing(fault)),
+    match refreshed {
+        Refreshed::Landed { version } | Refreshed::Current { version } => LineReply::Done {
+            version,
+        },
+        Refreshed::Refused(fault) => LineReply::No(reason_of_landing(fault)),
     }
 }

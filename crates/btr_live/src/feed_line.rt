@@ -6,7 +6,7 @@ ghost use Rattle.btr_base.specs.declared.limits.TheConstants.{MAX_COMMIT_POINTS}
 ghost use Rattle.btr_text.specs.declared.script.Line.TheVariants as lines;
 ghost use Rattle.btr_jobs.specs.Jobs.{IsAt};
 ghost use Rattle.btr_live.specs.Feeds.{added_of, KeepsFeeds, waiting_of};
-ghost use Rattle.btr_live.specs.Meaning.{Meaning, insert, reason_of_fault};
+ghost use Rattle.btr_live.specs.Meaning.{Meaning, insert_points, reason_of_fault};
 ghost use Rattle.btr_live.specs.Replies.{left_over};
 ghost use Rattle.btr_live.specs.Serving.{AddsPoints, LineAsks, RepliesIn, ServesIn};
 
@@ -149,7 +149,7 @@ fn commit_feed<R: Wait, D: Disk>(
     requires at { IsAt hall.now session.old }
     requires there { stream < length feeds.old.feeds }
     ensures at { IsAt hall.now session.new }
-    ensures replies { RepliesIn hall.now session.old session.new (insert stream (waiting_of feeds.old stream)) result }
+    ensures replies { RepliesIn hall.now session.old session.new (insert_points stream (waiting_of feeds.old stream)) result }
     ensures waiting { KeepsFeeds (left_over (waiting_of feeds.old stream) result) stream feeds.old feeds.new }
 {
     let points = feeds.take(stream);

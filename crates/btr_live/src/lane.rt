@@ -130,7 +130,7 @@ fn run_lines<R: Wait, D: Disk>(
     requires room { vec_len lines ≤ deque_capacity replies.old }
     ensures at { IsAt hall.now session.new }
     ensures runs { Does hall.now session.old session.new
-        (λ start course low own. RunsLane batch start course low lines.items replies.new.items own) }
+        (λ start log low own. RunsLane batch start log low lines.items replies.new.items own) }
 {
     let mut feeds = Feeds::new(alloc, batch);
     for line in lines {

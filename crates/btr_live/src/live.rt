@@ -62,7 +62,7 @@ pub fn lanes<R: Threads + Wait + Sync, D: Disk + Send, P: Pace + Sync>(
     ensures at { IsAt hall.now session.new }
     ensures refused { OnErr result (session.new ≡ session.old) }
     ensures runs { IfOk result (λ report. Does hall.now session.old session.new
-        (λ start course low own. RunsLive batch materialize start course low script.items report own)) }
+        (λ start log low own. RunsLive batch materialize start log low script.items report own)) }
 {
     let running = Arc::new(alloc, AtomicU32::new(LANES as u32))?;
     let Prepared {
@@ -109,7 +109,7 @@ fn last_round<R: Threads + Wait + Sync, D: Disk + Send>(
 ) -> Option<Result<Report, AllocError>>
     requires at { IsAt hall.now session.old }
     ensures at { IsAt hall.now session.new }
-    ensures last { Does hall.now session.old session.new (λ start course low own. LastRound start course low materialize result own) }
+    ensures last { Does hall.now session.old session.new (λ start log low own. LastRound start log low materialize result own) }
 {
     if !materialize {
         return None;

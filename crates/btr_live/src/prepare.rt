@@ -3,8 +3,8 @@ ghost use Rattle.std.specs.Prelude.{◌≡◌, ℕ, ◌+◌, ◌<◌, ◌≤◌,
 ghost use Rattle.btr_base.specs.declared.limits.TheConstants.{MAX_COMMIT_POINTS};
 ghost use Rattle.btr_text.specs.Input.{HaveLanes};
 ghost use Rattle.btr_gate.specs.Numbers.{one};
-ghost use Rattle.btr_live.specs.OneHistory.{of_lane, lanes_of, lines_of};
-ghost use Rattle.btr_live.specs.Parts.{lane_with, lines_at, list_at, parties_of, HasLists, HaveLimits, IsPrepared};
+ghost use Rattle.btr_live.specs.OneHistory.{of_lane, lanes_of, lane_lines};
+ghost use Rattle.btr_live.specs.Parts.{lane_with, lines_at, list_at, parties_of, HasLists, HaveLimits, IsRunPrepared};
 
 use crate::lane::Lane;
 use crate::part::Part;
@@ -41,7 +41,7 @@ pub(crate) fn prepare(
     requires least { 1 ≤ batch }
     requires most { batch ≤ MAX_COMMIT_POINTS }
     requires lanes { HaveLanes script.items }
-    ensures { IfOk result (IsPrepared batch materialize script.items) }
+    ensures { IfOk result (IsRunPrepared batch materialize script.items) }
 {
     let count = script.len();
     let replies = Vec::with_capacity(alloc, count)?;

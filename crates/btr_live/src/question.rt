@@ -35,7 +35,12 @@ pub fn answer_question(alloc: Global, snapshot: &Snapshot, line: Option<Line>) -
 }
 
 /// Answers a question about the stream with this id from a snapshot.
-pub(crate) fn answer_stream(alloc: Global, snapshot: &Snapshot, id: u128, query: StreamQuery) -> LineReply
+pub(crate) fn answer_stream(
+    alloc: Global,
+    snapshot: &Snapshot,
+    id: u128,
+    query: StreamQuery,
+) -> LineReply
     ensures { (h : List EntrySpec) → IsSnapshotOf h snapshot.now
         → IsAnswerOrNoMemory h (on_stream (stream_of h id) (λ stream. Asks (of_stream query stream))) result }
 {

@@ -55,7 +55,7 @@ fn make_rounds<R: Wait, D: Disk>(
 )
     requires at { IsAt hall.now session.old }
     ensures at { IsAt hall.now session.new }
-    ensures rounds { Does hall.now session.old session.new (λ start course low own. MakesRounds start count low course own) }
+    ensures rounds { Does hall.now session.old session.new (λ start log low own. MakesRounds start count low log own) }
 {
     for _ in 0..count {
         make_round(rt, alloc, hall, session, lanes);
@@ -73,7 +73,7 @@ fn make_round<R: Wait, D: Disk>(
 )
     requires at { IsAt hall.now session.old }
     ensures at { IsAt hall.now session.new }
-    ensures round { Does hall.now session.old session.new (λ start course low own. MakesRound start course low own) }
+    ensures round { Does hall.now session.old session.new (λ start log low own. MakesRound start log low own) }
 {
     if lanes.load(Ordering::SeqCst) > 0 {
         let _report = bring_current_here(rt, alloc, hall, session);

@@ -25,18 +25,18 @@ use Rattle.btr_gate.specs.Numbers.{one, total, times}
 use Rattle.btr_gate.specs.Prefixes.{StartsWith}
 use Rattle.btr_gate.proofs.NumberLemmas.{one_same}
 use Rattle.btr_gate.proofs.PrefixLemmas.{starts_refl, starts_trans}
-use Rattle.btr_jobs.specs.Course.{Start, Course}
+use Rattle.btr_jobs.specs.States.{StoreState, LogState}
 use Rattle.btr_jobs.specs.Turns as turns
-use Rattle.btr_load.specs.declared.fate.Fate.{Fate}
-use Rattle.btr_load.specs.declared.fate.Fate.TheVariants.{Output, NotCreated, Committed}
+use Rattle.btr_load.specs.declared.outcome.RowsOutcome.{RowsOutcome}
+use Rattle.btr_load.specs.declared.outcome.RowsOutcome.TheVariants.{Output, NotCreated, Committed}
 use Rattle.btr_load.specs.declared.stream.LoadedStream.{LoadedStream}
 use Rattle.btr_load.specs.Batches.{batches_of, batch_entry}
-use Rattle.btr_load.specs.Work.{BatchesDid, FateDid, StreamsDid}
-use Rattle.btr_load.specs.Loads.{IsCommittedTo, IsFound, IsCreated, Opens, OpensEach}
+use Rattle.btr_load.specs.Work.{BatchesDid, OutcomeDid, StreamsDid}
+use Rattle.btr_load.specs.Loads.{IsCommittedTo, OutcomeOfFound, OutcomeOfCreated, CreatesIfNew, CreatesEach}
 use Rattle.btr_load.specs.Alike.{after_entry, after_create, after_creates, Target, found, created, target, targets, after_rows, after_batches}
 use Rattle.btr_load.specs.Alike.Target.{AnOutput, Refused, To}
-use Rattle.btr_load.specs.Alike.{SaysBatches, SaysFate, SaysFates, IsPlain, IsPlainFate, LoadsAlike}
-use Rattle.btr_load.specs.There.{accepted, fate_entries, batch_entries, create_entry, create_entries}
+use Rattle.btr_load.specs.Alike.{SaysBatches, SaysOutcome, SaysOutcomes, IsPlain, IsPlainOutcome, LoadsAlike}
+use Rattle.btr_load.specs.There.{accepted, outcome_entries, batch_entries, create_entry, create_entries}
 use Rattle.btr_load.proofs.OfferLemmas.{offered_none, offered_some, offered_starts, offered, all_starts, all_commits, all_ids, all_kinds}
 use Rattle.btr_load.proofs.OfferLemmas.{rejection_alike, commits_same}
 use Rattle.btr_load.proofs.TotalLemmas.{total_append}
@@ -47,10 +47,10 @@ use Rattle.btr_load.proofs.ThereLemmas.{FateIsNamed, IsNamed, IsOnly, ids_in, lo
 
 -- ---- the creates
 
--- A fate has a target.
-abbrev pub Agrees : Target → Fate → Type 0
-Agrees AnOutput fate = fate ≡ Output
-Agrees (Refused why) fate = fate ≡ NotCreated (steps.Rejected why)
+-- A outcome has a target.
+abbrev pub Agrees : Target → RowsOutcome → Type 0
+Agrees AnOutput outcome = outcome ≡ Output
+Agrees (Refused why) outcome = outcome ≡ NotCreated (steps.Rejected why)
 Agrees (To stream) Output = ⊥
 Agrees (To stream) (NotCreated fault) = ⊥
 Agrees (To stream) (Committed of results latest) = of ≡ stream
@@ -59,64 +59,64 @@ abbrev pub AgreeAll : List Target → List LoadedStream → Type 0
 AgreeAll [] [] = Unit {0}
 AgreeAll [] (s ∷ streams) = ⊥
 AgreeAll (t ∷ ts) [] = ⊥
-AgreeAll (t ∷ ts) (s ∷ streams) = Agrees t s.fate × AgreeAll ts streams
+AgreeAll (t ∷ ts) (s ∷ streams) = Agrees t s.outcome × AgreeAll ts streams
 
-to_agrees : (stream version : ℕ) (fate : Fate) → IsCommittedTo stream version fate → Agrees (To stream) fate
+to_agrees : (stream version : ℕ) (outcome : RowsOutcome) → IsCommittedTo stream version outcome → Agrees (To stream) outcome
 to_agrees stream version Output to = absurd to
 to_agrees stream version (NotCreated fault) to = absurd to
 to_agrees stream version (Committed of results latest) to = to.0
 
-found_agrees : (low : List Entry) (stream : ℕ) (o : Option Spec) (fate : Fate) → IsFound low stream o fate → Agrees (found stream o) fate
-found_agrees low stream None fate is = to_agrees stream (history.latest low stream) fate is
-found_agrees low stream (Some spec) fate is = is
+found_agrees : (low : List Entry) (stream : ℕ) (o : Option Spec) (outcome : RowsOutcome) → OutcomeOfFound low stream o outcome → Agrees (found stream o) outcome
+found_agrees low stream None outcome is = to_agrees stream (history.latest low stream) outcome is
+found_agrees low stream (Some spec) outcome is = is
 
 -- What a create leaves, and where its rows go, by its rejection.
-record Creates (p next : List Entry) (id : ℕ) (fate : Fate) : Type 0 where
+record Creates (p next : List Entry) (id : ℕ) (outcome : RowsOutcome) : Type 0 where
   pub leaves : next ≡ after_create p id None
-  pub goes : Agrees (created p (rejection p (entries.Create id))) fate
+  pub goes : Agrees (created p (rejection p (entries.Create id))) outcome
 
-lacks : (id : ℕ) (fault : StepFault) (fate : Fate) → (IsPlain (Err fault) → ⊥) → fate ≡ NotCreated fault → IsPlainFate fate → ⊥
-lacks id fault fate never is fits = never (subst IsPlainFate is fits)
+lacks : (id : ℕ) (fault : StepFault) (outcome : RowsOutcome) → (IsPlain (Err fault) → ⊥) → outcome ≡ NotCreated fault → IsPlainOutcome outcome → ⊥
+lacks id fault outcome never is fits = never (subst IsPlainOutcome is fits)
 
-creates : (start : Start) (course : Course) (p : List Entry) (id : ℕ) (result : Result Receipt StepFault) (fate : Fate) (own : List ℕ) (next : List Entry) → turns.Committed start course p (entries.Create id) result own next → IsCreated result fate → IsPlainFate fate → Creates p next id fate
-creates start course p id (Ok receipt) fate own next turn is fits = record {
+creates : (start : StoreState) (log : LogState) (p : List Entry) (id : ℕ) (result : Result Receipt StepFault) (outcome : RowsOutcome) (own : List ℕ) (next : List Entry) → turns.Committed start log p (entries.Create id) result own next → OutcomeOfCreated result outcome → IsPlainOutcome outcome → Creates p next id outcome
+creates start log p id (Ok receipt) outcome own next turn is fits = record {
   leaves = turn.2.next ∙ sym (offered_none p (entries.Create id) turn.0);
-  goes = subst (λ o. Agrees (created p o) fate) (sym turn.0) (subst (λ n. Agrees (To n) fate) turn.1.stream (to_agrees receipt.stream 0 fate is));
+  goes = subst (λ o. Agrees (created p o) outcome) (sym turn.0) (subst (λ n. Agrees (To n) outcome) turn.1.stream (to_agrees receipt.stream 0 outcome is));
 }
-creates start course p id (Err (steps.Rejected why)) fate own next turn is fits = record {
+creates start log p id (Err (steps.Rejected why)) outcome own next turn is fits = record {
   leaves = turn.1.next ∙ sym (offered_some p (entries.Create id) why turn.0);
-  goes = subst (λ o. Agrees (created p o) fate) (sym turn.0) is;
+  goes = subst (λ o. Agrees (created p o) outcome) (sym turn.0) is;
 }
-creates start course p id (Err (steps.Stopped count)) fate own next turn is fits = absurd (lacks id (steps.Stopped count) fate (λ b. b) is fits)
-creates start course p id (Err steps.Want) fate own next turn is fits = absurd (lacks id steps.Want fate (λ b. b) is fits)
-creates start course p id (Err (steps.DeviceFull need left)) fate own next turn is fits = absurd (lacks id (steps.DeviceFull need left) fate (λ b. b) is fits)
-creates start course p id (Err steps.DeviceFault) fate own next turn is fits = absurd (lacks id steps.DeviceFault fate (λ b. b) is fits)
+creates start log p id (Err (steps.Stopped count)) outcome own next turn is fits = absurd (lacks id (steps.Stopped count) outcome (λ b. b) is fits)
+creates start log p id (Err steps.Want) outcome own next turn is fits = absurd (lacks id steps.Want outcome (λ b. b) is fits)
+creates start log p id (Err (steps.DeviceFull need left)) outcome own next turn is fits = absurd (lacks id (steps.DeviceFull need left) outcome (λ b. b) is fits)
+creates start log p id (Err steps.DeviceFault) outcome own next turn is fits = absurd (lacks id steps.DeviceFault outcome (λ b. b) is fits)
 
-opens_plain : (start : Start) (course : Course) (low p : List Entry) (id : ℕ) (o : Option ℕ) (fate : Fate) (own : List ℕ) (next : List Entry) → Opens start course low p id o fate own next → IsPlainFate fate → (next ≡ after_create p id o) × Agrees (target low p id o) fate
-opens_plain start course low p id (Some stream) fate own next opens fits =
-    (opens.1.next, found_agrees low stream (spec_of low stream) fate opens.0)
-opens_plain start course low p id None fate own next opens fits =
-    let all = creates start course p id opens.0 fate own next opens.1 opens.2 fits in
+opens_plain : (start : StoreState) (log : LogState) (low p : List Entry) (id : ℕ) (o : Option ℕ) (outcome : RowsOutcome) (own : List ℕ) (next : List Entry) → CreatesIfNew start log low p id o outcome own next → IsPlainOutcome outcome → (next ≡ after_create p id o) × Agrees (target low p id o) outcome
+opens_plain start log low p id (Some stream) outcome own next opens fits =
+    (opens.1.next, found_agrees low stream (spec_of low stream) outcome opens.0)
+opens_plain start log low p id None outcome own next opens fits =
+    let all = creates start log p id opens.0 outcome own next opens.1 opens.2 fits in
     (all.leaves, all.goes)
 
-all_open_plain : (start : Start) (course : Course) (low p : List Entry) (batch : ℕ) (rows : List StreamValue) (streams : List LoadedStream) (own : List ℕ) (last : List Entry) → OpensEach start course low p batch rows streams own last → AllByRecursion (λ s. IsPlainFate s.fate) streams → (last ≡ after_creates low p rows) × AgreeAll (targets low p rows) streams
-all_open_plain start course low p batch [] [] own last opens fits = (opens.next, tt)
-all_open_plain start course low p batch [] (s ∷ streams) own last opens fits = absurd opens
-all_open_plain start course low p batch (r ∷ rows) [] own last opens fits = absurd opens
-all_open_plain start course low p batch (r ∷ rows) (s ∷ streams) own last opens fits =
-    let one = opens_plain start course low p r.id (stream_of low r.id) s.fate opens.2 opens.4 opens.6 fits.0 in
-    let rest = all_open_plain start course low opens.4 batch rows streams opens.3 last opens.7 fits.1 in (
+all_open_plain : (start : StoreState) (log : LogState) (low p : List Entry) (batch : ℕ) (rows : List StreamValue) (streams : List LoadedStream) (own : List ℕ) (last : List Entry) → CreatesEach start log low p batch rows streams own last → AllByRecursion (λ s. IsPlainOutcome s.outcome) streams → (last ≡ after_creates low p rows) × AgreeAll (targets low p rows) streams
+all_open_plain start log low p batch [] [] own last opens fits = (opens.next, tt)
+all_open_plain start log low p batch [] (s ∷ streams) own last opens fits = absurd opens
+all_open_plain start log low p batch (r ∷ rows) [] own last opens fits = absurd opens
+all_open_plain start log low p batch (r ∷ rows) (s ∷ streams) own last opens fits =
+    let one = opens_plain start log low p r.id (stream_of low r.id) s.outcome opens.2 opens.4 opens.6 fits.0 in
+    let rest = all_open_plain start log low opens.4 batch rows streams opens.3 last opens.7 fits.1 in (
       rest.0 ∙ ap (λ l. after_creates low l rows) one.0,
       (one.1, subst (λ l. AgreeAll (targets low l rows) streams) one.0 rest.1),
     )
 
 -- ---- the batches of one stream
 
-module _ (start : Start) (course : Course) (mid : List Entry) (stream : ℕ) (known : stream < length (ids mid)) where
+module _ (start : StoreState) (log : LogState) (mid : List Entry) (stream : ℕ) (known : stream < length (ids mid)) where
   -- The results of batches are what they are after another history with the same commits of the stream, and so are these in the end.
-  batches_alike : (low q : List Entry) (batches : List (List NumberedPoint)) (results : List (Result Receipt StepFault)) (own : List ℕ) (last : List Entry) → StartsWith low mid → StartsWith q mid → StartsWith course.history low → commits q stream ≡ commits low stream → history.latest course.history stream ≤ history.latest low stream + accepted_count results → AllByRecursion IsPlain results → BatchesDid start course low stream batches results own last → SaysBatches q stream batches results × (commits (offered q stream batches) stream ≡ commits course.history stream)
+  batches_alike : (low q : List Entry) (batches : List (List NumberedPoint)) (results : List (Result Receipt StepFault)) (own : List ℕ) (last : List Entry) → StartsWith low mid → StartsWith q mid → StartsWith log.history low → commits q stream ≡ commits low stream → history.latest log.history stream ≤ history.latest low stream + accepted_count results → AllByRecursion IsPlain results → BatchesDid start log low stream batches results own last → SaysBatches q stream batches results × (commits (offered q stream batches) stream ≡ commits log.history stream)
   batches_alike low q [] [] own last low_mid q_mid starts same most fits did =
-      (tt, same ∙ sym (commits_same course.history low stream starts (omega (arith, most))))
+      (tt, same ∙ sym (commits_same log.history low stream starts (omega (arith, most))))
   batches_alike low q [] (result ∷ results) own last low_mid q_mid starts same most fits did = absurd did
   batches_alike low q (batch ∷ batches) [] own last low_mid q_mid starts same most fits did = absurd did
   batches_alike low q (batch ∷ batches) (Ok receipt ∷ results) own last low_mid q_mid starts same most fits did =
@@ -127,8 +127,8 @@ module _ (start : Start) (course : Course) (mid : List Entry) (stream : ℕ) (kn
             let e = batch_entry stream batch in
             let next = did.2 in
             let added = turn.3.2 in
-            let seen : StartsWith course.history next = subst (StartsWith course.history) (sym added.next) added.follows in
-            let rest = versions_least start course stream next batches results did.1 last seen did.5 in
+            let seen : StartsWith log.history next = subst (StartsWith log.history) (sym added.next) added.follows in
+            let rest = versions_least start log stream next batches results did.1 last seen did.5 in
             let pushed : history.latest next stream ≡ history.latest p stream + 1 = ap (λ l. history.latest l stream) added.next ∙ latest_push p stream batch in
             let here : commits p stream ≡ commits low stream = commits_same p low stream turn.1 (omega (arith, most, rest, pushed)) in
             let equal : commits q stream ≡ commits p stream = same ∙ sym here in
@@ -152,8 +152,8 @@ module _ (start : Start) (course : Course) (mid : List Entry) (stream : ℕ) (kn
             let e = batch_entry stream batch in
             let next = did.2 in
             let idle = turn.3.1 in
-            let seen : StartsWith course.history next = subst (StartsWith course.history) (sym idle.next) turn.2 in
-            let rest = versions_least start course stream next batches results did.1 last seen did.5 in
+            let seen : StartsWith log.history next = subst (StartsWith log.history) (sym idle.next) turn.2 in
+            let rest = versions_least start log stream next batches results did.1 last seen did.5 in
             let kept : history.latest next stream ≡ history.latest p stream = ap (λ l. history.latest l stream) idle.next in
             let here : commits p stream ≡ commits low stream = commits_same p low stream turn.1 (omega (arith, most, rest, kept)) in
             let equal : commits q stream ≡ commits p stream = same ∙ sym here in
@@ -173,49 +173,49 @@ module _ (start : Start) (course : Course) (mid : List Entry) (stream : ℕ) (kn
 
 -- ---- all streams
 
--- The fate is of another stream.
-abbrev pub IsOther : ℕ → Fate → Type 0
+-- The outcome is of another stream.
+abbrev pub IsOther : ℕ → RowsOutcome → Type 0
 IsOther stream Output = Unit {0}
 IsOther stream (NotCreated fault) = Unit {0}
 IsOther stream (Committed of results latest) = of ≢ stream
 
 abbrev pub AreOther : ℕ → List LoadedStream → Type 0
-AreOther stream streams = AllByRecursion (λ s. IsOther stream s.fate) streams
+AreOther stream streams = AllByRecursion (λ s. IsOther stream s.outcome) streams
 
--- What is known of the batches of a fate: its stream is there after the creates, no other fate is of it, and the history has no version
+-- What is known of the batches of a outcome: its stream is there after the creates, no other outcome is of it, and the history has no version
 -- of it that is not of one of them.
-abbrev pub FateIsFit : Course → List Entry → List LoadedStream → Fate → Type 0
-FateIsFit course mid others Output = Unit {0}
-FateIsFit course mid others (NotCreated fault) = Unit {0}
-FateIsFit course mid others (Committed stream results latest) =
+abbrev pub FateIsFit : LogState → List Entry → List LoadedStream → RowsOutcome → Type 0
+FateIsFit log mid others Output = Unit {0}
+FateIsFit log mid others (NotCreated fault) = Unit {0}
+FateIsFit log mid others (Committed stream results latest) =
     (stream < length (ids mid)) × AreOther stream others
-    × (history.latest course.history stream ≤ history.latest mid stream + accepted_count results)
+    × (history.latest log.history stream ≤ history.latest mid stream + accepted_count results)
 
 -- Of rows and their streams: the targets agree, the batches were committed, and they fit.
-abbrev pub AreFit : Start → Course → List Entry → ℕ → List StreamValue → List Target → List LoadedStream → List ℕ → Type 0
-AreFit start course mid batch [] [] [] own = Unit {0}
-AreFit start course mid batch [] [] (s ∷ streams) own = ⊥
-AreFit start course mid batch [] (t ∷ ts) streams own = ⊥
-AreFit start course mid batch (r ∷ rows) [] streams own = ⊥
-AreFit start course mid batch (r ∷ rows) (t ∷ ts) [] own = ⊥
-AreFit start course mid batch (r ∷ rows) (t ∷ ts) (s ∷ streams) own =
-    (first rest : List ℕ) × Agrees t s.fate × FateDid start course mid (batches_of batch r.points) s.fate first
-    × FateIsFit course mid streams s.fate × IsPlainFate s.fate × AreFit start course mid batch rows ts streams rest
+abbrev pub AreFit : StoreState → LogState → List Entry → ℕ → List StreamValue → List Target → List LoadedStream → List ℕ → Type 0
+AreFit start log mid batch [] [] [] own = Unit {0}
+AreFit start log mid batch [] [] (s ∷ streams) own = ⊥
+AreFit start log mid batch [] (t ∷ ts) streams own = ⊥
+AreFit start log mid batch (r ∷ rows) [] streams own = ⊥
+AreFit start log mid batch (r ∷ rows) (t ∷ ts) [] own = ⊥
+AreFit start log mid batch (r ∷ rows) (t ∷ ts) (s ∷ streams) own =
+    (first rest : List ℕ) × Agrees t s.outcome × OutcomeDid start log mid (batches_of batch r.points) s.outcome first
+    × FateIsFit log mid streams s.outcome × IsPlainOutcome s.outcome × AreFit start log mid batch rows ts streams rest
 
 -- The history has as many commits of the streams as after the creates.
-abbrev FateIsFresh : List Entry → List Entry → Fate → Type 0
+abbrev FateIsFresh : List Entry → List Entry → RowsOutcome → Type 0
 FateIsFresh mid q Output = Unit {0}
 FateIsFresh mid q (NotCreated fault) = Unit {0}
 FateIsFresh mid q (Committed stream results latest) = commits q stream ≡ commits mid stream
 
-module _ (start : Start) (course : Course) (mid : List Entry) (begins : StartsWith course.history mid) (batch : ℕ) where
+module _ (start : StoreState) (log : LogState) (mid : List Entry) (begins : StartsWith log.history mid) (batch : ℕ) where
   -- The batches of one stream leave the others fresh.
-  stay_fresh : (q : List Entry) (stream : ℕ) (batches : List (List NumberedPoint)) (streams : List LoadedStream) → AreOther stream streams → AllByRecursion (λ s. FateIsFresh mid q s.fate) streams → AllByRecursion (λ s. FateIsFresh mid (offered q stream batches) s.fate) streams
+  stay_fresh : (q : List Entry) (stream : ℕ) (batches : List (List NumberedPoint)) (streams : List LoadedStream) → AreOther stream streams → AllByRecursion (λ s. FateIsFresh mid q s.outcome) streams → AllByRecursion (λ s. FateIsFresh mid (offered q stream batches) s.outcome) streams
   stay_fresh q stream batches [] other fresh = tt
   stay_fresh q stream batches (s ∷ streams) other fresh =
-      (one_fresh s.fate other.0 fresh.0, stay_fresh q stream batches streams other.1 fresh.1)
+      (one_fresh s.outcome other.0 fresh.0, stay_fresh q stream batches streams other.1 fresh.1)
     where
-      one_fresh : (fate : Fate) → IsOther stream fate → FateIsFresh mid q fate → FateIsFresh mid (offered q stream batches) fate
+      one_fresh : (outcome : RowsOutcome) → IsOther stream outcome → FateIsFresh mid q outcome → FateIsFresh mid (offered q stream batches) outcome
       one_fresh Output other fresh = tt
       one_fresh (NotCreated fault) other fresh = tt
       one_fresh (Committed of results latest) other fresh = all_commits q stream of batches (λ e. other (sym e)) ∙ fresh
@@ -225,68 +225,68 @@ module _ (start : Start) (course : Course) (mid : List Entry) (begins : StartsWi
   rows_start q r (Refused why) = starts_refl q
   rows_start q r (To stream) = all_starts q stream (batches_of batch r.points)
 
-  -- The fate of one stream, and the others after its batches.
-  fate_says : (q : List Entry) (r : StreamValue) (t : Target) (fate : Fate) (others : List LoadedStream) (own : List ℕ) → StartsWith q mid → Agrees t fate → FateDid start course mid (batches_of batch r.points) fate own → FateIsFit course mid others fate → IsPlainFate fate → FateIsFresh mid q fate → AllByRecursion (λ s. FateIsFresh mid q s.fate) others → SaysFate q batch r t fate × AllByRecursion (λ s. FateIsFresh mid (after_rows q batch r t) s.fate) others
-  fate_says q r AnOutput fate others own q_mid agrees did fit fits fresh rest = (agrees, rest)
-  fate_says q r (Refused why) fate others own q_mid agrees did fit fits fresh rest = (agrees, rest)
-  fate_says q r (To stream) Output others own q_mid agrees did fit fits fresh rest = absurd agrees
-  fate_says q r (To stream) (NotCreated fault) others own q_mid agrees did fit fits fresh rest = absurd agrees
-  fate_says q r (To stream) (Committed of results latest) others own q_mid agrees did fit fits fresh rest =
+  -- The outcome of one stream, and the others after its batches.
+  outcome_says : (q : List Entry) (r : StreamValue) (t : Target) (outcome : RowsOutcome) (others : List LoadedStream) (own : List ℕ) → StartsWith q mid → Agrees t outcome → OutcomeDid start log mid (batches_of batch r.points) outcome own → FateIsFit log mid others outcome → IsPlainOutcome outcome → FateIsFresh mid q outcome → AllByRecursion (λ s. FateIsFresh mid q s.outcome) others → SaysOutcome q batch r t outcome × AllByRecursion (λ s. FateIsFresh mid (after_rows q batch r t) s.outcome) others
+  outcome_says q r AnOutput outcome others own q_mid agrees did fit fits fresh rest = (agrees, rest)
+  outcome_says q r (Refused why) outcome others own q_mid agrees did fit fits fresh rest = (agrees, rest)
+  outcome_says q r (To stream) Output others own q_mid agrees did fit fits fresh rest = absurd agrees
+  outcome_says q r (To stream) (NotCreated fault) others own q_mid agrees did fit fits fresh rest = absurd agrees
+  outcome_says q r (To stream) (Committed of results latest) others own q_mid agrees did fit fits fresh rest =
       let batches = batches_of batch r.points in
-      let says = batches_alike start course mid of fit.0 mid q batches results own did.0 (starts_refl mid) q_mid begins fresh fit.2 fits did.1 in
+      let says = batches_alike start log mid of fit.0 mid q batches results own did.0 (starts_refl mid) q_mid begins fresh fit.2 fits did.1 in
       let other = subst (λ n. AreOther n others) agrees fit.1 in
       ((agrees, subst (λ n. SaysBatches q n batches results) agrees says.0), stay_fresh q stream batches others other rest)
 
-  all_say : (q : List Entry) (rows : List StreamValue) (ts : List Target) (streams : List LoadedStream) (own : List ℕ) → StartsWith q mid → AreFit start course mid batch rows ts streams own → AllByRecursion (λ s. FateIsFresh mid q s.fate) streams → SaysFates q batch rows ts streams
+  all_say : (q : List Entry) (rows : List StreamValue) (ts : List Target) (streams : List LoadedStream) (own : List ℕ) → StartsWith q mid → AreFit start log mid batch rows ts streams own → AllByRecursion (λ s. FateIsFresh mid q s.outcome) streams → SaysOutcomes q batch rows ts streams
   all_say q [] [] [] own q_mid fit fresh = tt
   all_say q [] [] (s ∷ streams) own q_mid fit fresh = absurd fit
   all_say q [] (t ∷ ts) streams own q_mid fit fresh = absurd fit
   all_say q (r ∷ rows) [] streams own q_mid fit fresh = absurd fit
   all_say q (r ∷ rows) (t ∷ ts) [] own q_mid fit fresh = absurd fit
   all_say q (r ∷ rows) (t ∷ ts) (s ∷ streams) own q_mid fit fresh =
-      let one = fate_says q r t s.fate streams fit.0 q_mid fit.2 fit.3 fit.4 fit.5 fresh.0 fresh.1 in
+      let one = outcome_says q r t s.outcome streams fit.0 q_mid fit.2 fit.3 fit.4 fit.5 fresh.0 fresh.1 in
       let next = after_rows q batch r t in
       (one.0, all_say next rows ts streams fit.1 (starts_trans next q mid (rows_start q r t) q_mid) fit.6 one.1)
 
   -- ---- one stream in the end
 
   -- Batches of other streams.
-  fate_other : (q : List Entry) (x : ℕ) (r : StreamValue) (t : Target) (fate : Fate) → Agrees t fate → IsOther x fate → commits (after_rows q batch r t) x ≡ commits q x
-  fate_other q x r AnOutput fate agrees other = refl
-  fate_other q x r (Refused why) fate agrees other = refl
-  fate_other q x r (To stream) Output agrees other = absurd agrees
-  fate_other q x r (To stream) (NotCreated fault) agrees other = absurd agrees
-  fate_other q x r (To stream) (Committed of results latest) agrees other =
+  outcome_other : (q : List Entry) (x : ℕ) (r : StreamValue) (t : Target) (outcome : RowsOutcome) → Agrees t outcome → IsOther x outcome → commits (after_rows q batch r t) x ≡ commits q x
+  outcome_other q x r AnOutput outcome agrees other = refl
+  outcome_other q x r (Refused why) outcome agrees other = refl
+  outcome_other q x r (To stream) Output agrees other = absurd agrees
+  outcome_other q x r (To stream) (NotCreated fault) agrees other = absurd agrees
+  outcome_other q x r (To stream) (Committed of results latest) agrees other =
       all_commits q stream x (batches_of batch r.points) (λ e. other (agrees ∙ e))
 
-  all_other : (q : List Entry) (x : ℕ) (rows : List StreamValue) (ts : List Target) (streams : List LoadedStream) (own : List ℕ) → AreFit start course mid batch rows ts streams own → AreOther x streams → commits (after_batches q batch rows ts) x ≡ commits q x
+  all_other : (q : List Entry) (x : ℕ) (rows : List StreamValue) (ts : List Target) (streams : List LoadedStream) (own : List ℕ) → AreFit start log mid batch rows ts streams own → AreOther x streams → commits (after_batches q batch rows ts) x ≡ commits q x
   all_other q x [] [] [] own fit other = refl
   all_other q x [] [] (s ∷ streams) own fit other = absurd fit
   all_other q x [] (t ∷ ts) streams own fit other = absurd fit
   all_other q x (r ∷ rows) [] streams own fit other = absurd fit
   all_other q x (r ∷ rows) (t ∷ ts) [] own fit other = absurd fit
   all_other q x (r ∷ rows) (t ∷ ts) (s ∷ streams) own fit other =
-      all_other (after_rows q batch r t) x rows ts streams fit.1 fit.6 other.1 ∙ fate_other q x r t s.fate fit.2 other.0
+      all_other (after_rows q batch r t) x rows ts streams fit.1 fit.6 other.1 ∙ outcome_other q x r t s.outcome fit.2 other.0
 
   -- Either the batches of the stream of this number come next, or those of another one.
-  fate_here : (q : List Entry) (x : ℕ) (r : StreamValue) (t : Target) (fate : Fate) (others : List LoadedStream) (own : List ℕ) → StartsWith q mid → Agrees t fate → FateDid start course mid (batches_of batch r.points) fate own → FateIsFit course mid others fate → IsPlainFate fate → commits q x ≡ commits mid x → ((commits (after_rows q batch r t) x ≡ commits course.history x) × AreOther x others) ⊎ IsOther x fate
-  fate_here q x r t Output others own q_mid agrees did fit fits same = inr tt
-  fate_here q x r t (NotCreated fault) others own q_mid agrees did fit fits same = inr tt
-  fate_here q x r AnOutput (Committed of results latest) others own q_mid agrees did fit fits same = absurd (cc)
-  fate_here q x r (Refused why) (Committed of results latest) others own q_mid agrees did fit fits same = absurd (cc)
-  fate_here q x r (To stream) (Committed of results latest) others own q_mid agrees did fit fits same =
+  outcome_here : (q : List Entry) (x : ℕ) (r : StreamValue) (t : Target) (outcome : RowsOutcome) (others : List LoadedStream) (own : List ℕ) → StartsWith q mid → Agrees t outcome → OutcomeDid start log mid (batches_of batch r.points) outcome own → FateIsFit log mid others outcome → IsPlainOutcome outcome → commits q x ≡ commits mid x → ((commits (after_rows q batch r t) x ≡ commits log.history x) × AreOther x others) ⊎ IsOther x outcome
+  outcome_here q x r t Output others own q_mid agrees did fit fits same = inr tt
+  outcome_here q x r t (NotCreated fault) others own q_mid agrees did fit fits same = inr tt
+  outcome_here q x r AnOutput (Committed of results latest) others own q_mid agrees did fit fits same = absurd (cc)
+  outcome_here q x r (Refused why) (Committed of results latest) others own q_mid agrees did fit fits same = absurd (cc)
+  outcome_here q x r (To stream) (Committed of results latest) others own q_mid agrees did fit fits same =
       elim (cases_eq of x) [
         | inr ne ↦ inr ne
         | inl e ↦
             let batches = batches_of batch r.points in
             let fresh : commits q of ≡ commits mid of = ap (commits q) e ∙ same ∙ ap (commits mid) (sym e) in
-            let says = batches_alike start course mid of fit.0 mid q batches results own did.0 (starts_refl mid) q_mid begins fresh fit.2 fits did.1 in
-            let ended : commits (offered q stream batches) x ≡ commits course.history x =
-            ap (λ n. commits (offered q n batches) x) (sym agrees) ∙ ap (commits (offered q of batches)) (sym e) ∙ says.1 ∙ ap (commits course.history) e in
+            let says = batches_alike start log mid of fit.0 mid q batches results own did.0 (starts_refl mid) q_mid begins fresh fit.2 fits did.1 in
+            let ended : commits (offered q stream batches) x ≡ commits log.history x =
+            ap (λ n. commits (offered q n batches) x) (sym agrees) ∙ ap (commits (offered q of batches)) (sym e) ∙ says.1 ∙ ap (commits log.history) e in
             inl (ended, subst (λ n. AreOther n others) e fit.1)
       ]
 
-  all_end : (q : List Entry) (x : ℕ) (rows : List StreamValue) (ts : List Target) (streams : List LoadedStream) (own : List ℕ) → StartsWith q mid → AreFit start course mid batch rows ts streams own → commits q x ≡ commits mid x → (commits (after_batches q batch rows ts) x ≡ commits course.history x) ⊎ AreOther x streams
+  all_end : (q : List Entry) (x : ℕ) (rows : List StreamValue) (ts : List Target) (streams : List LoadedStream) (own : List ℕ) → StartsWith q mid → AreFit start log mid batch rows ts streams own → commits q x ≡ commits mid x → (commits (after_batches q batch rows ts) x ≡ commits log.history x) ⊎ AreOther x streams
   all_end q x [] [] [] own q_mid fit same = inr tt
   all_end q x [] [] (s ∷ streams) own q_mid fit same = absurd fit
   all_end q x [] (t ∷ ts) streams own q_mid fit same = absurd fit
@@ -294,9 +294,9 @@ module _ (start : Start) (course : Course) (mid : List Entry) (begins : StartsWi
   all_end q x (r ∷ rows) (t ∷ ts) [] own q_mid fit same = absurd fit
   all_end q x (r ∷ rows) (t ∷ ts) (s ∷ streams) own q_mid fit same =
       let next = after_rows q batch r t in
-      elim (fate_here q x r t s.fate streams fit.0 q_mid fit.2 fit.3 fit.4 fit.5 same) [
+      elim (outcome_here q x r t s.outcome streams fit.0 q_mid fit.2 fit.3 fit.4 fit.5 same) [
         | inl here ↦ inl (all_other next x rows ts streams fit.1 fit.6 here.1 ∙ here.0)
-        | inr other ↦ elim (all_end next x rows ts streams fit.1 (starts_trans next q mid (rows_start q r t) q_mid) fit.6 (fate_other q x r t s.fate fit.2 other ∙ same)) [
+        | inr other ↦ elim (all_end next x rows ts streams fit.1 (starts_trans next q mid (rows_start q r t) q_mid) fit.6 (outcome_other q x r t s.outcome fit.2 other ∙ same)) [
           | inl later ↦ inl later
           | inr others ↦ inr (other, others)
         ]
@@ -305,7 +305,7 @@ module _ (start : Start) (course : Course) (mid : List Entry) (begins : StartsWi
 -- ---- the loads fit
 
 module _ (low mid : List Entry) where
-  other_number : (id other stream : ℕ) (fate : Fate) → slice_get (ids mid) stream ≡ Some id → other ≢ id → FateIsNamed low mid other fate → IsOther stream fate
+  other_number : (id other stream : ℕ) (outcome : RowsOutcome) → slice_get (ids mid) stream ≡ Some id → other ≢ id → FateIsNamed low mid other outcome → IsOther stream outcome
   other_number id other stream Output is ne named = tt
   other_number id other stream (NotCreated fault) is ne named = tt
   other_number id other stream (Committed of results latest) is ne named = λ e.
@@ -315,22 +315,22 @@ module _ (low mid : List Entry) where
   other_numbers : (id stream : ℕ) (streams : List LoadedStream) → slice_get (ids mid) stream ≡ Some id → AllByRecursion (IsNamed low mid) streams → times id (ids_in streams) ≡ 0 → AreOther stream streams
   other_numbers id stream [] is named none = tt
   other_numbers id stream (s ∷ streams) is named none = (
-    other_number id s.rows.id stream s.fate is (λ e. let at = one_same s.rows.id id e in omega (arith, none, at)) named.0,
+    other_number id s.rows.id stream s.outcome is (λ e. let at = one_same s.rows.id id e in omega (arith, none, at)) named.0,
     other_numbers id stream streams is named.1 (omega (arith, none)),
   )
 
-module _ (start : Start) (course : Course) (low mid : List Entry) (mid_low : StartsWith mid low) where
-  fate_fits : (id : ℕ) (others : List LoadedStream) (batches : List (List NumberedPoint)) (fate : Fate) (own : List ℕ) → FateDid start course mid batches fate own → FateIsNamed low mid id fate → AllByRecursion (IsNamed low mid) others → times id (ids_in others) ≡ 0 → IsOnly course low mid id batches fate → FateIsFit course mid others fate
-  fate_fits id others batches Output own did named rest none only = tt
-  fate_fits id others batches (NotCreated fault) own did named rest none only = tt
-  fate_fits id others batches (Committed stream results latest) own did named rest none only =
+module _ (start : StoreState) (log : LogState) (low mid : List Entry) (mid_low : StartsWith mid low) where
+  outcome_fits : (id : ℕ) (others : List LoadedStream) (batches : List (List NumberedPoint)) (outcome : RowsOutcome) (own : List ℕ) → OutcomeDid start log mid batches outcome own → FateIsNamed low mid id outcome → AllByRecursion (IsNamed low mid) others → times id (ids_in others) ≡ 0 → IsOnly log low mid id batches outcome → FateIsFit log mid others outcome
+  outcome_fits id others batches Output own did named rest none only = tt
+  outcome_fits id others batches (NotCreated fault) own did named rest none only = tt
+  outcome_fits id others batches (Committed stream results latest) own did named rest none only =
       let all = only stream named.0 in
-      let count = accepted_own stream batches results (did_long start course mid stream batches results own did.0 did.1) in
+      let count = accepted_own stream batches results (did_long start log mid stream batches results own did.0 did.1) in
       let grows = latest_grows mid low stream mid_low in
       (slice_get_within (ids mid) stream id named.0, other_numbers low mid id stream others named.0 rest none, omega (arith, all, count, grows))
 
   -- A load fits: each stream has its own number, and all its commits since are those of its batches.
-  all_fit : (h p : List Entry) (batch : ℕ) (rows : List StreamValue) (ts : List Target) (streams : List LoadedStream) (created own : List ℕ) (last : List Entry) → OpensEach start course h p batch rows streams created last → AgreeAll ts streams → StreamsDid start course mid streams own → AllByRecursion (IsNamed low mid) streams → ((id : ℕ) → times id (ids_in streams) ≤ 1) → AllByRecursion (λ s. IsOnly course low mid s.rows.id (batches_of s.batch s.rows.points) s.fate) streams → AllByRecursion (λ s. IsPlainFate s.fate) streams → AreFit start course mid batch rows ts streams own
+  all_fit : (h p : List Entry) (batch : ℕ) (rows : List StreamValue) (ts : List Target) (streams : List LoadedStream) (created own : List ℕ) (last : List Entry) → CreatesEach start log h p batch rows streams created last → AgreeAll ts streams → StreamsDid start log mid streams own → AllByRecursion (IsNamed low mid) streams → ((id : ℕ) → times id (ids_in streams) ≤ 1) → AllByRecursion (λ s. IsOnly log low mid s.rows.id (batches_of s.batch s.rows.points) s.outcome) streams → AllByRecursion (λ s. IsPlainOutcome s.outcome) streams → AreFit start log mid batch rows ts streams own
   all_fit h p batch [] [] [] created own last opens agree did named once only fits = tt
   all_fit h p batch [] [] (s ∷ streams) created own last opens agree did named once only fits = absurd opens
   all_fit h p batch [] (t ∷ ts) [] created own last opens agree did named once only fits = absurd agree
@@ -342,12 +342,12 @@ module _ (start : Start) (course : Course) (low mid : List Entry) (mid_low : Sta
       let id = s.rows.id in
       let here = one_same id id refl in
       let most = once id in
-      let fit = fate_fits id streams (batches_of s.batch s.rows.points) s.fate did.0 did.2 named.0 named.1 (omega (arith, here, most)) only.0 in
+      let fit = outcome_fits id streams (batches_of s.batch s.rows.points) s.outcome did.0 did.2 named.0 named.1 (omega (arith, here, most)) only.0 in
       let same : batches_of s.batch s.rows.points ≡ batches_of batch r.points = λ i. batches_of (opens.1 i) (opens.0 i).points in (
         did.0,
         did.1,
         agree.0,
-        subst (λ b. FateDid start course mid b s.fate did.0) same did.2,
+        subst (λ b. OutcomeDid start log mid b s.outcome did.0) same did.2,
         fit,
         fits.0,
         all_fit h opens.4 batch rows ts streams opens.3 did.1 last opens.7 agree.1 did.3 named.1
@@ -376,43 +376,43 @@ accepted_make stream (batch ∷ batches) (Ok receipt ∷ results) =
     let rest = accepted_make stream batches results in omega (arith, rest)
 accepted_make stream (batch ∷ batches) (Err fault ∷ results) = accepted_make stream batches results
 
-fate_makes : (batches : List (List NumberedPoint)) (fate : Fate) → total makes (fate_entries batches fate) ≡ 0
-fate_makes batches Output = refl
-fate_makes batches (NotCreated fault) = refl
-fate_makes batches (Committed stream results latest) = accepted_make stream batches results
+outcome_makes : (batches : List (List NumberedPoint)) (outcome : RowsOutcome) → total makes (outcome_entries batches outcome) ≡ 0
+outcome_makes batches Output = refl
+outcome_makes batches (NotCreated fault) = refl
+outcome_makes batches (Committed stream results latest) = accepted_make stream batches results
 
 batches_make : (streams : List LoadedStream) → total makes (batch_entries streams) ≡ 0
 batches_make [] = refl
 batches_make (s ∷ streams) =
-    let here = fate_entries (batches_of s.batch s.rows.points) s.fate in
+    let here = outcome_entries (batches_of s.batch s.rows.points) s.outcome in
     let rest = batches_make streams in
-    omega (arith, rest, fate_makes (batches_of s.batch s.rows.points) s.fate, total_append makes here (batch_entries streams))
+    omega (arith, rest, outcome_makes (batches_of s.batch s.rows.points) s.outcome, total_append makes here (batch_entries streams))
 
-created_makes : (p : List Entry) (id : ℕ) (result : Result Receipt StepFault) (fate : Fate) → IsCreated result fate → length (ids (history_after result p (entries.Create id))) ≡ length (ids p) + total makes (create_entry None id fate)
+created_makes : (p : List Entry) (id : ℕ) (result : Result Receipt StepFault) (outcome : RowsOutcome) → OutcomeOfCreated result outcome → length (ids (history_after result p (entries.Create id))) ≡ length (ids p) + total makes (create_entry None id outcome)
 created_makes p id (Ok receipt) Output is = absurd is
 created_makes p id (Ok receipt) (NotCreated fault) is = absurd is
 created_makes p id (Ok receipt) (Committed stream results latest) is = streams-append p (entries.Create id ∷ [])
-created_makes p id (Err fault) fate is =
-    let none : total makes (create_entry None id fate) ≡ 0 = ap (λ f. total makes (create_entry None id f)) is in
+created_makes p id (Err fault) outcome is =
+    let none : total makes (create_entry None id outcome) ≡ 0 = ap (λ f. total makes (create_entry None id f)) is in
     omega (arith, none)
 
-opens_make : (start : Start) (course : Course) (low p : List Entry) (id : ℕ) (o : Option ℕ) (fate : Fate) (own : List ℕ) (next : List Entry) → Opens start course low p id o fate own next → length (ids next) ≡ length (ids p) + total makes (create_entry o id fate)
-opens_make start course low p id (Some stream) fate own next opens =
+opens_make : (start : StoreState) (log : LogState) (low p : List Entry) (id : ℕ) (o : Option ℕ) (outcome : RowsOutcome) (own : List ℕ) (next : List Entry) → CreatesIfNew start log low p id o outcome own next → length (ids next) ≡ length (ids p) + total makes (create_entry o id outcome)
+opens_make start log low p id (Some stream) outcome own next opens =
     let same = ap (λ l. length (ids l)) opens.1.next in omega (arith, same)
-opens_make start course low p id None fate own next opens =
-    ap (λ l. length (ids l)) (next_is start course p (entries.Create id) opens.0 own next opens.1) ∙ created_makes p id opens.0 fate opens.2
+opens_make start log low p id None outcome own next opens =
+    ap (λ l. length (ids l)) (next_is start log p (entries.Create id) opens.0 own next opens.1) ∙ created_makes p id opens.0 outcome opens.2
 
-all_make : (start : Start) (course : Course) (low p : List Entry) (batch : ℕ) (rows : List StreamValue) (streams : List LoadedStream) (own : List ℕ) (last : List Entry) → OpensEach start course low p batch rows streams own last → length (ids last) ≡ length (ids p) + total makes (create_entries low streams)
-all_make start course low p batch [] [] own last opens =
+all_make : (start : StoreState) (log : LogState) (low p : List Entry) (batch : ℕ) (rows : List StreamValue) (streams : List LoadedStream) (own : List ℕ) (last : List Entry) → CreatesEach start log low p batch rows streams own last → length (ids last) ≡ length (ids p) + total makes (create_entries low streams)
+all_make start log low p batch [] [] own last opens =
     let same = ap (λ l. length (ids l)) opens.next in omega (arith, same)
-all_make start course low p batch [] (s ∷ streams) own last opens = absurd opens
-all_make start course low p batch (r ∷ rows) [] own last opens = absurd opens
-all_make start course low p batch (r ∷ rows) (s ∷ streams) own last opens =
+all_make start log low p batch [] (s ∷ streams) own last opens = absurd opens
+all_make start log low p batch (r ∷ rows) [] own last opens = absurd opens
+all_make start log low p batch (r ∷ rows) (s ∷ streams) own last opens =
     let id : r.id ≡ s.rows.id = ap (λ (v : StreamValue). v.id) (sym opens.0) in
-    let one = opens_make start course low p s.rows.id (stream_of low s.rows.id) s.fate opens.2 opens.4
-    (subst (λ n. Opens start course low p n (stream_of low n) s.fate opens.2 opens.4) id opens.6) in
-    let rest = all_make start course low opens.4 batch rows streams opens.3 last opens.7 in
-    let both = total_append makes (create_entry (stream_of low s.rows.id) s.rows.id s.fate) (create_entries low streams) in
+    let one = opens_make start log low p s.rows.id (stream_of low s.rows.id) s.outcome opens.2 opens.4
+    (subst (λ n. CreatesIfNew start log low p n (stream_of low n) s.outcome opens.2 opens.4) id opens.6) in
+    let rest = all_make start log low opens.4 batch rows streams opens.3 last opens.7 in
+    let both = total_append makes (create_entry (stream_of low s.rows.id) s.rows.id s.outcome) (create_entries low streams) in
     omega (arith, one, rest, both)
 
 -- The batches make no stream, in the plain load either.
@@ -431,36 +431,36 @@ all_rows_ids q batch (r ∷ rows) (t ∷ ts) =
 
 -- ---- the law
 
-fresh_first : (mid : List Entry) (streams : List LoadedStream) → AllByRecursion (λ s. FateIsFresh mid mid s.fate) streams
+fresh_first : (mid : List Entry) (streams : List LoadedStream) → AllByRecursion (λ s. FateIsFresh mid mid s.outcome) streams
 fresh_first mid [] = tt
-fresh_first mid (s ∷ streams) = (one s.fate, fresh_first mid streams)
+fresh_first mid (s ∷ streams) = (one s.outcome, fresh_first mid streams)
   where
-    one : (fate : Fate) → FateIsFresh mid mid fate
+    one : (outcome : RowsOutcome) → FateIsFresh mid mid outcome
     one Output = tt
     one (NotCreated fault) = tt
     one (Committed stream results latest) = refl
 
-fate_nothing : (x : ℕ) (batches : List (List NumberedPoint)) (fate : Fate) → IsOther x fate → total (commit_of x) (fate_entries batches fate) ≡ 0
-fate_nothing x batches Output other = refl
-fate_nothing x batches (NotCreated fault) other = refl
-fate_nothing x batches (Committed stream results latest) other = accepted_other x stream batches results other
+outcome_nothing : (x : ℕ) (batches : List (List NumberedPoint)) (outcome : RowsOutcome) → IsOther x outcome → total (commit_of x) (outcome_entries batches outcome) ≡ 0
+outcome_nothing x batches Output other = refl
+outcome_nothing x batches (NotCreated fault) other = refl
+outcome_nothing x batches (Committed stream results latest) other = accepted_other x stream batches results other
 
 others_nothing : (x : ℕ) (streams : List LoadedStream) → AreOther x streams → total (commit_of x) (batch_entries streams) ≡ 0
 others_nothing x [] other = refl
 others_nothing x (s ∷ streams) other =
-    let here = fate_entries (batches_of s.batch s.rows.points) s.fate in
+    let here = outcome_entries (batches_of s.batch s.rows.points) s.outcome in
     let rest = others_nothing x streams other.1 in
-    omega (arith, rest, fate_nothing x (batches_of s.batch s.rows.points) s.fate other.0, total_append (commit_of x) here (batch_entries streams))
+    omega (arith, rest, outcome_nothing x (batches_of s.batch s.rows.points) s.outcome other.0, total_append (commit_of x) here (batch_entries streams))
 
 pub loads_alike : LoadsAlike
-loads_alike start course low rows batch told numbers follows distinct mine loads fits =
+loads_alike start log low rows batch told numbers follows distinct mine loads fits =
     let streams = told.streams in
     let mid = loads.middle in
-    let h = course.history in
-    let sound = load_sound start course low rows batch told numbers follows distinct mine loads in
-    let creates = all_open_plain start course low low batch rows.streams streams loads.created mid loads.opens fits in
+    let h = log.history in
+    let sound = load_sound start log low rows batch told numbers follows distinct mine loads in
+    let creates = all_open_plain start log low low batch rows.streams streams loads.created mid loads.opens fits in
     let ts = targets low low rows.streams in
-    let fit = all_fit start course low mid sound.mid_low low low batch rows.streams ts streams loads.created loads.committed mid loads.opens creates.1 loads.commits sound.named sound.once sound.only fits in
+    let fit = all_fit start log low mid sound.mid_low low low batch rows.streams ts streams loads.created loads.committed mid loads.opens creates.1 loads.commits sound.named sound.once sound.only fits in
     let plain_ids = all_rows_ids mid batch rows.streams ts in
     let rest = loads.begins.0 in
     let long : length (ids rest) ≡ 0 =
@@ -468,7 +468,7 @@ loads_alike start course low rows batch told numbers follows distinct mine loads
     let whole : length (ids h) ≡ length (ids low) + length (ids sound.since.0) = ap (λ l. length (ids l)) sound.since.1 ∙ streams-append low sound.since.0 in
     let sum = sound.same makes in
     let both = total_append makes (create_entries low streams) (batch_entries streams) in
-    let made = all_make start course low low batch rows.streams streams loads.created mid loads.opens in
+    let made = all_make start log low low batch rows.streams streams loads.created mid loads.opens in
     omega (arith, all, whole, ids_total sound.since.0, sum, both, batches_make streams, made) in
     let h_ids : ids h ≡ ids mid =
     ap ids loads.begins.1 ∙ ids-append mid rest ∙ ap (λ l. ids mid ++ l) (nil_from_length (ids rest) long) ∙ append-nil (ids mid) in
@@ -476,19 +476,19 @@ loads_alike start course low rows batch told numbers follows distinct mine loads
     ap kinds loads.begins.1 ∙ kinds-append mid rest ∙ ap (λ l. kinds mid ++ l) (nil_from_length (kinds rest) (length-kinds rest ∙ long)) ∙ append-nil (kinds mid) in
     let begins : mid ≡ after_creates low low rows.streams = creates.0 in
     let end_same : (x : ℕ) → commits h x ≡ commits (after_batches mid batch rows.streams ts) x = λ x.
-    elim (all_end start course mid loads.begins batch mid x rows.streams ts streams loads.committed (starts_refl mid) fit refl) [
+    elim (all_end start log mid loads.begins batch mid x rows.streams ts streams loads.committed (starts_refl mid) fit refl) [
       | inl same ↦ sym same
       | inr other ↦
           let count = sound.count x in
           let none = others_nothing x streams other in
           let grows = latest_grows mid low x sound.mid_low in
           commits_same h mid x loads.begins (omega (arith, count, none, grows))
-          ∙ sym (all_other start course mid loads.begins batch mid x rows.streams ts streams loads.committed fit other)
+          ∙ sym (all_other start log mid loads.begins batch mid x rows.streams ts streams loads.committed fit other)
     ] in
     record {
       same_ids = h_ids ∙ sym plain_ids.0 ∙ ap (λ l. ids (after_batches l batch rows.streams ts)) begins;
       same_kinds = h_kinds ∙ sym plain_ids.1 ∙ ap (λ l. kinds (after_batches l batch rows.streams ts)) begins;
       same_commits = λ x. end_same x ∙ ap (λ l. commits (after_batches l batch rows.streams ts) x) begins;
-      fates = subst (λ l. SaysFates l batch rows.streams ts streams) begins
-          (all_say start course mid loads.begins batch mid rows.streams ts streams loads.committed (starts_refl mid) fit (fresh_first mid streams));
+      outcomes = subst (λ l. SaysOutcomes l batch rows.streams ts streams) begins
+          (all_say start log mid loads.begins batch mid rows.streams ts streams loads.committed (starts_refl mid) fit (fresh_first mid streams));
     }

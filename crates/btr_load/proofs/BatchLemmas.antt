@@ -12,12 +12,12 @@ use Rattle.btr_engine.specs.declared.step.StepFault.{StepFault}
 use Rattle.btr_engine.specs.declared.step.StepFault.TheVariants.{Want}
 use Rattle.btr_gate.specs.Prefixes.{StartsWith}
 use Rattle.btr_gate.proofs.PrefixLemmas.{starts_trans, starts_refl, starts_append, starts_whole}
-use Rattle.btr_jobs.specs.Course.{Start, Course, GoesOn}
+use Rattle.btr_jobs.specs.States.{StoreState, LogState, GoesOn}
 use Rattle.btr_load.specs.Batches.{some_batches, batches_of, batch_entry, last_version}
-use Rattle.btr_load.specs.declared.fate.Fate.{Fate}
-use Rattle.btr_load.specs.declared.fate.Fate.TheVariants.{Output, NotCreated, Committed}
+use Rattle.btr_load.specs.declared.outcome.RowsOutcome.{RowsOutcome}
+use Rattle.btr_load.specs.declared.outcome.RowsOutcome.TheVariants.{Output, NotCreated, Committed}
 use Rattle.btr_load.specs.declared.stream.LoadedStream.{LoadedStream}
-use Rattle.btr_load.specs.Work.{BatchDid, BatchesDid, OneBatchDid, AllBatchesDid, IsBlank, FateWorks, Works}
+use Rattle.btr_load.specs.Work.{BatchDid, BatchesDid, OneBatchDid, AllBatchesDid, IsBlank, OutcomeWorks, CommitsStream}
 use Rattle.btr_load.specs.Loads.{IsCommittedTo}
 use Rattle.btr_load.specs.WorkLaws.{batches_last, batch_lowers}
 
@@ -89,45 +89,45 @@ last_append version (Err fault ∷ results) more = last_append version results m
 -- ---- the commits of batches
 
 -- Each batch has a result.
-pub did_long : (start : Start) (course : Course) (low : List Entry) (stream : ℕ) (batches : List (List NumberedPoint)) (results : List (Result Receipt StepFault)) (own : List ℕ) (last : List Entry) → BatchesDid start course low stream batches results own last → length batches ≡ length results
-did_long start course low stream [] [] own last did = refl
-did_long start course low stream [] (result ∷ results) own last did = absurd did
-did_long start course low stream (batch ∷ batches) [] own last did = absurd did
-did_long start course low stream (batch ∷ batches) (result ∷ results) own last did =
-    ap (λ n. suc n) (did_long start course did.2 stream batches results did.1 last did.5)
+pub did_long : (start : StoreState) (log : LogState) (low : List Entry) (stream : ℕ) (batches : List (List NumberedPoint)) (results : List (Result Receipt StepFault)) (own : List ℕ) (last : List Entry) → BatchesDid start log low stream batches results own last → length batches ≡ length results
+did_long start log low stream [] [] own last did = refl
+did_long start log low stream [] (result ∷ results) own last did = absurd did
+did_long start log low stream (batch ∷ batches) [] own last did = absurd did
+did_long start log low stream (batch ∷ batches) (result ∷ results) own last did =
+    ap (λ n. suc n) (did_long start log did.2 stream batches results did.1 last did.5)
 
 -- One batch more.
-pub batches_push : (start : Start) (course : Course) (low : List Entry) (stream : ℕ) (batches : List (List NumberedPoint)) (results : List (Result Receipt StepFault)) (own : List ℕ) (mid : List Entry) (batch : List NumberedPoint) (result : Result Receipt StepFault) (more : List ℕ) (last : List Entry) → BatchesDid start course low stream batches results own mid → BatchDid start course mid (batch_entry stream batch) result more last → BatchesDid start course low stream (batches ++ batch ∷ []) (results ++ result ∷ []) (own ++ more) last
-batches_push start course low stream [] [] own mid batch result more last did one =
-    (more, [], last, ap (λ l. l ++ more) did.own ∙ sym (append-nil more), subst (λ l. BatchDid start course l (batch_entry stream batch) result more last) did.next one, record { own = refl; next = refl })
-batches_push start course low stream [] (told ∷ results) own mid batch result more last did one = absurd did
-batches_push start course low stream (first ∷ batches) [] own mid batch result more last did one = absurd did
-batches_push start course low stream (first ∷ batches) (told ∷ results) own mid batch result more last did one =
-    (did.0, did.1 ++ more, did.2, ap (λ l. l ++ more) did.3 ∙ append_assoc did.0 did.1 more, did.4, batches_push start course did.2 stream batches results did.1 mid batch result more last did.5 one)
+pub batches_push : (start : StoreState) (log : LogState) (low : List Entry) (stream : ℕ) (batches : List (List NumberedPoint)) (results : List (Result Receipt StepFault)) (own : List ℕ) (mid : List Entry) (batch : List NumberedPoint) (result : Result Receipt StepFault) (more : List ℕ) (last : List Entry) → BatchesDid start log low stream batches results own mid → BatchDid start log mid (batch_entry stream batch) result more last → BatchesDid start log low stream (batches ++ batch ∷ []) (results ++ result ∷ []) (own ++ more) last
+batches_push start log low stream [] [] own mid batch result more last did one =
+    (more, [], last, ap (λ l. l ++ more) did.own ∙ sym (append-nil more), subst (λ l. BatchDid start log l (batch_entry stream batch) result more last) did.next one, record { own = refl; next = refl })
+batches_push start log low stream [] (told ∷ results) own mid batch result more last did one = absurd did
+batches_push start log low stream (first ∷ batches) [] own mid batch result more last did one = absurd did
+batches_push start log low stream (first ∷ batches) (told ∷ results) own mid batch result more last did one =
+    (did.0, did.1 ++ more, did.2, ap (λ l. l ++ more) did.3 ∙ append_assoc did.0 did.1 more, did.4, batches_push start log did.2 stream batches results did.1 mid batch result more last did.5 one)
 
 -- ---- some of the batches of a stream
 
 -- The batches that have these results were committed, if there are so many. `rest` are the points that are left, and what the last
 -- batch had seen has happened.
-pub record IsDone (start : Start) (course : Course) (low : List Entry) (stream size : ℕ) (points rest : List NumberedPoint) (results : List (Result Receipt StepFault)) (own : List ℕ) : Type 0 where
+pub record IsDone (start : StoreState) (log : LogState) (low : List Entry) (stream size : ℕ) (points rest : List NumberedPoint) (results : List (Result Receipt StepFault)) (own : List ℕ) : Type 0 where
   pub done : List (List NumberedPoint)
   pub last : List Entry
   pub all : done ++ batches_of size rest ≡ batches_of size points
-  pub did : BatchesDid start course low stream done results own last
-  pub seen : StartsWith course.history last
+  pub did : BatchesDid start log low stream done results own last
+  pub seen : StartsWith log.history last
 
-abbrev pub SomeDone : Start → Course → List Entry → ℕ → ℕ → List NumberedPoint → List NumberedPoint → List (Result Receipt StepFault) → List ℕ → Type 0
-SomeDone start course low stream size points rest results own =
-    0 < size → length results ≤ length (batches_of size points) → IsDone start course low stream size points rest results own
+abbrev pub SomeDone : StoreState → LogState → List Entry → ℕ → ℕ → List NumberedPoint → List NumberedPoint → List (Result Receipt StepFault) → List ℕ → Type 0
+SomeDone start log low stream size points rest results own =
+    0 < size → length results ≤ length (batches_of size points) → IsDone start log low stream size points rest results own
 
 -- None of them.
-pub done_none : (start : Start) (course : Course) (stream size : ℕ) (points : List NumberedPoint) → SomeDone start course course.history stream size points points [] []
-done_none start course stream size points some low = record {
+pub done_none : (start : StoreState) (log : LogState) (stream size : ℕ) (points : List NumberedPoint) → SomeDone start log log.history stream size points points [] []
+done_none start log stream size points some low = record {
   done = [];
-  last = course.history;
+  last = log.history;
   all = refl;
   did = record { own = refl; next = refl };
-  seen = starts_refl course.history;
+  seen = starts_refl log.history;
 }
 
 -- If a batch is left a point is left.
@@ -136,7 +136,7 @@ left_there size [] some = some
 left_there size (point ∷ rest) some = omega arith
 
 -- One more of them.
-pub done_push : (start : Start) (late early : Course) (low : List Entry) (stream size : ℕ) (points rest : List NumberedPoint) (results : List (Result Receipt StepFault)) (result : Result Receipt StepFault) (own more : List ℕ) → GoesOn start late early → SomeDone start early low stream size points rest results own → OneBatchDid start late early.history stream (take size rest) result more → SomeDone start late low stream size points (drop size rest) (results ++ result ∷ []) (own ++ more)
+pub done_push : (start : StoreState) (late early : LogState) (low : List Entry) (stream size : ℕ) (points rest : List NumberedPoint) (results : List (Result Receipt StepFault)) (result : Result Receipt StepFault) (own more : List ℕ) → GoesOn start late early → SomeDone start early low stream size points rest results own → OneBatchDid start late early.history stream (take size rest) result more → SomeDone start late low stream size points (drop size rest) (results ++ result ∷ []) (own ++ more)
 done_push start late early low stream size points rest results result own more on was one some fits =
     let push = length-append results (result ∷ []) in
     let old = was some (omega (arith, fits, push)) in
@@ -155,17 +155,17 @@ done_push start late early low stream size points rest results result own more o
     }
 
 -- All of them.
-pub done_all : (start : Start) (course : Course) (low : List Entry) (stream size : ℕ) (points rest : List NumberedPoint) (places results : List (Result Receipt StepFault)) (own : List ℕ) → length results ≡ length places → SomeDone start course low stream size points rest results own → AllBatchesDid start course low stream size points places results own
-done_all start course low stream size points rest places results own long was some places_long =
+pub done_all : (start : StoreState) (log : LogState) (low : List Entry) (stream size : ℕ) (points rest : List NumberedPoint) (places results : List (Result Receipt StepFault)) (own : List ℕ) → length results ≡ length places → SomeDone start log low stream size points rest results own → AllBatchesDid start log low stream size points places results own
+done_all start log low stream size points rest places results own long was some places_long =
     let all = was some (omega (arith, long, places_long)) in
-    let each = did_long start course low stream all.done results own all.last all.did in
+    let each = did_long start log low stream all.done results own all.last all.did in
     let same = ap (length {A = List NumberedPoint}) all.all in
     let whole : all.done ++ batches_of size rest ≡ all.done =
     starts_whole (all.done ++ batches_of size rest) all.done (starts_append all.done (batches_of size rest)) (omega (arith, same, long, places_long, each)) in
-    (all.last, subst (λ b. BatchesDid start course low stream b results own all.last) (sym whole ∙ all.all) all.did)
+    (all.last, subst (λ b. BatchesDid start log low stream b results own all.last) (sym whole ∙ all.all) all.did)
 
 -- The same of a batch and of lists that are these.
-pub done_step : (start : Start) (late early : Course) (low : List Entry) (stream size : ℕ) (points rest here after : List NumberedPoint) (results told : List (Result Receipt StepFault)) (result : Result Receipt StepFault) (own more : List ℕ) → here ≡ take size rest → after ≡ drop size rest → told ≡ results ++ result ∷ [] → GoesOn start late early → SomeDone start early low stream size points rest results own → OneBatchDid start late early.history stream here result more → SomeDone start late low stream size points after told (own ++ more)
+pub done_step : (start : StoreState) (late early : LogState) (low : List Entry) (stream size : ℕ) (points rest here after : List NumberedPoint) (results told : List (Result Receipt StepFault)) (result : Result Receipt StepFault) (own more : List ℕ) → here ≡ take size rest → after ≡ drop size rest → told ≡ results ++ result ∷ [] → GoesOn start late early → SomeDone start early low stream size points rest results own → OneBatchDid start late early.history stream here result more → SomeDone start late low stream size points after told (own ++ more)
 done_step start late early low stream size points rest here after results told result own more is_here is_after is_told on was one =
     subst (λ l. SomeDone start late low stream size points after l (own ++ more)) (sym is_told)
     (subst (λ l. SomeDone start late low stream size points l (results ++ result ∷ []) (own ++ more)) (sym is_after)
@@ -173,29 +173,29 @@ done_step start late early low stream size points rest here after results told r
 
 -- ---- the job of a stream
 
-fate_still : (start : Start) (course : Course) (low : List Entry) (batches : List (List NumberedPoint)) (fate : Fate) → ((stream : ℕ) (results : List (Result Receipt StepFault)) (latest : ℕ) → fate ≡ Committed stream results latest → ⊥) → FateWorks start course low batches fate fate []
-fate_still start course low batches Output other = (refl, refl)
-fate_still start course low batches (NotCreated fault) other = (refl, refl)
-fate_still start course low batches (Committed stream results latest) other = absurd (other stream results latest refl)
+outcome_still : (start : StoreState) (log : LogState) (low : List Entry) (batches : List (List NumberedPoint)) (outcome : RowsOutcome) → ((stream : ℕ) (results : List (Result Receipt StepFault)) (latest : ℕ) → outcome ≡ Committed stream results latest → ⊥) → OutcomeWorks start log low batches outcome outcome []
+outcome_still start log low batches Output other = (refl, refl)
+outcome_still start log low batches (NotCreated fault) other = (refl, refl)
+outcome_still start log low batches (Committed stream results latest) other = absurd (other stream results latest refl)
 
 -- Nothing is done of rows that are not committed.
-pub works_still : (start : Start) (course : Course) (low : List Entry) (s : LoadedStream) → ((stream : ℕ) (results : List (Result Receipt StepFault)) (latest : ℕ) → s.fate ≡ Committed stream results latest → ⊥) → Works start course low s s []
-works_still start course low s other = record {
+pub works_still : (start : StoreState) (log : LogState) (low : List Entry) (s : LoadedStream) → ((stream : ℕ) (results : List (Result Receipt StepFault)) (latest : ℕ) → s.outcome ≡ Committed stream results latest → ⊥) → CommitsStream start log low s s []
+works_still start log low s other = record {
   rows = refl;
   batch = refl;
-  fate = λ ready. fate_still start course low (batches_of s.batch s.rows.points) s.fate other;
+  outcome = λ ready. outcome_still start log low (batches_of s.batch s.rows.points) s.outcome other;
 }
 
 -- The batches of a stream that was planned so were committed.
-pub works_done : (start : Start) (course : Course) (low : List Entry) (was : LoadedStream) (stream version : ℕ) (places results : List (Result Receipt StepFault)) (latest : ℕ) (own : List ℕ) → was.fate ≡ Committed stream places version → latest ≡ last_version version results → AllBatchesDid start course low stream was.batch was.rows.points places results own → Works start course low was (record { rows = was.rows; batch = was.batch; fate = Committed stream results latest }) own
-works_done start course low was stream version places results latest own is last did = record {
+pub works_done : (start : StoreState) (log : LogState) (low : List Entry) (was : LoadedStream) (stream version : ℕ) (places results : List (Result Receipt StepFault)) (latest : ℕ) (own : List ℕ) → was.outcome ≡ Committed stream places version → latest ≡ last_version version results → AllBatchesDid start log low stream was.batch was.rows.points places results own → CommitsStream start log low was (record { rows = was.rows; batch = was.batch; outcome = Committed stream results latest }) own
+works_done start log low was stream version places results latest own is last did = record {
   rows = refl;
   batch = refl;
-  fate = λ ready.
+  outcome = λ ready.
       let batches = batches_of was.batch was.rows.points in
       let blank : places ≡ replicate (length batches) (Err Want) = subst (IsBlank batches) is ready.blank in
       let all = did ready.some (ap (length {A = Result Receipt StepFault}) blank ∙ length-replicate (length batches) (Err Want)) in
-      subst (λ f. FateWorks start course low batches f (Committed stream results latest) own) (sym is)
+      subst (λ f. OutcomeWorks start log low batches f (Committed stream results latest) own) (sym is)
       (results, all.0, ap (λ v. Committed stream results v) last, all.1);
 }
 

@@ -11,15 +11,15 @@ use Rattle.btr_engine.specs.declared.step.StepFault.{StepFault}
 use Rattle.btr_engine.specs.declared.step.StepFault.TheVariants as steps
 use Rattle.btr_gate.specs.Numbers.{total, times}
 use Rattle.btr_gate.proofs.NumberLemmas.{times_append}
-use Rattle.btr_jobs.specs.Course.{Start, Course}
+use Rattle.btr_jobs.specs.States.{StoreState, LogState}
 use Rattle.btr_jobs.specs.Turns as turns
-use Rattle.btr_load.specs.declared.fate.Fate.{Fate}
-use Rattle.btr_load.specs.declared.fate.Fate.TheVariants.{Output, NotCreated, Committed}
+use Rattle.btr_load.specs.declared.outcome.RowsOutcome.{RowsOutcome}
+use Rattle.btr_load.specs.declared.outcome.RowsOutcome.TheVariants.{Output, NotCreated, Committed}
 use Rattle.btr_load.specs.declared.stream.LoadedStream.{LoadedStream}
 use Rattle.btr_load.specs.Batches.{batches_of, batch_entry}
-use Rattle.btr_load.specs.Work.{BatchDid, BatchesDid, FateDid, StreamsDid}
-use Rattle.btr_load.specs.Loads.{LoadedValue, IsCreated, Opens, OpensEach, Loads}
-use Rattle.btr_load.specs.There.{accepted, fate_entries, batch_entries, create_entry, create_entries}
+use Rattle.btr_load.specs.Work.{BatchDid, BatchesDid, OutcomeDid, StreamsDid}
+use Rattle.btr_load.specs.Loads.{LoadedValue, OutcomeOfCreated, CreatesIfNew, CreatesEach, Loads}
+use Rattle.btr_load.specs.There.{accepted, outcome_entries, batch_entries, create_entry, create_entries}
 use Rattle.btr_load.proofs.TotalLemmas.{total_append, totals_alike, at_number, at_there, at_past}
 
 -- The entry, if it was accepted.
@@ -27,22 +27,22 @@ abbrev entry_if : Result Receipt StepFault → Entry → List Entry
 entry_if (Ok receipt) e = e ∷ []
 entry_if (Err fault) e = []
 
-module _ (f : Entry → ℕ) (start : Start) (course : Course) where
+module _ (f : Entry → ℕ) (start : StoreState) (log : LogState) where
   -- The sum over numbers.
   abbrev pub sum_at : List ℕ → ℕ
-  sum_at own = total (at_number f course.history) own
+  sum_at own = total (at_number f log.history) own
 
   none_sum : (own : List ℕ) → own ≡ [] → sum_at own ≡ 0
   none_sum own none = ap sum_at none
 
-  one_sum : (own : List ℕ) (n k : ℕ) → own ≡ n ∷ [] → at_number f course.history n ≡ k → sum_at own ≡ k
+  one_sum : (own : List ℕ) (n k : ℕ) → own ≡ n ∷ [] → at_number f log.history n ≡ k → sum_at own ≡ k
   one_sum own n k is at = let all = ap sum_at is in omega (arith, all, at)
 
-  committed_sum : (p : List Entry) (e : Entry) (result : Result Receipt StepFault) (own : List ℕ) (next : List Entry) → turns.Committed start course p e result own next → sum_at own ≡ total f (entry_if result e)
+  committed_sum : (p : List Entry) (e : Entry) (result : Result Receipt StepFault) (own : List ℕ) (next : List Entry) → turns.Committed start log p e result own next → sum_at own ≡ total f (entry_if result e)
   committed_sum p e (Ok receipt) own next is =
       let added = is.2 in
-      let split : course.history ≡ p ++ e ∷ added.follows.0 = added.follows.1 ∙ append_assoc p (e ∷ []) added.follows.0 in
-      let here : at_number f course.history (length p + 1) ≡ f e =
+      let split : log.history ≡ p ++ e ∷ added.follows.0 = added.follows.1 ∙ append_assoc p (e ∷ []) added.follows.0 in
+      let here : at_number f log.history (length p + 1) ≡ f e =
       ap (λ k. at_number f k (length p + 1)) split ∙ at_there f p added.follows.0 e (length p + 1) refl in
       let all = one_sum own (length p + 1) (f e) added.own here in
       omega (arith, all)
@@ -55,7 +55,7 @@ module _ (f : Entry → ℕ) (start : Start) (course : Course) where
       let past = ap (λ k. at_number f k (length p + 1)) failed.last ∙ at_past f p (length p + 1) (omega arith) in
       one_sum own (length p + 1) 0 failed.own past
 
-  batch_sum : (low : List Entry) (e : Entry) (result : Result Receipt StepFault) (own : List ℕ) (next : List Entry) → BatchDid start course low e result own next → sum_at own ≡ total f (entry_if result e)
+  batch_sum : (low : List Entry) (e : Entry) (result : Result Receipt StepFault) (own : List ℕ) (next : List Entry) → BatchDid start log low e result own next → sum_at own ≡ total f (entry_if result e)
   batch_sum low e result own next (inl turn) = committed_sum turn.0 e result own next turn.3
   batch_sum low e result own next (inr none) =
       none_sum own none.1.own ∙ sym (ap (λ r. total f (entry_if r e)) none.0)
@@ -64,66 +64,66 @@ module _ (f : Entry → ℕ) (start : Start) (course : Course) where
   accepted_sum stream batch batches (Ok receipt) results = omega arith
   accepted_sum stream batch batches (Err fault) results = omega arith
 
-  batches_sum : (low : List Entry) (stream : ℕ) (batches : List (List NumberedPoint)) (results : List (Result Receipt StepFault)) (own : List ℕ) (last : List Entry) → BatchesDid start course low stream batches results own last → sum_at own ≡ total f (accepted stream batches results)
+  batches_sum : (low : List Entry) (stream : ℕ) (batches : List (List NumberedPoint)) (results : List (Result Receipt StepFault)) (own : List ℕ) (last : List Entry) → BatchesDid start log low stream batches results own last → sum_at own ≡ total f (accepted stream batches results)
   batches_sum low stream [] [] own last did = none_sum own did.own
   batches_sum low stream [] (result ∷ results) own last did = absurd did
   batches_sum low stream (batch ∷ batches) [] own last did = absurd did
   batches_sum low stream (batch ∷ batches) (result ∷ results) own last did =
-      let all : sum_at own ≡ sum_at did.0 + sum_at did.1 = ap sum_at did.3 ∙ total_append (at_number f course.history) did.0 did.1 in
+      let all : sum_at own ≡ sum_at did.0 + sum_at did.1 = ap sum_at did.3 ∙ total_append (at_number f log.history) did.0 did.1 in
       let one = batch_sum low (batch_entry stream batch) result did.0 did.2 did.4 in
       let more = batches_sum did.2 stream batches results did.1 last did.5 in
       let both = accepted_sum stream batch batches result results in
       omega (arith, all, one, more, both)
 
-  fate_sum : (low : List Entry) (batches : List (List NumberedPoint)) (fate : Fate) (own : List ℕ) → FateDid start course low batches fate own → sum_at own ≡ total f (fate_entries batches fate)
-  fate_sum low batches Output own did = none_sum own did
-  fate_sum low batches (NotCreated fault) own did = none_sum own did
-  fate_sum low batches (Committed stream results latest) own did = batches_sum low stream batches results own did.0 did.1
+  outcome_sum : (low : List Entry) (batches : List (List NumberedPoint)) (outcome : RowsOutcome) (own : List ℕ) → OutcomeDid start log low batches outcome own → sum_at own ≡ total f (outcome_entries batches outcome)
+  outcome_sum low batches Output own did = none_sum own did
+  outcome_sum low batches (NotCreated fault) own did = none_sum own did
+  outcome_sum low batches (Committed stream results latest) own did = batches_sum low stream batches results own did.0 did.1
 
   -- The numbers of two lists together.
   both_sum : (own a b : List ℕ) → ((n : ℕ) → times n own ≡ times n a + times n b) → sum_at own ≡ sum_at a + sum_at b
   both_sum own a b sum =
-      totals_alike (at_number f course.history) own (a ++ b) (λ n. sum n ∙ sym (times_append n a b))
-      ∙ total_append (at_number f course.history) a b
+      totals_alike (at_number f log.history) own (a ++ b) (λ n. sum n ∙ sym (times_append n a b))
+      ∙ total_append (at_number f log.history) a b
 
-  streams_sum : (low : List Entry) (streams : List LoadedStream) (own : List ℕ) → StreamsDid start course low streams own → sum_at own ≡ total f (batch_entries streams)
-  streams_sum low [] own did = totals_alike (at_number f course.history) own [] did
+  streams_sum : (low : List Entry) (streams : List LoadedStream) (own : List ℕ) → StreamsDid start log low streams own → sum_at own ≡ total f (batch_entries streams)
+  streams_sum low [] own did = totals_alike (at_number f log.history) own [] did
   streams_sum low (s ∷ streams) own did =
       let all = both_sum own did.0 did.1 did.4 in
-      let one = fate_sum low (batches_of s.batch s.rows.points) s.fate did.0 did.2 in
+      let one = outcome_sum low (batches_of s.batch s.rows.points) s.outcome did.0 did.2 in
       let more = streams_sum low streams did.1 did.3 in
-      let both = total_append f (fate_entries (batches_of s.batch s.rows.points) s.fate) (batch_entries streams) in
+      let both = total_append f (outcome_entries (batches_of s.batch s.rows.points) s.outcome) (batch_entries streams) in
       omega (arith, all, one, more, both)
 
-  created_sum : (id : ℕ) (result : Result Receipt StepFault) (fate : Fate) → IsCreated result fate → total f (entry_if result (Create id)) ≡ total f (create_entry None id fate)
+  created_sum : (id : ℕ) (result : Result Receipt StepFault) (outcome : RowsOutcome) → OutcomeOfCreated result outcome → total f (entry_if result (Create id)) ≡ total f (create_entry None id outcome)
   created_sum id (Ok receipt) Output is = absurd is
   created_sum id (Ok receipt) (NotCreated fault) is = absurd is
   created_sum id (Ok receipt) (Committed stream results latest) is = refl
-  created_sum id (Err fault) fate is = sym (ap (λ x. total f (create_entry None id x)) is)
+  created_sum id (Err fault) outcome is = sym (ap (λ x. total f (create_entry None id x)) is)
 
-  opens_one_sum : (h p : List Entry) (id : ℕ) (o : Option ℕ) (fate : Fate) (own : List ℕ) (next : List Entry) → Opens start course h p id o fate own next → sum_at own ≡ total f (create_entry o id fate)
-  opens_one_sum h p id (Some stream) fate own next is = none_sum own is.1.own
-  opens_one_sum h p id None fate own next is =
-      committed_sum p (Create id) is.0 own next is.1 ∙ created_sum id is.0 fate is.2
+  opens_one_sum : (h p : List Entry) (id : ℕ) (o : Option ℕ) (outcome : RowsOutcome) (own : List ℕ) (next : List Entry) → CreatesIfNew start log h p id o outcome own next → sum_at own ≡ total f (create_entry o id outcome)
+  opens_one_sum h p id (Some stream) outcome own next is = none_sum own is.1.own
+  opens_one_sum h p id None outcome own next is =
+      committed_sum p (Create id) is.0 own next is.1 ∙ created_sum id is.0 outcome is.2
 
-  opens_sum : (h p : List Entry) (batch : ℕ) (rows : List StreamValue) (streams : List LoadedStream) (own : List ℕ) (last : List Entry) → OpensEach start course h p batch rows streams own last → sum_at own ≡ total f (create_entries h streams)
+  opens_sum : (h p : List Entry) (batch : ℕ) (rows : List StreamValue) (streams : List LoadedStream) (own : List ℕ) (last : List Entry) → CreatesEach start log h p batch rows streams own last → sum_at own ≡ total f (create_entries h streams)
   opens_sum h p batch [] [] own last is = none_sum own is.own
   opens_sum h p batch [] (s ∷ streams) own last is = absurd is
   opens_sum h p batch (r ∷ rows) [] own last is = absurd is
   opens_sum h p batch (r ∷ rows) (s ∷ streams) own last is =
-      let all : sum_at own ≡ sum_at is.2 + sum_at is.3 = ap sum_at is.5 ∙ total_append (at_number f course.history) is.2 is.3 in
+      let all : sum_at own ≡ sum_at is.2 + sum_at is.3 = ap sum_at is.5 ∙ total_append (at_number f log.history) is.2 is.3 in
       let id : r.id ≡ s.rows.id = sym (ap (λ (v : StreamValue). v.id) is.0) in
-      let one = opens_one_sum h p s.rows.id (stream_of h s.rows.id) s.fate is.2 is.4
-      (subst (λ n. Opens start course h p n (stream_of h n) s.fate is.2 is.4) id is.6) in
+      let one = opens_one_sum h p s.rows.id (stream_of h s.rows.id) s.outcome is.2 is.4
+      (subst (λ n. CreatesIfNew start log h p n (stream_of h n) s.outcome is.2 is.4) id is.6) in
       let more = opens_sum h is.4 batch rows streams is.3 last is.7 in
-      let both = total_append f (create_entry (stream_of h s.rows.id) s.rows.id s.fate) (create_entries h streams) in
+      let both = total_append f (create_entry (stream_of h s.rows.id) s.rows.id s.outcome) (create_entries h streams) in
       omega (arith, all, one, more, both)
 
 -- Sums over the numbers of a load are those over its entries.
-pub load_sum : (f : Entry → ℕ) (start : Start) (course : Course) (low : List Entry) (rows : RowListValue) (batch : ℕ) (loaded : LoadedValue) (numbers : List ℕ) → Loads start course low rows batch loaded numbers → total (at_number f course.history) numbers ≡ total f (create_entries low loaded.streams ++ batch_entries loaded.streams)
-load_sum f start course low rows batch loaded numbers loads =
-    let all = both_sum f start course numbers loads.created loads.committed loads.own in
-    let creates = opens_sum f start course low low batch rows.streams loaded.streams loads.created loads.middle loads.opens in
-    let batches = streams_sum f start course loads.middle loaded.streams loads.committed loads.commits in
+pub load_sum : (f : Entry → ℕ) (start : StoreState) (log : LogState) (low : List Entry) (rows : RowListValue) (batch : ℕ) (loaded : LoadedValue) (numbers : List ℕ) → Loads start log low rows batch loaded numbers → total (at_number f log.history) numbers ≡ total f (create_entries low loaded.streams ++ batch_entries loaded.streams)
+load_sum f start log low rows batch loaded numbers loads =
+    let all = both_sum f start log numbers loads.created loads.committed loads.own in
+    let creates = opens_sum f start log low low batch rows.streams loaded.streams loads.created loads.middle loads.opens in
+    let batches = streams_sum f start log loads.middle loaded.streams loads.committed loads.commits in
     let both = total_append f (create_entries low loaded.streams) (batch_entries loaded.streams) in
     omega (arith, all, creates, batches, both)

@@ -15,9 +15,9 @@ use Rattle.btr_rows.specs.Streams.{StreamValue, RowListValue}
 use Rattle.btr_engine.specs.declared.board.Receipt.{Receipt}
 use Rattle.btr_engine.specs.declared.step.StepFault.{StepFault}
 use Rattle.btr_engine.specs.declared.step.StepFault.TheVariants.{Rejected, Stopped, Want, DeviceFull, DeviceFault}
-use Rattle.btr_jobs.specs.Course.{Start, Course}
-use Rattle.btr_load.specs.declared.fate.Fate.{Fate}
-use Rattle.btr_load.specs.declared.fate.Fate.TheVariants.{Output, NotCreated, Committed}
+use Rattle.btr_jobs.specs.States.{StoreState, LogState}
+use Rattle.btr_load.specs.declared.outcome.RowsOutcome.{RowsOutcome}
+use Rattle.btr_load.specs.declared.outcome.RowsOutcome.TheVariants.{Output, NotCreated, Committed}
 use Rattle.btr_load.specs.declared.stream.LoadedStream.{LoadedStream}
 use Rattle.btr_load.specs.Batches.{batches_of, batch_entry}
 use Rattle.btr_load.specs.Loads.{LoadedValue, Loads}
@@ -83,7 +83,7 @@ after_batches h batch (r ∷ rows) (t ∷ targets) = after_batches (after_rows h
 abbrev pub loaded : List Entry → List StreamValue → ℕ → List Entry
 loaded low rows batch = after_batches (after_creates low low rows) batch rows (targets low low rows)
 
--- ---- what it says of the fates
+-- ---- what it says of the outcomes
 
 -- The result of an entry that is offered after h.
 abbrev pub SaysEntry : List Entry → Entry → Result Receipt StepFault → Type 0
@@ -103,20 +103,20 @@ SaysBatches h stream (batch ∷ batches) [] = ⊥
 SaysBatches h stream (batch ∷ batches) (result ∷ results) =
     SaysEntry h (batch_entry stream batch) result × SaysBatches (after_entry h (batch_entry stream batch)) stream batches results
 
--- The fate of rows whose batches are offered after h, if they go to a stream.
-abbrev pub SaysFate : List Entry → ℕ → StreamValue → Target → Fate → Type 0
-SaysFate h batch r AnOutput fate = fate ≡ Output
-SaysFate h batch r (Refused why) fate = fate ≡ NotCreated (Rejected why)
-SaysFate h batch r (To stream) Output = ⊥
-SaysFate h batch r (To stream) (NotCreated fault) = ⊥
-SaysFate h batch r (To stream) (Committed of results latest) =
+-- The outcome of rows whose batches are offered after h, if they go to a stream.
+abbrev pub SaysOutcome : List Entry → ℕ → StreamValue → Target → RowsOutcome → Type 0
+SaysOutcome h batch r AnOutput outcome = outcome ≡ Output
+SaysOutcome h batch r (Refused why) outcome = outcome ≡ NotCreated (Rejected why)
+SaysOutcome h batch r (To stream) Output = ⊥
+SaysOutcome h batch r (To stream) (NotCreated fault) = ⊥
+SaysOutcome h batch r (To stream) (Committed of results latest) =
     (of ≡ stream) × SaysBatches h stream (batches_of batch r.points) results
 
-abbrev pub SaysFates : List Entry → ℕ → List StreamValue → List Target → List LoadedStream → Type 0
-SaysFates h batch [] [] [] = Unit {0}
-SaysFates h batch (r ∷ rows) (t ∷ targets) (s ∷ streams) =
-    SaysFate h batch r t s.fate × SaysFates (after_rows h batch r t) batch rows targets streams
-SaysFates h batch rows targets streams = ⊥
+abbrev pub SaysOutcomes : List Entry → ℕ → List StreamValue → List Target → List LoadedStream → Type 0
+SaysOutcomes h batch [] [] [] = Unit {0}
+SaysOutcomes h batch (r ∷ rows) (t ∷ targets) (s ∷ streams) =
+    SaysOutcome h batch r t s.outcome × SaysOutcomes (after_rows h batch r t) batch rows targets streams
+SaysOutcomes h batch rows targets streams = ⊥
 
 -- ---- the law
 
@@ -129,22 +129,22 @@ IsPlain (Err Want) = ⊥
 IsPlain (Err (DeviceFull need left)) = ⊥
 IsPlain (Err DeviceFault) = ⊥
 
-abbrev pub IsPlainFate : Fate → Type 0
-IsPlainFate Output = Unit {0}
-IsPlainFate (NotCreated fault) = IsPlain (Err fault)
-IsPlainFate (Committed stream results latest) = AllByRecursion IsPlain results
+abbrev pub IsPlainOutcome : RowsOutcome → Type 0
+IsPlainOutcome Output = Unit {0}
+IsPlainOutcome (NotCreated fault) = IsPlain (Err fault)
+IsPlainOutcome (Committed stream results latest) = AllByRecursion IsPlain results
 
--- The history h is, for each stream, the one after the plain load, and the fates are what the plain load says.
+-- The history h is, for each stream, the one after the plain load, and the outcomes are what the plain load says.
 pub record IsAlike (h low : List Entry) (rows : List StreamValue) (batch : ℕ) (streams : List LoadedStream) : Type 0 where
   pub same_ids : ids h ≡ ids (loaded low rows batch)
   pub same_kinds : kinds h ≡ kinds (loaded low rows batch)
   pub same_commits : (stream : ℕ) → commits h stream ≡ commits (loaded low rows batch) stream
-  pub fates : SaysFates (after_creates low low rows) batch rows (targets low low rows) streams
+  pub outcomes : SaysOutcomes (after_creates low low rows) batch rows (targets low low rows) streams
 
 -- Any number of workers does what the plain load does.
 abbrev pub LoadsAlike : Type 0
 LoadsAlike =
-    (start : Start) (course : Course) (low : List Entry) (rows : RowListValue) (batch : ℕ) (told : LoadedValue) (numbers : List ℕ)
-    → Follows low → AreDistinct rows.streams → OnlyOwn course low numbers → Loads start course low rows batch told numbers
-    → AllByRecursion (λ s. IsPlainFate s.fate) told.streams
-    → IsAlike course.history low rows.streams batch told.streams
+    (start : StoreState) (log : LogState) (low : List Entry) (rows : RowListValue) (batch : ℕ) (told : LoadedValue) (numbers : List ℕ)
+    → Follows low → AreDistinct rows.streams → OnlyOwn log low numbers → Loads start log low rows batch told numbers
+    → AllByRecursion (λ s. IsPlainOutcome s.outcome) told.streams
+    → IsAlike log.history low rows.streams batch told.streams

@@ -11,9 +11,9 @@ use Rattle.btr_engine.specs.declared.board.Receipt.{Receipt}
 use Rattle.btr_engine.specs.declared.step.StepFault.{StepFault}
 use Rattle.btr_engine.specs.declared.step.StepFault.TheVariants.{Stopped, Rejected, Want, DeviceFull, DeviceFault}
 use Rattle.btr_engine.specs.Body.{need_of}
-use Rattle.btr_jobs.specs.Course.{Start, Course}
-use Rattle.btr_load.specs.declared.fate.Fate.{Fate}
-use Rattle.btr_load.specs.declared.fate.Fate.TheVariants.{Output, NotCreated, Committed}
+use Rattle.btr_jobs.specs.States.{StoreState, LogState}
+use Rattle.btr_load.specs.declared.outcome.RowsOutcome.{RowsOutcome}
+use Rattle.btr_load.specs.declared.outcome.RowsOutcome.TheVariants.{Output, NotCreated, Committed}
 use Rattle.btr_load.specs.Batches.{batches_of, batch_entry}
 use Rattle.btr_load.specs.Loads.{LoadedValue, Loads}
 use Rattle.btr_load.specs.There.{OnlyOwn}
@@ -43,17 +43,17 @@ HadRoom (Err Want) = Unit {0}
 HadRoom (Err (DeviceFull need left)) = ⊥
 HadRoom (Err DeviceFault) = Unit {0}
 
-abbrev pub FateHadRoom : Fate → Type 0
-FateHadRoom Output = Unit {0}
-FateHadRoom (NotCreated fault) = HadRoom (Err fault)
-FateHadRoom (Committed stream results latest) = AllByRecursion HadRoom results
+abbrev pub OutcomeHadRoom : RowsOutcome → Type 0
+OutcomeHadRoom Output = Unit {0}
+OutcomeHadRoom (NotCreated fault) = HadRoom (Err fault)
+OutcomeHadRoom (Committed stream results latest) = AllByRecursion HadRoom results
 
 -- Nothing is refused for want of room if all blocks that the rows need were left when the hall began, and the load is the first
 -- that is added to it.
 abbrev pub LoadsFit : Type 0
 LoadsFit =
-    (start : Start) (course : Course) (rows : RowListValue) (batch : ℕ) (told : LoadedValue) (numbers : List ℕ)
-    → Follows start.history → OnlyOwn course start.history numbers
-    → Loads start course start.history rows batch told numbers
+    (start : StoreState) (log : LogState) (rows : RowListValue) (batch : ℕ) (told : LoadedValue) (numbers : List ℕ)
+    → Follows start.history → OnlyOwn log start.history numbers
+    → Loads start log start.history rows batch told numbers
     → rows_need start.history batch rows.streams ≤ start.left
-    → AllByRecursion (λ s. FateHadRoom s.fate) told.streams
+    → AllByRecursion (λ s. OutcomeHadRoom s.outcome) told.streams

@@ -10,11 +10,11 @@ use Rattle.btr_engine.specs.declared.board.Receipt.{Receipt}
 use Rattle.btr_engine.specs.declared.step.StepFault.{StepFault}
 use Rattle.btr_gate.specs.Numbers.{times}
 use Rattle.btr_gate.specs.Prefixes.{StartsWith}
-use Rattle.btr_jobs.specs.Course.{Start, Course}
+use Rattle.btr_jobs.specs.States.{StoreState, LogState}
 use Rattle.btr_jobs.specs.Turns as turns
 use Rattle.btr_jobs.specs.Turns.{IsIdle}
-use Rattle.btr_load.specs.declared.fate.Fate.{Fate}
-use Rattle.btr_load.specs.declared.fate.Fate.TheVariants.{Output, NotCreated, Committed}
+use Rattle.btr_load.specs.declared.outcome.RowsOutcome.{RowsOutcome}
+use Rattle.btr_load.specs.declared.outcome.RowsOutcome.TheVariants.{Output, NotCreated, Committed}
 use Rattle.btr_load.specs.declared.stream.LoadedStream.{LoadedStream}
 use Rattle.btr_load.specs.Batches.{last_version}
 use Rattle.btr_load.specs.Work.{StreamsDid, StreamsInTurn}
@@ -25,41 +25,41 @@ pub record LoadedValue : Type 0 where
   pub refused : List RefusedRow
 
 -- The rows were committed to this stream, which had this latest version before. `latest` is its latest version after the last batch.
-abbrev pub IsCommittedTo : ℕ → ℕ → Fate → Type 0
+abbrev pub IsCommittedTo : ℕ → ℕ → RowsOutcome → Type 0
 IsCommittedTo stream version Output = ⊥
 IsCommittedTo stream version (NotCreated fault) = ⊥
 IsCommittedTo stream version (Committed of results latest) = (of ≡ stream) × (latest ≡ last_version version results)
 
--- The fate of rows whose stream was there: an output takes none.
-abbrev pub IsFound : List Entry → ℕ → Option Spec → Fate → Type 0
-IsFound low stream None fate = IsCommittedTo stream (latest low stream) fate
-IsFound low stream (Some spec) fate = fate ≡ Output
+-- The outcome of rows whose stream was there: an output takes none.
+abbrev pub OutcomeOfFound : List Entry → ℕ → Option Spec → RowsOutcome → Type 0
+OutcomeOfFound low stream None outcome = IsCommittedTo stream (latest low stream) outcome
+OutcomeOfFound low stream (Some spec) outcome = outcome ≡ Output
 
--- The fate of rows whose stream was created, or refused.
-abbrev pub IsCreated : Result Receipt StepFault → Fate → Type 0
-IsCreated (Ok receipt) fate = IsCommittedTo receipt.stream 0 fate
-IsCreated (Err fault) fate = fate ≡ NotCreated fault
+-- The outcome of rows whose stream was created, or refused.
+abbrev pub OutcomeOfCreated : Result Receipt StepFault → RowsOutcome → Type 0
+OutcomeOfCreated (Ok receipt) outcome = IsCommittedTo receipt.stream 0 outcome
+OutcomeOfCreated (Err fault) outcome = outcome ≡ NotCreated fault
 
 -- The stream of an id is the one that the history `low` has, or else it is created right after the history p.
-abbrev pub Opens : Start → Course → List Entry → List Entry → ℕ → Option ℕ → Fate → List ℕ → List Entry → Type 0
-Opens start course low p id (Some stream) fate own next = IsFound low stream (spec_of low stream) fate × IsIdle p own next
-Opens start course low p id None fate own next =
-    (result : Result Receipt StepFault) × turns.Committed start course p (entries.Create id) result own next × IsCreated result fate
+abbrev pub CreatesIfNew : StoreState → LogState → List Entry → List Entry → ℕ → Option ℕ → RowsOutcome → List ℕ → List Entry → Type 0
+CreatesIfNew start log low p id (Some stream) outcome own next = OutcomeOfFound low stream (spec_of low stream) outcome × IsIdle p own next
+CreatesIfNew start log low p id None outcome own next =
+    (result : Result Receipt StepFault) × turns.Committed start log p (entries.Create id) result own next × OutcomeOfCreated result outcome
 
 -- The streams of rows, in order. Those that `low` has not are created one after another, the first right after the history p.
 -- `own` are the numbers of what was added, in order, and `last` is the history after it.
-abbrev pub OpensEach : Start → Course → List Entry → List Entry → ℕ → List StreamValue → List LoadedStream
+abbrev pub CreatesEach : StoreState → LogState → List Entry → List Entry → ℕ → List StreamValue → List LoadedStream
     → List ℕ → List Entry → Type 0
-OpensEach start course low p batch [] [] own last = IsIdle p own last
-OpensEach start course low p batch [] (s ∷ streams) own last = ⊥
-OpensEach start course low p batch (r ∷ rows) [] own last = ⊥
-OpensEach start course low p batch (r ∷ rows) (s ∷ streams) own last =
+CreatesEach start log low p batch [] [] own last = IsIdle p own last
+CreatesEach start log low p batch [] (s ∷ streams) own last = ⊥
+CreatesEach start log low p batch (r ∷ rows) [] own last = ⊥
+CreatesEach start log low p batch (r ∷ rows) (s ∷ streams) own last =
     (s.rows ≡ r) × (s.batch ≡ batch) × (first rest : List ℕ) × (next : List Entry) × (own ≡ first ++ rest)
-    × Opens start course low p r.id (stream_of low r.id) s.fate first next
-    × OpensEach start course low next batch rows streams rest last
+    × CreatesIfNew start log low p r.id (stream_of low r.id) s.outcome first next
+    × CreatesEach start log low next batch rows streams rest last
 
 -- A load in a hall, by a session that had seen `low` and was the only one. `numbers` are those of what the load added.
-pub record Loads (start : Start) (course : Course) (low : List Entry) (rows : RowListValue) (batch : ℕ) (loaded : LoadedValue)
+pub record Loads (start : StoreState) (log : LogState) (low : List Entry) (rows : RowListValue) (batch : ℕ) (loaded : LoadedValue)
     (numbers : List ℕ) : Type 0 where
   pub refused : loaded.refused ≡ rows.refused
   -- the numbers of the creates, and the history after them
@@ -67,13 +67,13 @@ pub record Loads (start : Start) (course : Course) (low : List Entry) (rows : Ro
   pub middle : List Entry
   -- the numbers of the batches
   pub committed : List ℕ
-  pub opens : OpensEach start course low low batch rows.streams loaded.streams created middle
-  pub begins : StartsWith course.history middle
-  pub commits : StreamsDid start course middle loaded.streams committed
+  pub opens : CreatesEach start log low low batch rows.streams loaded.streams created middle
+  pub begins : StartsWith log.history middle
+  pub commits : StreamsDid start log middle loaded.streams committed
   pub own : (n : ℕ) → times n numbers ≡ times n created + times n committed
 
 -- A load by one worker: the streams were committed one after another.
-pub record LoadsInTurn (start : Start) (course : Course) (low : List Entry) (rows : RowListValue) (batch : ℕ) (loaded : LoadedValue)
+pub record LoadsInTurn (start : StoreState) (log : LogState) (low : List Entry) (rows : RowListValue) (batch : ℕ) (loaded : LoadedValue)
     (numbers : List ℕ) : Type 0 where
-  pub loads : Loads start course low rows batch loaded numbers
-  pub in_turn : StreamsInTurn start course loads.middle loaded.streams loads.committed
+  pub loads : Loads start log low rows batch loaded numbers
+  pub in_turn : StreamsInTurn start log loads.middle loaded.streams loads.committed

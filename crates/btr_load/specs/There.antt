@@ -14,9 +14,9 @@ use Rattle.btr_rows.specs.Streams.{StreamValue, RowListValue, list_of}
 use Rattle.btr_engine.specs.declared.board.Receipt.{Receipt}
 use Rattle.btr_engine.specs.declared.step.StepFault.{StepFault}
 use Rattle.btr_gate.specs.Numbers.{one, total, times, given}
-use Rattle.btr_jobs.specs.Course.{Start, Course}
-use Rattle.btr_load.specs.declared.fate.Fate.{Fate}
-use Rattle.btr_load.specs.declared.fate.Fate.TheVariants.{Output, NotCreated, Committed}
+use Rattle.btr_jobs.specs.States.{StoreState, LogState}
+use Rattle.btr_load.specs.declared.outcome.RowsOutcome.{RowsOutcome}
+use Rattle.btr_load.specs.declared.outcome.RowsOutcome.TheVariants.{Output, NotCreated, Committed}
 use Rattle.btr_load.specs.declared.stream.LoadedStream.{LoadedStream}
 use Rattle.btr_load.specs.Batches.{batches_of, batch_entry}
 use Rattle.btr_load.specs.Loads.{LoadedValue, Loads}
@@ -30,25 +30,25 @@ accepted stream (batch ∷ batches) [] = []
 accepted stream (batch ∷ batches) (Ok receipt ∷ results) = batch_entry stream batch ∷ accepted stream batches results
 accepted stream (batch ∷ batches) (Err fault ∷ results) = accepted stream batches results
 
-abbrev pub fate_entries : List (List NumberedPoint) → Fate → List Entry
-fate_entries batches Output = []
-fate_entries batches (NotCreated fault) = []
-fate_entries batches (Committed stream results latest) = accepted stream batches results
+abbrev pub outcome_entries : List (List NumberedPoint) → RowsOutcome → List Entry
+outcome_entries batches Output = []
+outcome_entries batches (NotCreated fault) = []
+outcome_entries batches (Committed stream results latest) = accepted stream batches results
 
 abbrev pub batch_entries : List LoadedStream → List Entry
 batch_entries [] = []
-batch_entries (s ∷ streams) = fate_entries (batches_of s.batch s.rows.points) s.fate ++ batch_entries streams
+batch_entries (s ∷ streams) = outcome_entries (batches_of s.batch s.rows.points) s.outcome ++ batch_entries streams
 
 -- The entries of the creates that were accepted: those of the streams that the history `low` has not, and that were committed to.
-abbrev pub create_entry : Option ℕ → ℕ → Fate → List Entry
-create_entry (Some stream) id fate = []
+abbrev pub create_entry : Option ℕ → ℕ → RowsOutcome → List Entry
+create_entry (Some stream) id outcome = []
 create_entry None id Output = []
 create_entry None id (NotCreated fault) = []
 create_entry None id (Committed stream results latest) = Create id ∷ []
 
 abbrev pub create_entries : List Entry → List LoadedStream → List Entry
 create_entries low [] = []
-create_entries low (s ∷ streams) = create_entry (stream_of low s.rows.id) s.rows.id s.fate ++ create_entries low streams
+create_entries low (s ∷ streams) = create_entry (stream_of low s.rows.id) s.rows.id s.outcome ++ create_entries low streams
 
 -- The entries of one list are those of another, each as often, in some order: each sum over the one is the sum over the other.
 abbrev pub HasSame : List Entry → List Entry → Type 0
@@ -65,13 +65,13 @@ AreAt h stream (batch ∷ batches) (Ok receipt ∷ results) =
 AreAt h stream (batch ∷ batches) (Err fault ∷ results) = AreAt h stream batches results
 
 -- The latest version is that of the history.
-abbrev pub FateIsThere : List Entry → List (List NumberedPoint) → Fate → Type 0
-FateIsThere h batches Output = Unit {0}
-FateIsThere h batches (NotCreated fault) = Unit {0}
-FateIsThere h batches (Committed stream results latest) = AreAt h stream batches results × (latest ≡ history.latest h stream)
+abbrev pub OutcomeIsThere : List Entry → List (List NumberedPoint) → RowsOutcome → Type 0
+OutcomeIsThere h batches Output = Unit {0}
+OutcomeIsThere h batches (NotCreated fault) = Unit {0}
+OutcomeIsThere h batches (Committed stream results latest) = AreAt h stream batches results × (latest ≡ history.latest h stream)
 
 abbrev pub StreamIsThere : List Entry → LoadedStream → Type 0
-StreamIsThere h s = FateIsThere h (batches_of s.batch s.rows.points) s.fate
+StreamIsThere h s = OutcomeIsThere h (batches_of s.batch s.rows.points) s.outcome
 
 -- What is in the history h after a load that began after the history `low`.
 pub record AreThere (h low : List Entry) (loaded : LoadedValue) : Type 0 where
@@ -84,8 +84,8 @@ pub record AreThere (h low : List Entry) (loaded : LoadedValue) : Type 0 where
 -- ---- the law
 
 -- Nobody else added anything after the history `low`: each number after it is one of these, once.
-abbrev pub OnlyOwn : Course → List Entry → List ℕ → Type 0
-OnlyOwn course low numbers = (n : ℕ) → times n numbers ≡ given (length low) (length course.history + one (is_some course.failed)) n
+abbrev pub OnlyOwn : LogState → List Entry → List ℕ → Type 0
+OnlyOwn log low numbers = (n : ℕ) → times n numbers ≡ given (length low) (length log.history + one (is_some log.failed)) n
 
 -- No id stands twice.
 abbrev pub AreDistinct : List StreamValue → Type 0
@@ -98,6 +98,6 @@ RowsAreDistinct = (rows : List (ℕ × Result Row RowReason)) → AreDistinct (l
 -- A batch is in the history exactly if it was accepted, and nothing else was added but the creates.
 abbrev pub BatchesAreThere : Type 0
 BatchesAreThere =
-    (start : Start) (course : Course) (low : List Entry) (rows : RowListValue) (batch : ℕ) (loaded : LoadedValue) (numbers : List ℕ)
-    → Follows low → AreDistinct rows.streams → OnlyOwn course low numbers → Loads start course low rows batch loaded numbers
-    → AreThere course.history low loaded
+    (start : StoreState) (log : LogState) (low : List Entry) (rows : RowListValue) (batch : ℕ) (loaded : LoadedValue) (numbers : List ℕ)
+    → Follows low → AreDistinct rows.streams → OnlyOwn log low numbers → Loads start log low rows batch loaded numbers
+    → AreThere log.history low loaded

@@ -17,7 +17,7 @@ pub fn batches_are_there()
 {}
 
 /// Any number of workers leaves each stream as one worker does: with the commits of the plain load, which makes the creates in
-/// order and then commits the batches stream by stream. Each fate and result is what the plain load says. This is so if nobody
+/// order and then commits the batches stream by stream. Each outcome and result is what the plain load says. This is so if nobody
 /// else added anything, the store was not stopped, and there was enough memory and room.
 pub fn loads_are_alike()
     ensures { LoadsAlike }

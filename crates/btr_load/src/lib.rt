@@ -7,21 +7,21 @@
 #![tactic(auto)]
 
 // what became of a stream
-mod fate;
+mod outcome;
 // the commits of one stream
 mod stream;
 // the streams before any commit
 mod plan;
 // the creates
-mod opening;
+mod creating;
 // all of a load
 mod loaded;
 mod loading;
 // what follows from it
 mod laws;
 
-pub use fate::{BatchResults, Fate};
 pub use laws::{batches_are_there, loads_are_alike, loads_fit, loads_in_order, rows_are_distinct};
 pub use loaded::Loaded;
 pub use loading::load;
+pub use outcome::{BatchResults, RowsOutcome};
 pub use stream::LoadedStream;

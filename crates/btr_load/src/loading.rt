@@ -4,8 +4,8 @@ ghost use Rattle.btr_hall.specs.Session.{IsAlone};
 ghost use Rattle.btr_jobs.specs.Jobs.{IsAt, Does};
 ghost use Rattle.btr_load.specs.Loads.{Loads, LoadsInTurn};
 
+use crate::creating::create_streams;
 use crate::loaded::Loaded;
-use crate::opening::open_streams;
 use crate::plan::planned;
 use btr_disk::Disk;
 use btr_hall::{Hall, Session};
@@ -40,15 +40,15 @@ pub fn load<R: Threads + Wait + Sync, D: Disk + Send, P: Pace + Sync>(
     ensures at { IsAt hall.now session.new }
     ensures alone { IsAlone session.new }
     ensures loads { IfOk result (λ loaded. Does hall.now session.old session.new
-        (λ start course low own. Loads start course low rows batch loaded own)) }
+        (λ start log low own. Loads start log low rows batch loaded own)) }
     ensures in_turn { workers ≤ 1 → IfOk result (λ loaded. Does hall.now session.old session.new
-        (λ start course low own. LoadsInTurn start course low rows batch loaded own)) }
-    ensures refused { OnErr result (Does hall.now session.old session.new (λ start course low own. own ≡ [])) }
+        (λ start log low own. LoadsInTurn start log low rows batch loaded own)) }
+    ensures refused { OnErr result (Does hall.now session.old session.new (λ start log low own. own ≡ [])) }
 {
     let snapshot = session.admit(rt, hall)?;
     let (rows, refused) = rows.into_parts();
     let mut streams = planned(alloc, &snapshot, rows, batch)?;
-    open_streams(rt, alloc, hall, session, &snapshot, &mut streams);
+    create_streams(rt, alloc, hall, session, &snapshot, &mut streams);
     run_jobs(rt, alloc, hall, session, workers, 0, &mut streams, pace);
     Ok(Loaded::from_parts(streams, refused))
 }

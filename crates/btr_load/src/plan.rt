@@ -5,10 +5,10 @@ ghost use Rattle.btr_hist.specs.History.{ids, stream_of, spec_of};
 ghost use Rattle.btr_engine.specs.Snapshot.{IsSnapshotOf};
 ghost use Rattle.btr_load.specs.Batches.{batches_of};
 ghost use Rattle.btr_load.specs.Work.{IsBlank};
-ghost use Rattle.btr_load.specs.Loads.{IsCommittedTo, IsFound};
+ghost use Rattle.btr_load.specs.Loads.{IsCommittedTo, OutcomeOfFound};
 ghost use Rattle.btr_load.specs.Plan.{ArePlanned, IsPlanned, AreReady};
 
-use crate::fate::{BatchResults, Fate};
+use crate::outcome::{BatchResults, RowsOutcome};
 use crate::stream::LoadedStream;
 use btr_engine::Snapshot;
 use btr_rows::{NumberedPoint, StreamRows};
@@ -27,69 +27,69 @@ pub(crate) fn planned(
 {
     let mut streams = Vec::with_capacity(alloc, rows.len())?;
     for of_stream in rows {
-        let fate = fate_of(alloc, snapshot, &of_stream, batch)?;
+        let outcome = outcome_of(alloc, snapshot, &of_stream, batch)?;
         streams.push(LoadedStream {
             rows: of_stream,
             batch,
-            fate,
+            outcome,
         })?;
     }
     Ok(streams)
 }
 
 /// Returns what is planned for rows. An `Err` means out of memory.
-fn fate_of(
+fn outcome_of(
     alloc: Global,
     snapshot: &Snapshot,
     rows: &StreamRows,
     batch: u32,
-) -> Result<Fate, AllocError>
+) -> Result<RowsOutcome, AllocError>
     requires batch { 1 ≤ batch }
     ensures blank { IfOk result (IsBlank (batches_of batch rows.now.points)) }
     ensures planned { (h : List EntrySpec) → IsSnapshotOf h snapshot.now
         → IfOk result (IsPlanned h (stream_of h rows.now.id)) }
 {
     match snapshot.find(rows.id()) {
-        Some(stream) => found_fate(alloc, snapshot, stream, rows, batch),
-        None => blank_fate(alloc, 0, 0, rows, batch),
+        Some(stream) => found_outcome(alloc, snapshot, stream, rows, batch),
+        None => blank_outcome(alloc, 0, 0, rows, batch),
     }
 }
 
 /// Returns what is planned for rows whose stream is there. An `Err` means out of memory.
-fn found_fate(
+fn found_outcome(
     alloc: Global,
     snapshot: &Snapshot,
     stream: u32,
     rows: &StreamRows,
     batch: u32,
-) -> Result<Fate, AllocError>
+) -> Result<RowsOutcome, AllocError>
     requires batch { 1 ≤ batch }
     ensures blank { IfOk result (IsBlank (batches_of batch rows.now.points)) }
     ensures planned { (h : List EntrySpec) → IsSnapshotOf h snapshot.now → stream < length (ids h)
-        → IfOk result (IsFound h stream (spec_of h stream)) }
+        → IfOk result (OutcomeOfFound h stream (spec_of h stream)) }
 {
     if snapshot.spec(stream).is_some() {
-        return Ok(Fate::Output);
+        return Ok(RowsOutcome::Output);
     }
     let latest = snapshot.latest(stream).unwrap_or(0);
-    blank_fate(alloc, stream, latest, rows, batch)
+    blank_outcome(alloc, stream, latest, rows, batch)
 }
 
-/// Returns the fate of rows before the commits to this stream, of which this is the latest version. An `Err` means out of memory.
-fn blank_fate(
+/// Returns the outcome of rows before the commits to this stream, of which this is the latest version. An `Err` means out of memory.
+fn blank_outcome(
     alloc: Global,
     stream: u32,
     latest: u64,
     rows: &StreamRows,
     batch: u32,
-) -> Result<Fate, AllocError>
+) -> Result<RowsOutcome, AllocError>
     requires batch { 1 ≤ batch }
     ensures blank { IfOk result (IsBlank (batches_of batch rows.now.points)) }
     ensures planned { IfOk result (IsCommittedTo stream latest) }
 {
     let batches = batch_count(rows.points(), batch);
     let results = BatchResults::blank(alloc, batches)?;
-    Ok(Fate::Committed {
+    Ok(RowsOutcome::Committed {
         stream,
         results,
         latest,

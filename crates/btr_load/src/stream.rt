@@ -4,7 +4,7 @@ ghost use Rattle.btr_jobs.specs.Jobs.{IsAt, Does};
 ghost use Rattle.btr_load.specs.Batches.{batch_entry, last_version};
 ghost use Rattle.btr_load.specs.Work.{OneBatchDid, AllBatchesDid};
 
-use crate::fate::Fate;
+use crate::outcome::RowsOutcome;
 use btr_base::{Bag, Point, Ranges};
 use btr_disk::Disk;
 use btr_engine::{Receipt, StepFault};
@@ -27,14 +27,14 @@ pub struct LoadedStream {
     pub batch: u32,
 
     /// What became of the points.
-    pub fate: Fate,
+    pub outcome: RowsOutcome,
 }
 
 impl Job for LoadedStream {
-    ghost use Rattle.btr_load.specs.Work.{Works};
+    ghost use Rattle.btr_load.specs.Work.{CommitsStream};
     ghost use Rattle.btr_load.specs.WorkLaws.{works_lasts, works_lowers};
 
-    ghost did = { Works };
+    ghost did = { CommitsStream };
 
     fn run<R: Threads + Wait + Sync, D: Disk + Send>(
         &mut self,
@@ -44,11 +44,11 @@ impl Job for LoadedStream {
         session: &mut Session<D>,
     ) {
         let points = self.rows.points();
-        if let Fate::Committed {
+        if let RowsOutcome::Committed {
             stream,
             results,
             latest,
-        } = &mut self.fate
+        } = &mut self.outcome
         {
             commit_batches(
                 rt,
@@ -83,7 +83,7 @@ fn commit_batches<R: Wait, D: Disk>(
     requires at { IsAt hall.now session.old }
     ensures at { IsAt hall.now session.new }
     ensures does { Does hall.now session.old session.new
-        (λ start course low own. AllBatchesDid start course low stream batch points.now results.old results.new own) }
+        (λ start log low own. AllBatchesDid start log low stream batch points.now results.old results.new own) }
 {
     let mut rest = points;
     for i in 0..results.len() {
@@ -106,7 +106,7 @@ fn commit_batch<R: Wait, D: Disk>(
     requires at { IsAt hall.now session.old }
     ensures at { IsAt hall.now session.new }
     ensures does { Does hall.now session.old session.new
-        (λ start course low own. OneBatchDid start course low stream batch.now result own) }
+        (λ start log low own. OneBatchDid start log low stream batch.now result own) }
 {
     let entry = batch_entry(alloc, stream, batch)?;
     session.commit(rt, alloc, hall, &entry)

@@ -22,7 +22,7 @@ use Rattle.btr_hall.specs.declared.land.LandFault.TheVariants as faults
 use Rattle.btr_gate.specs.Numbers.{one, times}
 use Rattle.btr_gate.specs.Prefixes.{StartsWith}
 use Rattle.btr_gate.proofs.PrefixLemmas.{starts_same, starts_length, starts_trans, starts_between, starts_more}
-use Rattle.btr_jobs.specs.Course.{Start, Course, GoesOn}
+use Rattle.btr_jobs.specs.States.{StoreState, LogState, GoesOn}
 use Rattle.btr_jobs.specs.Turns.{IsAdded, IsFailed, IsIdle, Committed, Landed, LandedAfter}
 use Rattle.btr_store.specs.Work.{AddsAllowed, all_entries}
 
@@ -37,23 +37,23 @@ the_number n m listed =
     ] refl
 
 -- Work that adds nothing.
-pub allows_none : (course : Course) (own : List ℕ) → ((n : ℕ) → times n own ≡ 0) → AddsAllowed course own
-allows_none course own none p e starts listed legal = absurd (omega (arith, listed, none (length p + 1)))
+pub allows_none : (log : LogState) (own : List ℕ) → ((n : ℕ) → times n own ≡ 0) → AddsAllowed log own
+allows_none log own none p e starts listed legal = absurd (omega (arith, listed, none (length p + 1)))
 
-pub allows_nothing : (course : Course) (own : List ℕ) → own ≡ [] → AddsAllowed course own
-allows_nothing course own none = allows_none course own (λ n. ap (times n) none)
+pub allows_nothing : (log : LogState) (own : List ℕ) → own ≡ [] → AddsAllowed log own
+allows_nothing log own none = allows_none log own (λ n. ap (times n) none)
 
 -- Work of two parts.
-pub allows_both : (course : Course) (own a b : List ℕ) → ((n : ℕ) → times n own ≡ times n a + times n b) → AddsAllowed course a → AddsAllowed course b → AddsAllowed course own
-allows_both course own a b sum first second p e starts listed legal =
+pub allows_both : (log : LogState) (own a b : List ℕ) → ((n : ℕ) → times n own ≡ times n a + times n b) → AddsAllowed log a → AddsAllowed log b → AddsAllowed log own
+allows_both log own a b sum first second p e starts listed legal =
     let n : ℕ = length p + 1 in
     ⊎_elim
     (λ (some : 0 < times n a). first p e starts (omega (arith, some)) legal)
     (λ (none : times n a ≤ 0). second p e starts (omega (arith, none, listed, sum n)) legal)
     (cases_lt 0 (times n a))
 
--- What was allowed in an earlier course is so in a later one.
-pub allows_later : (start : Start) (late early : Course) (own : List ℕ) → GoesOn start late early → ((n : ℕ) → 1 ≤ times n own → n ≤ length early.history) → AddsAllowed early own → AddsAllowed late own
+-- What was allowed in an earlier log is so in a later one.
+pub allows_later : (start : StoreState) (late early : LogState) (own : List ℕ) → GoesOn start late early → ((n : ℕ) → 1 ≤ times n own → n ≤ length early.history) → AddsAllowed early own → AddsAllowed late own
 allows_later start late early own on within allowed p e starts listed legal =
     let long : length (p ++ e ∷ []) ≡ length p + 1 = length-append p (e ∷ []) in
     let inside : StartsWith early.history (p ++ e ∷ []) =
@@ -70,10 +70,10 @@ last_same (x ∷ p) [] e f is whole = absurd (cc)
 last_same (x ∷ p) (y ∷ q) e f is whole = last_same p q e f (tail-eq_of_cons-eq is) (tail-eq_of_cons-eq whole)
 
 -- The entry of a number is the one that stands at its place.
-allows_at : (course : Course) (p : List Entry) (e : Entry) (own : List ℕ) → StartsWith (all_entries course) (p ++ e ∷ []) → own ≡ (length p + 1) ∷ [] → (Legal p → Allowed p e) → AddsAllowed course own
-allows_at course p e own at is allowed q f starts listed legal =
+allows_at : (log : LogState) (p : List Entry) (e : Entry) (own : List ℕ) → StartsWith (all_entries log) (p ++ e ∷ []) → own ≡ (length p + 1) ∷ [] → (Legal p → Allowed p e) → AddsAllowed log own
+allows_at log p e own at is allowed q f starts listed legal =
     let n : ℕ = length q + 1 in
-    let all : List Entry = all_entries course in
+    let all : List Entry = all_entries log in
     let here : 1 ≤ times n ((length p + 1) ∷ []) = omega (arith, listed, ap (times n) is) in
     let same : length p + 1 ≡ n = the_number n (length p + 1) here in
     let long_p : length (p ++ e ∷ []) ≡ length p + 1 = length-append p (e ∷ []) in
@@ -84,37 +84,37 @@ allows_at course p e own at is allowed q f starts listed legal =
     subst (λ (x : Entry). Allowed q x) entry (subst (λ (k : List Entry). Allowed k e) before (allowed (subst Legal (sym before) legal)))
 
 -- The entry of a turn follows its history.
-pub allows_added : (course : Course) (p : List Entry) (e : Entry) (own : List ℕ) (next : List Entry) → IsAdded course p e own next → (Legal p → Allowed p e) → AddsAllowed course own
-allows_added course p e own next added allowed =
-    allows_at course p e own (starts_more course.history (p ++ e ∷ []) (option_to_list course.failed) added.follows) added.own allowed
+pub allows_added : (log : LogState) (p : List Entry) (e : Entry) (own : List ℕ) (next : List Entry) → IsAdded log p e own next → (Legal p → Allowed p e) → AddsAllowed log own
+allows_added log p e own next added allowed =
+    allows_at log p e own (starts_more log.history (p ++ e ∷ []) (option_to_list log.failed) added.follows) added.own allowed
 
 -- The entry of a failed turn is the one in whose step the device failed.
-pub allows_failed : (course : Course) (p : List Entry) (e : Entry) (own : List ℕ) (next : List Entry) → IsFailed course p e own next → (Legal p → Allowed p e) → AddsAllowed course own
-allows_failed course p e own next failed allowed =
-    let whole : all_entries course ≡ p ++ e ∷ [] =
-    ap (λ (h : List Entry). h ++ option_to_list course.failed) failed.last ∙ ap (λ (o : Option Entry). p ++ option_to_list o) failed.failed in
-    allows_at course p e own ([], whole ∙ sym (append-nil (p ++ e ∷ []))) failed.own allowed
+pub allows_failed : (log : LogState) (p : List Entry) (e : Entry) (own : List ℕ) (next : List Entry) → IsFailed log p e own next → (Legal p → Allowed p e) → AddsAllowed log own
+allows_failed log p e own next failed allowed =
+    let whole : all_entries log ≡ p ++ e ∷ [] =
+    ap (λ (h : List Entry). h ++ option_to_list log.failed) failed.last ∙ ap (λ (o : Option Entry). p ++ option_to_list o) failed.failed in
+    allows_at log p e own ([], whole ∙ sym (append-nil (p ++ e ∷ []))) failed.own allowed
 
-allows_idle : (course : Course) (p : List Entry) (own : List ℕ) (next : List Entry) → IsIdle p own next → AddsAllowed course own
-allows_idle course p own next idle = allows_nothing course own idle.own
+allows_idle : (log : LogState) (p : List Entry) (own : List ℕ) (next : List Entry) → IsIdle p own next → AddsAllowed log own
+allows_idle log p own next idle = allows_nothing log own idle.own
 
 -- A user's entry.
-pub allows_committed : (start : Start) (course : Course) (p : List Entry) (e : Entry) (result : Result Receipt StepFault) (own : List ℕ) (next : List Entry) → IsComputed p e → Committed start course p e result own next → AddsAllowed course own
-allows_committed start course p e (Ok receipt) own next computed did =
-    allows_added course p e own next did.2 (λ legal. record { accepted = did.0; computed = computed })
-allows_committed start course p e (Err (steps.Stopped entries)) own next computed did = allows_idle course p own next did.1
-allows_committed start course p e (Err (steps.Rejected why)) own next computed did = allows_idle course p own next did.1
-allows_committed start course p e (Err steps.Want) own next computed did = allows_idle course p own next did.1
-allows_committed start course p e (Err (steps.DeviceFull need left)) own next computed did = allows_idle course p own next did.2
-allows_committed start course p e (Err steps.DeviceFault) own next computed did =
-    allows_failed course p e own next did.1 (λ legal. record { accepted = did.0; computed = computed })
+pub allows_committed : (start : StoreState) (log : LogState) (p : List Entry) (e : Entry) (result : Result Receipt StepFault) (own : List ℕ) (next : List Entry) → IsComputed p e → Committed start log p e result own next → AddsAllowed log own
+allows_committed start log p e (Ok receipt) own next computed did =
+    allows_added log p e own next did.2 (λ legal. record { accepted = did.0; computed = computed })
+allows_committed start log p e (Err (steps.Stopped entries)) own next computed did = allows_idle log p own next did.1
+allows_committed start log p e (Err (steps.Rejected why)) own next computed did = allows_idle log p own next did.1
+allows_committed start log p e (Err steps.Want) own next computed did = allows_idle log p own next did.1
+allows_committed start log p e (Err (steps.DeviceFull need left)) own next computed did = allows_idle log p own next did.2
+allows_committed start log p e (Err steps.DeviceFault) own next computed did =
+    allows_failed log p e own next did.1 (λ legal. record { accepted = did.0; computed = computed })
 
 either_true : (a b : Bool) → b ≡ true → (a || b) ≡ true
 either_true true b is = refl
 either_true false b is = is
 
--- A user's entry, in a later course.
-pub allows_committed_later : (start : Start) (late early : Course) (p : List Entry) (e : Entry) (result : Result Receipt StepFault) (own : List ℕ) (next : List Entry) → GoesOn start late early → IsComputed p e → Committed start early p e result own next → AddsAllowed late own
+-- A user's entry, in a later state of the log.
+pub allows_committed_later : (start : StoreState) (late early : LogState) (p : List Entry) (e : Entry) (result : Result Receipt StepFault) (own : List ℕ) (next : List Entry) → GoesOn start late early → IsComputed p e → Committed start early p e result own next → AddsAllowed late own
 allows_committed_later start late early p e (Ok receipt) own next on computed did =
     let long : length (p ++ e ∷ []) ≡ length p + 1 = length-append p (e ∷ []) in
     let below : length (p ++ e ∷ []) ≤ length early.history = starts_length early.history (p ++ e ∷ []) did.2.follows in
@@ -129,7 +129,7 @@ allows_committed_later start late early p e (Err steps.Want) own next on compute
 allows_committed_later start late early p e (Err (steps.DeviceFull need left)) own next on computed did = allows_idle late p own next did.2
 allows_committed_later start late early p e (Err steps.DeviceFault) own next on computed did =
     let some : is_some early.failed ≡ true = ap (λ (o : Option Entry). is_some o) did.1.failed in
-    subst (λ (k : Course). AddsAllowed k own) (sym (on.ends (either_true start.stopped (is_some early.failed) some)))
+    subst (λ (k : LogState). AddsAllowed k own) (sym (on.ends (either_true start.stopped (is_some early.failed) some)))
     (allows_failed early p e own next did.1 (λ legal. record { accepted = did.0; computed = computed }))
 
 -- ---- plans
@@ -167,21 +167,21 @@ plan_failed q p plan starts of current accepted legal =
     record { accepted = accepted; computed = plan-computed p plan (plan_here q p plan starts of legal) current }
 
 -- A landing.
-pub allows_landed : (start : Start) (course : Course) (q : List Entry) (plan : PlanValue) (result : Result Receipt LandFault) (own : List ℕ) (next : List Entry) → IsPlanOf q plan → LandedAfter start course q plan result own next → AddsAllowed course own
-allows_landed start course q plan result own next of did = by_result result did.3
+pub allows_landed : (start : StoreState) (log : LogState) (q : List Entry) (plan : PlanValue) (result : Result Receipt LandFault) (own : List ℕ) (next : List Entry) → IsPlanOf q plan → LandedAfter start log q plan result own next → AddsAllowed log own
+allows_landed start log q plan result own next of did = by_result result did.3
   where
     p : List Entry
     p = did.0
 
-    by_result : (result : Result Receipt LandFault) → Landed start course p plan result own next → AddsAllowed course own
+    by_result : (result : Result Receipt LandFault) → Landed start log p plan result own next → AddsAllowed log own
     by_result (Ok receipt) landed =
-        allows_added course p (entry_of plan) own next landed.2 (λ legal. plan_allowed q p plan _ did.1 of landed.0 legal)
-    by_result (Err (faults.Stopped entries)) landed = allows_idle course p own next landed.1
-    by_result (Err (faults.Superseded version)) landed = allows_idle course p own next landed.3
-    by_result (Err faults.VersionLimit) landed = allows_idle course p own next landed.2
-    by_result (Err (faults.Crowded at)) landed = allows_idle course p own next landed.3
-    by_result (Err (faults.TooManyPoints count)) landed = allows_idle course p own next landed.3
-    by_result (Err faults.Want) landed = allows_idle course p own next landed.2
-    by_result (Err (faults.DeviceFull need left)) landed = allows_idle course p own next landed.3
+        allows_added log p (entry_of plan) own next landed.2 (λ legal. plan_allowed q p plan _ did.1 of landed.0 legal)
+    by_result (Err (faults.Stopped entries)) landed = allows_idle log p own next landed.1
+    by_result (Err (faults.Superseded version)) landed = allows_idle log p own next landed.3
+    by_result (Err faults.VersionLimit) landed = allows_idle log p own next landed.2
+    by_result (Err (faults.Crowded at)) landed = allows_idle log p own next landed.3
+    by_result (Err (faults.TooManyPoints count)) landed = allows_idle log p own next landed.3
+    by_result (Err faults.Want) landed = allows_idle log p own next landed.2
+    by_result (Err (faults.DeviceFull need left)) landed = allows_idle log p own next landed.3
     by_result (Err faults.DeviceFault) landed =
-        allows_failed course p (entry_of plan) own next landed.2 (λ legal. plan_failed q p plan did.1 of landed.0 landed.1 legal)
+        allows_failed log p (entry_of plan) own next landed.2 (λ legal. plan_failed q p plan did.1 of landed.0 landed.1 legal)

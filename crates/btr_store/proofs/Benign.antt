@@ -14,14 +14,14 @@ use Rattle.btr_engine.specs.declared.step.StepFault.{StepFault}
 use Rattle.btr_engine.specs.declared.step.StepFault.TheVariants as steps
 use Rattle.btr_hall.specs.declared.land.LandFault.{LandFault}
 use Rattle.btr_hall.specs.declared.land.LandFault.TheVariants as faults
-use Rattle.btr_load.specs.declared.fate.Fate.{Fate}
-use Rattle.btr_load.specs.declared.fate.Fate.TheVariants.{Output, NotCreated, Committed}
+use Rattle.btr_load.specs.declared.outcome.RowsOutcome.{RowsOutcome}
+use Rattle.btr_load.specs.declared.outcome.RowsOutcome.TheVariants.{Output, NotCreated, Committed}
 use Rattle.btr_load.specs.declared.stream.LoadedStream.{LoadedStream}
 use Rattle.btr_load.specs.Loads.{LoadedValue}
-use Rattle.btr_load.specs.Fits.{HadRoom, FateHadRoom}
-use Rattle.btr_work.specs.declared.report.Brought.{Brought}
-use Rattle.btr_work.specs.declared.report.Brought.TheVariants as results
-use Rattle.btr_work.specs.declared.report.ReportLine as brought
+use Rattle.btr_load.specs.Fits.{HadRoom, OutcomeHadRoom}
+use Rattle.btr_work.specs.declared.report.Refreshed.{Refreshed}
+use Rattle.btr_work.specs.declared.report.Refreshed.TheVariants as results
+use Rattle.btr_work.specs.declared.report.ReportLine as refreshed
 use Rattle.btr_report.specs.declared.line.ReportLine.{ReportLine}
 use Rattle.btr_report.specs.declared.line.ReportLine.TheVariants as lines
 use Rattle.btr_store.specs.declared.define.DefinedOutput.{DefinedOutput}
@@ -30,12 +30,12 @@ use Rattle.btr_store.specs.declared.status.Status.{Status}
 use Rattle.btr_store.specs.declared.status.Status.TheVariants.{Done}
 use Rattle.btr_store.specs.declared.transcript.Transcript.{Transcript}
 use Rattle.btr_live.specs.Reasons.{reason_of_step, reason_of_landing}
-use Rattle.btr_store.specs.Status.{rank, greater, greatest, status_of_reason, status_of_line}
+use Rattle.btr_store.specs.Status.{status_rank, greater, greatest_of_lines, status_of_reason, status_of_line}
 use Rattle.btr_store.specs.Transcript.{SaysLines}
 use Rattle.btr_store.specs.Completes.{IsBenign}
-use Rattle.btr_store.specs.Distil.{line_of, output_line}
-use Rattle.btr_store.specs.Streams.{id_of}
-use Rattle.btr_store.specs.LoadLines.{row_line, batch_spans, fate_spans, fate_line, stream_spans, stream_lines, total_line, SaysLoad}
+use Rattle.btr_store.specs.Distil.{line_of_output, output_line}
+use Rattle.btr_store.specs.Streams.{id_of_stream}
+use Rattle.btr_store.specs.LoadLines.{row_line, batch_spans, outcome_spans, outcome_line, stream_spans, stream_lines, total_line, SaysLoad}
 use Rattle.btr_store.specs.SampleLines.{refusal_line, define_line, landing_refusal, landing_line, summary_line, summary_lines, SaysAll}
 
 -- ---- statuses
@@ -45,14 +45,14 @@ one_of_two true x y first second = second
 one_of_two false x y first second = first
 
 greater_benign : (a b : Status) → IsBenign a → IsBenign b → IsBenign (greater a b)
-greater_benign a b first second = one_of_two (nat_lt (rank a) (rank b)) a b first second
+greater_benign a b first second = one_of_two (nat_lt (status_rank a) (status_rank b)) a b first second
 
 -- ---- lines
 
 abbrev pub AreBenign : List ReportLine → Type 0
 AreBenign all = AllByRecursion (λ line. IsBenign (status_of_line line)) all
 
-greatest_benign : (s : Status) (all : List ReportLine) → IsBenign s → AreBenign all → IsBenign (greatest s all)
+greatest_benign : (s : Status) (all : List ReportLine) → IsBenign s → AreBenign all → IsBenign (greatest_of_lines s all)
 greatest_benign s [] first each = first
 greatest_benign s (line ∷ more) first each =
     greatest_benign (greater s (status_of_line line)) more (greater_benign s (status_of_line line) first each.0) each.1
@@ -76,7 +76,7 @@ Ran (Err steps.Want) = Unit {0}
 Ran (Err (steps.DeviceFull need left)) = Unit {0}
 Ran (Err steps.DeviceFault) = ⊥
 
-abbrev pub FateRan : Fate → Type 0
+abbrev pub FateRan : RowsOutcome → Type 0
 FateRan Output = Unit {0}
 FateRan (NotCreated fault) = Ran (Err fault)
 FateRan (Committed stream results latest) = AllByRecursion Ran results
@@ -113,18 +113,18 @@ spans_benign id size points (Ok receipt ∷ all) room ran = spans_benign id size
 spans_benign id size points (Err fault ∷ all) room ran =
     (step_benign fault room.0 ran.0, spans_benign id size (drop size points) all room.1 ran.1)
 
-fate_benign : (id size : ℕ) (points : List NumberedPoint) (fate : Fate) → FateHadRoom fate → FateRan fate → AreBenign (fate_spans id size points fate ++ fate_line id size points fate)
-fate_benign id size points Output room ran = tt
-fate_benign id size points (NotCreated fault) room ran = (step_benign fault room ran, tt)
-fate_benign id size points (Committed stream all latest) room ran =
-    append_benign (batch_spans id size points all) (fate_line id size points (Committed stream all latest)) (spans_benign id size points all room ran) (inl refl, tt)
+outcome_benign : (id size : ℕ) (points : List NumberedPoint) (outcome : RowsOutcome) → OutcomeHadRoom outcome → FateRan outcome → AreBenign (outcome_spans id size points outcome ++ outcome_line id size points outcome)
+outcome_benign id size points Output room ran = tt
+outcome_benign id size points (NotCreated fault) room ran = (step_benign fault room ran, tt)
+outcome_benign id size points (Committed stream all latest) room ran =
+    append_benign (batch_spans id size points all) (outcome_line id size points (Committed stream all latest)) (spans_benign id size points all room ran) (inl refl, tt)
 
-streams_benign : (streams : List LoadedStream) → AllByRecursion (λ s. FateHadRoom s.fate) streams → AllByRecursion (λ s. FateRan s.fate) streams → AreBenign (flat_map stream_lines streams)
+streams_benign : (streams : List LoadedStream) → AllByRecursion (λ s. OutcomeHadRoom s.outcome) streams → AllByRecursion (λ s. FateRan s.outcome) streams → AreBenign (flat_map stream_lines streams)
 streams_benign [] room ran = tt
 streams_benign (s ∷ streams) room ran =
-    append_benign (stream_lines s) (flat_map stream_lines streams) (fate_benign s.rows.id s.batch s.rows.points s.fate room.0 ran.0) (streams_benign streams room.1 ran.1)
+    append_benign (stream_lines s) (flat_map stream_lines streams) (outcome_benign s.rows.id s.batch s.rows.points s.outcome room.0 ran.0) (streams_benign streams room.1 ran.1)
 
-pub load_benign : (l : LoadedValue) (t : Transcript) → SaysLoad l t → AllByRecursion (λ s. FateHadRoom s.fate) l.streams → AllByRecursion (λ s. FateRan s.fate) l.streams → IsBenign t.status
+pub load_benign : (l : LoadedValue) (t : Transcript) → SaysLoad l t → AllByRecursion (λ s. OutcomeHadRoom s.outcome) l.streams → AllByRecursion (λ s. FateRan s.outcome) l.streams → IsBenign t.status
 load_benign l t says room ran =
     let rows : List ReportLine = map row_line says.0 in
     let streams : List ReportLine = flat_map stream_lines l.streams in
@@ -135,7 +135,7 @@ load_benign l t says room ran =
 -- ---- outputs
 
 -- The result came neither from a full device nor from a failed one.
-abbrev pub IsCalm : Brought → Type 0
+abbrev pub IsCalm : Refreshed → Type 0
 IsCalm (results.Landed version) = Unit {0}
 IsCalm (results.Current version) = Unit {0}
 IsCalm (results.Refused (faults.Stopped entries)) = Unit {0}
@@ -157,27 +157,27 @@ landing_benign faults.Want calm = inr (inr refl)
 landing_benign (faults.DeviceFull need left) calm = absurd calm
 landing_benign faults.DeviceFault calm = absurd calm
 
-line_benign : (h : List Entry) (id output : ℕ) (result : Brought) → IsCalm result → IsBenign (status_of_line (line_of h id output result))
+line_benign : (h : List Entry) (id output : ℕ) (result : Refreshed) → IsCalm result → IsBenign (status_of_line (line_of_output h id output result))
 line_benign h id output (results.Landed version) calm = inl refl
 line_benign h id output (results.Current version) calm = inl refl
 line_benign h id output (results.Refused fault) calm = landing_benign fault calm
 
-pub report_benign : (h : List Entry) (report : List brought.ReportLine) → AllByRecursion (λ line. IsCalm line.result) report → AreBenign (map (output_line h) report)
+pub report_benign : (h : List Entry) (report : List refreshed.ReportLine) → AllByRecursion (λ line. IsCalm line.result) report → AreBenign (map (output_line h) report)
 report_benign h [] calm = tt
 report_benign h (line ∷ report) calm =
-    (line_benign h (id_of h line.output) line.output line.result calm.0, report_benign h report calm.1)
+    (line_benign h (id_of_stream h line.output) line.output line.result calm.0, report_benign h report calm.1)
 
 -- ---- samples
 
-fate_spans_benign : (id size : ℕ) (points : List NumberedPoint) (fate : Fate) → FateHadRoom fate → FateRan fate → AreBenign (fate_spans id size points fate)
-fate_spans_benign id size points Output room ran = tt
-fate_spans_benign id size points (NotCreated fault) room ran = (step_benign fault room ran, tt)
-fate_spans_benign id size points (Committed stream all latest) room ran = spans_benign id size points all room ran
+outcome_spans_benign : (id size : ℕ) (points : List NumberedPoint) (outcome : RowsOutcome) → OutcomeHadRoom outcome → FateRan outcome → AreBenign (outcome_spans id size points outcome)
+outcome_spans_benign id size points Output room ran = tt
+outcome_spans_benign id size points (NotCreated fault) room ran = (step_benign fault room ran, tt)
+outcome_spans_benign id size points (Committed stream all latest) room ran = spans_benign id size points all room ran
 
-all_spans_benign : (streams : List LoadedStream) → AllByRecursion (λ s. FateHadRoom s.fate) streams → AllByRecursion (λ s. FateRan s.fate) streams → AreBenign (flat_map stream_spans streams)
+all_spans_benign : (streams : List LoadedStream) → AllByRecursion (λ s. OutcomeHadRoom s.outcome) streams → AllByRecursion (λ s. FateRan s.outcome) streams → AreBenign (flat_map stream_spans streams)
 all_spans_benign [] room ran = tt
 all_spans_benign (s ∷ streams) room ran =
-    append_benign (stream_spans s) (flat_map stream_spans streams) (fate_spans_benign s.rows.id s.batch s.rows.points s.fate room.0 ran.0) (all_spans_benign streams room.1 ran.1)
+    append_benign (stream_spans s) (flat_map stream_spans streams) (outcome_spans_benign s.rows.id s.batch s.rows.points s.outcome room.0 ran.0) (all_spans_benign streams room.1 ran.1)
 
 -- The output was not refused, or for another reason.
 abbrev pub IsCalmOutput : DefinedOutput → Type 0
@@ -192,21 +192,21 @@ defines_benign [] calm = tt
 defines_benign (output ∷ outputs) calm =
     append_benign (define_line output) (flat_map define_line outputs) (refusal_benign output.id output.refused calm.0) (defines_benign outputs calm.1)
 
-landing_if_refused : (result : Brought) → IsCalm result → IfSome (landing_refusal result) (λ reason. IsBenign (status_of_reason reason))
+landing_if_refused : (result : Refreshed) → IsCalm result → IfSome (landing_refusal result) (λ reason. IsBenign (status_of_reason reason))
 landing_if_refused (results.Landed version) calm = tt
 landing_if_refused (results.Current version) calm = tt
 landing_if_refused (results.Refused fault) calm = landing_benign fault calm
 
-landings_benign : (h : List Entry) (report : List brought.ReportLine) → AllByRecursion (λ line. IsCalm line.result) report → AreBenign (flat_map (landing_line h) report)
+landings_benign : (h : List Entry) (report : List refreshed.ReportLine) → AllByRecursion (λ line. IsCalm line.result) report → AreBenign (flat_map (landing_line h) report)
 landings_benign h [] calm = tt
 landings_benign h (line ∷ report) calm =
-    append_benign (landing_line h line) (flat_map (landing_line h) report) (refusal_benign (id_of h line.output) (landing_refusal line.result) (landing_if_refused line.result calm.0)) (landings_benign h report calm.1)
+    append_benign (landing_line h line) (flat_map (landing_line h) report) (refusal_benign (id_of_stream h line.output) (landing_refusal line.result) (landing_if_refused line.result calm.0)) (landings_benign h report calm.1)
 
-summaries_benign : (h : List Entry) (streams : List ℕ) → AreBenign (map (λ stream. summary_line h (id_of h stream) stream) streams)
+summaries_benign : (h : List Entry) (streams : List ℕ) → AreBenign (map (λ stream. summary_line h (id_of_stream h stream) stream) streams)
 summaries_benign h [] = tt
 summaries_benign h (stream ∷ streams) = (inl refl, summaries_benign h streams)
 
-pub sample_benign : (h : List Entry) (l : LoadedValue) (outputs : List DefinedOutput) (report : List brought.ReportLine) (t : Transcript) → SaysAll h l outputs report t → AllByRecursion (λ s. FateHadRoom s.fate) l.streams → AllByRecursion (λ s. FateRan s.fate) l.streams → AllByRecursion IsCalmOutput outputs → AllByRecursion (λ line. IsCalm line.result) report → IsBenign t.status
+pub sample_benign : (h : List Entry) (l : LoadedValue) (outputs : List DefinedOutput) (report : List refreshed.ReportLine) (t : Transcript) → SaysAll h l outputs report t → AllByRecursion (λ s. OutcomeHadRoom s.outcome) l.streams → AllByRecursion (λ s. FateRan s.outcome) l.streams → AllByRecursion IsCalmOutput outputs → AllByRecursion (λ line. IsCalm line.result) report → IsBenign t.status
 sample_benign h l outputs report t says room ran defined calm =
     let rows : List ReportLine = map row_line says.0 in
     let spans : List ReportLine = flat_map stream_spans l.streams in

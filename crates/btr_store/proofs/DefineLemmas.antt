@@ -18,7 +18,7 @@ use Rattle.btr_hall.specs.declared.look.Found.{Found}
 use Rattle.btr_hall.specs.declared.session.Hall.{Hall}
 use Rattle.btr_hall.specs.declared.session.Session.{Session}
 use Rattle.btr_hall.specs.Found.{IsFound}
-use Rattle.btr_jobs.specs.Course.{Start, Course, GoesOn}
+use Rattle.btr_jobs.specs.States.{StoreState, LogState, GoesOn}
 use Rattle.btr_jobs.specs.Turns.{Committed}
 use Rattle.btr_jobs.specs.TurnLaws.{committed_still}
 use Rattle.btr_jobs.specs.Jobs.{IsAt, Does}
@@ -30,12 +30,12 @@ use Rattle.btr_store.proofs.Allowing.{allows_nothing, allows_both, allows_commit
 
 -- ---- what is true of one output
 
-over_lasts : (start : Start) (late early : Course) (p : List Entry) (id : ℕ) (input : Option ℕ) (refused : Option Reason) (own : List ℕ) (next : List Entry) → GoesOn start late early → DefinesOver start early p id input refused own next → DefinesOver start late p id input refused own next
+over_lasts : (start : StoreState) (late early : LogState) (p : List Entry) (id : ℕ) (input : Option ℕ) (refused : Option Reason) (own : List ℕ) (next : List Entry) → GoesOn start late early → DefinesOver start early p id input refused own next → DefinesOver start late p id input refused own next
 over_lasts start late early p id None refused own next on is = is
 over_lasts start late early p id (Some input) refused own next on is =
     (is.0, committed_still start late early p (entries.Define id (mean_of input)) is.0 own next on is.1, is.2)
 
-over_allowed : (start : Start) (late early : Course) (p : List Entry) (id : ℕ) (input : Option ℕ) (refused : Option Reason) (own : List ℕ) (next : List Entry) → GoesOn start late early → DefinesOver start early p id input refused own next → AddsAllowed late own
+over_allowed : (start : StoreState) (late early : LogState) (p : List Entry) (id : ℕ) (input : Option ℕ) (refused : Option Reason) (own : List ℕ) (next : List Entry) → GoesOn start late early → DefinesOver start early p id input refused own next → AddsAllowed late own
 over_allowed start late early p id None refused own next on is = allows_nothing late own is.1.own
 over_allowed start late early p id (Some input) refused own next on is =
     allows_committed_later start late early p (entries.Define id (mean_of input)) is.0 own next on tt is.1
@@ -43,7 +43,7 @@ over_allowed start late early p id (Some input) refused own next on is =
 -- ---- many outputs
 
 -- What was done is true for ever.
-pub each_lasts : (start : Start) (late early : Course) (p : List Entry) (stream : ℕ) (outputs : List DefinedOutput) (own : List ℕ) (last : List Entry) → GoesOn start late early → DefinesEach start early p stream outputs own last → DefinesEach start late p stream outputs own last
+pub each_lasts : (start : StoreState) (late early : LogState) (p : List Entry) (stream : ℕ) (outputs : List DefinedOutput) (own : List ℕ) (last : List Entry) → GoesOn start late early → DefinesEach start early p stream outputs own last → DefinesEach start late p stream outputs own last
 each_lasts start late early p stream [] own last on is = is
 each_lasts start late early p stream (output ∷ outputs) own last on is = (
   is.0,
@@ -55,7 +55,7 @@ each_lasts start late early p stream (output ∷ outputs) own last on is = (
 )
 
 -- What was added is allowed.
-pub each_allowed : (start : Start) (late early : Course) (p : List Entry) (stream : ℕ) (outputs : List DefinedOutput) (own : List ℕ) (last : List Entry) → GoesOn start late early → DefinesEach start early p stream outputs own last → AddsAllowed late own
+pub each_allowed : (start : StoreState) (late early : LogState) (p : List Entry) (stream : ℕ) (outputs : List DefinedOutput) (own : List ℕ) (last : List Entry) → GoesOn start late early → DefinesEach start early p stream outputs own last → AddsAllowed late own
 each_allowed start late early p stream [] own last on is = allows_nothing late own is.own
 each_allowed start late early p stream (output ∷ outputs) own last on is =
     allows_both late own is.0 is.1 (λ n. ap (times n) is.3 ∙ times_append n is.0 is.1)
@@ -63,76 +63,76 @@ each_allowed start late early p stream (output ∷ outputs) own last on is =
     (each_allowed start late early is.2 (stream + 1) outputs is.1 last on is.5)
 
 -- One output more.
-each_push : (start : Start) (course : Course) (p : List Entry) (stream : ℕ) (outputs : List DefinedOutput) (own : List ℕ) (mid : List Entry) (n : ℕ) (output : DefinedOutput) (more : List ℕ) (last : List Entry) → n ≡ stream + length outputs → DefinesEach start course p stream outputs own mid → Defines start course mid n output more last → DefinesEach start course p stream (outputs ++ output ∷ []) (own ++ more) last
-each_push start course p stream [] own mid n output more last at all one =
+each_push : (start : StoreState) (log : LogState) (p : List Entry) (stream : ℕ) (outputs : List DefinedOutput) (own : List ℕ) (mid : List Entry) (n : ℕ) (output : DefinedOutput) (more : List ℕ) (last : List Entry) → n ≡ stream + length outputs → DefinesEach start log p stream outputs own mid → Defines start log mid n output more last → DefinesEach start log p stream (outputs ++ output ∷ []) (own ++ more) last
+each_push start log p stream [] own mid n output more last at all one =
     let here : n ≡ stream = omega (arith, at) in (
       more,
       [],
       last,
       ap (λ (l : List ℕ). l ++ more) all.own ∙ sym (append-nil more),
-      subst (λ (s : ℕ). Defines start course p s output more last) here (subst (λ (h : List Entry). Defines start course h n output more last) all.next one),
+      subst (λ (s : ℕ). Defines start log p s output more last) here (subst (λ (h : List Entry). Defines start log h n output more last) all.next one),
       record { own = refl; next = refl },
     )
-each_push start course p stream (first ∷ outputs) own mid n output more last at all one =
+each_push start log p stream (first ∷ outputs) own mid n output more last at all one =
     let next : n ≡ (stream + 1) + length outputs = omega (arith, at) in (
       all.0,
       all.1 ++ more,
       all.2,
       ap (λ (l : List ℕ). l ++ more) all.3 ∙ append_assoc all.0 all.1 more,
       all.4,
-      each_push start course all.2 (stream + 1) outputs all.1 mid n output more last next all.5 one,
+      each_push start log all.2 (stream + 1) outputs all.1 mid n output more last next all.5 one,
     )
 
 module _ {D : Type 0} {disk : Ghosts D} where
   -- One output more, in the turns of a session.
-  pub each_then : (hall : Hall D disk) (old mid new : Session D disk) (outputs : List DefinedOutput) (stream : ℕ) (output : DefinedOutput) → length outputs ≡ stream → IsAt hall new → Does hall old mid (λ start course low own. DefinesEach start course low 0 outputs own course.history) → Does hall mid new (λ start course low own. Defines start course low stream output own course.history) → Does hall old new (λ start course low own. DefinesEach start course low 0 (outputs ++ output ∷ []) own course.history)
+  pub each_then : (hall : Hall D disk) (old mid new : Session D disk) (outputs : List DefinedOutput) (stream : ℕ) (output : DefinedOutput) → length outputs ≡ stream → IsAt hall new → Does hall old mid (λ start log low own. DefinesEach start log low 0 outputs own log.history) → Does hall mid new (λ start log low own. Defines start log low stream output own log.history) → Does hall old new (λ start log low own. DefinesEach start log low 0 (outputs ++ output ∷ []) own log.history)
   each_then hall old mid new outputs stream output long at all one =
       does_then hall old mid new
-      (λ start course low own. DefinesEach start course low 0 outputs own course.history)
-      (λ start course low own. Defines start course low stream output own course.history)
-      (λ start course low own. DefinesEach start course low 0 (outputs ++ output ∷ []) own course.history)
+      (λ start log low own. DefinesEach start log low 0 outputs own log.history)
+      (λ start log low own. Defines start log low stream output own log.history)
+      (λ start log low own. DefinesEach start log low 0 (outputs ++ output ∷ []) own log.history)
       at
       (λ start late early low a b on starts first then.
       each_push start late low 0 outputs a early.history stream output b late.history (omega (arith, long)) (each_lasts start late early low 0 outputs a early.history on first) then)
       all one
 
   -- All outputs, or some.
-  pub all_defined : (hall : Hall D disk) (old new : Session D disk) (streams : ℕ) (outputs : Vec DefinedOutput Global) → length outputs.items ≡ streams → Does hall old new (λ start course low own. DefinesEach start course low 0 outputs.items own course.history) → Does hall old new (λ start course low own. DefinesAll streams start course low (Ok outputs) own)
+  pub all_defined : (hall : Hall D disk) (old new : Session D disk) (streams : ℕ) (outputs : Vec DefinedOutput Global) → length outputs.items ≡ streams → Does hall old new (λ start log low own. DefinesEach start log low 0 outputs.items own log.history) → Does hall old new (λ start log low own. DefinesAll streams start log low (Ok outputs) own)
   all_defined hall old new streams outputs long does =
       does_implied hall old new
-      (λ start course low own. DefinesEach start course low 0 outputs.items own course.history)
-      (λ start course low own. DefinesAll streams start course low (Ok outputs) own)
-      (λ start course low own is. (outputs.items, is, (refl, long))) does
+      (λ start log low own. DefinesEach start log low 0 outputs.items own log.history)
+      (λ start log low own. DefinesAll streams start log low (Ok outputs) own)
+      (λ start log low own is. (outputs.items, is, (refl, long))) does
 
-  pub some_defined : (hall : Hall D disk) (old new : Session D disk) (streams : ℕ) (outputs : List DefinedOutput) (result : Result (Vec DefinedOutput Global) AllocError) → IsErr result → Does hall old new (λ start course low own. DefinesEach start course low 0 outputs own course.history) → Does hall old new (λ start course low own. DefinesAll streams start course low result own)
+  pub some_defined : (hall : Hall D disk) (old new : Session D disk) (streams : ℕ) (outputs : List DefinedOutput) (result : Result (Vec DefinedOutput Global) AllocError) → IsErr result → Does hall old new (λ start log low own. DefinesEach start log low 0 outputs own log.history) → Does hall old new (λ start log low own. DefinesAll streams start log low result own)
   some_defined hall old new streams outputs (Ok v) failed does = absurd (cc)
   some_defined hall old new streams outputs (Err error) failed does =
       does_implied hall old new
-      (λ start course low own. DefinesEach start course low 0 outputs own course.history)
-      (λ start course low own. DefinesAll streams start course low (Err error) own)
-      (λ start course low own is. (outputs, is, tt)) does
+      (λ start log low own. DefinesEach start log low 0 outputs own log.history)
+      (λ start log low own. DefinesAll streams start log low (Err error) own)
+      (λ start log low own is. (outputs, is, tt)) does
 
   -- The input was not found.
-  pub defines_none : (hall : Hall D disk) (old new : Session D disk) (stream id number : ℕ) → id ≡ output_id stream → number ≡ stream + 1 → Does hall old new (λ start course low own. (own ≡ []) × (course.history ≡ low) × IsFound low number None) → Does hall old new (λ start course low own. Defines start course low stream (record { id = id; refused = Some reasons.Stream }) own course.history)
+  pub defines_none : (hall : Hall D disk) (old new : Session D disk) (stream id number : ℕ) → id ≡ output_id stream → number ≡ stream + 1 → Does hall old new (λ start log low own. (own ≡ []) × (log.history ≡ low) × IsFound low number None) → Does hall old new (λ start log low own. Defines start log low stream (record { id = id; refused = Some reasons.Stream }) own log.history)
   defines_none hall old new stream id number named at does =
       does_implied hall old new
-      (λ start course low own. (own ≡ []) × (course.history ≡ low) × IsFound low number None)
-      (λ start course low own. Defines start course low stream (record { id = id; refused = Some reasons.Stream }) own course.history)
-      (λ start course low own is. (
+      (λ start log low own. (own ≡ []) × (log.history ≡ low) × IsFound low number None)
+      (λ start log low own. Defines start log low stream (record { id = id; refused = Some reasons.Stream }) own log.history)
+      (λ start log low own is. (
         named,
-        subst (λ (input : Option ℕ). DefinesOver start course low (output_id stream) input (Some reasons.Stream) own course.history)
+        subst (λ (input : Option ℕ). DefinesOver start log low (output_id stream) input (Some reasons.Stream) own log.history)
             (sym is.2 ∙ ap (stream_of low) at)
             (refl, record { own = is.0; next = is.1 }),
       ))
       does
 
   -- The input was found, and the output defined over it.
-  pub defines_some : (hall : Hall D disk) (old mid new : Session D disk) (stream id number : ℕ) (found : Found) (result : Result Receipt StepFault) (refused : Option Reason) → id ≡ output_id stream → number ≡ stream + 1 → refused ≡ refusal_of result → IsAt hall new → Does hall old mid (λ start course low own. (own ≡ []) × (course.history ≡ low) × IsFound low number (Some found)) → Does hall mid new (λ start course low own. Committed start course low (entries.Define id (mean_of found.stream)) result own course.history) → Does hall old new (λ start course low own. Defines start course low stream (record { id = id; refused = refused }) own course.history)
+  pub defines_some : (hall : Hall D disk) (old mid new : Session D disk) (stream id number : ℕ) (found : Found) (result : Result Receipt StepFault) (refused : Option Reason) → id ≡ output_id stream → number ≡ stream + 1 → refused ≡ refusal_of result → IsAt hall new → Does hall old mid (λ start log low own. (own ≡ []) × (log.history ≡ low) × IsFound low number (Some found)) → Does hall mid new (λ start log low own. Committed start log low (entries.Define id (mean_of found.stream)) result own log.history) → Does hall old new (λ start log low own. Defines start log low stream (record { id = id; refused = refused }) own log.history)
   defines_some hall old mid new stream id number found result refused named at why is_at look turn =
       does_then hall old mid new
-      (λ start course low own. (own ≡ []) × (course.history ≡ low) × IsFound low number (Some found))
-      (λ start course low own. Committed start course low (entries.Define id (mean_of found.stream)) result own course.history)
-      (λ start course low own. Defines start course low stream (record { id = id; refused = refused }) own course.history)
+      (λ start log low own. (own ≡ []) × (log.history ≡ low) × IsFound low number (Some found))
+      (λ start log low own. Committed start log low (entries.Define id (mean_of found.stream)) result own log.history)
+      (λ start log low own. Defines start log low stream (record { id = id; refused = refused }) own log.history)
       is_at
       (λ start late early low a b on starts first then.
       let here : Committed start late low (entries.Define id (mean_of found.stream)) result b late.history =

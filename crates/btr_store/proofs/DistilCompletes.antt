@@ -27,19 +27,19 @@ use Rattle.btr_gate.proofs.PrefixLemmas.{starts_refl, starts_trans, starts_lengt
 use Rattle.btr_hall.specs.declared.land.LandFault.{LandFault}
 use Rattle.btr_hall.specs.declared.land.LandFault.TheVariants as faults
 use Rattle.btr_hall.specs.Commit.{needs_of}
-use Rattle.btr_jobs.specs.Course.{Start, Course}
+use Rattle.btr_jobs.specs.States.{StoreState, LogState}
 use Rattle.btr_jobs.specs.Turns.{IsFull, Landed}
-use Rattle.btr_work.specs.declared.report.Brought.{Brought}
-use Rattle.btr_work.specs.declared.report.Brought.TheVariants as results
-use Rattle.btr_work.specs.declared.report.ReportLine as brought
+use Rattle.btr_work.specs.declared.report.Refreshed.{Refreshed}
+use Rattle.btr_work.specs.declared.report.Refreshed.TheVariants as results
+use Rattle.btr_work.specs.declared.report.ReportLine as refreshed
 use Rattle.btr_work.specs.Levels.{levels_of, outputs}
 use Rattle.btr_work.specs.Laws.{AreAllSince}
-use Rattle.btr_work.specs.Report.{IsPlanLanded, IsBrought, Brings}
+use Rattle.btr_work.specs.Report.{IsPlanLanded, IsRefreshed, Refreshes}
 use Rattle.btr_work.proofs.MemberLemmas.{IsInAny, Graded, groups-graded, all-members, output-spec, output-level}
-use Rattle.btr_work.proofs.OwnLemmas.{brings-number}
+use Rattle.btr_work.proofs.OwnLemmas.{refreshes-number}
 use Rattle.btr_store.specs.declared.transcript.Transcript.{Transcript}
 use Rattle.btr_store.specs.Completes.{SaysBenign, IsPlannedSince, LandsSince, HasRoomSince, HasRoomForOutputs}
-use Rattle.btr_store.specs.Distil.{output_line, BringsIf, SaysReport}
+use Rattle.btr_store.specs.Distil.{output_line, RefreshesIf, SaysReport}
 use Rattle.btr_store.specs.Work.{last_number, OwnsEachOnce}
 use Rattle.btr_store.proofs.Allowing.{last_same}
 use Rattle.btr_store.proofs.Rooms.{needs_append}
@@ -66,7 +66,7 @@ accepted_low h p (Some spec) r is =
 
 -- ---- what was landed
 
-module _ (start : Start) (course : Course) (runs : course.failed ≡ None) where
+module _ (start : StoreState) (log : LogState) (runs : log.failed ≡ None) where
   -- The entry of a number is the plan's that was landed with it.
   record IsEntryOf (q : List Entry) (plan : PlanValue) (p : List Entry) (e : Entry) : Type 0 where
     before : StartsWith p q
@@ -76,14 +76,14 @@ module _ (start : Start) (course : Course) (runs : course.failed ≡ None) where
   nothing_listed : (P : Type 0) (n : ℕ) → n ∷ [] ≡ [] → P
   nothing_listed P n is = absurd (cc)
 
-  landed_entry : (q : List Entry) (plan : PlanValue) (result : Result Receipt LandFault) (next : List Entry) (at p : List Entry) (e : Entry) → StartsWith at q → IsPlanOf at plan → StartsWith course.history (p ++ e ∷ []) → Landed start course at plan result ((length p + 1) ∷ []) next → IsEntryOf q plan p e
+  landed_entry : (q : List Entry) (plan : PlanValue) (result : Result Receipt LandFault) (next : List Entry) (at p : List Entry) (e : Entry) → StartsWith at q → IsPlanOf at plan → StartsWith log.history (p ++ e ∷ []) → Landed start log at plan result ((length p + 1) ∷ []) next → IsEntryOf q plan p e
   landed_entry q plan (Ok receipt) next at p e after of starts is =
       let added = is.2 in
       let number : length p + 1 ≡ length at + 1 = head-eq_of_cons-eq added.own in
       let long_at : length (at ++ entry_of plan ∷ []) ≡ length at + 1 = length-append at (entry_of plan ∷ []) in
       let long_p : length (p ++ e ∷ []) ≡ length p + 1 = length-append p (e ∷ []) in
-      let whole : at ++ entry_of plan ∷ [] ≡ p ++ e ∷ [] = starts_same course.history (at ++ entry_of plan ∷ []) (p ++ e ∷ []) added.follows starts (omega (arith, number, long_at, long_p)) in
-      let same : at ≡ p = starts_same course.history at p (starts_trans course.history (at ++ entry_of plan ∷ []) at added.follows (entry_of plan ∷ [], refl)) (starts_trans course.history (p ++ e ∷ []) p starts (e ∷ [], refl)) (omega (arith, number)) in
+      let whole : at ++ entry_of plan ∷ [] ≡ p ++ e ∷ [] = starts_same log.history (at ++ entry_of plan ∷ []) (p ++ e ∷ []) added.follows starts (omega (arith, number, long_at, long_p)) in
+      let same : at ≡ p = starts_same log.history at p (starts_trans log.history (at ++ entry_of plan ∷ []) at added.follows (entry_of plan ∷ [], refl)) (starts_trans log.history (p ++ e ∷ []) p starts (e ∷ [], refl)) (omega (arith, number)) in
       record {
         before = subst (λ (h : List Entry). StartsWith h q) same after;
         current = subst (λ (h : List Entry). IsCurrent h plan) same (plan-current at plan of (accepted_low at plan (spec_of at plan.stream) _ is.0));
@@ -100,26 +100,26 @@ module _ (start : Start) (course : Course) (runs : course.failed ≡ None) where
       let failed : None ≡ Some (entry_of plan) = sym runs ∙ is.2.failed in
       absurd (cc)
 
-module _ (start : Start) (course : Course) (runs : course.failed ≡ None) (low : List Entry) (own : List ℕ) (each : AreAllSince low course own) (follows : Follows course.history) (report : List brought.ReportLine) (brings : Brings start course low report own) where
+module _ (start : StoreState) (log : LogState) (runs : log.failed ≡ None) (low : List Entry) (own : List ℕ) (each : AreAllSince low log own) (follows : Follows log.history) (report : List refreshed.ReportLine) (refreshes : Refreshes start log low report own) where
   -- Each entry that was added was landed.
-  planned_since : (p : List Entry) (e : Entry) → StartsWith course.history (p ++ e ∷ []) → length low ≤ length p → IsPlannedSince low p e
+  planned_since : (p : List Entry) (e : Entry) → StartsWith log.history (p ++ e ∷ []) → length low ≤ length p → IsPlannedSince low p e
   planned_since p e starts long =
       let n : ℕ = length p + 1 in
       let part : length (p ++ e ∷ []) ≡ length p + 1 = length-append p (e ∷ []) in
-      let below : length (p ++ e ∷ []) ≤ length course.history = starts_length course.history (p ++ e ∷ []) starts in
-      let listed : given (length low) (last_number course) n ≡ 1 = given_inside (length low) (last_number course) n (omega (arith, long)) (omega (arith, part, below)) in
-      let is = brings-number start course low report own brings n (omega (arith, each n, listed)) in
+      let below : length (p ++ e ∷ []) ≤ length log.history = starts_length log.history (p ++ e ∷ []) starts in
+      let listed : given (length low) (last_number log) n ≡ 1 = given_inside (length low) (last_number log) n (omega (arith, long)) (omega (arith, part, below)) in
+      let is = refreshes-number start log low report own refreshes n (omega (arith, each n, listed)) in
       let turn = is.6 in
-      let before : StartsWith course.history turn.0 = turn.2 in
+      let before : StartsWith log.history turn.0 = turn.2 in
       let here : Follows turn.0 = follows-prefix turn.0 before.0 (subst Follows before.1 follows) in
       let after : StartsWith turn.0 is.0 = turn.1 in
       let then : Follows is.0 = follows-prefix is.0 after.0 (subst Follows after.1 here) in
       let of : IsPlanOf turn.0 is.1 = subst (λ (h : List Entry). IsPlanOf h is.1) (sym after.1) (plan-stays is.0 after.0 is.1 then is.5.of) in
-      let entry : IsEntryOf start course runs is.0 is.1 p e = landed_entry start course runs is.0 is.1 is.2 is.3 turn.0 p e turn.1 of starts turn.3 in
+      let entry : IsEntryOf start log runs is.0 is.1 p e = landed_entry start log runs is.0 is.1 is.2 is.3 turn.0 p e turn.1 of starts turn.3 in
       record { at = is.0; since = is.4; before = entry.before; plan = is.1; planned = is.5; current = entry.current; entry = entry.entry }
 
   -- A plan that might be landed: with it the history goes on by landings, too.
-  lands_next : (most : ℕ) (p : List Entry) (e : Entry) → StartsWith course.history p → StartsWith p low → rejection p e ≡ None → IsPlannedSince low p e → ((stream : ℕ) → latest (p ++ e ∷ []) stream ≤ latest low stream + most) → LandsSince most low (p ++ e ∷ [])
+  lands_next : (most : ℕ) (p : List Entry) (e : Entry) → StartsWith log.history p → StartsWith p low → rejection p e ≡ None → IsPlannedSince low p e → ((stream : ℕ) → latest (p ++ e ∷ []) stream ≤ latest low stream + most) → LandsSince most low (p ++ e ∷ [])
   lands_next most p e starts begins accepted planned few = record {
     begins = starts_more p low (e ∷ []) begins;
     follows = follows-push p e (follows-prefix p starts.0 (subst Follows starts.1 follows)) accepted;
@@ -128,7 +128,7 @@ module _ (start : Start) (course : Course) (runs : course.failed ≡ None) (low 
         (λ (short : length q < length p).
         let part : length (q ++ f ∷ []) ≡ length q + 1 = length-append q (f ∷ []) in
         let inside : StartsWith p (q ++ f ∷ []) = starts_between (p ++ e ∷ []) (q ++ f ∷ []) p within (e ∷ [], refl) (omega (arith, short, part)) in
-        planned_since q f (starts_trans course.history p (q ++ f ∷ []) starts inside) long)
+        planned_since q f (starts_trans log.history p (q ++ f ∷ []) starts inside) long)
         (λ (whole : length p ≤ length q).
         let part_q : length (q ++ f ∷ []) ≡ length q + 1 = length-append q (f ∷ []) in
         let part_p : length (p ++ e ∷ []) ≡ length p + 1 = length-append p (e ∷ []) in
@@ -153,23 +153,23 @@ module _ (start : Start) (course : Course) (runs : course.failed ≡ None) (low 
   -- ---- each output is landed once at most
 
   abbrev seen : List Entry
-  seen = brings.seen
+  seen = refreshes.seen
 
-  graded : Graded (levels_of seen) 1 brings.levels
-  graded = groups-graded (levels_of seen) brings.levels brings.are
+  graded : Graded (levels_of seen) 1 refreshes.levels
+  graded = groups-graded (levels_of seen) refreshes.levels refreshes.are
 
   -- At any time a stream has at most one version more.
-  one_more : (p : List Entry) (stream : ℕ) → StartsWith course.history p → StartsWith p low → latest p stream ≤ latest low stream + 1
+  one_more : (p : List Entry) (stream : ℕ) → StartsWith log.history p → StartsWith p low → latest p stream ≤ latest low stream + 1
   one_more p stream starts begins =
-      let one = one-each start brings.result seen brings.levels course own graded brings.brings stream in
-      omega (arith, one.1, versions-since low seen course own each stream one.0 one.2 p starts begins)
+      let one = one-each start refreshes.result seen refreshes.levels log own graded refreshes.refreshes stream in
+      omega (arith, one.1, versions-since low seen log own each stream one.0 one.2 p starts begins)
 
   -- With the entry of a plan for an output of which nothing was added a stream has still at most one version more.
-  still_one : (p : List Entry) (plan : PlanValue) → AreOfOthers plan.stream course seen own [] → StartsWith course.history p → StartsWith p low → (stream : ℕ) → latest (p ++ entry_of plan ∷ []) stream ≤ latest low stream + 1
+  still_one : (p : List Entry) (plan : PlanValue) → AreOfOthers plan.stream log seen own [] → StartsWith log.history p → StartsWith p low → (stream : ℕ) → latest (p ++ entry_of plan ∷ []) stream ≤ latest low stream + 1
   still_one p plan others starts begins stream =
       elim (cases_eq stream plan.stream) [
         | inl same ↦
-            let none : latest p plan.stream ≤ latest low plan.stream + 0 = versions-since low seen course own each plan.stream [] others p starts begins in
+            let none : latest p plan.stream ≤ latest low plan.stream + 0 = versions-since low seen log own each plan.stream [] others p starts begins in
             let more : latest (p ++ entry_of plan ∷ []) plan.stream ≤ latest p plan.stream + 1 = latest_push-few p (entry_of plan) plan.stream in
             subst (λ (s : ℕ). latest (p ++ entry_of plan ∷ []) s ≤ latest low s + 1) (sym same) (omega (arith, none, more))
         | inr differs ↦
@@ -180,7 +180,7 @@ module _ (start : Start) (course : Course) (runs : course.failed ≡ None) (low 
       ]
 
   module _ (room : HasRoomSince 1 start low) where
-    plan_calm : (here : List Entry) (output need left : ℕ) (mine : List ℕ) → StartsWith here low → AreOfOthers output course seen own mine → IsPlanLanded start course here output (Err (faults.DeviceFull need left)) mine → ⊥
+    plan_calm : (here : List Entry) (output need left : ℕ) (mine : List ℕ) → StartsWith here low → AreOfOthers output log seen own mine → IsPlanLanded start log here output (Err (faults.DeviceFull need left)) mine → ⊥
     plan_calm here output need left mine begins others is =
         let turn = is.landed in
         let p : List Entry = turn.0 in
@@ -195,48 +195,48 @@ module _ (start : Start) (course : Course) (runs : course.failed ≡ None) (low 
           current = turn.3.0;
           entry = refl;
         } in
-        let none : AreOfOthers is.plan.stream course seen own [] =
-        subst (λ (s : ℕ). AreOfOthers s course seen own []) (sym is.planned.same_stream)
-        (subst (λ (l : List ℕ). AreOfOthers output course seen own l) turn.3.3.own others) in
+        let none : AreOfOthers is.plan.stream log seen own [] =
+        subst (λ (s : ℕ). AreOfOthers s log seen own []) (sym is.planned.same_stream)
+        (subst (λ (l : List ℕ). AreOfOthers output log seen own l) turn.3.3.own others) in
         never_full 1 room p (entry_of is.plan) need left turn.3.2
         (lands_next 1 p (entry_of is.plan) turn.2 after_low turn.3.1 planned (still_one p is.plan none turn.2 after_low))
 
-    plan_ran : (here : List Entry) (output : ℕ) (mine : List ℕ) → IsPlanLanded start course here output (Err faults.DeviceFault) mine → ⊥
+    plan_ran : (here : List Entry) (output : ℕ) (mine : List ℕ) → IsPlanLanded start log here output (Err faults.DeviceFault) mine → ⊥
     plan_ran here output mine is =
         let failed : None ≡ Some (entry_of is.plan) = sym runs ∙ is.landed.3.2.failed in
         absurd (cc)
 
-    brought_calm : (here : List Entry) (output : ℕ) (result : Brought) (mine : List ℕ) → StartsWith here low → AreOfOthers output course seen own mine → IsBrought start course here output result mine → IsCalm result
-    brought_calm here output (results.Landed version) mine begins others is = tt
-    brought_calm here output (results.Current version) mine begins others is = tt
-    brought_calm here output (results.Refused (faults.Stopped entries)) mine begins others is = tt
-    brought_calm here output (results.Refused (faults.Superseded version)) mine begins others is = tt
-    brought_calm here output (results.Refused faults.VersionLimit) mine begins others is = tt
-    brought_calm here output (results.Refused (faults.Crowded start)) mine begins others is = tt
-    brought_calm here output (results.Refused (faults.TooManyPoints count)) mine begins others is = tt
-    brought_calm here output (results.Refused faults.Want) mine begins others is = tt
-    brought_calm here output (results.Refused (faults.DeviceFull need left)) mine begins others is =
+    refreshed_calm : (here : List Entry) (output : ℕ) (result : Refreshed) (mine : List ℕ) → StartsWith here low → AreOfOthers output log seen own mine → IsRefreshed start log here output result mine → IsCalm result
+    refreshed_calm here output (results.Landed version) mine begins others is = tt
+    refreshed_calm here output (results.Current version) mine begins others is = tt
+    refreshed_calm here output (results.Refused (faults.Stopped entries)) mine begins others is = tt
+    refreshed_calm here output (results.Refused (faults.Superseded version)) mine begins others is = tt
+    refreshed_calm here output (results.Refused faults.VersionLimit) mine begins others is = tt
+    refreshed_calm here output (results.Refused (faults.Crowded start)) mine begins others is = tt
+    refreshed_calm here output (results.Refused (faults.TooManyPoints count)) mine begins others is = tt
+    refreshed_calm here output (results.Refused faults.Want) mine begins others is = tt
+    refreshed_calm here output (results.Refused (faults.DeviceFull need left)) mine begins others is =
         plan_calm here output need left mine begins others is
-    brought_calm here output (results.Refused faults.DeviceFault) mine begins others is = plan_ran here output mine is
+    refreshed_calm here output (results.Refused faults.DeviceFault) mine begins others is = plan_ran here output mine is
 
-    output_calm : (output : ℕ) → IsInAny output brings.levels → IsCalm (brings.result output)
+    output_calm : (output : ℕ) → IsInAny output refreshes.levels → IsCalm (refreshes.result output)
     output_calm output any =
-        let is = own-in start brings.result seen 1 seen brings.levels course own graded brings.brings output any in
-        brought_calm is.here output (brings.result output) is.mine (starts_trans is.here seen low is.begins brings.after) is.others is.brought
+        let is = own-in start refreshes.result seen 1 seen refreshes.levels log own graded refreshes.refreshes output any in
+        refreshed_calm is.here output (refreshes.result output) is.mine (starts_trans is.here seen low is.begins refreshes.after) is.others is.refreshed
 
     pub report_calm : AllByRecursion (λ line. IsCalm line.result) report
     report_calm =
-        let result : ℕ → Brought = brings.result in
-        let seen_follows : Follows seen = follows-prefix seen brings.before.0 (subst Follows brings.before.1 follows) in
-        let line : ℕ → brought.ReportLine = λ output. record { output = output; result = result output } in
-        subst (AllByRecursion (λ line. IsCalm line.result)) (sym brings.lines)
-        (all-members (λ (l : brought.ReportLine). IsCalm l.result) line (outputs seen) (λ output is.
+        let result : ℕ → Refreshed = refreshes.result in
+        let seen_follows : Follows seen = follows-prefix seen refreshes.before.0 (subst Follows refreshes.before.1 follows) in
+        let line : ℕ → refreshed.ReportLine = λ output. record { output = output; result = result output } in
+        subst (AllByRecursion (λ line. IsCalm line.result)) (sym refreshes.lines)
+        (all-members (λ (l : refreshed.ReportLine). IsCalm l.result) line (outputs seen) (λ output is.
         let spec = output-spec seen output is in
-        output_calm output (output-level seen brings.levels seen_follows brings.are output spec.0 spec.1)))
+        output_calm output (output-level seen refreshes.levels seen_follows refreshes.are output spec.0 spec.1)))
 
-pub report_completes : (start : Start) (course : Course) (own : List ℕ) (report : Option (List brought.ReportLine)) (said : Result Transcript AllocError) → OwnsEachOnce start course own → Follows course.history → BringsIf start course start.history report own → SaysReport course.history report said → HasRoomForOutputs start → course.failed ≡ None → SaysBenign said
-report_completes start course own report (Err error) each follows brings says room runs = tt
-report_completes start course own None (Ok transcript) each follows brings says room runs = absurd says
-report_completes start course own (Some report) (Ok transcript) each follows brings says room runs =
-    says_benign (map (output_line course.history) report) transcript says
-    (report_benign course.history report (report_calm start course runs start.history own each follows report brings room))
+pub report_completes : (start : StoreState) (log : LogState) (own : List ℕ) (report : Option (List refreshed.ReportLine)) (said : Result Transcript AllocError) → OwnsEachOnce start log own → Follows log.history → RefreshesIf start log start.history report own → SaysReport log.history report said → HasRoomForOutputs start → log.failed ≡ None → SaysBenign said
+report_completes start log own report (Err error) each follows refreshes says room runs = tt
+report_completes start log own None (Ok transcript) each follows refreshes says room runs = absurd says
+report_completes start log own (Some report) (Ok transcript) each follows refreshes says room runs =
+    says_benign (map (output_line log.history) report) transcript says
+    (report_benign log.history report (report_calm start log runs start.history own each follows report refreshes room))

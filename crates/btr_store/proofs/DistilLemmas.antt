@@ -13,32 +13,32 @@ use Rattle.btr_hall.specs.declared.session.Hall.{Hall}
 use Rattle.btr_hall.specs.declared.session.Session.{Session}
 use Rattle.btr_hall.specs.Trace.{history_of}
 use Rattle.btr_hall.specs.Session.{IsAlone, opening_of, seen_of}
-use Rattle.btr_jobs.specs.Course.{Start, Course, GoesOn, start_of, course_of}
+use Rattle.btr_jobs.specs.States.{StoreState, LogState, GoesOn, start_of, log_of}
 use Rattle.btr_jobs.specs.Jobs.{Goes, Does}
-use Rattle.btr_jobs.specs.Contents.{RunsThrough}
-use Rattle.btr_jobs.proofs.CourseLemmas.{course_at}
+use Rattle.btr_jobs.specs.PlainStore.{RunsThrough}
+use Rattle.btr_jobs.proofs.StateLemmas.{log_at}
 use Rattle.btr_engine.specs.declared.board.Receipt.{Receipt}
 use Rattle.btr_hall.specs.declared.land.LandFault.{LandFault}
 use Rattle.btr_hall.specs.declared.land.LandFault.TheVariants as faults
-use Rattle.btr_work.specs.declared.report.Brought.{Brought}
-use Rattle.btr_work.specs.declared.report.Brought.TheVariants.{Landed, Current, Refused}
-use Rattle.btr_work.specs.declared.report.ReportLine as brought
-use Rattle.btr_work.specs.Report.{IsPlanLanded, IsBrought, BringsEach, BringsLevels, Brings, BringsInTurn}
-use Rattle.btr_work.specs.ReportLaws.{brought_lasts}
-use Rattle.btr_work.proofs.CurrentLemmas.{brought-current}
-use Rattle.btr_work.proofs.AlikeLemmas.{brought-alike}
-use Rattle.btr_work.proofs.InOrderLemmas.{brought-in-order}
+use Rattle.btr_work.specs.declared.report.Refreshed.{Refreshed}
+use Rattle.btr_work.specs.declared.report.Refreshed.TheVariants.{Landed, Current, Refused}
+use Rattle.btr_work.specs.declared.report.ReportLine as refreshed
+use Rattle.btr_work.specs.Report.{IsPlanLanded, IsRefreshed, RefreshesEach, RefreshesLevels, Refreshes, BringsInTurn}
+use Rattle.btr_work.specs.ReportLaws.{refreshed_lasts}
+use Rattle.btr_work.proofs.CurrentLemmas.{refreshed-current}
+use Rattle.btr_work.proofs.AlikeLemmas.{refreshed-alike}
+use Rattle.btr_work.proofs.InOrderLemmas.{refreshed-in-order}
 use Rattle.btr_store.specs.declared.transcript.Transcript.{Transcript}
 use Rattle.btr_store.specs.Streams.{Stays}
 use Rattle.btr_store.specs.Transcript.{SaysLines}
-use Rattle.btr_store.specs.Distil.{output_line, BringsIf, SaysReport, Distils, DistilsInTurn, AreCurrent, AreUndisturbed, AreOfOneWorker}
+use Rattle.btr_store.specs.Distil.{output_line, RefreshesIf, SaysReport, Distils, DistilsInTurn, AreCurrent, AreUndisturbed, AreOfOneWorker}
 use Rattle.btr_store.specs.Distil.{HadMemoryForOutputs, AreBroughtInOrder, DistilsStore}
 use Rattle.btr_store.specs.Work.{AddsAllowed, OwnsEachOnce, Works}
 use Rattle.btr_store.proofs.Allowing.{allows_none, allows_nothing, allows_both, allows_landed}
 use Rattle.btr_store.proofs.DistilCompletes.{report_completes}
 use Rattle.btr_store.proofs.WorkLemmas.{works_run}
 
-says_report : (report : List brought.ReportLine) (said : Result Transcript AllocError) (h : List Entry) → IfOk said (SaysLines (map (output_line h) report)) → SaysReport h (Some report) said
+says_report : (report : List refreshed.ReportLine) (said : Result Transcript AllocError) (h : List Entry) → IfOk said (SaysLines (map (output_line h) report)) → SaysReport h (Some report) said
 says_report report (Ok transcript) h is = is
 says_report report (Err error) h is = tt
 
@@ -58,30 +58,30 @@ module _ {D : Type 0} {disk : Ghosts D} where
   }
 
   -- What was said of a report was said of the history at the end.
-  pub distils_said : (hall : Hall D disk) (old mid new : Session D disk) (report : List brought.ReportLine) (said : Result Transcript AllocError) → Does hall old mid (λ start course low own. Brings start course low report own) → Stays mid new → ((h : List Entry) → IsEngineOf h (opening_of hall) → IfOk said (SaysLines (map (output_line (history_of h (seen_of mid))) report))) → Does hall old new (λ start course low own. Distils start course low said own)
+  pub distils_said : (hall : Hall D disk) (old mid new : Session D disk) (report : List refreshed.ReportLine) (said : Result Transcript AllocError) → Does hall old mid (λ start log low own. Refreshes start log low report own) → Stays mid new → ((h : List Entry) → IsEngineOf h (opening_of hall) → IfOk said (SaysLines (map (output_line (history_of h (seen_of mid))) report))) → Does hall old new (λ start log low own. Distils start log low said own)
   distils_said hall old mid new report said does stays says = (
     does.0,
     goes_stays old mid new does.0 does.1 stays,
     λ h of.
-        subst (λ l. Distils (start_of h hall) (course_at h l) (course_of h old).history said does.0) (sym stays.seen)
+        subst (λ l. Distils (start_of h hall) (log_at h l) (log_of h old).history said does.0) (sym stays.seen)
         (record {
           report = Some report;
-          brings = does.2 h of;
+          refreshes = does.2 h of;
           says = says_report report said (history_of h (seen_of mid)) (says h of);
         }),
   )
 
   -- The same of one worker.
-  pub turn_said : (hall : Hall D disk) (old mid new : Session D disk) (report : List brought.ReportLine) (said : Result Transcript AllocError) → Does hall old mid (λ start course low own. BringsInTurn start course low report own) → Stays mid new → ((h : List Entry) → IsEngineOf h (opening_of hall) → IfOk said (SaysLines (map (output_line (history_of h (seen_of mid))) report))) → Does hall old new (λ start course low own. DistilsInTurn start course low said own)
+  pub turn_said : (hall : Hall D disk) (old mid new : Session D disk) (report : List refreshed.ReportLine) (said : Result Transcript AllocError) → Does hall old mid (λ start log low own. BringsInTurn start log low report own) → Stays mid new → ((h : List Entry) → IsEngineOf h (opening_of hall) → IfOk said (SaysLines (map (output_line (history_of h (seen_of mid))) report))) → Does hall old new (λ start log low own. DistilsInTurn start log low said own)
   turn_said hall old mid new report said does stays says = (
     does.0,
     goes_stays old mid new does.0 does.1 stays,
     λ h of.
-        subst (λ l. DistilsInTurn (start_of h hall) (course_at h l) (course_of h old).history said does.0) (sym stays.seen)
+        subst (λ l. DistilsInTurn (start_of h hall) (log_at h l) (log_of h old).history said does.0) (sym stays.seen)
         (record {
           did = record {
             report = Some report;
-            brings = (does.2 h of).brings;
+            refreshes = (does.2 h of).refreshes;
             says = says_report report said (history_of h (seen_of mid)) (says h of);
           };
           in_turn = does.2 h of;
@@ -89,92 +89,92 @@ module _ {D : Type 0} {disk : Ghosts D} where
   )
 
   -- Memory ran out before any output.
-  pub distils_none : (hall : Hall D disk) (old new : Session D disk) (error : AllocError) → Does hall old new (λ start course low own. (n : ℕ) → times n own ≡ 0) → Does hall old new (λ start course low own. Distils start course low (Err error) own)
+  pub distils_none : (hall : Hall D disk) (old new : Session D disk) (error : AllocError) → Does hall old new (λ start log low own. (n : ℕ) → times n own ≡ 0) → Does hall old new (λ start log low own. Distils start log low (Err error) own)
   distils_none hall old new error does =
-      (does.0, does.1, λ h of. record { report = None; brings = does.2 h of; says = tt })
+      (does.0, does.1, λ h of. record { report = None; refreshes = does.2 h of; says = tt })
 
-  pub turn_none : (hall : Hall D disk) (old new : Session D disk) (error : AllocError) → Does hall old new (λ start course low own. (n : ℕ) → times n own ≡ 0) → Does hall old new (λ start course low own. DistilsInTurn start course low (Err error) own)
+  pub turn_none : (hall : Hall D disk) (old new : Session D disk) (error : AllocError) → Does hall old new (λ start log low own. (n : ℕ) → times n own ≡ 0) → Does hall old new (λ start log low own. DistilsInTurn start log low (Err error) own)
   turn_none hall old new error does =
-      (does.0, does.1, λ h of. record { did = record { report = None; brings = does.2 h of; says = tt }; in_turn = tt })
+      (does.0, does.1, λ h of. record { did = record { report = None; refreshes = does.2 h of; says = tt }; in_turn = tt })
 
 -- ---- what it adds is allowed
 
-module _ (start : Start) where
-  plan_allowed : (course : Course) (low : List Entry) (output : ℕ) (result : Result Receipt LandFault) (own : List ℕ) → IsPlanLanded start course low output result own → AddsAllowed course own
-  plan_allowed course low output result own is = allows_landed start course is.at is.plan result own is.next is.planned.of is.landed
+module _ (start : StoreState) where
+  plan_allowed : (log : LogState) (low : List Entry) (output : ℕ) (result : Result Receipt LandFault) (own : List ℕ) → IsPlanLanded start log low output result own → AddsAllowed log own
+  plan_allowed log low output result own is = allows_landed start log is.at is.plan result own is.next is.planned.of is.landed
 
-  brought_allowed : (course : Course) (low : List Entry) (output : ℕ) (result : Brought) (own : List ℕ) → IsBrought start course low output result own → AddsAllowed course own
-  brought_allowed course low output (Landed version) own is = plan_allowed course low output (Ok is.0) own is.2
-  brought_allowed course low output (Current version) own is = allows_nothing course own is.none
-  brought_allowed course low output (Refused (faults.Stopped entries)) own is = plan_allowed course low output (Err (faults.Stopped entries)) own is
-  brought_allowed course low output (Refused (faults.Superseded version)) own is = plan_allowed course low output (Err (faults.Superseded version)) own is
-  brought_allowed course low output (Refused faults.VersionLimit) own is = plan_allowed course low output (Err faults.VersionLimit) own is
-  brought_allowed course low output (Refused (faults.Crowded at)) own is = plan_allowed course low output (Err (faults.Crowded at)) own is
-  brought_allowed course low output (Refused (faults.TooManyPoints count)) own is = plan_allowed course low output (Err (faults.TooManyPoints count)) own is
-  brought_allowed course low output (Refused faults.Want) own is = allows_nothing course own is
-  brought_allowed course low output (Refused (faults.DeviceFull need left)) own is = plan_allowed course low output (Err (faults.DeviceFull need left)) own is
-  brought_allowed course low output (Refused faults.DeviceFault) own is = plan_allowed course low output (Err faults.DeviceFault) own is
+  refreshed_allowed : (log : LogState) (low : List Entry) (output : ℕ) (result : Refreshed) (own : List ℕ) → IsRefreshed start log low output result own → AddsAllowed log own
+  refreshed_allowed log low output (Landed version) own is = plan_allowed log low output (Ok is.0) own is.2
+  refreshed_allowed log low output (Current version) own is = allows_nothing log own is.none
+  refreshed_allowed log low output (Refused (faults.Stopped entries)) own is = plan_allowed log low output (Err (faults.Stopped entries)) own is
+  refreshed_allowed log low output (Refused (faults.Superseded version)) own is = plan_allowed log low output (Err (faults.Superseded version)) own is
+  refreshed_allowed log low output (Refused faults.VersionLimit) own is = plan_allowed log low output (Err faults.VersionLimit) own is
+  refreshed_allowed log low output (Refused (faults.Crowded at)) own is = plan_allowed log low output (Err (faults.Crowded at)) own is
+  refreshed_allowed log low output (Refused (faults.TooManyPoints count)) own is = plan_allowed log low output (Err (faults.TooManyPoints count)) own is
+  refreshed_allowed log low output (Refused faults.Want) own is = allows_nothing log own is
+  refreshed_allowed log low output (Refused (faults.DeviceFull need left)) own is = plan_allowed log low output (Err (faults.DeviceFull need left)) own is
+  refreshed_allowed log low output (Refused faults.DeviceFault) own is = plan_allowed log low output (Err faults.DeviceFault) own is
 
-  each_allowed : (late middle : Course) (low : List Entry) (result : ℕ → Brought) (outputs own : List ℕ) → GoesOn start late middle → BringsEach start middle low result outputs own → AddsAllowed late own
+  each_allowed : (late middle : LogState) (low : List Entry) (result : ℕ → Refreshed) (outputs own : List ℕ) → GoesOn start late middle → RefreshesEach start middle low result outputs own → AddsAllowed late own
   each_allowed late middle low result [] own on each = allows_none late own each
   each_allowed late middle low result (output ∷ outputs) own on each =
       allows_both late own each.0 each.1 each.4
-      (brought_allowed late low output (result output) each.0 (brought_lasts start late middle low output (result output) each.0 on each.2))
+      (refreshed_allowed late low output (result output) each.0 (refreshed_lasts start late middle low output (result output) each.0 on each.2))
       (each_allowed late middle low result outputs each.1 on each.3)
 
-  levels_allowed : (low : List Entry) (result : ℕ → Brought) (levels : List (List ℕ)) (late : Course) (own : List ℕ) → BringsLevels start low result levels late own → AddsAllowed late own
-  levels_allowed low result [] late own brings = allows_none late own brings.1
-  levels_allowed low result (level ∷ levels) late own brings =
-      let middle : Course = brings.0 in
-      allows_both late own brings.3 brings.4 brings.7
-      (each_allowed late middle low result level brings.3 brings.1 brings.5)
-      (levels_allowed middle.history result levels late brings.4 brings.6)
+  levels_allowed : (low : List Entry) (result : ℕ → Refreshed) (levels : List (List ℕ)) (late : LogState) (own : List ℕ) → RefreshesLevels start low result levels late own → AddsAllowed late own
+  levels_allowed low result [] late own refreshes = allows_none late own refreshes.1
+  levels_allowed low result (level ∷ levels) late own refreshes =
+      let middle : LogState = refreshes.0 in
+      allows_both late own refreshes.3 refreshes.4 refreshes.7
+      (each_allowed late middle low result level refreshes.3 refreshes.1 refreshes.5)
+      (levels_allowed middle.history result levels late refreshes.4 refreshes.6)
 
-  pub brings_allowed : (course : Course) (low : List Entry) (report : List brought.ReportLine) (own : List ℕ) → Brings start course low report own → AddsAllowed course own
-  brings_allowed course low report own brings = levels_allowed brings.seen brings.result brings.levels course own brings.brings
+  pub refreshes_allowed : (log : LogState) (low : List Entry) (report : List refreshed.ReportLine) (own : List ℕ) → Refreshes start log low report own → AddsAllowed log own
+  refreshes_allowed log low report own refreshes = levels_allowed refreshes.seen refreshes.result refreshes.levels log own refreshes.refreshes
 
-  brings_if_allowed : (course : Course) (low : List Entry) (report : Option (List brought.ReportLine)) (own : List ℕ) → BringsIf start course low report own → AddsAllowed course own
-  brings_if_allowed course low None own brings = allows_none course own brings
-  brings_if_allowed course low (Some report) own brings = brings_allowed course low report own brings
+  refreshes_if_allowed : (log : LogState) (low : List Entry) (report : Option (List refreshed.ReportLine)) (own : List ℕ) → RefreshesIf start log low report own → AddsAllowed log own
+  refreshes_if_allowed log low None own refreshes = allows_none log own refreshes
+  refreshes_if_allowed log low (Some report) own refreshes = refreshes_allowed log low report own refreshes
 
   -- What it adds is allowed.
-  pub distils_allowed : (course : Course) (said : Result Transcript AllocError) (own : List ℕ) → Distils start course start.history said own → AddsAllowed course own
-  distils_allowed course said own is = brings_if_allowed course start.history is.report own is.brings
+  pub distils_allowed : (log : LogState) (said : Result Transcript AllocError) (own : List ℕ) → Distils start log start.history said own → AddsAllowed log own
+  distils_allowed log said own is = refreshes_if_allowed log start.history is.report own is.refreshes
 
 -- ---- what the laws of reports say of it, if nobody else added anything
 
-module _ (start : Start) (course : Course) (own : List ℕ) (each : OwnsEachOnce start course own) where
-  report_current : (report : Option (List brought.ReportLine)) → Follows course.history → BringsIf start course start.history report own → IfSome report (AreCurrent course.history)
-  report_current None follows brings = tt
-  report_current (Some report) follows brings = brought-current start course start.history report own brings follows each
+module _ (start : StoreState) (log : LogState) (own : List ℕ) (each : OwnsEachOnce start log own) where
+  report_current : (report : Option (List refreshed.ReportLine)) → Follows log.history → RefreshesIf start log start.history report own → IfSome report (AreCurrent log.history)
+  report_current None follows refreshes = tt
+  report_current (Some report) follows refreshes = refreshed-current start log start.history report own refreshes follows each
 
-  report_alike : (report : Option (List brought.ReportLine)) → Legal course.history → BringsIf start course start.history report own → IfSome report (λ report. AreUndisturbed report → AreOfOneWorker course.history start.history report)
-  report_alike None legal brings = tt
-  report_alike (Some report) legal brings = λ undisturbed levels are.
-      brought-alike start course start.history report own levels brings legal each are undisturbed
+  report_alike : (report : Option (List refreshed.ReportLine)) → Legal log.history → RefreshesIf start log start.history report own → IfSome report (λ report. AreUndisturbed report → AreOfOneWorker log.history start.history report)
+  report_alike None legal refreshes = tt
+  report_alike (Some report) legal refreshes = λ undisturbed levels are.
+      refreshed-alike start log start.history report own levels refreshes legal each are undisturbed
 
-  report_in_order : (report : Option (List brought.ReportLine)) → RunsThrough start course → Legal course.history → IfSome report (λ report. BringsInTurn start course start.history report own) → IfSome report (λ report. HadMemoryForOutputs report → AreBroughtInOrder start course report)
+  report_in_order : (report : Option (List refreshed.ReportLine)) → RunsThrough start log → Legal log.history → IfSome report (λ report. BringsInTurn start log start.history report own) → IfSome report (λ report. HadMemoryForOutputs report → AreBroughtInOrder start log report)
   report_in_order None ran legal turn = tt
   report_in_order (Some report) ran legal turn = λ memory levels are.
-      brought-in-order start course report own levels ran legal each turn are memory
+      refreshed-in-order start log report own levels ran legal each turn are memory
 
-  store_distils : (workers : ℕ) (said : Result Transcript AllocError) (is : Distils start course start.history said own) → Follows course.history → (Legal start.history → Legal course.history) → (workers ≤ 1 → Legal start.history → course.failed ≡ None → IfSome is.report (λ report. HadMemoryForOutputs report → AreBroughtInOrder start course report)) → DistilsStore start course workers said own
+  store_distils : (workers : ℕ) (said : Result Transcript AllocError) (is : Distils start log start.history said own) → Follows log.history → (Legal start.history → Legal log.history) → (workers ≤ 1 → Legal start.history → log.failed ≡ None → IfSome is.report (λ report. HadMemoryForOutputs report → AreBroughtInOrder start log report)) → DistilsStore start log workers said own
   store_distils workers said is follows legal order = record {
     did = is;
-    current = report_current is.report follows is.brings;
-    alike = λ before. report_alike is.report (legal before) is.brings;
+    current = report_current is.report follows is.refreshes;
+    alike = λ before. report_alike is.report (legal before) is.refreshes;
     in_order = order;
-    completes = report_completes start course own is.report said each follows is.brings is.says;
+    completes = report_completes start log own is.report said each follows is.refreshes is.says;
   }
 
-module _ {D : Type 0} (disk : Ghosts D) (old new : D) (start : Start) (course : Course) (workers : ℕ) (own : List ℕ) (said : Result Transcript AllocError) (works : Works disk start course own old new) (legal : Legal start.history → Legal course.history) where
+module _ {D : Type 0} (disk : Ghosts D) (old new : D) (start : StoreState) (log : LogState) (workers : ℕ) (own : List ℕ) (said : Result Transcript AllocError) (works : Works disk start log own old new) (legal : Legal start.history → Legal log.history) where
   -- Many workers brought the outputs up to date.
-  pub distils_store : 1 < workers → Distils start course start.history said own → DistilsStore start course workers said own
+  pub distils_store : 1 < workers → Distils start log start.history said own → DistilsStore start log workers said own
   distils_store many is =
-      store_distils start course own works.each_once workers said is works.follows legal (λ few. absurd (omega (arith, many, few)))
+      store_distils start log own works.each_once workers said is works.follows legal (λ few. absurd (omega (arith, many, few)))
 
   -- One worker did.
-  pub distils_store_in_order : DistilsInTurn start course start.history said own → DistilsStore start course workers said own
+  pub distils_store_in_order : DistilsInTurn start log start.history said own → DistilsStore start log workers said own
   distils_store_in_order is =
-      store_distils start course own works.each_once workers said is.did works.follows legal
-      (λ few before whole. report_in_order start course own works.each_once is.did.report (works_run disk start course own old new works whole) (legal before) is.in_turn)
+      store_distils start log own works.each_once workers said is.did works.follows legal
+      (λ few before whole. report_in_order start log own works.each_once is.did.report (works_run disk start log own old new works whole) (legal before) is.in_turn)

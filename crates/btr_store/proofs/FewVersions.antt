@@ -16,15 +16,15 @@ use Rattle.btr_gate.proofs.NumberLemmas.{one_same, one_other, given_inside}
 use Rattle.btr_gate.proofs.PrefixLemmas.{starts_refl, starts_trans, starts_length}
 use Rattle.btr_hall.specs.declared.land.LandFault.{LandFault}
 use Rattle.btr_hall.specs.declared.land.LandFault.TheVariants as faults
-use Rattle.btr_jobs.specs.Course.{Start, Course}
+use Rattle.btr_jobs.specs.States.{StoreState, LogState}
 use Rattle.btr_jobs.specs.Turns.{Landed}
 use Rattle.btr_jobs.proofs.DoesLemmas.{in_sum}
-use Rattle.btr_work.specs.declared.report.Brought.{Brought}
-use Rattle.btr_work.specs.declared.report.Brought.TheVariants as results
+use Rattle.btr_work.specs.declared.report.Refreshed.{Refreshed}
+use Rattle.btr_work.specs.declared.report.Refreshed.TheVariants as results
 use Rattle.btr_work.specs.Levels.{levels_of}
 use Rattle.btr_work.specs.Laws.{AreAllSince}
-use Rattle.btr_work.specs.Report.{IsPlanLanded, IsBrought, BringsLevels}
-use Rattle.btr_work.specs.ReportLaws.{brought_lasts}
+use Rattle.btr_work.specs.Report.{IsPlanLanded, IsRefreshed, RefreshesLevels}
+use Rattle.btr_work.specs.ReportLaws.{refreshed_lasts}
 use Rattle.btr_work.proofs.MemberLemmas.{IsIn, IsInAny, Graded, graded-above}
 use Rattle.btr_work.proofs.QuietLemmas.{IsOther, get-after, get-before, get-past}
 use Rattle.btr_work.proofs.OwnLemmas.{Owns, each-owned, each-split, owns-lasts, owns-lowers, levels-owned}
@@ -118,100 +118,100 @@ few-versions stream mine low h starts quiet =
 -- ---- what one call adds for an output
 
 -- The numbers that are not among these are those of entries for other outputs.
-abbrev pub AreOfOthers : ℕ → Course → List Entry → List ℕ → List ℕ → Type 0
-AreOfOthers output course low own mine =
-    (n : ℕ) → 0 < times n own → times n mine ≡ 0 → (other : ℕ) × (other ≢ output) × Owns other course low n
+abbrev pub AreOfOthers : ℕ → LogState → List Entry → List ℕ → List ℕ → Type 0
+AreOfOthers output log low own mine =
+    (n : ℕ) → 0 < times n own → times n mine ≡ 0 → (other : ℕ) × (other ≢ output) × Owns other log low n
 
-module _ (start : Start) (result : ℕ → Brought) where
+module _ (start : StoreState) (result : ℕ → Refreshed) where
   -- What became of an output, with the numbers of what was added for it. All others are those of entries for other outputs.
-  pub record IsOwnOf (course : Course) (low : List Entry) (output : ℕ) (own : List ℕ) : Type 0 where
+  pub record IsOwnOf (log : LogState) (low : List Entry) (output : ℕ) (own : List ℕ) : Type 0 where
     pub here : List Entry
     pub begins : StartsWith here low
     pub mine : List ℕ
-    pub brought : IsBrought start course here output (result output) mine
-    pub others : AreOfOthers output course low own mine
+    pub refreshed : IsRefreshed start log here output (result output) mine
+    pub others : AreOfOthers output log low own mine
 
   module _ (seen : List Entry) where
     abbrev of : ℕ → ℕ
     of stream = slice_index_or (levels_of seen) stream 0
 
     -- Each output of the levels is in one of them, once.
-    pub own-in : (base : ℕ) (low : List Entry) (levels : List (List ℕ)) (late : Course) (own : List ℕ) → Graded (levels_of seen) base levels → BringsLevels start low result levels late own → (output : ℕ) → IsInAny output levels → IsOwnOf late low output own
-    own-in base low [] late own graded brings output any = absurd any
-    own-in base low (level ∷ levels) late own graded brings output (inl here) =
-        let middle = brings.0 in
-        let split = each-split start middle low result level brings.3 output brings.5 graded.1 here in
+    pub own-in : (base : ℕ) (low : List Entry) (levels : List (List ℕ)) (late : LogState) (own : List ℕ) → Graded (levels_of seen) base levels → RefreshesLevels start low result levels late own → (output : ℕ) → IsInAny output levels → IsOwnOf late low output own
+    own-in base low [] late own graded refreshes output any = absurd any
+    own-in base low (level ∷ levels) late own graded refreshes output (inl here) =
+        let middle = refreshes.0 in
+        let split = each-split start middle low result level refreshes.3 output refreshes.5 graded.1 here in
         record {
           here = low;
           begins = starts_refl low;
           mine = split.mine;
-          brought = brought_lasts start late middle low output (result output) split.mine brings.1 split.brought;
+          refreshed = refreshed_lasts start late middle low output (result output) split.mine refreshes.1 split.refreshed;
           others = λ n some none.
-              elim (in_sum n own brings.3 brings.4 (brings.7 n) some) [
+              elim (in_sum n own refreshes.3 refreshes.4 (refreshes.7 n) some) [
                 | inl first ↦
                     let r = split.owned n (omega (arith, first, none, split.sum n)) in
-                    (r.0, r.2, owns-lasts start late middle low r.0 n brings.1 r.3)
+                    (r.0, r.2, owns-lasts start late middle low r.0 n refreshes.1 r.3)
                 | inr rest ↦
-                    let r = levels-owned start result middle.history levels late brings.4 brings.6 n rest in (
+                    let r = levels-owned start result middle.history levels late refreshes.4 refreshes.6 n rest in (
                       r.0,
                       (λ same.
                           let after = graded-above (levels_of seen) (suc base) levels r.0 graded.2 r.1 in
                           absurd (omega (arith, after, graded.0 output here, ap of same))),
-                      owns-lowers late middle.history low r.0 n brings.2 r.2,
+                      owns-lowers late middle.history low r.0 n refreshes.2 r.2,
                     )
               ];
         }
-    own-in base low (level ∷ levels) late own graded brings output (inr later) =
-        let middle = brings.0 in
-        let is = own-in (suc base) middle.history levels late brings.4 graded.2 brings.6 output later in
+    own-in base low (level ∷ levels) late own graded refreshes output (inr later) =
+        let middle = refreshes.0 in
+        let is = own-in (suc base) middle.history levels late refreshes.4 graded.2 refreshes.6 output later in
         record {
           here = is.here;
-          begins = starts_trans is.here middle.history low is.begins brings.2;
+          begins = starts_trans is.here middle.history low is.begins refreshes.2;
           mine = is.mine;
-          brought = is.brought;
+          refreshed = is.refreshed;
           others = λ n some none.
-              elim (in_sum n own brings.3 brings.4 (brings.7 n) some) [
+              elim (in_sum n own refreshes.3 refreshes.4 (refreshes.7 n) some) [
                 | inl first ↦
-                    let r = each-owned start middle low result level brings.3 brings.5 n first in (
+                    let r = each-owned start middle low result level refreshes.3 refreshes.5 n first in (
                       r.0,
                       (λ same.
                           let after = graded-above (levels_of seen) (suc base) levels output graded.2 later in
                           absurd (omega (arith, after, graded.0 r.0 r.1, ap of same))),
-                      owns-lasts start late middle low r.0 n brings.1 r.2,
+                      owns-lasts start late middle low r.0 n refreshes.1 r.2,
                     )
                 | inr rest ↦
                     let r = is.others n rest none in
-                    (r.0, r.1, owns-lowers late middle.history low r.0 n brings.2 r.2)
+                    (r.0, r.1, owns-lowers late middle.history low r.0 n refreshes.2 r.2)
               ];
         }
 
 -- Of each output one number at most was added.
-landed-few : (start : Start) (course : Course) (p : List Entry) (plan : PlanValue) (result : Result Receipt LandFault) (own : List ℕ) (next : List Entry) → Landed start course p plan result own next → length own ≤ 1
-landed-few start course p plan (Ok receipt) own next is = omega (arith, ap (length {A = ℕ}) is.2.own)
-landed-few start course p plan (Err (faults.Stopped entries)) own next is = omega (arith, ap (length {A = ℕ}) is.1.own)
-landed-few start course p plan (Err (faults.Superseded version)) own next is = omega (arith, ap (length {A = ℕ}) is.3.own)
-landed-few start course p plan (Err faults.VersionLimit) own next is = omega (arith, ap (length {A = ℕ}) is.2.own)
-landed-few start course p plan (Err (faults.Crowded at)) own next is = omega (arith, ap (length {A = ℕ}) is.3.own)
-landed-few start course p plan (Err (faults.TooManyPoints count)) own next is = omega (arith, ap (length {A = ℕ}) is.3.own)
-landed-few start course p plan (Err faults.Want) own next is = omega (arith, ap (length {A = ℕ}) is.2.own)
-landed-few start course p plan (Err (faults.DeviceFull need left)) own next is = omega (arith, ap (length {A = ℕ}) is.3.own)
-landed-few start course p plan (Err faults.DeviceFault) own next is = omega (arith, ap (length {A = ℕ}) is.2.own)
+landed-few : (start : StoreState) (log : LogState) (p : List Entry) (plan : PlanValue) (result : Result Receipt LandFault) (own : List ℕ) (next : List Entry) → Landed start log p plan result own next → length own ≤ 1
+landed-few start log p plan (Ok receipt) own next is = omega (arith, ap (length {A = ℕ}) is.2.own)
+landed-few start log p plan (Err (faults.Stopped entries)) own next is = omega (arith, ap (length {A = ℕ}) is.1.own)
+landed-few start log p plan (Err (faults.Superseded version)) own next is = omega (arith, ap (length {A = ℕ}) is.3.own)
+landed-few start log p plan (Err faults.VersionLimit) own next is = omega (arith, ap (length {A = ℕ}) is.2.own)
+landed-few start log p plan (Err (faults.Crowded at)) own next is = omega (arith, ap (length {A = ℕ}) is.3.own)
+landed-few start log p plan (Err (faults.TooManyPoints count)) own next is = omega (arith, ap (length {A = ℕ}) is.3.own)
+landed-few start log p plan (Err faults.Want) own next is = omega (arith, ap (length {A = ℕ}) is.2.own)
+landed-few start log p plan (Err (faults.DeviceFull need left)) own next is = omega (arith, ap (length {A = ℕ}) is.3.own)
+landed-few start log p plan (Err faults.DeviceFault) own next is = omega (arith, ap (length {A = ℕ}) is.2.own)
 
-module _ (start : Start) (course : Course) (low : List Entry) (output : ℕ) (own : List ℕ) where
-  plan-few : (result : Result Receipt LandFault) → IsPlanLanded start course low output result own → length own ≤ 1
-  plan-few result is = landed-few start course is.landed.0 is.plan result own is.next is.landed.3
+module _ (start : StoreState) (log : LogState) (low : List Entry) (output : ℕ) (own : List ℕ) where
+  plan-few : (result : Result Receipt LandFault) → IsPlanLanded start log low output result own → length own ≤ 1
+  plan-few result is = landed-few start log is.landed.0 is.plan result own is.next is.landed.3
 
-  brought-few : (result : Brought) → IsBrought start course low output result own → length own ≤ 1
-  brought-few (results.Landed version) is = plan-few (Ok is.0) is.2
-  brought-few (results.Current version) is = omega (arith, ap (length {A = ℕ}) is.none)
-  brought-few (results.Refused (faults.Stopped entries)) is = plan-few (Err (faults.Stopped entries)) is
-  brought-few (results.Refused (faults.Superseded version)) is = plan-few (Err (faults.Superseded version)) is
-  brought-few (results.Refused faults.VersionLimit) is = plan-few (Err faults.VersionLimit) is
-  brought-few (results.Refused (faults.Crowded at)) is = plan-few (Err (faults.Crowded at)) is
-  brought-few (results.Refused (faults.TooManyPoints count)) is = plan-few (Err (faults.TooManyPoints count)) is
-  brought-few (results.Refused faults.Want) is = omega (arith, ap (length {A = ℕ}) is)
-  brought-few (results.Refused (faults.DeviceFull need left)) is = plan-few (Err (faults.DeviceFull need left)) is
-  brought-few (results.Refused faults.DeviceFault) is = plan-few (Err faults.DeviceFault) is
+  refreshed-few : (result : Refreshed) → IsRefreshed start log low output result own → length own ≤ 1
+  refreshed-few (results.Landed version) is = plan-few (Ok is.0) is.2
+  refreshed-few (results.Current version) is = omega (arith, ap (length {A = ℕ}) is.none)
+  refreshed-few (results.Refused (faults.Stopped entries)) is = plan-few (Err (faults.Stopped entries)) is
+  refreshed-few (results.Refused (faults.Superseded version)) is = plan-few (Err (faults.Superseded version)) is
+  refreshed-few (results.Refused faults.VersionLimit) is = plan-few (Err faults.VersionLimit) is
+  refreshed-few (results.Refused (faults.Crowded at)) is = plan-few (Err (faults.Crowded at)) is
+  refreshed-few (results.Refused (faults.TooManyPoints count)) is = plan-few (Err (faults.TooManyPoints count)) is
+  refreshed-few (results.Refused faults.Want) is = omega (arith, ap (length {A = ℕ}) is)
+  refreshed-few (results.Refused (faults.DeviceFull need left)) is = plan-few (Err (faults.DeviceFull need left)) is
+  refreshed-few (results.Refused faults.DeviceFault) is = plan-few (Err faults.DeviceFault) is
 
 in-or-not : (x : ℕ) (xs : List ℕ) → IsIn x xs ⊎ (IsIn x xs → ⊥)
 in-or-not x [] = inr (λ is. is)
@@ -246,29 +246,29 @@ any-or-not x (l ∷ ls) =
     neither x l ls none not (inr later) = not later
 
 -- For each stream one number at most was added.
-pub one-each : (start : Start) (result : ℕ → Brought) (seen : List Entry) (levels : List (List ℕ)) (course : Course) (own : List ℕ) → Graded (levels_of seen) 1 levels → BringsLevels start seen result levels course own → (stream : ℕ) → (mine : List ℕ) × (length mine ≤ 1) × AreOfOthers stream course seen own mine
-one-each start result seen levels course own graded brings stream =
+pub one-each : (start : StoreState) (result : ℕ → Refreshed) (seen : List Entry) (levels : List (List ℕ)) (log : LogState) (own : List ℕ) → Graded (levels_of seen) 1 levels → RefreshesLevels start seen result levels log own → (stream : ℕ) → (mine : List ℕ) × (length mine ≤ 1) × AreOfOthers stream log seen own mine
+one-each start result seen levels log own graded refreshes stream =
     elim (any-or-not stream levels) [
       | inl any ↦
-          let is = own-in start result seen 1 seen levels course own graded brings stream any in
-          (is.mine, brought-few start course is.here stream is.mine (result stream) is.brought, is.others)
+          let is = own-in start result seen 1 seen levels log own graded refreshes stream any in
+          (is.mine, refreshed-few start log is.here stream is.mine (result stream) is.refreshed, is.others)
       | inr not ↦ (
         [],
         omega arith,
         λ n some none.
-            let r = levels-owned start result seen levels course own brings n some in
+            let r = levels-owned start result seen levels log own refreshes n some in
             (r.0, (λ same. not (subst (λ s. IsInAny s levels) same r.1)), r.2),
       )
     ]
 
 -- If all numbers since a history are those of a call, a stream has at most as many versions more as its own numbers.
-pub versions-since : (low seen : List Entry) (course : Course) (own : List ℕ) → AreAllSince low course own → (stream : ℕ) (mine : List ℕ) → AreOfOthers stream course seen own mine → (p : List Entry) → StartsWith course.history p → StartsWith p low → latest p stream ≤ latest low stream + length mine
-versions-since low seen course own each stream mine others p starts begins =
+pub versions-since : (low seen : List Entry) (log : LogState) (own : List ℕ) → AreAllSince low log own → (stream : ℕ) (mine : List ℕ) → AreOfOthers stream log seen own mine → (p : List Entry) → StartsWith log.history p → StartsWith p low → latest p stream ≤ latest low stream + length mine
+versions-since low seen log own each stream mine others p starts begins =
     few-versions stream mine low p begins
     (λ n after none e at.
     let inside = get-past p (n - 1) e at in
-    let within = starts_length course.history p starts in
-    let whole : slice_get course.history (n - 1) ≡ Some e = ap (λ (l : List Entry). slice_get l (n - 1)) starts.1 ∙ get-before p starts.0 (n - 1) inside ∙ at in
-    let listed : given (length low) (last_number course) n ≡ 1 = given_inside (length low) (last_number course) n after (omega (arith, inside, within)) in
+    let within = starts_length log.history p starts in
+    let whole : slice_get log.history (n - 1) ≡ Some e = ap (λ (l : List Entry). slice_get l (n - 1)) starts.1 ∙ get-before p starts.0 (n - 1) inside ∙ at in
+    let listed : given (length low) (last_number log) n ≡ 1 = given_inside (length low) (last_number log) n after (omega (arith, inside, within)) in
     let r = others n (omega (arith, each n, listed)) none in
     r.2.other e whole stream r.1)

@@ -13,9 +13,9 @@ use Rattle.btr_text.specs.declared.script.ScriptLine.{ScriptLine}
 use Rattle.btr_text.specs.declared.reply.LineReply.{LineReply}
 use Rattle.btr_gate.specs.Numbers.{total, times}
 use Rattle.btr_gate.proofs.NumberLemmas.{one_same, times_append}
-use Rattle.btr_jobs.specs.Course.{Start, Course}
+use Rattle.btr_jobs.specs.States.{StoreState, LogState}
 use Rattle.btr_jobs.specs.Turns.{IsIdle, CommittedAfter}
-use Rattle.btr_work.specs.declared.report.ReportLine as brought
+use Rattle.btr_work.specs.declared.report.ReportLine as refreshed
 use Rattle.btr_live.specs.declared.live.LiveReport.{LiveReport}
 use Rattle.btr_live.specs.Meaning.{Meaning, Commits, Asks, Holds, Current, Refuses}
 use Rattle.btr_live.specs.Lanes.{Offers, Answers, LaneState, begun, RunsLines}
@@ -23,31 +23,31 @@ use Rattle.btr_live.specs.LaneLaws.{lines_last}
 use Rattle.btr_live.specs.RoundsLaws.{rounds_last}
 use Rattle.btr_live.specs.Rounds.{MakesRounds}
 use Rattle.btr_live.proofs.LandingLemmas.{IsLanding, Landings, rounds_land}
-use Rattle.btr_live.specs.OneHistory.{of_lane, lanes_of, lines_of}
+use Rattle.btr_live.specs.OneHistory.{of_lane, lanes_of, lane_lines}
 use Rattle.btr_live.specs.Live.{LastRound, RunsLive}
 use Rattle.btr_store.specs.Work.{AddsAllowed}
 use Rattle.btr_store.proofs.Allowing.{allows_none, allows_nothing, allows_both, allows_committed, allows_landed}
-use Rattle.btr_store.proofs.DistilLemmas.{brings_allowed}
+use Rattle.btr_store.proofs.DistilLemmas.{refreshes_allowed}
 
-module _ (start : Start) (course : Course) where
+module _ (start : StoreState) (log : LogState) where
   -- ---- a line
 
   -- An entry that is computed after any history, in its turn.
-  committed_allowed : (a : List Entry) (e : Entry) (result : Result Receipt StepFault) (own : List ℕ) (next : List Entry) → ((p : List Entry) → IsComputed p e) → CommittedAfter start course a e result own next → AddsAllowed course own
-  committed_allowed a e result own next computed is = allows_committed start course is.0 e result own next (computed is.0) is.3
+  committed_allowed : (a : List Entry) (e : Entry) (result : Result Receipt StepFault) (own : List ℕ) (next : List Entry) → ((p : List Entry) → IsComputed p e) → CommittedAfter start log a e result own next → AddsAllowed log own
+  committed_allowed a e result own next computed is = allows_committed start log is.0 e result own next (computed is.0) is.3
 
   -- A distillate is that of a plan.
-  offers_allowed : (told : Bool) (a : List Entry) (e : Entry) (reply : LineReply) (own : List ℕ) (next : List Entry) → Offers start course told a e reply own next → AddsAllowed course own
+  offers_allowed : (told : Bool) (a : List Entry) (e : Entry) (reply : LineReply) (own : List ℕ) (next : List Entry) → Offers start log told a e reply own next → AddsAllowed log own
   offers_allowed told a (entries.Create id) reply own next is = committed_allowed a (entries.Create id) is.0 own next (λ p. tt) is.1
   offers_allowed told a (entries.Define id spec) reply own next is = committed_allowed a (entries.Define id spec) is.0 own next (λ p. tt) is.1
   offers_allowed told a (entries.Commit stream cut added) reply own next is = committed_allowed a (entries.Commit stream cut added) is.0 own next (λ p. tt) is.1
   offers_allowed told a (entries.Distillate stream cut added reads) reply own next is =
-      allows_landed start course a is.0 is.3 own next is.1.of is.4
+      allows_landed start log a is.0 is.3 own next is.1.of is.4
 
-  idle_allowed : (a : List Entry) (own : List ℕ) (next : List Entry) → IsIdle a own next → AddsAllowed course own
-  idle_allowed a own next is = allows_nothing course own is.own
+  idle_allowed : (a : List Entry) (own : List ℕ) (next : List Entry) → IsIdle a own next → AddsAllowed log own
+  idle_allowed a own next is = allows_nothing log own is.own
 
-  answers_allowed : (told : Bool) (a : List Entry) (m : Meaning) (reply : LineReply) (own : List ℕ) (next : List Entry) → Answers start course told a m reply own next → AddsAllowed course own
+  answers_allowed : (told : Bool) (a : List Entry) (m : Meaning) (reply : LineReply) (own : List ℕ) (next : List Entry) → Answers start log told a m reply own next → AddsAllowed log own
   answers_allowed told a (Commits e) reply own next is = offers_allowed told a e reply own next is
   answers_allowed told a (Asks query) reply own next is = idle_allowed a own next is.1
   answers_allowed told a (Holds count) reply own next is = idle_allowed a own next is.1
@@ -56,36 +56,36 @@ module _ (start : Start) (course : Course) where
 
   -- ---- a lane, and a landing
 
-  lines_allowed : (batch : ℕ) (old : LaneState) (lines : List (Option Line)) (replies : List LineReply) (own : List ℕ) (new : LaneState) → RunsLines batch start course old lines replies own new → AddsAllowed course own
-  lines_allowed batch old [] [] own new is = allows_nothing course own is.0
+  lines_allowed : (batch : ℕ) (old : LaneState) (lines : List (Option Line)) (replies : List LineReply) (own : List ℕ) (new : LaneState) → RunsLines batch start log old lines replies own new → AddsAllowed log own
+  lines_allowed batch old [] [] own new is = allows_nothing log own is.0
   lines_allowed batch old [] (reply ∷ replies) own new is = absurd is
   lines_allowed batch old (line ∷ lines) [] own new is = absurd is
   lines_allowed batch old (line ∷ lines) (reply ∷ replies) own new is =
-      allows_both course own is.0 is.1 (λ n. ap (times n) is.3 ∙ times_append n is.0 is.1)
+      allows_both log own is.0 is.1 (λ n. ap (times n) is.3 ∙ times_append n is.0 is.1)
       (answers_allowed old.saw_failure is.4.admitted is.4.asked reply is.0 is.2.history is.4.answers)
       (lines_allowed batch is.2 lines replies is.1 new is.5)
 
-  landing_allowed : (low : List Entry) (n : ℕ) → IsLanding start course low n → AddsAllowed course (n ∷ [])
-  landing_allowed low n is = allows_landed start course is.at is.plan is.result (n ∷ []) is.next is.planned.of is.landed
+  landing_allowed : (low : List Entry) (n : ℕ) → IsLanding start log low n → AddsAllowed log (n ∷ [])
+  landing_allowed low n is = allows_landed start log is.at is.plan is.result (n ∷ []) is.next is.planned.of is.landed
 
   -- What is allowed of each number is allowed of all.
-  landings_allowed : (low : List Entry) (own : List ℕ) → Landings start course low own → AddsAllowed course own
+  landings_allowed : (low : List Entry) (own : List ℕ) → Landings start log low own → AddsAllowed log own
   landings_allowed low own lands p e starts listed legal =
       let n : ℕ = length p + 1 in
       let here : 1 ≤ times n (n ∷ []) = let one = one_same n n (λ i. n) in omega (arith, one) in
       landing_allowed low n (lands n listed) p e starts here legal
 
-  rounds_allowed : (count : ℕ) (low : List Entry) (own : List ℕ) → MakesRounds start count low course own → AddsAllowed course own
-  rounds_allowed count low own is = landings_allowed low own (rounds_land start count course low own is)
+  rounds_allowed : (count : ℕ) (low : List Entry) (own : List ℕ) → MakesRounds start count low log own → AddsAllowed log own
+  rounds_allowed count low own is = landings_allowed low own (rounds_land start count log low own is)
 
   -- ---- the last round
 
-  last_allowed : (low : List Entry) (materialize : Bool) (last : Option (Result (List brought.ReportLine) AllocError)) (own : List ℕ) → LastRound start course low materialize last own → AddsAllowed course own
-  last_allowed low false None own is = allows_none course own is
+  last_allowed : (low : List Entry) (materialize : Bool) (last : Option (Result (List refreshed.ReportLine) AllocError)) (own : List ℕ) → LastRound start log low materialize last own → AddsAllowed log own
+  last_allowed low false None own is = allows_none log own is
   last_allowed low false (Some result) own is = absurd is
   last_allowed low true None own is = absurd is
-  last_allowed low true (Some (Err error)) own is = allows_none course own is
-  last_allowed low true (Some (Ok report)) own is = brings_allowed start course low report own is
+  last_allowed low true (Some (Err error)) own is = allows_none log own is
+  last_allowed low true (Some (Ok report)) own is = refreshes_allowed start log low report own is
 
 -- A number that is in one of the lists is in a list at some place.
 in_lists : (P : Type 0) (n : ℕ) (lists : List (List ℕ)) → ((k : ℕ) → 1 ≤ times n (slice_index_or lists k []) → P) → 1 ≤ total (times n) lists → P
@@ -97,24 +97,24 @@ in_lists P n (l ∷ ls) each some =
     ]
 
 -- What lanes, rounds and the last round add is allowed.
-pub live_allowed : (batch : ℕ) (materialize : Bool) (start : Start) (course : Course) (low : List Entry) (script : List ScriptLine) (report : LiveReport) (own : List ℕ) → RunsLive batch materialize start course low script report own → AddsAllowed course own
-live_allowed batch materialize start course low script report own runs p e starts listed legal =
+pub live_allowed : (batch : ℕ) (materialize : Bool) (start : StoreState) (log : LogState) (low : List Entry) (script : List ScriptLine) (report : LiveReport) (own : List ℕ) → RunsLive batch materialize start log low script report own → AddsAllowed log own
+live_allowed batch materialize start log low script report own runs p e starts listed legal =
     let n : ℕ = length p + 1 in
     let sum = runs.numbers n in
     elim (cases_lt 0 (times n runs.lastly)) [
-      | inl lastly ↦ last_allowed start course runs.middle.history materialize report.last runs.lastly runs.last p e starts lastly legal
+      | inl lastly ↦ last_allowed start log runs.middle.history materialize report.last runs.lastly runs.last p e starts lastly legal
       | inr none ↦
           elim (cases_lt 0 (total (times n) runs.mine)) [
             | inl by_lane ↦
                 in_lists (Allowed p e) n runs.mine
-                (λ k here. lines_allowed start course batch (begun low) (lines_of k script) (of_lane k (lanes_of script) report.replies.items) (slice_index_or runs.mine k []) (runs.lanes.lasts k)
-                (lines_last start course runs.middle runs.goes_on batch (begun low) (lines_of k script) (of_lane k (lanes_of script) report.replies.items) (slice_index_or runs.mine k []) (runs.lanes.lasts k) (runs.lanes.lanes k))
+                (λ k here. lines_allowed start log batch (begun low) (lane_lines k script) (of_lane k (lanes_of script) report.replies.items) (slice_index_or runs.mine k []) (runs.lanes.lasts k)
+                (lines_last start log runs.middle runs.goes_on batch (begun low) (lane_lines k script) (of_lane k (lanes_of script) report.replies.items) (slice_index_or runs.mine k []) (runs.lanes.lasts k) (runs.lanes.lanes k))
                 p e starts here legal)
                 by_lane
             | inr no_lane ↦
                 in_lists (Allowed p e) n runs.beside
-                (λ k here. rounds_allowed start course (length script) low (slice_index_or runs.beside k [])
-                (rounds_last start (length script) course runs.middle low (slice_index_or runs.beside k []) runs.goes_on (runs.lanes.parties k))
+                (λ k here. rounds_allowed start log (length script) low (slice_index_or runs.beside k [])
+                (rounds_last start (length script) log runs.middle low (slice_index_or runs.beside k []) runs.goes_on (runs.lanes.parties k))
                 p e starts here legal)
                 (omega (arith, listed, sum, none, no_lane))
           ]

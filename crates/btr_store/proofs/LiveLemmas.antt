@@ -10,22 +10,22 @@ use Rattle.btr_text.specs.declared.script.ScriptLine.{ScriptLine}
 use Rattle.btr_hall.specs.declared.session.Hall.{Hall}
 use Rattle.btr_hall.specs.declared.session.Session.{Session}
 use Rattle.btr_hall.specs.Session.{opening_of}
-use Rattle.btr_jobs.specs.Course.{Start, Course, start_of, course_of}
+use Rattle.btr_jobs.specs.States.{StoreState, LogState, start_of, log_of}
 use Rattle.btr_jobs.specs.Jobs.{Does}
-use Rattle.btr_jobs.proofs.CourseLemmas.{course_at}
+use Rattle.btr_jobs.proofs.StateLemmas.{log_at}
 use Rattle.btr_jobs.proofs.DoesLemmas.{goes_none}
 use Rattle.btr_work.specs.Laws.{AreAllSince}
 use Rattle.btr_live.specs.declared.live.LiveReport.{LiveReport}
 use Rattle.btr_live.specs.Live.{LastRound, RunsLive, RunsAreOneHistory, LastIsCurrent}
 use Rattle.btr_live.specs.OneHistory.{OneHistory}
-use Rattle.btr_live.specs.OneLane.{AreInLane, RunsAlone, Fits, OneLaneIsTheModel}
+use Rattle.btr_live.specs.OneLane.{AreInLane, RunsAlone, FitsLeft, OneLaneIsTheModel}
 use Rattle.btr_store.specs.declared.transcript.Transcript.{Transcript}
 use Rattle.btr_store.specs.Streams.{Stays}
 use Rattle.btr_store.specs.Work.{AddsAllowed}
 use Rattle.btr_store.proofs.Allowing.{allows_nothing}
 use Rattle.btr_store.proofs.DistilLemmas.{goes_stays}
 use Rattle.btr_top.specs.Live as live
-use Rattle.btr_store.specs.Live.{SaysLive, SaysIf, RunsIf, IsLastCurrent, LivesStore}
+use Rattle.btr_store.specs.Live.{SaysLive, SaysScript, RunsIf, IsLastCurrent, LivesStore}
 use Rattle.btr_store.specs.LiveLines.{RunsFrom, Lives}
 use Rattle.btr_store.proofs.LiveAllowing.{live_allowed}
 
@@ -33,70 +33,70 @@ use Rattle.btr_store.proofs.LiveAllowing.{live_allowed}
 
 module _ {D : Type 0} {disk : Ghosts D} (batch : ℕ) (materialize : Bool) (script : List ScriptLine) (hall : Hall D disk) where
   -- What was said of a report was said of the store at the end.
-  pub lives_said : (old mid new : Session D disk) (report : LiveReport) (said : Result Transcript AllocError) → Does hall old mid (λ start course low own. RunsLive batch materialize start course low script report own) → Stays mid new → ((h : List Entry) → IsEngineOf h (opening_of hall) → IfOk said (SaysLive (course_of h mid) report)) → Does hall old new (λ start course low own. Lives batch materialize script start course low said own)
+  pub lives_said : (old mid new : Session D disk) (report : LiveReport) (said : Result Transcript AllocError) → Does hall old mid (λ start log low own. RunsLive batch materialize start log low script report own) → Stays mid new → ((h : List Entry) → IsEngineOf h (opening_of hall) → IfOk said (SaysLive (log_of h mid) report)) → Does hall old new (λ start log low own. Lives batch materialize script start log low said own)
   lives_said old mid new report said does stays says = (
     does.0,
     goes_stays old mid new does.0 does.1 stays,
     λ h of.
-        subst (λ l. Lives batch materialize script (start_of h hall) (course_at h l) (course_of h old).history said does.0) (sym stays.seen)
+        subst (λ l. Lives batch materialize script (start_of h hall) (log_at h l) (log_of h old).history said does.0) (sym stays.seen)
         (record {
           report = Some report;
           runs = does.2 h of;
-          says = says_report said (course_of h mid) (says h of);
+          says = says_report said (log_of h mid) (says h of);
         }),
   )
     where
-      says_report : (said : Result Transcript AllocError) (course : Course) → IfOk said (SaysLive course report) → SaysIf course (Some report) said
-      says_report (Ok transcript) course is = is
-      says_report (Err error) course is = tt
+      says_report : (said : Result Transcript AllocError) (log : LogState) → IfOk said (SaysLive log report) → SaysScript log (Some report) said
+      says_report (Ok transcript) log is = is
+      says_report (Err error) log is = tt
 
   -- Memory ran out before any line.
-  pub lives_none : (old new : Session D disk) (error : AllocError) → new ≡ old → Does hall old new (λ start course low own. Lives batch materialize script start course low (Err error) own)
+  pub lives_none : (old new : Session D disk) (error : AllocError) → new ≡ old → Does hall old new (λ start log low own. Lives batch materialize script start log low (Err error) own)
   lives_none old new error same =
-      subst (λ s. Does hall old s (λ start course low own. Lives batch materialize script start course low (Err error) own)) (sym same)
+      subst (λ s. Does hall old s (λ start log low own. Lives batch materialize script start log low (Err error) own)) (sym same)
       ([], goes_none old, λ h of. record { report = None; runs = refl; says = tt })
 
 -- ---- what it adds is allowed
 
-runs_allowed : (batch : ℕ) (materialize : Bool) (script : List ScriptLine) (start : Start) (course : Course) (report : Option LiveReport) (own : List ℕ) → RunsFrom batch materialize start course start.history script report own → AddsAllowed course own
-runs_allowed batch materialize script start course None own runs = allows_nothing course own runs
-runs_allowed batch materialize script start course (Some report) own runs =
-    live_allowed batch materialize start course start.history script report own runs
+runs_allowed : (batch : ℕ) (materialize : Bool) (script : List ScriptLine) (start : StoreState) (log : LogState) (report : Option LiveReport) (own : List ℕ) → RunsFrom batch materialize start log start.history script report own → AddsAllowed log own
+runs_allowed batch materialize script start log None own runs = allows_nothing log own runs
+runs_allowed batch materialize script start log (Some report) own runs =
+    live_allowed batch materialize start log start.history script report own runs
 
-pub lives_allowed : (batch : ℕ) (materialize : Bool) (script : List ScriptLine) (start : Start) (course : Course) (said : Result Transcript AllocError) (own : List ℕ) → Lives batch materialize script start course start.history said own → AddsAllowed course own
-lives_allowed batch materialize script start course said own is = runs_allowed batch materialize script start course is.report own is.runs
+pub lives_allowed : (batch : ℕ) (materialize : Bool) (script : List ScriptLine) (start : StoreState) (log : LogState) (said : Result Transcript AllocError) (own : List ℕ) → Lives batch materialize script start log start.history said own → AddsAllowed log own
+lives_allowed batch materialize script start log said own is = runs_allowed batch materialize script start log is.report own is.runs
 
 -- ---- what the laws say of it, if nobody else added anything
 
-module _ (history_law : RunsAreOneHistory) (lane_law : OneLaneIsTheModel) (last_law : LastIsCurrent) (batch : ℕ) (materialize : Bool) (script : List ScriptLine) (start : Start) (course : Course) (own : List ℕ) (all : AreAllSince start.history course own) (not_stopped : start.stopped ≡ false) (follows : Follows course.history) (fits : Fits start course) where
-  runs_if : (report : Option LiveReport) → RunsFrom batch materialize start course start.history script report own → RunsIf batch materialize start course script report own
+module _ (history_law : RunsAreOneHistory) (lane_law : OneLaneIsTheModel) (last_law : LastIsCurrent) (batch : ℕ) (materialize : Bool) (script : List ScriptLine) (start : StoreState) (log : LogState) (own : List ℕ) (all : AreAllSince start.history log own) (not_stopped : start.stopped ≡ false) (follows : Follows log.history) (fits : FitsLeft start log) where
+  runs_if : (report : Option LiveReport) → RunsFrom batch materialize start log start.history script report own → RunsIf batch materialize start log script report own
   runs_if None runs = runs
   runs_if (Some report) runs = runs
 
-  one_history_if : (report : Option LiveReport) → RunsFrom batch materialize start course start.history script report own → IfSome report (λ r. OneHistory batch start course script r.replies.items)
+  one_history_if : (report : Option LiveReport) → RunsFrom batch materialize start log start.history script report own → IfSome report (λ r. OneHistory batch start log script r.replies.items)
   one_history_if None runs = tt
-  one_history_if (Some report) runs = history_law batch materialize start course script report own runs all
+  one_history_if (Some report) runs = history_law batch materialize start log script report own runs all
 
-  one_lane_if : (report : Option LiveReport) → RunsFrom batch materialize start course start.history script report own → materialize ≡ false → (lane : ℕ) → AreInLane lane script → IfSome report (λ r. RunsAlone batch start course script r.replies.items)
+  one_lane_if : (report : Option LiveReport) → RunsFrom batch materialize start log start.history script report own → materialize ≡ false → (lane : ℕ) → AreInLane lane script → IfSome report (λ r. RunsAlone batch start log script r.replies.items)
   one_lane_if None runs none lane are = tt
   one_lane_if (Some report) runs none lane are =
-      lane_law batch lane start course script report own
-      (subst (λ (m : Bool). RunsLive batch m start course start.history script report own) none runs)
+      lane_law batch lane start log script report own
+      (subst (λ (m : Bool). RunsLive batch m start log start.history script report own) none runs)
       all not_stopped follows fits are
 
   -- A last round that has a report was wanted.
-  last_if : (m : Bool) (report : LiveReport) (last : live.LastRound) → report.last ≡ last → RunsLive batch m start course start.history script report own → course.failed ≡ None → IsLastCurrent course.history last
+  last_if : (m : Bool) (report : LiveReport) (last : live.LastRound) → report.last ≡ last → RunsLive batch m start log start.history script report own → log.failed ≡ None → IsLastCurrent log.history last
   last_if m report None is runs sound = tt
   last_if m report (Some (Err error)) is runs sound = tt
-  last_if true report (Some (Ok lines)) is runs sound = last_law batch start course script report own lines runs all follows sound is
+  last_if true report (Some (Ok lines)) is runs sound = last_law batch start log script report own lines runs all follows sound is
   last_if false report (Some (Ok lines)) is runs sound =
-      absurd (subst (λ (l : live.LastRound). LastRound start course runs.middle.history false l runs.lastly) is runs.last)
+      absurd (subst (λ (l : live.LastRound). LastRound start log runs.middle.history false l runs.lastly) is runs.last)
 
-  current_if : (report : Option LiveReport) → RunsFrom batch materialize start course start.history script report own → course.failed ≡ None → IfSome report (λ r. IsLastCurrent course.history r.last)
+  current_if : (report : Option LiveReport) → RunsFrom batch materialize start log start.history script report own → log.failed ≡ None → IfSome report (λ r. IsLastCurrent log.history r.last)
   current_if None runs sound = tt
   current_if (Some report) runs sound = last_if materialize report report.last refl runs sound
 
-  pub lives_store : (said : Result Transcript AllocError) → Lives batch materialize script start course start.history said own → LivesStore batch materialize script start course said own
+  pub lives_store : (said : Result Transcript AllocError) → Lives batch materialize script start log start.history said own → LivesStore batch materialize script start log said own
   lives_store said is = record {
     report = is.report;
     runs = runs_if is.report is.runs;

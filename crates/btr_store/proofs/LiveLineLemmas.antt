@@ -8,18 +8,18 @@ use Rattle.btr_engine.specs.declared.engine.Engine.{Engine}
 use Rattle.btr_engine.specs.Engine.{is_stopped}
 use Rattle.btr_hall.specs.declared.item.Item.{Item}
 use Rattle.btr_hall.specs.Trace.{has_halt, stopped_in}
-use Rattle.btr_jobs.specs.Course.{failed_in}
-use Rattle.btr_jobs.proofs.CourseLemmas.{course_at, failed_halt}
-use Rattle.btr_work.specs.declared.report.ReportLine as brought
+use Rattle.btr_jobs.specs.States.{failed_in}
+use Rattle.btr_jobs.proofs.StateLemmas.{log_at, failed_halt}
+use Rattle.btr_work.specs.declared.report.ReportLine as refreshed
 use Rattle.btr_store.specs.declared.status.Status.TheVariants.{Done, DeviceFault}
 use Rattle.btr_store.specs.declared.transcript.Transcript.{Transcript}
-use Rattle.btr_store.specs.Streams.{id_of}
+use Rattle.btr_store.specs.Streams.{id_of_stream}
 use Rattle.btr_store.specs.Transcript.{AddsLines}
-use Rattle.btr_store.specs.Live.{round_line, course_status}
+use Rattle.btr_store.specs.Live.{round_line, log_status}
 use Rattle.btr_store.specs.LiveLines.{refused_line}
 
 -- The line of an output, by its id.
-pub refused_adds : (h : List Entry) (line : brought.ReportLine) (id : ℕ) (old new : Transcript) → id ≡ id_of h line.output → AddsLines (round_line id line.result) old new → AddsLines (refused_line h line) old new
+pub refused_adds : (h : List Entry) (line : refreshed.ReportLine) (id : ℕ) (old new : Transcript) → id ≡ id_of_stream h line.output → AddsLines (round_line id line.result) old new → AddsLines (refused_line h line) old new
 refused_adds h line id old new named adds = subst (λ (i : ℕ). AddsLines (round_line i line.result) old new) named adds
 
 -- ---- whether the device failed
@@ -37,11 +37,11 @@ module _ {D : Type 0} {disk : Ghosts D} where
   halt_is x l b runs is = failed_halt l ∙ sym (ap (λ (a : Bool). a || has_halt l) runs) ∙ is
 
   -- The engine is stopped: the device failed.
-  pub failure_is : (h : List Entry) (x : Engine D disk) (l : List (Item D disk)) (n k : ℕ) → is_stopped x ≡ false → Some k ≡ (if stopped_in x l then Some n else None) → DeviceFault ≡ course_status (course_at h l)
+  pub failure_is : (h : List Entry) (x : Engine D disk) (l : List (Item D disk)) (n k : ℕ) → is_stopped x ≡ false → Some k ≡ (if stopped_in x l then Some n else None) → DeviceFault ≡ log_status (log_at h l)
   failure_is h x l n k runs is =
       sym (ap (λ (b : Bool). if b then DeviceFault else Done) (halt_is x l true runs (is_true (stopped_in x l) n k is)))
 
   -- The engine is not stopped: the device did not fail.
-  pub success_is : (h : List Entry) (x : Engine D disk) (l : List (Item D disk)) (n : ℕ) → is_stopped x ≡ false → None ≡ (if stopped_in x l then Some n else None) → Done ≡ course_status (course_at h l)
+  pub success_is : (h : List Entry) (x : Engine D disk) (l : List (Item D disk)) (n : ℕ) → is_stopped x ≡ false → None ≡ (if stopped_in x l then Some n else None) → Done ≡ log_status (log_at h l)
   success_is h x l n runs is =
       sym (ap (λ (b : Bool). if b then DeviceFault else Done) (halt_is x l false runs (is_false (stopped_in x l) n is)))

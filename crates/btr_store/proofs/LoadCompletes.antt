@@ -13,14 +13,14 @@ use Rattle.btr_rows.specs.Streams.{StreamValue, RowListValue}
 use Rattle.btr_engine.specs.declared.board.Receipt.{Receipt}
 use Rattle.btr_engine.specs.declared.step.StepFault.{StepFault}
 use Rattle.btr_engine.specs.declared.step.StepFault.TheVariants as steps
-use Rattle.btr_jobs.specs.Course.{Start, Course}
+use Rattle.btr_jobs.specs.States.{StoreState, LogState}
 use Rattle.btr_jobs.specs.Turns as turns
-use Rattle.btr_load.specs.declared.fate.Fate.{Fate}
-use Rattle.btr_load.specs.declared.fate.Fate.TheVariants.{Output, NotCreated, Committed}
+use Rattle.btr_load.specs.declared.outcome.RowsOutcome.{RowsOutcome}
+use Rattle.btr_load.specs.declared.outcome.RowsOutcome.TheVariants.{Output, NotCreated, Committed}
 use Rattle.btr_load.specs.declared.stream.LoadedStream.{LoadedStream}
 use Rattle.btr_load.specs.Batches.{batches_of, batch_entry}
-use Rattle.btr_load.specs.Work.{BatchDid, BatchesDid, FateDid, StreamsDid}
-use Rattle.btr_load.specs.Loads.{LoadedValue, IsFound, IsCreated, Opens, OpensEach, Loads}
+use Rattle.btr_load.specs.Work.{BatchDid, BatchesDid, OutcomeDid, StreamsDid}
+use Rattle.btr_load.specs.Loads.{LoadedValue, OutcomeOfFound, OutcomeOfCreated, CreatesIfNew, CreatesEach, Loads}
 use Rattle.btr_load.proofs.FitLemmas.{loads_fit}
 use Rattle.btr_store.specs.declared.transcript.Transcript.{Transcript}
 use Rattle.btr_store.specs.Completes.{SaysBenign, HasRoomForRows}
@@ -28,8 +28,8 @@ use Rattle.btr_store.specs.Load.{LoadsIf, SaysLoaded}
 use Rattle.btr_store.specs.Work.{OwnsEachOnce}
 use Rattle.btr_store.proofs.Benign.{Ran, FateRan, load_benign}
 
-module _ (start : Start) (course : Course) (runs : course.failed ≡ None) where
-  pub committed_ran : (p : List Entry) (e : Entry) (result : Result Receipt StepFault) (own : List ℕ) (next : List Entry) → turns.Committed start course p e result own next → Ran result
+module _ (start : StoreState) (log : LogState) (runs : log.failed ≡ None) where
+  pub committed_ran : (p : List Entry) (e : Entry) (result : Result Receipt StepFault) (own : List ℕ) (next : List Entry) → turns.Committed start log p e result own next → Ran result
   committed_ran p e (Ok receipt) own next is = tt
   committed_ran p e (Err (steps.Stopped count)) own next is = tt
   committed_ran p e (Err (steps.Rejected why)) own next is = tt
@@ -39,54 +39,54 @@ module _ (start : Start) (course : Course) (runs : course.failed ≡ None) where
       let failed : None ≡ Some e = sym runs ∙ is.1.failed in
       absurd (cc)
 
-  batch_ran : (low : List Entry) (e : Entry) (result : Result Receipt StepFault) (own : List ℕ) (next : List Entry) → BatchDid start course low e result own next → Ran result
+  batch_ran : (low : List Entry) (e : Entry) (result : Result Receipt StepFault) (own : List ℕ) (next : List Entry) → BatchDid start log low e result own next → Ran result
   batch_ran low e result own next (inl turn) = committed_ran turn.0 e result own next turn.3
   batch_ran low e result own next (inr none) = subst (λ (r : Result Receipt StepFault). Ran r) (sym none.0) tt
 
-  batches_ran : (low : List Entry) (stream : ℕ) (batches : List (List NumberedPoint)) (results : List (Result Receipt StepFault)) (own : List ℕ) (last : List Entry) → BatchesDid start course low stream batches results own last → AllByRecursion Ran results
+  batches_ran : (low : List Entry) (stream : ℕ) (batches : List (List NumberedPoint)) (results : List (Result Receipt StepFault)) (own : List ℕ) (last : List Entry) → BatchesDid start log low stream batches results own last → AllByRecursion Ran results
   batches_ran low stream [] [] own last did = tt
   batches_ran low stream [] (result ∷ results) own last did = absurd did
   batches_ran low stream (batch ∷ batches) [] own last did = absurd did
   batches_ran low stream (batch ∷ batches) (result ∷ results) own last did =
       (batch_ran low (batch_entry stream batch) result did.0 did.2 did.4, batches_ran did.2 stream batches results did.1 last did.5)
 
-  found_ran : (low : List Entry) (stream : ℕ) (o : Option Spec) (fault : StepFault) → IsFound low stream o (NotCreated fault) → Ran (Err fault)
+  found_ran : (low : List Entry) (stream : ℕ) (o : Option Spec) (fault : StepFault) → OutcomeOfFound low stream o (NotCreated fault) → Ran (Err fault)
   found_ran low stream None fault is = absurd is
   found_ran low stream (Some spec) fault is = absurd (cc)
 
-  made_ran : (p : List Entry) (id : ℕ) (result : Result Receipt StepFault) (own : List ℕ) (next : List Entry) (fault : StepFault) → turns.Committed start course p (entries.Create id) result own next → IsCreated result (NotCreated fault) → Ran (Err fault)
+  made_ran : (p : List Entry) (id : ℕ) (result : Result Receipt StepFault) (own : List ℕ) (next : List Entry) (fault : StepFault) → turns.Committed start log p (entries.Create id) result own next → OutcomeOfCreated result (NotCreated fault) → Ran (Err fault)
   made_ran p id (Ok receipt) own next fault turn is = absurd is
   made_ran p id (Err other) own next fault turn is =
       let same : other ≡ fault = cc in
       subst (λ (f : StepFault). Ran (Err f)) same (committed_ran p (entries.Create id) (Err other) own next turn)
 
-  create_ran : (low p : List Entry) (id : ℕ) (o : Option ℕ) (own : List ℕ) (next : List Entry) (fault : StepFault) → Opens start course low p id o (NotCreated fault) own next → Ran (Err fault)
+  create_ran : (low p : List Entry) (id : ℕ) (o : Option ℕ) (own : List ℕ) (next : List Entry) (fault : StepFault) → CreatesIfNew start log low p id o (NotCreated fault) own next → Ran (Err fault)
   create_ran low p id (Some stream) own next fault opens = found_ran low stream (spec_of low stream) fault opens.0
   create_ran low p id None own next fault opens = made_ran p id opens.0 own next fault opens.1 opens.2
 
-  fate_ran : (low p mid : List Entry) (id : ℕ) (o : Option ℕ) (batches : List (List NumberedPoint)) (fate : Fate) (created own : List ℕ) (next : List Entry) → Opens start course low p id o fate created next → FateDid start course mid batches fate own → FateRan fate
-  fate_ran low p mid id o batches Output created own next opens did = tt
-  fate_ran low p mid id o batches (NotCreated fault) created own next opens did = create_ran low p id o created next fault opens
-  fate_ran low p mid id o batches (Committed stream results latest) created own next opens did =
+  outcome_ran : (low p mid : List Entry) (id : ℕ) (o : Option ℕ) (batches : List (List NumberedPoint)) (outcome : RowsOutcome) (created own : List ℕ) (next : List Entry) → CreatesIfNew start log low p id o outcome created next → OutcomeDid start log mid batches outcome own → FateRan outcome
+  outcome_ran low p mid id o batches Output created own next opens did = tt
+  outcome_ran low p mid id o batches (NotCreated fault) created own next opens did = create_ran low p id o created next fault opens
+  outcome_ran low p mid id o batches (Committed stream results latest) created own next opens did =
       batches_ran mid stream batches results own did.0 did.1
 
-  streams_ran : (low p mid : List Entry) (batch : ℕ) (rows : List StreamValue) (streams : List LoadedStream) (created own : List ℕ) (last : List Entry) → OpensEach start course low p batch rows streams created last → StreamsDid start course mid streams own → AllByRecursion (λ s. FateRan s.fate) streams
+  streams_ran : (low p mid : List Entry) (batch : ℕ) (rows : List StreamValue) (streams : List LoadedStream) (created own : List ℕ) (last : List Entry) → CreatesEach start log low p batch rows streams created last → StreamsDid start log mid streams own → AllByRecursion (λ s. FateRan s.outcome) streams
   streams_ran low p mid batch [] [] created own last opens did = tt
   streams_ran low p mid batch [] (s ∷ streams) created own last opens did = absurd opens
   streams_ran low p mid batch (r ∷ rows) [] created own last opens did = absurd opens
   streams_ran low p mid batch (r ∷ rows) (s ∷ streams) created own last opens did = (
-    fate_ran low p mid r.id (stream_of low r.id) (batches_of s.batch s.rows.points) s.fate opens.2 did.0 opens.4 opens.6 did.2,
+    outcome_ran low p mid r.id (stream_of low r.id) (batches_of s.batch s.rows.points) s.outcome opens.2 did.0 opens.4 opens.6 did.2,
     streams_ran low opens.4 mid batch rows streams opens.3 did.1 last opens.7 did.3,
   )
 
-  pub loads_ran : (low : List Entry) (rows : RowListValue) (batch : ℕ) (loaded : LoadedValue) (own : List ℕ) → Loads start course low rows batch loaded own → AllByRecursion (λ s. FateRan s.fate) loaded.streams
+  pub loads_ran : (low : List Entry) (rows : RowListValue) (batch : ℕ) (loaded : LoadedValue) (own : List ℕ) → Loads start log low rows batch loaded own → AllByRecursion (λ s. FateRan s.outcome) loaded.streams
   loads_ran low rows batch loaded own loads =
       streams_ran low low loads.middle batch rows.streams loaded.streams loads.created loads.committed loads.middle loads.opens loads.commits
 
-pub load_completes : (start : Start) (course : Course) (rows : RowListValue) (batch : ℕ) (own : List ℕ) (loaded : Option LoadedValue) (said : Result Transcript AllocError) → Follows start.history → OwnsEachOnce start course own → LoadsIf start course start.history rows batch loaded own → SaysLoaded loaded said → HasRoomForRows start rows batch → course.failed ≡ None → SaysBenign said
-load_completes start course rows batch own loaded (Err error) before each loads says room runs = tt
-load_completes start course rows batch own None (Ok transcript) before each loads says room runs = absurd says
-load_completes start course rows batch own (Some loaded) (Ok transcript) before each loads says room runs =
+pub load_completes : (start : StoreState) (log : LogState) (rows : RowListValue) (batch : ℕ) (own : List ℕ) (loaded : Option LoadedValue) (said : Result Transcript AllocError) → Follows start.history → OwnsEachOnce start log own → LoadsIf start log start.history rows batch loaded own → SaysLoaded loaded said → HasRoomForRows start rows batch → log.failed ≡ None → SaysBenign said
+load_completes start log rows batch own loaded (Err error) before each loads says room runs = tt
+load_completes start log rows batch own None (Ok transcript) before each loads says room runs = absurd says
+load_completes start log rows batch own (Some loaded) (Ok transcript) before each loads says room runs =
     load_benign loaded transcript says
-    (loads_fit start course rows batch loaded own before each loads room)
-    (loads_ran start course runs start.history rows batch loaded own loads)
+    (loads_fit start log rows batch loaded own before each loads room)
+    (loads_ran start log runs start.history rows batch loaded own loads)

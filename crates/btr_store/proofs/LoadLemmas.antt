@@ -16,17 +16,17 @@ use Rattle.btr_gate.specs.Numbers.{times}
 use Rattle.btr_gate.proofs.NumberLemmas.{times_append}
 use Rattle.btr_hall.specs.declared.session.Hall.{Hall}
 use Rattle.btr_hall.specs.declared.session.Session.{Session}
-use Rattle.btr_jobs.specs.Course.{Start, Course, GoesOn}
+use Rattle.btr_jobs.specs.States.{StoreState, LogState, GoesOn}
 use Rattle.btr_jobs.specs.TurnLaws.{goes_refl}
 use Rattle.btr_jobs.specs.Jobs.{Does}
-use Rattle.btr_jobs.specs.Contents.{RunsThrough}
+use Rattle.btr_jobs.specs.PlainStore.{RunsThrough}
 use Rattle.btr_jobs.proofs.DoesLemmas.{does_implied}
-use Rattle.btr_load.specs.declared.fate.Fate.{Fate}
-use Rattle.btr_load.specs.declared.fate.Fate.TheVariants.{Output, NotCreated, Committed}
+use Rattle.btr_load.specs.declared.outcome.RowsOutcome.{RowsOutcome}
+use Rattle.btr_load.specs.declared.outcome.RowsOutcome.TheVariants.{Output, NotCreated, Committed}
 use Rattle.btr_load.specs.declared.stream.LoadedStream.{LoadedStream}
 use Rattle.btr_load.specs.Batches.{batches_of, batch_entry}
-use Rattle.btr_load.specs.Work.{BatchDid, BatchesDid, FateDid, StreamsDid}
-use Rattle.btr_load.specs.Loads.{LoadedValue, Opens, OpensEach, Loads, LoadsInTurn}
+use Rattle.btr_load.specs.Work.{BatchDid, BatchesDid, OutcomeDid, StreamsDid}
+use Rattle.btr_load.specs.Loads.{LoadedValue, CreatesIfNew, CreatesEach, Loads, LoadsInTurn}
 use Rattle.btr_load.specs.There.{AreDistinct, AreThere}
 use Rattle.btr_load.specs.Alike.{IsAlike}
 use Rattle.btr_load.specs.InOrder.{IsLoadedInOrder}
@@ -49,44 +49,44 @@ says_loaded loaded (Err error) is = tt
 
 module _ {D : Type 0} {disk : Ghosts D} where
   -- What was said of rows was said of what became of them.
-  pub loads_said : (hall : Hall D disk) (old new : Session D disk) (rows : RowListValue) (batch : ℕ) (loaded : LoadedValue) (said : Result Transcript AllocError) → Does hall old new (λ start course low own. Loads start course low rows batch loaded own) → IfOk said (SaysLoad loaded) → Does hall old new (λ start course low own. LoadsRows start course low rows batch said own)
+  pub loads_said : (hall : Hall D disk) (old new : Session D disk) (rows : RowListValue) (batch : ℕ) (loaded : LoadedValue) (said : Result Transcript AllocError) → Does hall old new (λ start log low own. Loads start log low rows batch loaded own) → IfOk said (SaysLoad loaded) → Does hall old new (λ start log low own. LoadsRows start log low rows batch said own)
   loads_said hall old new rows batch loaded said does says =
-      does_implied hall old new (λ start course low own. Loads start course low rows batch loaded own) (λ start course low own. LoadsRows start course low rows batch said own)
-      (λ start course low own is. record { loaded = Some loaded; loads = is; says = says_loaded loaded said says }) does
+      does_implied hall old new (λ start log low own. Loads start log low rows batch loaded own) (λ start log low own. LoadsRows start log low rows batch said own)
+      (λ start log low own is. record { loaded = Some loaded; loads = is; says = says_loaded loaded said says }) does
 
   -- Memory ran out before any entry.
-  pub loads_none : (hall : Hall D disk) (old new : Session D disk) (rows : RowListValue) (batch : ℕ) (error : AllocError) → Does hall old new (λ start course low own. own ≡ []) → Does hall old new (λ start course low own. LoadsRows start course low rows batch (Err error) own)
+  pub loads_none : (hall : Hall D disk) (old new : Session D disk) (rows : RowListValue) (batch : ℕ) (error : AllocError) → Does hall old new (λ start log low own. own ≡ []) → Does hall old new (λ start log low own. LoadsRows start log low rows batch (Err error) own)
   loads_none hall old new rows batch error does =
-      does_implied hall old new (λ start course low own. own ≡ []) (λ start course low own. LoadsRows start course low rows batch (Err error) own)
-      (λ start course low own is. record { loaded = None; loads = is; says = tt }) does
+      does_implied hall old new (λ start log low own. own ≡ []) (λ start log low own. LoadsRows start log low rows batch (Err error) own)
+      (λ start log low own is. record { loaded = None; loads = is; says = tt }) does
 
 -- The same of one worker.
-says_turn : (start : Start) (course : Course) (low : List Entry) (rows : RowListValue) (batch : ℕ) (loaded : LoadedValue) (said : Result Transcript AllocError) (own : List ℕ) → IfOk said (SaysLoad loaded) → LoadsInTurn start course low rows batch loaded own → LoadsRowsInTurn start course low rows batch said own
-says_turn start course low rows batch loaded said own says turn = record {
+says_turn : (start : StoreState) (log : LogState) (low : List Entry) (rows : RowListValue) (batch : ℕ) (loaded : LoadedValue) (said : Result Transcript AllocError) (own : List ℕ) → IfOk said (SaysLoad loaded) → LoadsInTurn start log low rows batch loaded own → LoadsRowsInTurn start log low rows batch said own
+says_turn start log low rows batch loaded said own says turn = record {
   did = record { loaded = Some loaded; loads = turn.loads; says = says_loaded loaded said says };
   in_turn = turn;
 }
 
-says_none : (start : Start) (course : Course) (low : List Entry) (rows : RowListValue) (batch : ℕ) (error : AllocError) (own : List ℕ) → own ≡ [] → LoadsRowsInTurn start course low rows batch (Err error) own
-says_none start course low rows batch error own is = record {
+says_none : (start : StoreState) (log : LogState) (low : List Entry) (rows : RowListValue) (batch : ℕ) (error : AllocError) (own : List ℕ) → own ≡ [] → LoadsRowsInTurn start log low rows batch (Err error) own
+says_none start log low rows batch error own is = record {
   did = record { loaded = None; loads = is; says = tt };
   in_turn = tt;
 }
 
 module _ {D : Type 0} {disk : Ghosts D} where
-  pub turn_said : (hall : Hall D disk) (old new : Session D disk) (rows : RowListValue) (batch : ℕ) (loaded : LoadedValue) (said : Result Transcript AllocError) → Does hall old new (λ start course low own. LoadsInTurn start course low rows batch loaded own) → IfOk said (SaysLoad loaded) → Does hall old new (λ start course low own. LoadsRowsInTurn start course low rows batch said own)
+  pub turn_said : (hall : Hall D disk) (old new : Session D disk) (rows : RowListValue) (batch : ℕ) (loaded : LoadedValue) (said : Result Transcript AllocError) → Does hall old new (λ start log low own. LoadsInTurn start log low rows batch loaded own) → IfOk said (SaysLoad loaded) → Does hall old new (λ start log low own. LoadsRowsInTurn start log low rows batch said own)
   turn_said hall old new rows batch loaded said does says =
-      does_implied hall old new (λ start course low own. LoadsInTurn start course low rows batch loaded own) (λ start course low own. LoadsRowsInTurn start course low rows batch said own)
-      (λ start course low own is. says_turn start course low rows batch loaded said own says is) does
+      does_implied hall old new (λ start log low own. LoadsInTurn start log low rows batch loaded own) (λ start log low own. LoadsRowsInTurn start log low rows batch said own)
+      (λ start log low own is. says_turn start log low rows batch loaded said own says is) does
 
-  pub turn_none : (hall : Hall D disk) (old new : Session D disk) (rows : RowListValue) (batch : ℕ) (error : AllocError) → Does hall old new (λ start course low own. own ≡ []) → Does hall old new (λ start course low own. LoadsRowsInTurn start course low rows batch (Err error) own)
+  pub turn_none : (hall : Hall D disk) (old new : Session D disk) (rows : RowListValue) (batch : ℕ) (error : AllocError) → Does hall old new (λ start log low own. own ≡ []) → Does hall old new (λ start log low own. LoadsRowsInTurn start log low rows batch (Err error) own)
   turn_none hall old new rows batch error does =
-      does_implied hall old new (λ start course low own. own ≡ []) (λ start course low own. LoadsRowsInTurn start course low rows batch (Err error) own)
-      (λ start course low own is. says_none start course low rows batch error own is) does
+      does_implied hall old new (λ start log low own. own ≡ []) (λ start log low own. LoadsRowsInTurn start log low rows batch (Err error) own)
+      (λ start log low own is. says_none start log low rows batch error own is) does
 
 -- ---- what is added is allowed
 
-module _ (start : Start) (late early : Course) (on : GoesOn start late early) where
+module _ (start : StoreState) (late early : LogState) (on : GoesOn start late early) where
   -- two lists one after the other
   allows_append : (own a b : List ℕ) → own ≡ a ++ b → AddsAllowed late a → AddsAllowed late b → AddsAllowed late own
   allows_append own a b is first second = allows_both late own a b (λ n. ap (times n) is ∙ times_append n a b) first second
@@ -107,29 +107,29 @@ module _ (start : Start) (late early : Course) (on : GoesOn start late early) wh
       (batch_allowed low stream batch result did.0 did.2 did.4)
       (batches_allowed did.2 stream batches results did.1 last did.5)
 
-  fate_allowed : (low : List Entry) (batches : List (List NumberedPoint)) (fate : Fate) (own : List ℕ) → FateDid start early low batches fate own → AddsAllowed late own
-  fate_allowed low batches Output own did = allows_nothing late own did
-  fate_allowed low batches (NotCreated fault) own did = allows_nothing late own did
-  fate_allowed low batches (Committed stream results latest) own did = batches_allowed low stream batches results own did.0 did.1
+  outcome_allowed : (low : List Entry) (batches : List (List NumberedPoint)) (outcome : RowsOutcome) (own : List ℕ) → OutcomeDid start early low batches outcome own → AddsAllowed late own
+  outcome_allowed low batches Output own did = allows_nothing late own did
+  outcome_allowed low batches (NotCreated fault) own did = allows_nothing late own did
+  outcome_allowed low batches (Committed stream results latest) own did = batches_allowed low stream batches results own did.0 did.1
 
   streams_allowed : (low : List Entry) (streams : List LoadedStream) (own : List ℕ) → StreamsDid start early low streams own → AddsAllowed late own
   streams_allowed low [] own did = allows_none late own did
   streams_allowed low (s ∷ streams) own did =
       allows_both late own did.0 did.1 did.4
-      (fate_allowed low (batches_of s.batch s.rows.points) s.fate did.0 did.2)
+      (outcome_allowed low (batches_of s.batch s.rows.points) s.outcome did.0 did.2)
       (streams_allowed low streams did.1 did.3)
 
-  open_allowed : (low p : List Entry) (id : ℕ) (stream : Option ℕ) (fate : Fate) (own : List ℕ) (next : List Entry) → Opens start early low p id stream fate own next → AddsAllowed late own
-  open_allowed low p id None fate own next opens = allows_committed_later start late early p (entries.Create id) opens.0 own next on tt opens.1
-  open_allowed low p id (Some stream) fate own next opens = allows_nothing late own opens.1.own
+  open_allowed : (low p : List Entry) (id : ℕ) (stream : Option ℕ) (outcome : RowsOutcome) (own : List ℕ) (next : List Entry) → CreatesIfNew start early low p id stream outcome own next → AddsAllowed late own
+  open_allowed low p id None outcome own next opens = allows_committed_later start late early p (entries.Create id) opens.0 own next on tt opens.1
+  open_allowed low p id (Some stream) outcome own next opens = allows_nothing late own opens.1.own
 
-  opens_allowed : (low p : List Entry) (batch : ℕ) (rows : List StreamValue) (streams : List LoadedStream) (own : List ℕ) (last : List Entry) → OpensEach start early low p batch rows streams own last → AddsAllowed late own
+  opens_allowed : (low p : List Entry) (batch : ℕ) (rows : List StreamValue) (streams : List LoadedStream) (own : List ℕ) (last : List Entry) → CreatesEach start early low p batch rows streams own last → AddsAllowed late own
   opens_allowed low p batch [] [] own last opens = allows_nothing late own opens.own
   opens_allowed low p batch [] (s ∷ streams) own last opens = absurd opens
   opens_allowed low p batch (r ∷ rows) [] own last opens = absurd opens
   opens_allowed low p batch (r ∷ rows) (s ∷ streams) own last opens =
       allows_append own opens.2 opens.3 opens.5
-      (open_allowed low p r.id (stream_of low r.id) s.fate opens.2 opens.4 opens.6)
+      (open_allowed low p r.id (stream_of low r.id) s.outcome opens.2 opens.4 opens.6)
       (opens_allowed low opens.4 batch rows streams opens.3 last opens.7)
 
   all_allowed : (low : List Entry) (rows : RowListValue) (batch : ℕ) (loaded : LoadedValue) (own : List ℕ) → Loads start early low rows batch loaded own → AddsAllowed late own
@@ -138,50 +138,50 @@ module _ (start : Start) (late early : Course) (on : GoesOn start late early) wh
       (opens_allowed low low batch rows.streams loaded.streams is.created is.middle is.opens)
       (streams_allowed is.middle loaded.streams is.committed is.commits)
 
--- What a load added is allowed, also in a later course.
-pub loads_allowed : (start : Start) (late early : Course) (low : List Entry) (rows : RowListValue) (batch : ℕ) (loaded : LoadedValue) (own : List ℕ) → GoesOn start late early → Loads start early low rows batch loaded own → AddsAllowed late own
+-- What a load added is allowed, also in a later state of the log.
+pub loads_allowed : (start : StoreState) (late early : LogState) (low : List Entry) (rows : RowListValue) (batch : ℕ) (loaded : LoadedValue) (own : List ℕ) → GoesOn start late early → Loads start early low rows batch loaded own → AddsAllowed late own
 loads_allowed start late early low rows batch loaded own on is = all_allowed start late early on low rows batch loaded own is
 
-pub loads_if_allowed : (start : Start) (course : Course) (low : List Entry) (rows : RowListValue) (batch : ℕ) (loaded : Option LoadedValue) (own : List ℕ) → LoadsIf start course low rows batch loaded own → AddsAllowed course own
-loads_if_allowed start course low rows batch None own is = allows_nothing course own is
-loads_if_allowed start course low rows batch (Some loaded) own is =
-    loads_allowed start course course low rows batch loaded own (goes_refl start course) is
+pub loads_if_allowed : (start : StoreState) (log : LogState) (low : List Entry) (rows : RowListValue) (batch : ℕ) (loaded : Option LoadedValue) (own : List ℕ) → LoadsIf start log low rows batch loaded own → AddsAllowed log own
+loads_if_allowed start log low rows batch None own is = allows_nothing log own is
+loads_if_allowed start log low rows batch (Some loaded) own is =
+    loads_allowed start log log low rows batch loaded own (goes_refl start log) is
 
 -- ---- what the laws of loads say of it, if nobody else added anything
 
-module _ (start : Start) (course : Course) (rows : RowListValue) (batch : ℕ) (own : List ℕ) (each : OwnsEachOnce start course own) (before : Follows start.history) where
-  loaded_there : (loaded : Option LoadedValue) → AreDistinct rows.streams → LoadsIf start course start.history rows batch loaded own → IfSome loaded (AreThere course.history start.history)
+module _ (start : StoreState) (log : LogState) (rows : RowListValue) (batch : ℕ) (own : List ℕ) (each : OwnsEachOnce start log own) (before : Follows start.history) where
+  loaded_there : (loaded : Option LoadedValue) → AreDistinct rows.streams → LoadsIf start log start.history rows batch loaded own → IfSome loaded (AreThere log.history start.history)
   loaded_there None distinct is = tt
-  loaded_there (Some loaded) distinct is = batches_there start course start.history rows batch loaded own before distinct each is
+  loaded_there (Some loaded) distinct is = batches_there start log start.history rows batch loaded own before distinct each is
 
-  loaded_alike : (loaded : Option LoadedValue) → AreDistinct rows.streams → LoadsIf start course start.history rows batch loaded own → IfSome loaded (λ loaded. ArePlain loaded → IsAlike course.history start.history rows.streams batch loaded.streams)
+  loaded_alike : (loaded : Option LoadedValue) → AreDistinct rows.streams → LoadsIf start log start.history rows batch loaded own → IfSome loaded (λ loaded. ArePlain loaded → IsAlike log.history start.history rows.streams batch loaded.streams)
   loaded_alike None distinct is = tt
-  loaded_alike (Some loaded) distinct is = λ plain. loads_alike start course start.history rows batch loaded own before distinct each is plain
+  loaded_alike (Some loaded) distinct is = λ plain. loads_alike start log start.history rows batch loaded own before distinct each is plain
 
-  loaded_in_order : (loaded : Option LoadedValue) → RunsThrough start course → IfSome loaded (λ loaded. LoadsInTurn start course start.history rows batch loaded own) → IfSome loaded (λ loaded. HadMemoryForAll loaded → IsLoadedInOrder start course rows.streams batch loaded.streams)
+  loaded_in_order : (loaded : Option LoadedValue) → RunsThrough start log → IfSome loaded (λ loaded. LoadsInTurn start log start.history rows batch loaded own) → IfSome loaded (λ loaded. HadMemoryForAll loaded → IsLoadedInOrder start log rows.streams batch loaded.streams)
   loaded_in_order None ran turn = tt
-  loaded_in_order (Some loaded) ran turn = λ memory. loads_in_order start course rows batch loaded own ran each turn memory
+  loaded_in_order (Some loaded) ran turn = λ memory. loads_in_order start log rows batch loaded own ran each turn memory
 
-  store_loads : (workers : ℕ) (said : Result Transcript AllocError) (is : LoadsRows start course start.history rows batch said own) → (workers ≤ 1 → course.failed ≡ None → IfSome is.loaded (λ loaded. HadMemoryForAll loaded → IsLoadedInOrder start course rows.streams batch loaded.streams)) → LoadsStore start course rows batch workers said own
+  store_loads : (workers : ℕ) (said : Result Transcript AllocError) (is : LoadsRows start log start.history rows batch said own) → (workers ≤ 1 → log.failed ≡ None → IfSome is.loaded (λ loaded. HadMemoryForAll loaded → IsLoadedInOrder start log rows.streams batch loaded.streams)) → LoadsStore start log rows batch workers said own
   store_loads workers said is order = record {
     did = is;
     there = λ distinct. loaded_there is.loaded distinct is.loads;
     alike = λ distinct. loaded_alike is.loaded distinct is.loads;
     in_order = order;
-    completes = load_completes start course rows batch own is.loaded said before each is.loads is.says;
+    completes = load_completes start log rows batch own is.loaded said before each is.loads is.says;
   }
 
-module _ {D : Type 0} (disk : Ghosts D) (old new : D) (start : Start) (course : Course) (rows : RowListValue) (batch workers : ℕ) (own : List ℕ) (said : Result Transcript AllocError) (works : Works disk start course own old new) where
+module _ {D : Type 0} (disk : Ghosts D) (old new : D) (start : StoreState) (log : LogState) (rows : RowListValue) (batch workers : ℕ) (own : List ℕ) (said : Result Transcript AllocError) (works : Works disk start log own old new) where
   begun_follows : Follows start.history
   begun_follows = follows-prefix start.history works.begins.0 (subst Follows works.begins.1 works.follows)
 
   -- Many workers loaded rows.
-  pub loads_store : 1 < workers → LoadsRows start course start.history rows batch said own → LoadsStore start course rows batch workers said own
+  pub loads_store : 1 < workers → LoadsRows start log start.history rows batch said own → LoadsStore start log rows batch workers said own
   loads_store many is =
-      store_loads start course rows batch own works.each_once begun_follows workers said is (λ few. absurd (omega (arith, many, few)))
+      store_loads start log rows batch own works.each_once begun_follows workers said is (λ few. absurd (omega (arith, many, few)))
 
   -- One worker did.
-  pub loads_store_in_order : LoadsRowsInTurn start course start.history rows batch said own → LoadsStore start course rows batch workers said own
+  pub loads_store_in_order : LoadsRowsInTurn start log start.history rows batch said own → LoadsStore start log rows batch workers said own
   loads_store_in_order is =
-      store_loads start course rows batch own works.each_once begun_follows workers said is.did
-      (λ few whole. loaded_in_order start course rows batch own works.each_once begun_follows is.did.loaded (works_run disk start course own old new works whole) is.in_turn)
+      store_loads start log rows batch own works.each_once begun_follows workers said is.did
+      (λ few whole. loaded_in_order start log rows batch own works.each_once begun_follows is.did.loaded (works_run disk start log own old new works whole) is.in_turn)

@@ -8,7 +8,7 @@ use Rattle.btr_report.specs.declared.line.ReportLine.{ReportLine}
 use Rattle.btr_store.specs.declared.transcript.Transcript.{Transcript}
 use Rattle.btr_store.specs.Transcript.{AddsLines}
 use Rattle.btr_store.proofs.TranscriptLemmas.{adds_then}
-use Rattle.btr_store.specs.LoadLines.{last_number, batch_span, batch_spans, points_of, points_in}
+use Rattle.btr_store.specs.LoadLines.{last_row, batch_span, batch_spans, points_by_result, points_committed}
 
 module _ {A : Type 0} where
   take_none : (k : ℕ) → take {A = A} k [] ≡ []
@@ -71,8 +71,8 @@ spans_pushed id size points results i d rest here after old mid new lt is_here i
 
 -- One batch more of the points.
 pub points_at : (size : ℕ) (rest : List NumberedPoint) (results : List (Result Receipt StepFault)) (i : ℕ) (d : Result Receipt StepFault) → i < length results
-    → points_in size rest (drop i results) ≡ points_of (take size rest) (slice_index_or results i d) + points_in size (drop size rest) (drop (i + 1) results)
-points_at size rest results i d lt = ap (points_in size rest) (drop_at results i d lt)
+    → points_committed size rest (drop i results) ≡ points_by_result (take size rest) (slice_index_or results i d) + points_committed size (drop size rest) (drop (i + 1) results)
+points_at size rest results i d lt = ap (points_committed size rest) (drop_at results i d lt)
 
 pub points_fit : (points : List NumberedPoint) (size : ℕ) → length (take size points) + length (drop size points) ≡ length points
 points_fit [] zero = refl
@@ -81,18 +81,18 @@ points_fit (p ∷ points) zero = omega arith
 points_fit (p ∷ points) (suc size) = omega (arith, points_fit points size)
 
 -- The last of some rows.
-pub last_at : (points : List NumberedPoint) (d : NumberedPoint) → 1 ≤ length points → last_number points ≡ (slice_index_or points (length points - 1) d).number
+pub last_at : (points : List NumberedPoint) (d : NumberedPoint) → 1 ≤ length points → last_row points ≡ (slice_index_or points (length points - 1) d).number
 last_at [] d some = absurd (omega (arith, some))
 last_at (p ∷ []) d some = refl
 last_at (p ∷ q ∷ points) d some =
     let k : length (p ∷ q ∷ points) - 1 ≡ suc (length (q ∷ points) - 1) = omega arith in
     last_at (q ∷ points) d (omega arith) ∙ ap (λ i. (slice_index_or (p ∷ q ∷ points) i d).number) (sym k)
 
-pub points_pushed : (size : ℕ) (rest here after all : List NumberedPoint) (results : List (Result Receipt StepFault)) (i : ℕ) (d : Result Receipt StepFault) (count more whole : ℕ) → i < length results → here ≡ take size rest → after ≡ drop size rest → more ≡ points_of here (slice_index_or results i d) → count + points_in size rest (drop i results) ≡ whole → (count + more) + points_in size after (drop (i + 1) results) ≡ whole
+pub points_pushed : (size : ℕ) (rest here after all : List NumberedPoint) (results : List (Result Receipt StepFault)) (i : ℕ) (d : Result Receipt StepFault) (count more whole : ℕ) → i < length results → here ≡ take size rest → after ≡ drop size rest → more ≡ points_by_result here (slice_index_or results i d) → count + points_committed size rest (drop i results) ≡ whole → (count + more) + points_committed size after (drop (i + 1) results) ≡ whole
 points_pushed size rest here after all results i d count more whole lt is_here is_after is before =
     let step = points_at size rest results i d lt in
-    let now : more ≡ points_of (take size rest) (slice_index_or results i d) = is ∙ ap (λ l. points_of l (slice_index_or results i d)) is_here in
-    let left : points_in size after (drop (i + 1) results) ≡ points_in size (drop size rest) (drop (i + 1) results) = ap (λ l. points_in size l (drop (i + 1) results)) is_after in
+    let now : more ≡ points_by_result (take size rest) (slice_index_or results i d) = is ∙ ap (λ l. points_by_result l (slice_index_or results i d)) is_here in
+    let left : points_committed size after (drop (i + 1) results) ≡ points_committed size (drop size rest) (drop (i + 1) results) = ap (λ l. points_committed size l (drop (i + 1) results)) is_after in
     omega (arith, step, now, left, before)
 
 pub points_bound : (size : ℕ) (rest here after : List NumberedPoint) (count more whole : ℕ) → here ≡ take size rest → after ≡ drop size rest → more ≤ length here → count + length rest ≤ whole → (count + more) + length after ≤ whole

@@ -13,7 +13,7 @@ use Rattle.btr_hall.specs.declared.item.Item.TheVariants.{Earlier, Added, Halted
 use Rattle.btr_hall.specs.Trace.{IsTrace, entries_in}
 use Rattle.btr_hall.specs.StoreLaws.{ends_stopped}
 use Rattle.btr_hall.specs.Commit.{needs_of}
-use Rattle.btr_jobs.specs.Course.{failed_in}
+use Rattle.btr_jobs.specs.States.{failed_in}
 
 pub needs_append : (h k : List Entry) → needs_of (h ++ k) ≡ needs_of h + needs_of k
 needs_append [] k = omega arith

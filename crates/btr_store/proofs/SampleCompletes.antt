@@ -16,10 +16,10 @@ use Rattle.btr_engine.specs.declared.step.StepFault.TheVariants as steps
 use Rattle.btr_engine.specs.Body.{need_of}
 use Rattle.btr_gate.proofs.PrefixLemmas.{starts_refl, starts_trans, starts_length, starts_same, starts_between, starts_more}
 use Rattle.btr_hall.specs.Commit.{needs_of}
-use Rattle.btr_jobs.specs.Course.{Start, Course}
+use Rattle.btr_jobs.specs.States.{StoreState, LogState}
 use Rattle.btr_jobs.specs.Turns.{IsFull, Committed}
 use Rattle.btr_load.specs.declared.stream.LoadedStream.{LoadedStream}
-use Rattle.btr_load.specs.Loads.{OpensEach}
+use Rattle.btr_load.specs.Loads.{CreatesEach}
 use Rattle.btr_load.specs.Fits.{HadRoom}
 use Rattle.btr_store.specs.declared.define.DefinedOutput.{DefinedOutput}
 use Rattle.btr_store.specs.Completes.{IsBenign, LandsSince}
@@ -32,12 +32,12 @@ use Rattle.btr_store.proofs.Benign.{IsCalmOutput, Ran, step_benign}
 use Rattle.btr_store.proofs.LoadCompletes.{committed_ran}
 
 -- The streams of a load are those of its rows.
-pub of_rows : (start : Start) (course : Course) (low p : List Entry) (batch : ℕ) (rows : List StreamValue) (streams : List LoadedStream) (own : List ℕ) (last : List Entry) → OpensEach start course low p batch rows streams own last → AreOfRows batch rows streams
-of_rows start course low p batch [] [] own last opens = (refl, tt)
-of_rows start course low p batch [] (s ∷ streams) own last opens = absurd opens
-of_rows start course low p batch (r ∷ rows) [] own last opens = absurd opens
-of_rows start course low p batch (r ∷ rows) (s ∷ streams) own last opens =
-    let rest : AreOfRows batch rows streams = of_rows start course low opens.4 batch rows streams opens.3 last opens.7 in
+pub of_rows : (start : StoreState) (log : LogState) (low p : List Entry) (batch : ℕ) (rows : List StreamValue) (streams : List LoadedStream) (own : List ℕ) (last : List Entry) → CreatesEach start log low p batch rows streams own last → AreOfRows batch rows streams
+of_rows start log low p batch [] [] own last opens = (refl, tt)
+of_rows start log low p batch [] (s ∷ streams) own last opens = absurd opens
+of_rows start log low p batch (r ∷ rows) [] own last opens = absurd opens
+of_rows start log low p batch (r ∷ rows) (s ∷ streams) own last opens =
+    let rest : AreOfRows batch rows streams = of_rows start log low opens.4 batch rows streams opens.3 last opens.7 in
     ((λ i. opens.0 i ∷ rest.0 i), (opens.1, rest.1))
 
 -- Nothing was landed yet.
@@ -81,7 +81,7 @@ module _ (streams : ℕ) (low : List Entry) where
             (cases_lt (length q) (length p));
       }
 
-  module _ (start : Start) (course : Course) (runs : course.failed ≡ None) (room : (m h : List Entry) → DefinesSince streams low m → LandsSince 1 m h → needs_of h ≤ start.left + needs_of start.history) where
+  module _ (start : StoreState) (log : LogState) (runs : log.failed ≡ None) (room : (m h : List Entry) → DefinesSince streams low m → LandsSince 1 m h → needs_of h ≤ start.left + needs_of start.history) where
     never_full : (p : List Entry) (stream input need left : ℕ) → stream < streams → DefinesSince streams low p → rejection p (entries.Define (output_id stream) (mean_of input)) ≡ None → IsFull start p (entries.Define (output_id stream) (mean_of input)) need left → ⊥
     never_full p stream input need left inside so_far accepted full =
         let e : Entry = entries.Define (output_id stream) (mean_of input) in
@@ -95,7 +95,7 @@ module _ (streams : ℕ) (low : List Entry) where
         omega (arith, fits, sum, last, needed, was, short)
 
     -- There was room for a definition.
-    define_room : (p : List Entry) (stream input : ℕ) (result : Result Receipt StepFault) (own : List ℕ) (next : List Entry) → stream < streams → DefinesSince streams low p → Committed start course p (entries.Define (output_id stream) (mean_of input)) result own next → HadRoom result
+    define_room : (p : List Entry) (stream input : ℕ) (result : Result Receipt StepFault) (own : List ℕ) (next : List Entry) → stream < streams → DefinesSince streams low p → Committed start log p (entries.Define (output_id stream) (mean_of input)) result own next → HadRoom result
     define_room p stream input (Ok receipt) own next inside so_far is = tt
     define_room p stream input (Err (steps.Stopped count)) own next inside so_far is = tt
     define_room p stream input (Err (steps.Rejected why)) own next inside so_far is = tt
@@ -104,7 +104,7 @@ module _ (streams : ℕ) (low : List Entry) where
     define_room p stream input (Err steps.DeviceFault) own next inside so_far is = tt
 
     -- The history after a definition.
-    define_after : (p : List Entry) (stream input : ℕ) (result : Result Receipt StepFault) (own : List ℕ) (next : List Entry) → stream < streams → DefinesSince streams low p → Committed start course p (entries.Define (output_id stream) (mean_of input)) result own next → DefinesSince streams low next
+    define_after : (p : List Entry) (stream input : ℕ) (result : Result Receipt StepFault) (own : List ℕ) (next : List Entry) → stream < streams → DefinesSince streams low p → Committed start log p (entries.Define (output_id stream) (mean_of input)) result own next → DefinesSince streams low next
     define_after p stream input (Ok receipt) own next inside so_far is = subst (DefinesSince streams low) (sym is.2.next) (defines_next p stream input inside is.0 so_far)
     define_after p stream input (Err (steps.Stopped count)) own next inside so_far is = subst (DefinesSince streams low) (sym is.1.next) so_far
     define_after p stream input (Err (steps.Rejected why)) own next inside so_far is = subst (DefinesSince streams low) (sym is.1.next) so_far
@@ -116,7 +116,7 @@ module _ (streams : ℕ) (low : List Entry) where
     calm_refusal (Ok receipt) had ran = tt
     calm_refusal (Err fault) had ran = step_benign fault had ran
 
-    calm_over : (p : List Entry) (stream : ℕ) (input : Option ℕ) (refused : Option Reason) (own : List ℕ) (next : List Entry) → stream < streams → DefinesSince streams low p → DefinesOver start course p (output_id stream) input refused own next → IfSome refused (λ reason. IsBenign (status_of_reason reason)) × DefinesSince streams low next
+    calm_over : (p : List Entry) (stream : ℕ) (input : Option ℕ) (refused : Option Reason) (own : List ℕ) (next : List Entry) → stream < streams → DefinesSince streams low p → DefinesOver start log p (output_id stream) input refused own next → IfSome refused (λ reason. IsBenign (status_of_reason reason)) × DefinesSince streams low next
     calm_over p stream None refused own next inside so_far is = (
       subst (λ (r : Option Reason). IfSome r (λ reason. IsBenign (status_of_reason reason))) (sym is.0) (inr (inl refl)),
       subst (DefinesSince streams low) (sym is.1.next) so_far,
@@ -124,12 +124,12 @@ module _ (streams : ℕ) (low : List Entry) where
     calm_over p stream (Some input) refused own next inside so_far is = (
       subst (λ (r : Option Reason). IfSome r (λ reason. IsBenign (status_of_reason reason))) (sym is.2)
           (calm_refusal is.0 (define_room p stream input is.0 own next inside so_far is.1)
-          (committed_ran start course runs p (entries.Define (output_id stream) (mean_of input)) is.0 own next is.1)),
+          (committed_ran start log runs p (entries.Define (output_id stream) (mean_of input)) is.0 own next is.1)),
       define_after p stream input is.0 own next inside so_far is.1,
     )
 
     -- All definitions of a sample.
-    pub calm_defines : (p : List Entry) (stream : ℕ) (outputs : List DefinedOutput) (own : List ℕ) (last : List Entry) → stream + length outputs ≤ streams → DefinesSince streams low p → DefinesEach start course p stream outputs own last → AllByRecursion IsCalmOutput outputs × DefinesSince streams low last
+    pub calm_defines : (p : List Entry) (stream : ℕ) (outputs : List DefinedOutput) (own : List ℕ) (last : List Entry) → stream + length outputs ≤ streams → DefinesSince streams low p → DefinesEach start log p stream outputs own last → AllByRecursion IsCalmOutput outputs × DefinesSince streams low last
     calm_defines p stream [] own last inside so_far is = (tt, subst (DefinesSince streams low) (sym is.next) so_far)
     calm_defines p stream (output ∷ outputs) own last inside so_far is =
         let one = calm_over p stream (stream_of p (stream + 1)) output.refused is.0 is.2 (omega (arith, inside)) so_far is.4.1 in

@@ -17,12 +17,12 @@ use Rattle.btr_hist.specs.declared.answer.Rows.TheVariants.{Info}
 use Rattle.btr_hist.specs.History.{ids, is_output, latest, bag, read_by}
 use Rattle.btr_hist.specs.Answer.{answer}
 use Rattle.btr_text.specs.declared.reply.Reason.{Reason}
-use Rattle.btr_work.specs.declared.report.ReportLine as brought
+use Rattle.btr_work.specs.declared.report.ReportLine as refreshed
 use Rattle.btr_report.specs.declared.line.ReportLine.{ReportLine}
 use Rattle.btr_report.specs.declared.line.ReportLine.TheVariants as lines
 use Rattle.btr_store.specs.declared.transcript.Transcript.{Transcript}
 use Rattle.btr_store.specs.Transcript.{SaysLines, AddsLine, AddsLines}
-use Rattle.btr_store.specs.Streams.{id_of}
+use Rattle.btr_store.specs.Streams.{id_of_stream}
 use Rattle.btr_store.specs.SampleLines.{refusal_line, landing_refusal, landing_line, summary_line}
 use Rattle.btr_store.proofs.TranscriptLemmas.{adds_then}
 
@@ -44,7 +44,7 @@ pub adds_whole : {A : Type 0} (f : A → List ReportLine) (l : List A) (i : ℕ)
 adds_whole f l i old new le adds = subst (λ m. AddsLines (flat_map f m) old new) (take_all i l le) adds
 
 -- The line of an output of a report.
-pub landing_adds : (h : List Entry) (line : brought.ReportLine) (id : ℕ) (refused : Option Reason) (old new : Transcript) → id ≡ id_of h line.output → refused ≡ landing_refusal line.result → AddsLines (refusal_line id refused) old new → AddsLines (landing_line h line) old new
+pub landing_adds : (h : List Entry) (line : refreshed.ReportLine) (id : ℕ) (refused : Option Reason) (old new : Transcript) → id ≡ id_of_stream h line.output → refused ≡ landing_refusal line.result → AddsLines (refusal_line id refused) old new → AddsLines (landing_line h line) old new
 landing_adds h line id refused old new named why adds =
     subst (λ (i : ℕ). AddsLines (refusal_line i (landing_refusal line.result)) old new) named
     (subst (λ (r : Option Reason). AddsLines (refusal_line id r) old new) why adds)

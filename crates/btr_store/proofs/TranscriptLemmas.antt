@@ -7,7 +7,7 @@ use Rattle.btr_report.specs.Report.{report_text}
 use Rattle.btr_store.specs.declared.status.Status.{Status}
 use Rattle.btr_store.specs.declared.status.Status.TheVariants.{Done}
 use Rattle.btr_store.specs.declared.transcript.Transcript.{Transcript}
-use Rattle.btr_store.specs.Status.{greater, greatest, status_of_line}
+use Rattle.btr_store.specs.Status.{greater, greatest_of_lines, status_of_line}
 use Rattle.btr_store.specs.Transcript.{text_of_lines, SaysLines, AddsLine, AddsLines}
 
 text_append : (a b : List ReportLine) → text_of_lines (a ++ b) ≡ text_of_lines a ++ text_of_lines b
@@ -17,7 +17,7 @@ text_append (line ∷ a) b = ap (λ (x : List ℕ). report_text line ++ x) (text
 text_one : (line : ReportLine) → text_of_lines (line ∷ []) ≡ report_text line
 text_one line = append-nil (report_text line)
 
-greatest_push : (s : Status) (a : List ReportLine) (line : ReportLine) → greatest s (a ++ line ∷ []) ≡ greater (greatest s a) (status_of_line line)
+greatest_push : (s : Status) (a : List ReportLine) (line : ReportLine) → greatest_of_lines s (a ++ line ∷ []) ≡ greater (greatest_of_lines s a) (status_of_line line)
 greatest_push s [] line = refl
 greatest_push s (x ∷ a) line = greatest_push (greater s (status_of_line x)) a line
 

@@ -19,23 +19,23 @@ use Rattle.btr_hall.specs.declared.session.Session.{Session}
 use Rattle.btr_hall.specs.Trace.{IsTraceOf, entries_in, history_of}
 use Rattle.btr_hall.specs.Session.{opening_of, seen_of}
 use Rattle.btr_jobs.specs.Jobs.{Goes, Does}
-use Rattle.btr_jobs.specs.Course.{Start, Course, start_of, course_of}
-use Rattle.btr_jobs.specs.Contents.{RunsThrough}
-use Rattle.btr_jobs.proofs.CourseLemmas.{course_at}
-use Rattle.btr_jobs.proofs.ContentsLemmas.{needs_prefix}
+use Rattle.btr_jobs.specs.States.{StoreState, LogState, start_of, log_of}
+use Rattle.btr_jobs.specs.PlainStore.{RunsThrough}
+use Rattle.btr_jobs.proofs.StateLemmas.{log_at}
+use Rattle.btr_jobs.proofs.PlainStoreLemmas.{needs_prefix}
 use Rattle.btr_store.specs.Work.{AddsAllowed, Works, DoesRightly}
 use Rattle.btr_store.specs.Closing.{BeginsOn}
 
 -- ---- the list of a hall
 
 module _ {D : Type 0} {disk : Ghosts D} where
-  course_earlier : (h : List Entry) (n : ℕ) (l : List (Item D disk)) → course_at h (replicate n Earlier ++ l) ≡ course_at h l
-  course_earlier h zero l = refl
-  course_earlier h (suc n) l = course_earlier h n l
+  log_earlier : (h : List Entry) (n : ℕ) (l : List (Item D disk)) → log_at h (replicate n Earlier ++ l) ≡ log_at h l
+  log_earlier h zero l = refl
+  log_earlier h (suc n) l = log_earlier h n l
 
-  -- The course of a list is that of its steps.
-  pub course_is : (h : List Entry) (x : Engine D disk) (l : List (Item D disk)) (trace : IsTraceOf x l) → course_at h l ≡ course_at h trace.steps
-  course_is h x l trace = ap (course_at h) trace.is ∙ course_earlier h (entries_of x) trace.steps
+  -- The log of a list is that of its steps.
+  pub log_is : (h : List Entry) (x : Engine D disk) (l : List (Item D disk)) (trace : IsTraceOf x l) → log_at h l ≡ log_at h trace.steps
+  log_is h x l trace = ap (log_at h) trace.is ∙ log_earlier h (entries_of x) trace.steps
 
   none_more : (h : List Entry) (l : List (Item D disk)) → length l ≡ 0 → h ++ entries_in l ≡ h
   none_more h [] none = append-nil h
@@ -47,7 +47,7 @@ module _ {D : Type 0} {disk : Ghosts D} where
       let all : length l ≡ length (replicate {A = Item D disk} (entries_of x) Earlier ++ trace.steps) = ap (length {A = Item D disk}) trace.is in
       let sum = length-append (replicate {A = Item D disk} (entries_of x) Earlier) trace.steps in
       let old = length-replicate {A = Item D disk} (entries_of x) Earlier in
-      ap (λ (k : Course). k.history) (course_is h x l trace) ∙ none_more h trace.steps (omega (arith, all, sum, old, long))
+      ap (λ (k : LogState). k.history) (log_is h x l trace) ∙ none_more h trace.steps (omega (arith, all, sum, old, long))
 
 -- ---- the device
 
@@ -61,19 +61,19 @@ held_before {D} disk old first opened h rest told =
 -- ---- the work
 
 -- Work whose entries are allowed, in the only session of a hall of a store that was opened.
-pub does_rightly : {D : Type 0} (disk : Ghosts D) (What : Start → Course → List Entry → List ℕ → Type 0) (old new : D) (hall : Hall D disk) (begun last : Session D disk) → ((start : Start) (course : Course) (own : List ℕ) → What start course start.history own → AddsAllowed course own) → BeginsOn disk old hall begun → Does hall begun last What → ((opened : IsOpened disk old (opening_of hall)) (own : List ℕ) → Goes begun last own → Works disk (start_of opened.some.0 hall) (course_of opened.some.0 last) own old new) → DoesRightly disk (λ start course own. What start course start.history own) old new
+pub does_rightly : {D : Type 0} (disk : Ghosts D) (What : StoreState → LogState → List Entry → List ℕ → Type 0) (old new : D) (hall : Hall D disk) (begun last : Session D disk) → ((start : StoreState) (log : LogState) (own : List ℕ) → What start log start.history own → AddsAllowed log own) → BeginsOn disk old hall begun → Does hall begun last What → ((opened : IsOpened disk old (opening_of hall)) (own : List ℕ) → Goes begun last own → Works disk (start_of opened.some.0 hall) (log_of opened.some.0 last) own old new) → DoesRightly disk (λ start log own. What start log start.history own) old new
 does_rightly disk What old new hall begun last allows on does closes =
     let h : List Entry = on.opened.some.0 in
     let own : List ℕ = does.0 in
-    let start : Start = start_of h hall in
-    let course : Course = course_of h last in
-    let works : Works disk start course own old new = closes on.opened own does.1 in
-    let what : What start course h own =
-    subst (λ low. What start course low own) (begun_history h (opening_of hall) (seen_of begun) on.begins.trace on.begins.seen) (does.2 h on.opened.some.1) in
-    let allowed : AddsAllowed course own = allows start course own what in
+    let start : StoreState = start_of h hall in
+    let log : LogState = log_of h last in
+    let works : Works disk start log own old new = closes on.opened own does.1 in
+    let what : What start log h own =
+    subst (λ low. What start log low own) (begun_history h (opening_of hall) (seen_of begun) on.begins.trace on.begins.seen) (does.2 h on.opened.some.1) in
+    let allowed : AddsAllowed log own = allows start log own what in
     record {
       first = start;
-      course = course;
+      log = log;
       own = own;
       works = works;
       what = what;
@@ -83,25 +83,25 @@ does_rightly disk What old new hall begun last allows on does closes =
     }
 
 -- If the device did not fail, the work ran through.
-pub works_run : {D : Type 0} (disk : Ghosts D) (start : Start) (course : Course) (own : List ℕ) (old new : D) → Works disk start course own old new → course.failed ≡ None → RunsThrough start course
-works_run disk start course own old new works whole = record {
+pub works_run : {D : Type 0} (disk : Ghosts D) (start : StoreState) (log : LogState) (own : List ℕ) (old new : D) → Works disk start log own old new → log.failed ≡ None → RunsThrough start log
+works_run disk start log own old new works whole = record {
   runs = works.not_stopped;
   whole = whole;
   fits =
-      let all = course.history ++ option_to_list course.failed in
-      let least = needs_prefix all course.history (starts_append course.history (option_to_list course.failed)) in
+      let all = log.history ++ option_to_list log.failed in
+      let least = needs_prefix all log.history (starts_append log.history (option_to_list log.failed)) in
       let fits = works.fits in
       omega (arith, least, fits);
 }
 
 -- What the work and the law say together of what was done.
-pub does_more : {D : Type 0} (disk : Ghosts D) (What More : Start → Course → List ℕ → Type 0) (old new : D) → ((first : Start) (course : Course) (own : List ℕ) → Works disk first course own old new → (Legal first.history → Legal course.history) → What first course own → More first course own) → DoesRightly disk What old new → DoesRightly disk More old new
+pub does_more : {D : Type 0} (disk : Ghosts D) (What More : StoreState → LogState → List ℕ → Type 0) (old new : D) → ((first : StoreState) (log : LogState) (own : List ℕ) → Works disk first log own old new → (Legal first.history → Legal log.history) → What first log own → More first log own) → DoesRightly disk What old new → DoesRightly disk More old new
 does_more disk What More old new implies does = record {
   first = does.first;
-  course = does.course;
+  log = does.log;
   own = does.own;
   works = does.works;
-  what = implies does.first does.course does.own does.works does.legal does.what;
+  what = implies does.first does.log does.own does.works does.legal does.what;
   legal = does.legal;
   right = does.right;
   in_flight = does.in_flight;

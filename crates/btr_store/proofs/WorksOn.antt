@@ -30,12 +30,12 @@ use Rattle.btr_hall.specs.Trace.{IsTraceOf, engine_after, entries_in, has_halt}
 use Rattle.btr_hall.specs.Commit.{needs_of}
 use Rattle.btr_hall.specs.StoreLaws.{engine_earlier}
 use Rattle.btr_hall.proofs.TraceLemmas.{engine_of_list, stopped_of_list, length_of_list, keeps_of_list, at_rest_of_list}
-use Rattle.btr_jobs.specs.Course.{Start, Course, start_with, failed_in}
-use Rattle.btr_jobs.proofs.CourseLemmas.{course_at, failed_halt}
-use Rattle.btr_store.specs.Work.{OwnsEachOnce, HoldsPrefix, HoldsCourse, AddsAllowed, IsRightInFlight, all_entries, HoldsSafely, KeepsEach, CrashLeavesCourse, Works}
+use Rattle.btr_jobs.specs.States.{StoreState, LogState, start_with, failed_in}
+use Rattle.btr_jobs.proofs.StateLemmas.{log_at, failed_halt}
+use Rattle.btr_store.specs.Work.{OwnsEachOnce, HoldsPrefix, HoldsLog, AddsAllowed, IsRightInFlight, all_entries, HoldsSafely, KeepsEach, CrashLeavesLog, Works}
 use Rattle.btr_store.proofs.Moments.{steps_leave, steps_end, keeps_each}
 use Rattle.btr_store.proofs.Rooms.{needs_append, steps_fit}
-use Rattle.btr_store.proofs.WorkLemmas.{course_is, held_before}
+use Rattle.btr_store.proofs.WorkLemmas.{log_is, held_before}
 
 -- ---- legal histories
 
@@ -57,28 +57,28 @@ legal_after all h (e ∷ more) is each legal =
     (each h e (more, next) (omega arith) legal)
 
 -- Work whose entries are allowed keeps a history legal.
-work_legal : (first : Start) (course : Course) (own : List ℕ) → StartsWith course.history first.history → OwnsEachOnce first course own → AddsAllowed course own → Legal first.history → Legal course.history
-work_legal first course own begins each adds legal =
-    legal_after course.history first.history begins.0 begins.1
+work_legal : (first : StoreState) (log : LogState) (own : List ℕ) → StartsWith log.history first.history → OwnsEachOnce first log own → AddsAllowed log own → Legal first.history → Legal log.history
+work_legal first log own begins each adds legal =
+    legal_after log.history first.history begins.0 begins.1
     (λ p e starts long before.
     let number : ℕ = length p + 1 in
-    let whole : length course.history ≡ length (p ++ e ∷ []) + length starts.0 = ap (length {A = Entry}) starts.1 ∙ length-append (p ++ e ∷ []) starts.0 in
+    let whole : length log.history ≡ length (p ++ e ∷ []) + length starts.0 = ap (length {A = Entry}) starts.1 ∙ length-append (p ++ e ∷ []) starts.0 in
     let part : length (p ++ e ∷ []) ≡ length p + 1 = length-append p (e ∷ []) in
-    let was : 1 ≤ given (length first.history) (length course.history + one (is_some course.failed)) number =
-    given_between (length first.history) (length course.history + one (is_some course.failed)) number (omega (arith, long)) (omega (arith, whole, part)) in
-    legal-push p e before (adds p e (starts_more course.history (p ++ e ∷ []) (option_to_list course.failed) starts) (omega (arith, was, each number)) before))
+    let was : 1 ≤ given (length first.history) (length log.history + one (is_some log.failed)) number =
+    given_between (length first.history) (length log.history + one (is_some log.failed)) number (omega (arith, long)) (omega (arith, whole, part)) in
+    legal-push p e before (adds p e (starts_more log.history (p ++ e ∷ []) (option_to_list log.failed) starts) (omega (arith, was, each number)) before))
     legal
 
 -- So it is with the entry in whose step the device failed: its number is the last one.
-work_in_flight : (first : Start) (course : Course) (own : List ℕ) → StartsWith course.history first.history → OwnsEachOnce first course own → AddsAllowed course own → Legal first.history → IsRightInFlight course
-work_in_flight first course own begins each adds legal e failed =
-    let h : List Entry = course.history in
+work_in_flight : (first : StoreState) (log : LogState) (own : List ℕ) → StartsWith log.history first.history → OwnsEachOnce first log own → AddsAllowed log own → Legal first.history → IsRightInFlight log
+work_in_flight first log own begins each adds legal e failed =
+    let h : List Entry = log.history in
     let number : ℕ = length h + 1 in
-    let one_more : one (is_some course.failed) ≡ 1 = ap (λ (o : Option Entry). one (is_some o)) failed in
-    let was : 1 ≤ given (length first.history) (length h + one (is_some course.failed)) number =
-    given_between (length first.history) (length h + one (is_some course.failed)) number (omega (arith, starts_length h first.history begins)) (omega (arith, one_more)) in
-    let whole : all_entries course ≡ (h ++ e ∷ []) ++ [] = ap (λ (o : Option Entry). h ++ option_to_list o) failed ∙ sym (append-nil (h ++ e ∷ [])) in
-    let before : Legal h = work_legal first course own begins each adds legal in
+    let one_more : one (is_some log.failed) ≡ 1 = ap (λ (o : Option Entry). one (is_some o)) failed in
+    let was : 1 ≤ given (length first.history) (length h + one (is_some log.failed)) number =
+    given_between (length first.history) (length h + one (is_some log.failed)) number (omega (arith, starts_length h first.history begins)) (omega (arith, one_more)) in
+    let whole : all_entries log ≡ (h ++ e ∷ []) ++ [] = ap (λ (o : Option Entry). h ++ option_to_list o) failed ∙ sym (append-nil (h ++ e ∷ [])) in
+    let before : Legal h = work_legal first log own begins each adds legal in
     let then : Legal (h ++ e ∷ []) = legal-push h e before (adds h e ([], whole) (omega (arith, was, each number)) before) in
     (then, legal-right (h ++ e ∷ []) then)
 
@@ -115,44 +115,44 @@ module _ {D : Type 0} (disk : Ghosts D) (only_now : disk.is_observable → (d : 
     abbrev y : Engine D disk
     y = engine_after x l
 
-    abbrev course : Course
-    course = course_at h l
+    abbrev log : LogState
+    log = log_at h l
 
     abbrev kept : KeepsOpening x y
     kept = keeps_of_list x l trace
 
     -- What a crash leaves after each entry.
-    keeps : disk.is_observable → disk.size (device x) ≡ disk.size (device y) → (more : List Entry) × (course.history ≡ h ++ more) × KeepsEach disk course (device y) (device x) h more
+    keeps : disk.is_observable → disk.size (device x) ≡ disk.size (device y) → (more : List Entry) × (log.history ≡ h ++ more) × KeepsEach disk log (device y) (device x) h more
     keeps told same_size =
-        let is : course ≡ course_at h trace.steps = course_is h x l trace in (
+        let is : log ≡ log_at h trace.steps = log_is h x l trace in (
           entries_in trace.steps,
-          ap (λ (k : Course). k.history) is,
-          keeps_each disk told (only_now told) (counts_now told) (device y) course h x trace.steps (at_rest told) same_size trace.trace (ap (λ (e : Engine D disk). device e) (engine_is x l trace)) is,
+          ap (λ (k : LogState). k.history) is,
+          keeps_each disk told (only_now told) (counts_now told) (device y) log h x trace.steps (at_rest told) same_size trace.trace (ap (λ (e : Engine D disk). device e) (engine_is x l trace)) is,
         )
 
     -- The entries need no more blocks than there were.
-    fits : needs_of (course.history ++ option_to_list course.failed) ≤ room_of x + needs_of h
+    fits : needs_of (log.history ++ option_to_list log.failed) ≤ room_of x + needs_of h
     fits =
-        let is : course ≡ course_at h trace.steps = course_is h x l trace in
+        let is : log ≡ log_at h trace.steps = log_is h x l trace in
         let last : List Entry = option_to_list (failed_in trace.steps) in
-        let all : needs_of (course.history ++ option_to_list course.failed) ≡ needs_of ((h ++ entries_in trace.steps) ++ last) = ap (λ (k : Course). needs_of (k.history ++ option_to_list k.failed)) is in
+        let all : needs_of (log.history ++ option_to_list log.failed) ≡ needs_of ((h ++ entries_in trace.steps) ++ last) = ap (λ (k : LogState). needs_of (k.history ++ option_to_list k.failed)) is in
         let parts : needs_of ((h ++ entries_in trace.steps) ++ last) ≡ needs_of h + needs_of (entries_in trace.steps ++ last) = ap needs_of (append_assoc h (entries_in trace.steps) last) ∙ needs_append h (entries_in trace.steps ++ last) in
         omega (arith, all, parts, steps_fit h x trace.steps opened.some.1 trace.trace)
 
-    crash : disk.is_observable → CrashLeavesCourse disk (start_with h x) course old (device y)
+    crash : disk.is_observable → CrashLeavesLog disk (start_with h x) log old (device y)
     crash told =
         let a : D = device x in
         let z : D = device y in
         let size : ℕ = disk.size z in
-        let R : Image → Type 0 = HoldsPrefix size (length h) course in
+        let R : Image → Type 0 = HoldsPrefix size (length h) log in
         let Q : Image → Type 0 = λ c. disk.images_now old c ⊎ R c in
         let same_size : disk.size a ≡ size = sym kept.device_kept.same_size in
         let unwritten : IsUnwritten disk.calls disk.contents disk.images_now disk.images_since old a = opened.kept.unwritten told in
-        let steps : Leaves disk.calls disk.images_since a (device (engine_after x trace.steps)) (HoldsPrefix size (length h) (course_at h trace.steps)) =
+        let steps : Leaves disk.calls disk.images_since a (device (engine_after x trace.steps)) (HoldsPrefix size (length h) (log_at h trace.steps)) =
         steps_leave told (only_now told) (counts_now told) size h x trace.steps (at_rest told) same_size trace.trace in
         let leaves : Leaves disk.calls disk.images_since a z R =
         subst (λ (e : Engine D disk). Leaves disk.calls disk.images_since a (device e) R) (sym (engine_is x l trace))
-        (subst (λ (k : Course). Leaves disk.calls disk.images_since a (device (engine_after x trace.steps)) (HoldsPrefix size (length h) k)) (sym (course_is h x l trace)) steps) in
+        (subst (λ (k : LogState). Leaves disk.calls disk.images_since a (device (engine_after x trace.steps)) (HoldsPrefix size (length h) k)) (sym (log_is h x l trace)) steps) in
         record {
           opened = a;
           opening = unwritten;
@@ -162,20 +162,20 @@ module _ {D : Type 0} (disk : Ghosts D) (only_now : disk.is_observable → (d : 
           each_entry = keeps told same_size;
           now = λ c left.
               let here : disk.images_now (device (engine_after x trace.steps)) c = subst (λ (e : Engine D disk). disk.images_now (device e) c) (engine_is x l trace) left in
-              subst (λ (k : Course). HoldsCourse size k c) (sym (course_is h x l trace))
+              subst (λ (k : LogState). HoldsLog size k c) (sym (log_is h x l trace))
               (steps_end told (only_now told) (counts_now told) size h x trace.steps (at_rest told) same_size trace.trace c here);
         }
 
-    safe : disk.is_observable → course.failed ≡ None → HoldsSafely disk (device y) course.history
+    safe : disk.is_observable → log.failed ≡ None → HoldsSafely disk (device y) log.history
     safe told none =
         let halt : has_halt l ≡ false = sym (failed_halt l) ∙ none_failed (failed_in l) none in
         let runs : is_stopped y ≡ false = stopped_of_list h x l opened.some.1 trace ∙ runs_if (is_stopped x) (has_halt l) opened.runs halt in
-        let rest : IsAtRest course.history y = at_rest_of_list told h x l (at_rest told) trace runs in record {
+        let rest : IsAtRest log.history y = at_rest_of_list told h x l (at_rest told) trace runs in record {
           holds = record { blocks = blocks_of y; tail = tail_of y; holds = rest.holds };
           only = rest.only;
         }
 
-    faulted : is_some course.failed ≡ true → Rose (disk.faults old) (disk.faults (device y))
+    faulted : is_some log.failed ≡ true → Rose (disk.faults old) (disk.faults (device y))
     faulted some =
         let halt : has_halt l ≡ true = sym (failed_halt l) ∙ some in
         let stopped : is_stopped y ≡ true = stopped_of_list h x l opened.some.1 trace ∙ stopped_if (is_stopped x) (has_halt l) halt in
@@ -183,16 +183,16 @@ module _ {D : Type 0} (disk : Ghosts D) (only_now : disk.is_observable → (d : 
         (omega (arith, opened.synced.before.more_faults, ap disk.faults kept.synced))
         (stopped_by_fault y stopped)
 
-    works : (own : List ℕ) → ((n : ℕ) → times n own ≡ given (entries_of x) (length l) n) → Works disk (start_with h x) course own old (device y)
+    works : (own : List ℕ) → ((n : ℕ) → times n own ≡ given (entries_of x) (length l) n) → Works disk (start_with h x) log own old (device y)
     works own each =
-        let of : IsEngineOf course.history y = engine_of_list h x l opened.some.1 trace in
+        let of : IsEngineOf log.history y = engine_of_list h x l opened.some.1 trace in
         let first : entries_of x ≡ length h = opened.some.1.entries in
-        let last : entries_of y ≡ length course.history = of.entries in
-        let halt : one (is_some course.failed) ≡ one (has_halt l) = ap one (failed_halt l) in
-        let long : length l ≡ length course.history + one (is_some course.failed) = omega (arith, length_of_list h x l opened.some.1 trace, last, halt) in
-        let once : OwnsEachOnce (start_with h x) course own = λ n.
+        let last : entries_of y ≡ length log.history = of.entries in
+        let halt : one (is_some log.failed) ≡ one (has_halt l) = ap one (failed_halt l) in
+        let long : length l ≡ length log.history + one (is_some log.failed) = omega (arith, length_of_list h x l opened.some.1 trace, last, halt) in
+        let once : OwnsEachOnce (start_with h x) log own = λ n.
         each n ∙ ap (λ (k : ℕ). given k (length l) n) first ∙ ap (λ (k : ℕ). given (length h) k n) long in
-        let begins : StartsWith course.history h = (entries_in l, refl) in
+        let begins : StartsWith log.history h = (entries_in l, refl) in
         record {
           same_size = kept.device_kept.same_size ∙ opened.kept.counts.same_size;
           begins = begins;
@@ -200,9 +200,9 @@ module _ {D : Type 0} (disk : Ghosts D) (only_now : disk.is_observable → (d : 
           not_stopped = opened.runs;
           each_once = once;
           fits = fits;
-          legal = λ adds legal. work_legal (start_with h x) course own begins once adds legal;
-          right = λ adds legal. legal-right course.history (work_legal (start_with h x) course own begins once adds legal);
-          in_flight = λ adds legal. work_in_flight (start_with h x) course own begins once adds legal;
+          legal = λ adds legal. work_legal (start_with h x) log own begins once adds legal;
+          right = λ adds legal. legal-right log.history (work_legal (start_with h x) log own begins once adds legal);
+          in_flight = λ adds legal. work_in_flight (start_with h x) log own begins once adds legal;
           before = λ told. record {
             blocks = blocks_of x;
             tail = tail_of x;
@@ -215,10 +215,10 @@ module _ {D : Type 0} (disk : Ghosts D) (only_now : disk.is_observable → (d : 
         }
 
   -- What was done at the hall of the engine was done on the device that it was opened on.
-  pub works_on : (hall : Hall D disk) (begun last : Session D disk) (own : List ℕ) (end : Engine D disk) (new : D) → Begins x hall begun → IsTraceOf x (seen_of last) → HasEachOnce last → end ≡ engine_after x (seen_of last) → new ≡ device end → Goes begun last own → Works disk (start_with h x) (course_at h (seen_of last)) own old new
+  pub works_on : (hall : Hall D disk) (begun last : Session D disk) (own : List ℕ) (end : Engine D disk) (new : D) → Begins x hall begun → IsTraceOf x (seen_of last) → HasEachOnce last → end ≡ engine_after x (seen_of last) → new ≡ device end → Goes begun last own → Works disk (start_with h x) (log_at h (seen_of last)) own old new
   works_on hall begun last own end new begins trace all ends out goes =
       let l : List (Item D disk) = seen_of last in
-      subst (λ (d : D). Works disk (start_with h x) (course_at h l) own old d) (sym (out ∙ ap (λ (e : Engine D disk). device e) ends))
+      subst (λ (d : D). Works disk (start_with h x) (log_at h l) own old d) (sym (out ∙ ap (λ (e : Engine D disk). device e) ends))
       (works l trace own (λ n.
       let none : times n (mine_of begun) ≡ 0 = ap (times n) begins.mine in
       let mine : times n (mine_of last) ≡ times n own = omega (arith, goes.mine n, none) in

@@ -10,7 +10,7 @@ use Rattle.btr_plan.specs.Plan.{IsCurrent}
 use Rattle.btr_rows.specs.Streams.{RowListValue}
 use Rattle.btr_gate.specs.Prefixes.{StartsWith}
 use Rattle.btr_hall.specs.Commit.{needs_of}
-use Rattle.btr_jobs.specs.Course.{Start}
+use Rattle.btr_jobs.specs.States.{StoreState}
 use Rattle.btr_load.specs.Fits.{rows_need}
 use Rattle.btr_store.specs.declared.status.Status.{Status}
 use Rattle.btr_store.specs.declared.status.Status.TheVariants.{Done, Refused, OutOfMemory}
@@ -29,7 +29,7 @@ SaysBenign said = IfOk said (λ transcript. IsBenign transcript.status)
 -- ---- room for rows
 
 -- All blocks that the rows need are left: those of their creates and batches.
-abbrev pub HasRoomForRows : Start → RowListValue → ℕ → Type 0
+abbrev pub HasRoomForRows : StoreState → RowListValue → ℕ → Type 0
 HasRoomForRows start rows batch = rows_need start.history batch rows.streams ≤ start.left
 
 -- ---- room for outputs
@@ -54,9 +54,9 @@ pub record LandsSince (most : ℕ) (low h : List Entry) : Type 0 where
   pub few : (stream : ℕ) → latest h stream ≤ latest low stream + most
 
 -- Whatever is landed after the history `low`, of each output at most this number of times, its blocks were left at the start.
-abbrev pub HasRoomSince : ℕ → Start → List Entry → Type 0
+abbrev pub HasRoomSince : ℕ → StoreState → List Entry → Type 0
 HasRoomSince most start low = (h : List Entry) → LandsSince most low h → needs_of h ≤ start.left + needs_of start.history
 
 -- There is room for one landing of each output. A call that brings each output up to date once lands no output more often.
-abbrev pub HasRoomForOutputs : Start → Type 0
+abbrev pub HasRoomForOutputs : StoreState → Type 0
 HasRoomForOutputs start = HasRoomSince 1 start start.history

@@ -12,7 +12,7 @@ use Rattle.btr_text.specs.declared.reply.Reason.{Reason}
 use Rattle.btr_text.specs.declared.reply.Reason.TheVariants as reasons
 use Rattle.btr_engine.specs.declared.board.Receipt.{Receipt}
 use Rattle.btr_engine.specs.declared.step.StepFault.{StepFault}
-use Rattle.btr_jobs.specs.Course.{Start, Course}
+use Rattle.btr_jobs.specs.States.{StoreState, LogState}
 use Rattle.btr_jobs.specs.Turns.{IsIdle, Committed}
 use Rattle.btr_store.specs.declared.define.DefinedOutput.{DefinedOutput}
 use Rattle.btr_live.specs.Reasons.{reason_of_step}
@@ -31,30 +31,30 @@ refusal_of (Ok receipt) = None
 refusal_of (Err fault) = Some (reason_of_step fault)
 
 -- The output with this id was defined over an input right after the history p, or refused. Without an input it is refused for that.
-abbrev pub DefinesOver : Start → Course → List Entry → ℕ → Option ℕ → Option Reason → List ℕ → List Entry → Type 0
-DefinesOver start course p id None refused own next = (refused ≡ Some reasons.Stream) × IsIdle p own next
-DefinesOver start course p id (Some input) refused own next =
-    (result : Result Receipt StepFault) × Committed start course p (entries.Define id (mean_of input)) result own next
+abbrev pub DefinesOver : StoreState → LogState → List Entry → ℕ → Option ℕ → Option Reason → List ℕ → List Entry → Type 0
+DefinesOver start log p id None refused own next = (refused ≡ Some reasons.Stream) × IsIdle p own next
+DefinesOver start log p id (Some input) refused own next =
+    (result : Result Receipt StepFault) × Committed start log p (entries.Define id (mean_of input)) result own next
     × (refused ≡ refusal_of result)
 
 -- The output of a stream of a sample was defined right after the history p, or refused.
-abbrev pub Defines : Start → Course → List Entry → ℕ → DefinedOutput → List ℕ → List Entry → Type 0
-Defines start course p stream output own next =
+abbrev pub Defines : StoreState → LogState → List Entry → ℕ → DefinedOutput → List ℕ → List Entry → Type 0
+Defines start log p stream output own next =
     (output.id ≡ output_id stream)
-    × DefinesOver start course p (output_id stream) (stream_of p (stream + 1)) output.refused own next
+    × DefinesOver start log p (output_id stream) (stream_of p (stream + 1)) output.refused own next
 
 -- The outputs of the streams from this one on were defined one after another, the first right after the history p. `own` are the
 -- numbers of what was added, in order, and `last` is the history after it.
-abbrev pub DefinesEach : Start → Course → List Entry → ℕ → List DefinedOutput → List ℕ → List Entry → Type 0
-DefinesEach start course p stream [] own last = IsIdle p own last
-DefinesEach start course p stream (output ∷ outputs) own last =
+abbrev pub DefinesEach : StoreState → LogState → List Entry → ℕ → List DefinedOutput → List ℕ → List Entry → Type 0
+DefinesEach start log p stream [] own last = IsIdle p own last
+DefinesEach start log p stream (output ∷ outputs) own last =
     (first rest : List ℕ) × (next : List Entry) × (own ≡ first ++ rest)
-    × Defines start course p stream output first next
-    × DefinesEach start course next (stream + 1) outputs rest last
+    × Defines start log p stream output first next
+    × DefinesEach start log next (stream + 1) outputs rest last
 
 -- Outputs were defined in the turns of a session that was alone, from the history that it had seen on: one for each of the streams,
 -- or some, if memory ran out.
-abbrev pub DefinesAll : ℕ → Start → Course → List Entry → Result (Vec DefinedOutput Global) AllocError → List ℕ → Type 0
-DefinesAll streams start course low result own =
-    (outputs : List DefinedOutput) × DefinesEach start course low 0 outputs own course.history
+abbrev pub DefinesAll : ℕ → StoreState → LogState → List Entry → Result (Vec DefinedOutput Global) AllocError → List ℕ → Type 0
+DefinesAll streams start log low result own =
+    (outputs : List DefinedOutput) × DefinesEach start log low 0 outputs own log.history
     × IfOk result (λ v. (v.items ≡ outputs) × (length outputs ≡ streams))

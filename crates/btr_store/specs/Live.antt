@@ -6,10 +6,10 @@ use Rattle.std.specs.List.{AllByRecursion}
 use Rattle.std.specs.declared.alloc.AllocError.{AllocError}
 use Rattle.btr_hist.specs.declared.entry.Entry.{Entry}
 use Rattle.btr_text.specs.declared.script.ScriptLine.{ScriptLine}
-use Rattle.btr_jobs.specs.Course.{Start, Course}
-use Rattle.btr_work.specs.declared.report.Brought.{Brought}
-use Rattle.btr_work.specs.declared.report.Brought.TheVariants as results
-use Rattle.btr_work.specs.declared.report.ReportLine as brought
+use Rattle.btr_jobs.specs.States.{StoreState, LogState}
+use Rattle.btr_work.specs.declared.report.Refreshed.{Refreshed}
+use Rattle.btr_work.specs.declared.report.Refreshed.TheVariants as results
+use Rattle.btr_work.specs.declared.report.ReportLine as refreshed
 use Rattle.btr_work.specs.Laws.{IsCurrentIn}
 use Rattle.btr_report.specs.declared.line.ReportLine.{ReportLine}
 use Rattle.btr_report.specs.declared.line.ReportLine.TheVariants as lines
@@ -23,74 +23,74 @@ use Rattle.btr_store.specs.declared.status.Status.TheVariants.{Done, OutOfMemory
 use Rattle.btr_store.specs.declared.transcript.Transcript.{Transcript}
 use Rattle.btr_live.specs.Reasons.{reason_of_landing}
 use Rattle.btr_store.specs.Status.{greater, status_of_lines}
-use Rattle.btr_store.specs.Streams.{id_of}
+use Rattle.btr_store.specs.Streams.{id_of_stream}
 use Rattle.btr_store.specs.Transcript.{text_of_lines}
 use Rattle.btr_store.specs.Replies.{status_of_replies}
 
 -- ---- what is written
 
 -- The result of a last round, if there was one.
-abbrev pub LastRound : Type 0
-LastRound = Option (Result (List brought.ReportLine) AllocError)
+abbrev pub LastResult : Type 0
+LastResult = Option (Result (List refreshed.ReportLine) AllocError)
 
 -- The line of an output with this id, of which this became in the last round: it has one if it was not brought up to date.
-abbrev pub round_line : ℕ → Brought → List ReportLine
+abbrev pub round_line : ℕ → Refreshed → List ReportLine
 round_line id (results.Landed version) = []
 round_line id (results.Current version) = []
 round_line id (results.Refused fault) = lines.RoundRefused id (reason_of_landing fault) ∷ []
 
 -- The lines of the last round, after this history.
-abbrev pub round_lines : List Entry → LastRound → List ReportLine
+abbrev pub round_lines : List Entry → LastResult → List ReportLine
 round_lines h None = []
 round_lines h (Some (Err error)) = []
-round_lines h (Some (Ok report)) = flat_map (λ line. round_line (id_of h line.output) line.result) report
+round_lines h (Some (Ok report)) = flat_map (λ line. round_line (id_of_stream h line.output) line.result) report
 
 -- The status that a last round asks for which had no memory to begin.
-abbrev pub round_status : LastRound → Status
+abbrev pub round_status : LastResult → Status
 round_status None = Done
 round_status (Some (Err error)) = OutOfMemory
 round_status (Some (Ok report)) = Done
 
 -- The status that a failure of the device asks for, which a round may have met.
-abbrev pub course_status : Course → Status
-course_status course = if is_some course.failed then DeviceFault else Done
+abbrev pub log_status : LogState → Status
+log_status log = if is_some log.failed then DeviceFault else Done
 
 -- The transcript has the replies in the order of the script, and then the lines of the last round. Its status is the greatest.
-pub record SaysLive (course : Course) (report : LiveReport) (t : Transcript) : Type 0 where
-  pub same_text : t.text.items ≡ text_of_replies report.replies.items ++ text_of_lines (round_lines course.history report.last)
+pub record SaysLive (log : LogState) (report : LiveReport) (t : Transcript) : Type 0 where
+  pub same_text : t.text.items ≡ text_of_replies report.replies.items ++ text_of_lines (round_lines log.history report.last)
   pub same_status : t.status ≡ greater (greater (status_of_replies report.replies.items)
-      (status_of_lines (round_lines course.history report.last))) (greater (round_status report.last) (course_status course))
+      (status_of_lines (round_lines log.history report.last))) (greater (round_status report.last) (log_status log))
 
 -- What is said of a script that ran. Memory may run out for it.
-abbrev pub SaysIf : Course → Option LiveReport → Result Transcript AllocError → Type 0
-SaysIf course report (Err error) = Unit {0}
-SaysIf course None (Ok transcript) = ⊥
-SaysIf course (Some report) (Ok transcript) = SaysLive course report transcript
+abbrev pub SaysScript : LogState → Option LiveReport → Result Transcript AllocError → Type 0
+SaysScript log report (Err error) = Unit {0}
+SaysScript log None (Ok transcript) = ⊥
+SaysScript log (Some report) (Ok transcript) = SaysLive log report transcript
 
 -- ---- what is done
 
 -- A script ran on a store that nobody else used; or memory ran out before any line.
-abbrev pub RunsIf : ℕ → Bool → Start → Course → List ScriptLine → Option LiveReport → List ℕ → Type 0
-RunsIf batch materialize start course script None own = own ≡ []
-RunsIf batch materialize start course script (Some report) own =
-    RunsLive batch materialize start course start.history script report own
+abbrev pub RunsIf : ℕ → Bool → StoreState → LogState → List ScriptLine → Option LiveReport → List ℕ → Type 0
+RunsIf batch materialize start log script None own = own ≡ []
+RunsIf batch materialize start log script (Some report) own =
+    RunsLive batch materialize start log start.history script report own
 
 -- Each output that the last round did not refuse is up to date, and it refused none because another version came first.
-abbrev pub IsLastCurrent : List Entry → LastRound → Type 0
+abbrev pub IsLastCurrent : List Entry → LastResult → Type 0
 IsLastCurrent h None = Unit {0}
 IsLastCurrent h (Some (Err error)) = Unit {0}
 IsLastCurrent h (Some (Ok report)) = AllByRecursion (λ line. IsCurrentIn h line.output line.result) report
 
 -- A script ran on a store that nobody else used, and this was said of it. `own` are the numbers of what was added.
-pub record LivesStore (batch : ℕ) (materialize : Bool) (script : List ScriptLine) (start : Start) (course : Course)
+pub record LivesStore (batch : ℕ) (materialize : Bool) (script : List ScriptLine) (start : StoreState) (log : LogState)
     (said : Result Transcript AllocError) (own : List ℕ) : Type 0 where
   pub report : Option LiveReport
-  pub runs : RunsIf batch materialize start course script report own
+  pub runs : RunsIf batch materialize start log script report own
   -- all lanes, and the rounds beside them, made one history, for every schedule of the threads
-  pub one_history : IfSome report (λ r. OneHistory batch start course script r.replies.items)
+  pub one_history : IfSome report (λ r. OneHistory batch start log script r.replies.items)
   -- the lines of one lane alone have the model's replies, one after another
   pub one_lane : materialize ≡ false → (lane : ℕ) → AreInLane lane script
-      → IfSome report (λ r. RunsAlone batch start course script r.replies.items)
+      → IfSome report (λ r. RunsAlone batch start log script r.replies.items)
   -- after the last round each output that it did not refuse is up to date, and none is superseded, if the device did not fail
-  pub current : course.failed ≡ None → IfSome report (λ r. IsLastCurrent course.history r.last)
-  pub says : SaysIf course report said
+  pub current : log.failed ≡ None → IfSome report (λ r. IsLastCurrent log.history r.last)
+  pub says : SaysScript log report said

@@ -7,9 +7,9 @@ use Rattle.btr_hist.specs.declared.entry.Entry.{Entry}
 use Rattle.btr_hist.specs.History.{ids, latest, bag}
 use Rattle.btr_text.specs.declared.reply.Reason.{Reason}
 use Rattle.btr_load.specs.Loads.{LoadedValue}
-use Rattle.btr_work.specs.declared.report.Brought.{Brought}
-use Rattle.btr_work.specs.declared.report.Brought.TheVariants as results
-use Rattle.btr_work.specs.declared.report.ReportLine as brought
+use Rattle.btr_work.specs.declared.report.Refreshed.{Refreshed}
+use Rattle.btr_work.specs.declared.report.Refreshed.TheVariants as results
+use Rattle.btr_work.specs.declared.report.ReportLine as refreshed
 use Rattle.btr_report.specs.declared.line.ReportLine.{ReportLine}
 use Rattle.btr_report.specs.declared.line.ReportLine.TheVariants as lines
 use Rattle.btr_store.specs.declared.define.DefinedOutput.{DefinedOutput}
@@ -17,7 +17,7 @@ use Rattle.btr_store.specs.declared.load_lines.RefusedNumber.{RefusedNumber}
 use Rattle.btr_store.specs.declared.sample.Filled.{Filled}
 use Rattle.btr_store.specs.declared.transcript.Transcript.{Transcript}
 use Rattle.btr_live.specs.Reasons.{reason_of_landing}
-use Rattle.btr_store.specs.Streams.{id_of}
+use Rattle.btr_store.specs.Streams.{id_of_stream}
 use Rattle.btr_store.specs.Transcript.{SaysLines}
 use Rattle.btr_store.specs.LoadLines.{AreRefused, row_line, stream_spans}
 
@@ -33,14 +33,14 @@ abbrev pub define_line : DefinedOutput → List ReportLine
 define_line output = refusal_line output.id output.refused
 
 -- Why an output was not brought up to date, if it was not.
-abbrev pub landing_refusal : Brought → Option Reason
+abbrev pub landing_refusal : Refreshed → Option Reason
 landing_refusal (results.Landed version) = None
 landing_refusal (results.Current version) = None
 landing_refusal (results.Refused fault) = Some (reason_of_landing fault)
 
 -- The line of an output after this history, if it was not brought up to date.
-abbrev pub landing_line : List Entry → brought.ReportLine → List ReportLine
-landing_line h line = refusal_line (id_of h line.output) (landing_refusal line.result)
+abbrev pub landing_line : List Entry → refreshed.ReportLine → List ReportLine
+landing_line h line = refusal_line (id_of_stream h line.output) (landing_refusal line.result)
 
 -- ---- the streams at the end
 
@@ -50,13 +50,13 @@ summary_line h id stream = lines.StreamSummary id (latest h stream) (agg_within 
 
 -- The lines of all streams, in order of creation.
 abbrev pub summary_lines : List Entry → List ReportLine
-summary_lines h = map (λ stream. summary_line h (id_of h stream) stream) (range_with_len 0 (length (ids h)))
+summary_lines h = map (λ stream. summary_line h (id_of_stream h stream) stream) (range_with_len 0 (length (ids h)))
 
 -- ---- all lines
 
 -- What was done to the store is in the transcript, and then the streams of this history: refused rows by their numbers, refused
 -- batches, refused outputs, and a line for each stream.
-abbrev pub SaysAll : List Entry → LoadedValue → List DefinedOutput → List brought.ReportLine → Transcript → Type 0
+abbrev pub SaysAll : List Entry → LoadedValue → List DefinedOutput → List refreshed.ReportLine → Transcript → Type 0
 SaysAll h loaded outputs report t =
     (rows : List RefusedNumber) × AreRefused loaded rows
     × SaysLines (map row_line rows ++ flat_map stream_spans loaded.streams ++ flat_map define_line outputs

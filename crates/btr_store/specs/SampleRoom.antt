@@ -7,7 +7,7 @@ use Rattle.btr_hist.specs.Legal.{Follows}
 use Rattle.btr_rows.specs.Streams.{StreamValue, RowListValue}
 use Rattle.btr_gate.specs.Prefixes.{StartsWith}
 use Rattle.btr_hall.specs.Commit.{needs_of}
-use Rattle.btr_jobs.specs.Course.{Start}
+use Rattle.btr_jobs.specs.States.{StoreState}
 use Rattle.btr_load.specs.declared.stream.LoadedStream.{LoadedStream}
 use Rattle.btr_load.specs.Loads.{LoadedValue}
 use Rattle.btr_load.specs.There.{AreThere}
@@ -34,12 +34,12 @@ pub record DefinesSince (streams : ℕ) (low h : List Entry) : Type 0 where
 
 -- All blocks that the rows need are left. Whatever of them is loaded, then defined, and then landed once for each output, its blocks
 -- are left.
-pub record HasRoomToFill (number streams points : ℕ) (start : Start) : Type 0 where
+pub record HasRoomToFill (number streams points : ℕ) (start : StoreState) : Type 0 where
   pub rows : HasRoomForRows start (rows_of_sample number streams points) BATCH
   pub outputs : (loaded defined landed : List Entry)
       → IsLoadOf BATCH (rows_of_sample number streams points) loaded → DefinesSince streams loaded defined → LandsSince 1 defined landed
       → needs_of landed ≤ start.left + needs_of start.history
 
 -- A store without an entry has room for the sample. A store that has an entry needs none, since nothing is added to it.
-abbrev pub HasRoomForSample : ℕ → ℕ → ℕ → Start → Type 0
+abbrev pub HasRoomForSample : ℕ → ℕ → ℕ → StoreState → Type 0
 HasRoomForSample number streams points start = start.history ≡ [] → HasRoomToFill number streams points start

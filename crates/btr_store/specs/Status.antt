@@ -8,12 +8,12 @@ use Rattle.btr_store.specs.declared.status.Status.{Status}
 use Rattle.btr_store.specs.declared.status.Status.TheVariants.{Done, Refused, Full, OutOfMemory, DeviceFault}
 
 -- The order of the statuses.
-abbrev pub rank : Status → ℕ
-rank Done = 0
-rank Refused = 1
-rank Full = 2
-rank OutOfMemory = 3
-rank DeviceFault = 4
+abbrev pub status_rank : Status → ℕ
+status_rank Done = 0
+status_rank Refused = 1
+status_rank Full = 2
+status_rank OutOfMemory = 3
+status_rank DeviceFault = 4
 
 -- The number with which the program ends.
 abbrev pub code_of : Status → ℕ
@@ -25,7 +25,7 @@ code_of DeviceFault = 5
 
 -- The greater of two statuses.
 abbrev pub greater : Status → Status → Status
-greater a b = if nat_lt (rank a) (rank b) then b else a
+greater a b = if nat_lt (status_rank a) (status_rank b) then b else a
 
 -- The status that a refusal for this reason asks for.
 abbrev pub status_of_reason : Reason → Status
@@ -47,10 +47,10 @@ status_of_line (lines.Used entries) = Refused
 status_of_line (lines.StreamSummary id version agg) = Done
 
 -- The greatest of a status and those that lines ask for.
-abbrev pub greatest : Status → List ReportLine → Status
-greatest s [] = s
-greatest s (line ∷ more) = greatest (greater s (status_of_line line)) more
+abbrev pub greatest_of_lines : Status → List ReportLine → Status
+greatest_of_lines s [] = s
+greatest_of_lines s (line ∷ more) = greatest_of_lines (greater s (status_of_line line)) more
 
 -- The status that all lines ask for: the greatest of theirs.
 abbrev pub status_of_lines : List ReportLine → Status
-status_of_lines all = greatest Done all
+status_of_lines all = greatest_of_lines Done all

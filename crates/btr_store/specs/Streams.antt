@@ -15,12 +15,12 @@ abbrev pub AreStreams : List Entry → List StreamRow → Type 0
 AreStreams h rows = rows ≡ rows_from h 0 (ids h)
 
 -- The id of the stream with this number.
-abbrev pub id_of : List Entry → ℕ → ℕ
-id_of h stream = slice_index_or (ids h) stream 0
+abbrev pub id_of_stream : List Entry → ℕ → ℕ
+id_of_stream h stream = slice_index_or (ids h) stream 0
 
 -- The latest version of the stream with this number.
-abbrev pub version_of : List Entry → ℕ → ℕ
-version_of h stream = unwrap_or (latest_of h stream) 0
+abbrev pub version_of_stream : List Entry → ℕ → ℕ
+version_of_stream h stream = unwrap_or (latest_of h stream) 0
 
 module _ {D : Type 0} {disk : Ghosts D} where
   -- A session has seen nothing new, and added nothing.

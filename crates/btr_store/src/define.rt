@@ -34,7 +34,7 @@ pub(crate) fn define_outputs<R: Wait, D: Disk>(
     ensures at { IsAt hall.now session.new }
     ensures alone { IsAlone session.new }
     ensures does { Does hall.now session.old session.new
-        (λ start course low own. DefinesAll streams start course low result own) }
+        (λ start log low own. DefinesAll streams start log low result own) }
 {
     let mut outputs = Vec::new(alloc);
     for stream in 0..streams {
@@ -56,7 +56,7 @@ fn define<R: Wait, D: Disk>(
     ensures at { IsAt hall.now session.new }
     ensures alone { IsAlone session.new }
     ensures does { Does hall.now session.old session.new
-        (λ start course low own. Defines start course low stream result own course.history) }
+        (λ start log low own. Defines start log low stream result own log.history) }
 {
     let id = output_id(stream);
     match session.find(rt, hall, u128::from(stream) + 1) {

@@ -23,7 +23,7 @@ use btr_jobs::Pace;
 use btr_live::reason_of_landing;
 use btr_open::OpenFault;
 use btr_report::ReportLine;
-use btr_work::{Brought, Report, ReportLine as BroughtLine, bring_current};
+use btr_work::{Refreshed, Report, ReportLine as RefreshLine, bring_current};
 use std::alloc::{AllocError, Global};
 use std::sync::Wait;
 use std::thread::Threads;
@@ -49,7 +49,7 @@ pub fn distil_store<R: Threads + Wait + Sync, D: Disk + Send, P: Pace + Sync>(
     pace: &P,
     disk: D,
 ) -> Result<Worked<D>, OpenFault<D>>
-    ensures done { IfOk result (λ w. DoesRightly ⟦<D as Disk>⟧ (λ start course own. DistilsStore start course workers w.said own)
+    ensures done { IfOk result (λ w. DoesRightly ⟦<D as Disk>⟧ (λ start log own. DistilsStore start log workers w.said own)
         disk w.disk) }
     ensures refused { IfErr result (IsNotOpened ⟦<D as Disk>⟧ disk) }
 {
@@ -72,9 +72,9 @@ fn distil<R: Threads + Wait + Sync, D: Disk + Send, P: Pace + Sync>(
     requires alone { IsAlone session.old }
     ensures at { IsAt hall.now session.new }
     ensures alone { IsAlone session.new }
-    ensures does { Does hall.now session.old session.new (λ start course low own. Distils start course low result own) }
+    ensures does { Does hall.now session.old session.new (λ start log low own. Distils start log low result own) }
     ensures in_turn { workers ≤ 1 → Does hall.now session.old session.new
-        (λ start course low own. DistilsInTurn start course low result own) }
+        (λ start log low own. DistilsInTurn start log low result own) }
 {
     match bring_current(rt, alloc, hall, session, workers, pace) {
         Ok(report) => say_report(rt, alloc, hall, session, &report),
@@ -118,15 +118,15 @@ fn output_lines(
 }
 
 /// Returns the line of an output of this snapshot, which has these streams.
-fn output_line(snapshot: &Snapshot, streams: &[StreamRow], line: BroughtLine) -> ReportLine
+fn output_line(snapshot: &Snapshot, streams: &[StreamRow], line: RefreshLine) -> ReportLine
     ensures { (h : List EntrySpec) → IsSnapshotOf h snapshot.now → AreStreams h streams.now → result ≡ output_line h line }
 {
     let id = id_of(streams, line.output);
     match line.result {
-        Brought::Landed { .. } | Brought::Current { .. } => {
+        Refreshed::Landed { .. } | Refreshed::Current { .. } => {
             current_line(snapshot, id, line.output)
         }
-        Brought::Refused(fault) => ReportLine::OutputRefused {
+        Refreshed::Refused(fault) => ReportLine::OutputRefused {
             id,
             reason: reason_of_landing(fault),
         },

@@ -37,7 +37,7 @@ pub fn live_store<R: Threads + Wait + Sync, D: Disk + Send, P: Pace + Sync>(
     requires batch { (1 ≤ batch) × (batch ≤ MAX_COMMIT_POINTS) }
     requires lanes { HaveLanes lines.items }
     ensures done { IfOk result (λ w. DoesRightly ⟦<D as Disk>⟧
-        (λ start course own. LivesStore batch materialize lines.items start course w.said own) disk w.disk) }
+        (λ start log own. LivesStore batch materialize lines.items start log w.said own) disk w.disk) }
     ensures refused { IfErr result (IsNotOpened ⟦<D as Disk>⟧ disk) }
 {
     // what holds of all scripts that ran alone
@@ -78,7 +78,7 @@ fn live<R: Threads + Wait + Sync, D: Disk + Send, P: Pace + Sync>(
     ensures at { IsAt hall.now session.new }
     ensures alone { IsAlone session.new }
     ensures does { Does hall.now session.old session.new
-        (λ start course low own. Lives batch materialize lines.items start course low result own) }
+        (λ start log low own. Lives batch materialize lines.items start log low result own) }
 {
     match lanes(rt, alloc, hall, session, lines, batch, materialize, pace) {
         Ok(report) => say_live(rt, alloc, hall, session, &report),

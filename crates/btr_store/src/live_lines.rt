@@ -5,13 +5,13 @@ ghost use Rattle.btr_engine.specs.Engine.{is_stopped, IsEngineOf};
 ghost use Rattle.btr_engine.specs.Snapshot.{IsSnapshotOf};
 ghost use Rattle.btr_hall.specs.Trace.{history_of};
 ghost use Rattle.btr_hall.specs.Session.{IsAlone, opening_of, seen_of};
-ghost use Rattle.btr_jobs.specs.Course.{course_of};
+ghost use Rattle.btr_jobs.specs.States.{log_of};
 ghost use Rattle.btr_jobs.specs.Jobs.{IsAt};
 ghost use Rattle.btr_store.specs.Status.{greater};
 ghost use Rattle.btr_store.specs.Streams.{AreStreams, Stays};
 ghost use Rattle.btr_store.specs.Transcript.{AddsLines, SaysLines};
 ghost use Rattle.btr_store.specs.Replies.{IsTranscript};
-ghost use Rattle.btr_store.specs.Live.{SaysLive, course_status, round_line, round_lines, round_status};
+ghost use Rattle.btr_store.specs.Live.{SaysLive, log_status, round_line, round_lines, round_status};
 ghost use Rattle.btr_store.specs.LiveLines.{refused_line};
 
 use crate::replies::{add_reply, no_replies};
@@ -25,7 +25,7 @@ use btr_hist::StreamRow;
 use btr_live::{LiveReport, reason_of_landing};
 use btr_report::ReportLine;
 use btr_text::LineReply;
-use btr_work::{Brought, Report, ReportLine as BroughtLine};
+use btr_work::{Refreshed, Report, ReportLine as RefreshLine};
 use std::alloc::{AllocError, Global};
 use std::sync::Wait;
 
@@ -44,7 +44,7 @@ pub(crate) fn say_live<R: Wait, D: Disk>(
     requires alone { IsAlone session.old }
     ensures at { IsAt hall.now session.new }
     ensures stays { Stays session.old session.new }
-    ensures says { (h : List EntrySpec) → IsEngineOf h (opening_of hall.now) → IfOk result (SaysLive (course_of h session.old) report.now) }
+    ensures says { (h : List EntrySpec) → IsEngineOf h (opening_of hall.now) → IfOk result (SaysLive (log_of h session.old) report.now) }
 {
     let said = say_replies(alloc, &report.replies)?;
     let lines = say_last(rt, alloc, hall, session, &report.last)?;
@@ -121,7 +121,7 @@ fn refused_lines(
 fn add_refused(
     transcript: &mut Transcript,
     streams: &[StreamRow],
-    report: &[BroughtLine],
+    report: &[RefreshLine],
 ) -> Result<(), AllocError>
     ensures { (h : List EntrySpec) → AreStreams h streams.now
         → OnOk result (AddsLines (flat_map (refused_line h) report.now) transcript.old transcript.new) }
@@ -133,12 +133,16 @@ fn add_refused(
 }
 
 /// Adds the line of an output with this id, if a round refused it. An `Err` means out of memory.
-fn add_if_refused(transcript: &mut Transcript, id: u128, brought: Brought) -> Result<(), AllocError>
-    ensures { OnOk result (AddsLines (round_line id brought) transcript.old transcript.new) }
+fn add_if_refused(
+    transcript: &mut Transcript,
+    id: u128,
+    refreshed: Refreshed,
+) -> Result<(), AllocError>
+    ensures { OnOk result (AddsLines (round_line id refreshed) transcript.old transcript.new) }
 {
-    match brought {
-        Brought::Landed { .. } | Brought::Current { .. } => Ok(()),
-        Brought::Refused(fault) => transcript.add(&ReportLine::RoundRefused {
+    match refreshed {
+        Refreshed::Landed { .. } | Refreshed::Current { .. } => Ok(()),
+        Refreshed::Refused(fault) => transcript.add(&ReportLine::RoundRefused {
             id,
             reason: reason_of_landing(fault),
         }),
@@ -162,7 +166,7 @@ fn device_status<R: Wait, D: Disk>(rt: &R, hall: &Hall<D>, session: &mut Session
     requires alone { IsAlone session.old }
     ensures at { IsAt hall.now session.new }
     ensures stays { Stays session.old session.new }
-    ensures status { (h : List EntrySpec) → IsEngineOf h (opening_of hall.now) → result ≡ course_status (course_of h session.old) }
+    ensures status { (h : List EntrySpec) → IsEngineOf h (opening_of hall.now) → result ≡ log_status (log_of h session.old) }
 {
     match session.stopped(rt, hall) {
         Some(_) => Status::DeviceFault,

@@ -44,7 +44,7 @@ pub fn load_store<R: Threads + Wait + Sync, D: Disk + Send, P: Pace + Sync>(
     disk: D,
 ) -> Result<Worked<D>, OpenFault<D>>
     requires batch { 1 ≤ batch }
-    ensures done { IfOk result (λ w. DoesRightly ⟦<D as Disk>⟧ (λ start course own. LoadsStore start course rows batch workers w.said own)
+    ensures done { IfOk result (λ w. DoesRightly ⟦<D as Disk>⟧ (λ start log own. LoadsStore start log rows batch workers w.said own)
         disk w.disk) }
     ensures refused { IfErr result (IsNotOpened ⟦<D as Disk>⟧ disk) }
 {
@@ -70,9 +70,9 @@ fn load_rows<R: Threads + Wait + Sync, D: Disk + Send, P: Pace + Sync>(
     requires batch { 1 ≤ batch }
     ensures at { IsAt hall.now session.new }
     ensures alone { IsAlone session.new }
-    ensures does { Does hall.now session.old session.new (λ start course low own. LoadsRows start course low rows batch result own) }
+    ensures does { Does hall.now session.old session.new (λ start log low own. LoadsRows start log low rows batch result own) }
     ensures in_turn { workers ≤ 1 → Does hall.now session.old session.new
-        (λ start course low own. LoadsRowsInTurn start course low rows batch result own) }
+        (λ start log low own. LoadsRowsInTurn start log low rows batch result own) }
 {
     match load(rt, alloc, hall, session, rows, batch, workers, pace) {
         Ok(loaded) => load_lines(alloc, &loaded),

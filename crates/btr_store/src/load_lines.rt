@@ -1,12 +1,12 @@
 //! The lines of `load`.
 ghost use Rattle.std.specs.Prelude.{◌≡◌, ◌≤◌, ◌++◌, length, map, take, drop, IfOk, OnOk};
 ghost use Rattle.btr_store.specs.Transcript.{AddsLines, SaysLines};
-ghost use Rattle.btr_store.specs.LoadLines.{AreRefused, SaysLoad, SaysRefused, row_line, first_number, last_number, rows_refused, output_rows, refused_point, stream_lines, stream_spans, span_line, batch_span, batch_spans, points_in, points_of, good_in, total_line};
+ghost use Rattle.btr_store.specs.LoadLines.{AreRefused, SaysLoad, SaysRefused, row_line, first_number, last_row, rows_refused, output_rows, refused_point, stream_lines, stream_spans, span_line, batch_span, batch_spans, points_committed, points_by_result, good_in, total_line};
 
 use crate::transcript::Transcript;
 use btr_engine::{Receipt, StepFault};
 use btr_live::reason_of_step;
-use btr_load::{Fate, Loaded, LoadedStream};
+use btr_load::{Loaded, LoadedStream, RowsOutcome};
 use btr_report::{ReportLine, RowRefusal};
 use btr_rows::NumberedPoint;
 use std::alloc::{AllocError, Global};
@@ -82,9 +82,9 @@ fn all_refused(alloc: Global, loaded: &Loaded) -> Result<Vec<RefusedNumber>, All
 fn add_output_rows(stream: &LoadedStream, rows: &mut Vec<RefusedNumber>) -> Result<(), AllocError>
     ensures { OnOk result (rows.new.items ≡ rows.old.items ++ output_rows stream.now) }
 {
-    match &stream.fate {
-        Fate::Output => add_rows(stream.rows.points(), rows),
-        Fate::NotCreated(_) | Fate::Committed { .. } => Ok(()),
+    match &stream.outcome {
+        RowsOutcome::Output => add_rows(stream.rows.points(), rows),
+        RowsOutcome::NotCreated(_) | RowsOutcome::Committed { .. } => Ok(()),
     }
 }
 
@@ -106,11 +106,11 @@ fn add_stream(stream: &LoadedStream, transcript: &mut Transcript) -> Result<(), 
     ensures { OnOk result (AddsLines (stream_lines stream.now) transcript.old transcript.new) }
 {
     add_spans(stream, transcript)?;
-    if let Fate::Committed {
+    if let RowsOutcome::Committed {
         results,
         latest,
         ..
-    } = &stream.fate
+    } = &stream.outcome
     {
         let points = points_in(stream.rows.points(), stream.batch, results.as_slice());
         transcript.add(&ReportLine::StreamLoaded {
@@ -131,10 +131,10 @@ pub(crate) fn add_spans(
 {
     let id = stream.rows.id();
     let points = stream.rows.points();
-    match &stream.fate {
-        Fate::Output => Ok(()),
-        Fate::NotCreated(fault) => transcript.add(&span_line(id, points, *fault)),
-        Fate::Committed { results, .. } => {
+    match &stream.outcome {
+        RowsOutcome::Output => Ok(()),
+        RowsOutcome::NotCreated(fault) => transcript.add(&span_line(id, points, *fault)),
+        RowsOutcome::Committed { results, .. } => {
             add_batches(id, points, stream.batch, results.as_slice(), transcript)
         }
     }
@@ -206,7 +206,7 @@ fn first_number(points: &[NumberedPoint]) -> u64
 
 /// Returns the number of the last row, or 0 if there is none.
 fn last_number(points: &[NumberedPoint]) -> u64
-    ensures { result ≡ last_number points.now }
+    ensures { result ≡ last_row points.now }
 {
     match points.len() {
         0 => 0,
@@ -216,7 +216,7 @@ fn last_number(points: &[NumberedPoint]) -> u64
 
 /// Returns the number of points in the accepted ones of these batches.
 fn points_in(points: &[NumberedPoint], batch: u32, results: &[Result<Receipt, StepFault>]) -> u64
-    ensures value { result ≡ points_in batch points.now results.now }
+    ensures value { result ≡ points_committed batch points.now results.now }
     ensures most { result ≤ length points.now }
 {
     let mut count = 0;
@@ -231,7 +231,7 @@ fn points_in(points: &[NumberedPoint], batch: u32, results: &[Result<Receipt, St
 
 /// Returns the number of points of a batch, if it was accepted.
 fn points_of(points: &[NumberedPoint], done: Result<Receipt, StepFault>) -> u64
-    ensures value { result ≡ points_of points.now done }
+    ensures value { result ≡ points_by_result points.now done }
     ensures most { result ≤ length points.now }
 {
     match done {
@@ -259,9 +259,9 @@ fn good_in(stream: &LoadedStream) -> u64
     ensures value { result ≡ good_in stream.now }
     ensures most { result ≤ length stream.now.rows.points }
 {
-    match &stream.fate {
-        Fate::Output | Fate::NotCreated(_) => 0,
-        Fate::Committed { results, .. } => {
+    match &stream.outcome {
+        RowsOutcome::Output | RowsOutcome::NotCreated(_) => 0,
+        RowsOutcome::Committed { results, .. } => {
             points_in(stream.rows.points(), stream.batch, results.as_slice())
         }
     }

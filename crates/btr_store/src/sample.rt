@@ -10,7 +10,7 @@ ghost use Rattle.btr_report.specs.declared.line.ReportLine.TheVariants as lines;
 ghost use Rattle.btr_store.specs.Work.{DoesRightly};
 ghost use Rattle.btr_store.specs.Transcript.{SaysLines};
 ghost use Rattle.btr_store.specs.Streams.{Stays};
-ghost use Rattle.btr_store.specs.Sample.{IsFilled, Samples, rows_of_sample};
+ghost use Rattle.btr_store.specs.Sample.{IsFilledInPart, Samples, rows_of_sample};
 ghost use Rattle.btr_store.specs.SampleLaw.{SamplesStore};
 ghost use Rattle.btr_store.specs.SampleLines.{SaysFilled};
 
@@ -73,7 +73,7 @@ pub fn sample_store<R: Threads + Wait + Sync, D: Disk + Send, P: Pace + Sync>(
     disk: D,
 ) -> Result<Worked<D>, OpenFault<D>>
     ensures done { IfOk result (λ w. DoesRightly ⟦<D as Disk>⟧
-        (λ start course own. SamplesStore number streams points start course w.said own) disk w.disk) }
+        (λ start log own. SamplesStore number streams points start log w.said own) disk w.disk) }
     ensures refused { IfErr result (IsNotOpened ⟦<D as Disk>⟧ disk) }
 {
     let (hall, mut session) = open_hall(alloc, disk)?;
@@ -107,7 +107,7 @@ fn sample<R: Threads + Wait + Sync, D: Disk + Send, P: Pace + Sync>(
     ensures at { IsAt hall.now session.new }
     ensures alone { IsAlone session.new }
     ensures does { Does hall.now session.old session.new
-        (λ start course low own. Samples number streams points start course low result own) }
+        (λ start log low own. Samples number streams points start log low result own) }
 {
     let snapshot = session.admit(rt, hall)?;
     match snapshot.entries() {
@@ -144,7 +144,7 @@ fn fill<R: Threads + Wait + Sync, D: Disk + Send, P: Pace + Sync>(
     ensures at { IsAt hall.now session.new }
     ensures alone { IsAlone session.new }
     ensures does { Does hall.now session.old session.new
-        (λ start course low own. IsFilled number streams points start course low result own) }
+        (λ start log low own. IsFilledInPart number streams points start log low result own) }
 {
     let rows = sample_rows(alloc, number, streams, points)?;
     let loaded = load(rt, alloc, hall, session, rows, BATCH, WORKERS, pace)?;

@@ -19,7 +19,7 @@ use btr_live::reason_of_landing;
 use btr_load::LoadedStream;
 use btr_report::ReportLine;
 use btr_text::Reason;
-use btr_work::{Brought, ReportLine as BroughtLine};
+use btr_work::{Refreshed, ReportLine as RefreshLine};
 use std::alloc::{AllocError, Global};
 
 /// Says what was done to a store, and what its streams are. An `Err` means out of memory.
@@ -62,7 +62,7 @@ fn add_undefined(outputs: &[DefinedOutput], transcript: &mut Transcript) -> Resu
 /// Adds the lines of the outputs that were not brought up to date. An `Err` means out of memory.
 fn add_landings(
     streams: &[StreamRow],
-    report: &[BroughtLine],
+    report: &[RefreshLine],
     transcript: &mut Transcript,
 ) -> Result<(), AllocError>
     ensures { (h : List EntrySpec) → AreStreams h streams.now
@@ -79,12 +79,12 @@ fn add_landings(
 }
 
 /// Returns why an output was not brought up to date, if it was not.
-fn landing_refusal(brought: Brought) -> Option<Reason>
-    ensures { result ≡ landing_refusal brought }
+fn landing_refusal(refreshed: Refreshed) -> Option<Reason>
+    ensures { result ≡ landing_refusal refreshed }
 {
-    match brought {
-        Brought::Landed { .. } | Brought::Current { .. } => None,
-        Brought::Refused(fault) => Some(reason_of_landing(fault)),
+    match refreshed {
+        Refreshed::Landed { .. } | Refreshed::Current { .. } => None,
+        Refreshed::Refused(fault) => Some(reason_of_landing(fault)),
     }
 }
 

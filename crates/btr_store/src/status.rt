@@ -1,6 +1,6 @@
 //! The status that lines and replies ask for.
 ghost use Rattle.std.specs.Prelude.{◌≡◌};
-ghost use Rattle.btr_store.specs.Status.{code_of, greater, rank, status_of_reason, status_of_line};
+ghost use Rattle.btr_store.specs.Status.{code_of, greater, status_rank, status_of_reason, status_of_line};
 
 use btr_report::ReportLine;
 use btr_text::Reason;
@@ -55,7 +55,7 @@ impl Status {
 
     /// Returns the place of a status in the order, from 0 on.
     fn rank(self) -> u8
-        ensures { result ≡ rank self }
+        ensures { result ≡ status_rank self }
     {
         match self {
             Status::Done => 0,

@@ -33,13 +33,13 @@ use Rattle.btr_feed.specs.declared.feed.FeedFault.{FeedFault}
 use Rattle.btr_feed.specs.declared.feed.FeedFault.TheVariants.{OutOfDomain, TooMany, Want}
 use Rattle.btr_live.specs.Feeds.{Waiting, feed_of}
 use Rattle.btr_live.specs.Meaning.{Meaning, Commits, Asks, Holds, Current, Refuses, on_stream, delete, on_second, define, land, refresh, if_plain}
-use Rattle.btr_live.specs.Meaning.{insert, when_due, unless_fault, feed, flush, meaning, question}
+use Rattle.btr_live.specs.Meaning.{insert_points, when_due, unless_fault, feed, flush, meaning, question}
 use Rattle.btr_engine.specs.Body.{need_of}
-use Rattle.btr_live.specs.Replies.{reply_of_answer, reply_of_commit, reply_to, Means}
-use Rattle.btr_live.specs.Script.{Store, State, IsNotDone, Replies, RepliesToLine, RunsScript, need_of_meaning, after_line, needs_of}
+use Rattle.btr_live.specs.Replies.{reply_of_answer, reply_of_commit, model_reply, Means}
+use Rattle.btr_live.specs.Script.{Store, State, IsNotDone, RepliesTo, RepliesToLine, RunsScript, need_of_meaning, after_line, script_needs}
 use Rattle.btr_live.specs.Serving.{IsAnswerOrNoMemory}
 use Rattle.btr_store.specs.Completes.{IsBenign}
-use Rattle.btr_store.specs.Status.{rank, code_of, greater}
+use Rattle.btr_store.specs.Status.{status_rank, code_of, greater}
 use Rattle.btr_store.specs.Replies.{greatest_of_replies, status_of_reply, status_of_replies}
 use Rattle.btr_top.specs.Ask.{AnswersEach}
 use Rattle.btr_top.specs.Run.{IsPlainStatus}
@@ -77,69 +77,69 @@ benign_answer (IsRefused refusals.NoStream) = inr (inl refl)
 benign_answer (IsRefused (refusals.NoVersion asked latest)) = inr (inl refl)
 benign_answer (IsRefused refusals.BadRange) = inr (inl refl)
 
-benign_on_stream : (h : List Entry) (found : Option ℕ) (asked : ℕ → Meaning) → ((stream : ℕ) → IsBenign (status_of_reply (reply_to h (asked stream)))) → IsBenign (status_of_reply (reply_to h (on_stream found asked)))
+benign_on_stream : (h : List Entry) (found : Option ℕ) (asked : ℕ → Meaning) → ((stream : ℕ) → IsBenign (status_of_reply (model_reply h (asked stream)))) → IsBenign (status_of_reply (model_reply h (on_stream found asked)))
 benign_on_stream h None asked each = inr (inl refl)
 benign_on_stream h (Some stream) asked each = each stream
 
-benign_delete : (h : List Entry) (stream : ℕ) (from to : ℤ) → IsBenign (status_of_reply (reply_to h (delete stream from to)))
+benign_delete : (h : List Entry) (stream : ℕ) (from to : ℤ) → IsBenign (status_of_reply (model_reply h (delete stream from to)))
 benign_delete h stream from to =
     let e = entries.Commit stream (record { from = from; to = to } ∷ []) [] in
-    elim (is_range from to) as (λ t. IsBenign (status_of_reply (reply_to h (cond t (Commits e) (Refuses reasons.Range))))) [
+    elim (is_range from to) as (λ t. IsBenign (status_of_reply (model_reply h (cond t (Commits e) (Refuses reasons.Range))))) [
       | true ↦ benign_commit h e (rejection h e)
       | false ↦ inr (inl refl)
     ]
 
-benign_on_second : (h : List Entry) (second : Option ℕ) (asked : Option ℕ → Meaning) → ((s : Option ℕ) → IsBenign (status_of_reply (reply_to h (asked s)))) → IsBenign (status_of_reply (reply_to h (on_second h second asked)))
+benign_on_second : (h : List Entry) (second : Option ℕ) (asked : Option ℕ → Meaning) → ((s : Option ℕ) → IsBenign (status_of_reply (model_reply h (asked s)))) → IsBenign (status_of_reply (model_reply h (on_second h second asked)))
 benign_on_second h None asked each = each None
 benign_on_second h (Some id) asked each =
     benign_on_stream h (stream_of h id) (λ stream. asked (Some stream)) (λ stream. each (Some stream))
 
-benign_define : (h : List Entry) (id : ℕ) (kernel : Kernel) (lead grain first : ℕ) (second : Option ℕ) → IsBenign (status_of_reply (reply_to h (define h id kernel lead grain first second)))
+benign_define : (h : List Entry) (id : ℕ) (kernel : Kernel) (lead grain first : ℕ) (second : Option ℕ) → IsBenign (status_of_reply (model_reply h (define h id kernel lead grain first second)))
 benign_define h id kernel lead grain first second =
     let defined : ℕ → Option ℕ → Entry = λ f s. entries.Define id (record { kernel = kernel; lead = lead; grain = grain; first = f; second = s }) in
     benign_on_stream h (stream_of h first) (λ f. on_second h second (λ s. Commits (defined f s))) (λ f.
     benign_on_second h second (λ s. Commits (defined f s)) (λ s.
     benign_commit h (defined f s) (rejection h (defined f s))))
 
-benign_land : (h : List Entry) (stream : ℕ) (spec : Spec) (plan : Option Landing) → IsBenign (status_of_reply (reply_to h (land h stream spec plan)))
+benign_land : (h : List Entry) (stream : ℕ) (spec : Spec) (plan : Option Landing) → IsBenign (status_of_reply (model_reply h (land h stream spec plan)))
 benign_land h stream spec None = inl refl
 benign_land h stream spec (Some p) = benign_commit h (landing h p spec) (rejection h (landing h p spec))
 
-benign_refresh : (h : List Entry) (stream : ℕ) (spec : Option Spec) → IsBenign (status_of_reply (reply_to h (refresh h stream spec)))
+benign_refresh : (h : List Entry) (stream : ℕ) (spec : Option Spec) → IsBenign (status_of_reply (model_reply h (refresh h stream spec)))
 benign_refresh h stream None = inr (inl refl)
 benign_refresh h stream (Some spec) = benign_land h stream spec (planned h stream spec)
 
-benign_plain : (h : List Entry) (output : Bool) (asked : Meaning) → IsBenign (status_of_reply (reply_to h asked)) → IsBenign (status_of_reply (reply_to h (if_plain output asked)))
+benign_plain : (h : List Entry) (output : Bool) (asked : Meaning) → IsBenign (status_of_reply (model_reply h asked)) → IsBenign (status_of_reply (model_reply h (if_plain output asked)))
 benign_plain h true asked benign = inr (inl refl)
 benign_plain h false asked benign = benign
 
-benign_insert : (h : List Entry) (stream : ℕ) (points : List Point) → IsBenign (status_of_reply (reply_to h (insert stream points)))
+benign_insert : (h : List Entry) (stream : ℕ) (points : List Point) → IsBenign (status_of_reply (model_reply h (insert_points stream points)))
 benign_insert h stream points = benign_commit h (entries.Commit stream [] (sort points)) (rejection h (entries.Commit stream [] (sort points)))
 
-benign_due : (h : List Entry) (stream : ℕ) (points : List Point) (due : Held) → IsBenign (status_of_reply (reply_to h (when_due stream points due)))
+benign_due : (h : List Entry) (stream : ℕ) (points : List Point) (due : Held) → IsBenign (status_of_reply (model_reply h (when_due stream points due)))
 benign_due h stream points (Buffered count) = inl refl
 benign_due h stream points (Due count) = benign_insert h stream points
 
-benign_unless : (h : List Entry) (fault : Option FeedFault) (asked : Meaning) → IsBenign (status_of_reply (reply_to h asked)) → IsBenign (status_of_reply (reply_to h (unless_fault fault asked)))
+benign_unless : (h : List Entry) (fault : Option FeedFault) (asked : Meaning) → IsBenign (status_of_reply (model_reply h asked)) → IsBenign (status_of_reply (model_reply h (unless_fault fault asked)))
 benign_unless h None asked benign = benign
 benign_unless h (Some (OutOfDomain time)) asked benign = inr (inl refl)
 benign_unless h (Some (TooMany count)) asked benign = inr (inl refl)
 benign_unless h (Some Want) asked benign = inr (inr refl)
 
-benign_feed : (h : List Entry) (batch stream : ℕ) (points added : List Point) → IsBenign (status_of_reply (reply_to h (feed batch stream points added)))
+benign_feed : (h : List Entry) (batch stream : ℕ) (points added : List Point) → IsBenign (status_of_reply (model_reply h (feed batch stream points added)))
 benign_feed h batch stream points added =
     let due : Held = held (feed_of batch stream (points ++ added)) in
     benign_unless h (insert_fault (feed_of batch stream points) added) (when_due stream (points ++ added) due) (benign_due h stream (points ++ added) due)
 
-benign_flush : (h : List Entry) (stream : ℕ) (points : List Point) → IsBenign (status_of_reply (reply_to h (flush stream points)))
+benign_flush : (h : List Entry) (stream : ℕ) (points : List Point) → IsBenign (status_of_reply (model_reply h (flush stream points)))
 benign_flush h stream [] = inr (inl refl)
 benign_flush h stream (p ∷ ps) = benign_insert h stream (p ∷ ps)
 
-benign_ask : (h : List Entry) (id : ℕ) (query : StreamQuery) → IsBenign (status_of_reply (reply_to h (on_stream (stream_of h id) (λ stream. Asks (of_stream query stream)))))
+benign_ask : (h : List Entry) (id : ℕ) (query : StreamQuery) → IsBenign (status_of_reply (model_reply h (on_stream (stream_of h id) (λ stream. Asks (of_stream query stream)))))
 benign_ask h id query =
     benign_on_stream h (stream_of h id) (λ stream. Asks (of_stream query stream)) (λ stream. benign_answer (answer h (of_stream query stream)))
 
-benign_model : (batch : ℕ) (h : List Entry) (w : Waiting) (line : Option Line) → IsBenign (status_of_reply (reply_to h (meaning batch h w line)))
+benign_model : (batch : ℕ) (h : List Entry) (w : Waiting) (line : Option Line) → IsBenign (status_of_reply (model_reply h (meaning batch h w line)))
 benign_model batch h w None = inr (inl refl)
 benign_model batch h w (Some (lines.Create id)) = benign_commit h (entries.Create id) (rejection h (entries.Create id))
 benign_model batch h w (Some (lines.Insert id added)) =
@@ -160,14 +160,14 @@ benign_model batch h w (Some (lines.Ask id query)) = benign_ask h id query
 benign_model batch h w (Some lines.Streams) = inl refl
 
 -- The reply to what a line asks for.
-pub benign_meaning : (batch : ℕ) (h : List Entry) (w : Waiting) (line : Option Line) (m : Meaning) → Means batch h w line m → IsBenign (status_of_reply (reply_to h m))
+pub benign_meaning : (batch : ℕ) (h : List Entry) (w : Waiting) (line : Option Line) (m : Meaning) → Means batch h w line m → IsBenign (status_of_reply (model_reply h m))
 benign_meaning batch h w line m means =
     ⊎_elim
-    (λ e. subst (λ (x : Meaning). IsBenign (status_of_reply (reply_to h x))) (sym e) (benign_model batch h w line))
-    (λ lacks. subst (λ (x : Meaning). IsBenign (status_of_reply (reply_to h x))) (sym lacks.1) (inr (inr refl)))
+    (λ e. subst (λ (x : Meaning). IsBenign (status_of_reply (model_reply h x))) (sym e) (benign_model batch h w line))
+    (λ lacks. subst (λ (x : Meaning). IsBenign (status_of_reply (model_reply h x))) (sym lacks.1) (inr (inr refl)))
     means
 
-benign_means : (batch : ℕ) (s : State) (line : Option Line) (m : Meaning) (reply : LineReply) (t : State) → RepliesToLine batch s line m reply t → IsBenign (status_of_reply (reply_to s.store.history m))
+benign_means : (batch : ℕ) (s : State) (line : Option Line) (m : Meaning) (reply : LineReply) (t : State) → RepliesToLine batch s line m reply t → IsBenign (status_of_reply (model_reply s.store.history m))
 benign_means batch s line m reply t is = benign_meaning batch s.store.history s.waiting line m is.means
 
 -- ---- nothing else keeps a store from it
@@ -178,10 +178,10 @@ apart b is is_not = absurd (cc)
 pub along : (reply other : LineReply) → reply ≡ other → IsBenign (status_of_reply other) → IsBenign (status_of_reply reply)
 along reply other e benign = subst (λ r. IsBenign (status_of_reply r)) (sym e) benign
 
-benign_reply : (s t : Store) (m : Meaning) (reply : LineReply) → Replies s m reply t → IsBenign (status_of_reply (reply_to s.history m)) → need_of_meaning m ≤ s.left → t.stopped ≡ false → IsBenign (status_of_reply reply)
+benign_reply : (s t : Store) (m : Meaning) (reply : LineReply) → RepliesTo s m reply t → IsBenign (status_of_reply (model_reply s.history m)) → need_of_meaning m ≤ s.left → t.stopped ≡ false → IsBenign (status_of_reply reply)
 benign_reply s t m reply replied benign room runs =
     ⊎_elim
-    (λ model. along reply (reply_to s.history m) model.replied benign)
+    (λ model. along reply (model_reply s.history m) model.replied benign)
     (λ h. ⊎_elim
     (λ h. absurd (none_not_done s t m reply room runs h))
     (λ lacks. along reply (No reasons.Memory) lacks.replied (inr (inr refl)))
@@ -195,7 +195,7 @@ one_of_two P true a b p q = q
 one_of_two P false a b p q = p
 
 pub benign_greater : (a b : Status) → IsBenign a → IsBenign b → IsBenign (greater a b)
-benign_greater a b first second = one_of_two (λ s. IsBenign s) (nat_lt (rank a) (rank b)) a b first second
+benign_greater a b first second = one_of_two (λ s. IsBenign s) (nat_lt (status_rank a) (status_rank b)) a b first second
 
 -- once memory ran out, no later line changes the status
 abbrev Within : Status → Type 0
@@ -225,10 +225,10 @@ within_not_done s t (Holds count) reply runs h = absurd h
 within_not_done s t (Current version) reply runs h = absurd h
 within_not_done s t (Refuses reason) reply runs h = absurd h
 
-within_one : (s t : Store) (m : Meaning) (reply : LineReply) → Replies s m reply t → IsBenign (status_of_reply (reply_to s.history m)) → t.stopped ≡ false → Within (status_of_reply reply)
+within_one : (s t : Store) (m : Meaning) (reply : LineReply) → RepliesTo s m reply t → IsBenign (status_of_reply (model_reply s.history m)) → t.stopped ≡ false → Within (status_of_reply reply)
 within_one s t m reply replied benign runs =
     ⊎_elim
-    (λ model. within_reply reply (reply_to s.history m) model.replied (within_benign (status_of_reply (reply_to s.history m)) benign))
+    (λ model. within_reply reply (model_reply s.history m) model.replied (within_benign (status_of_reply (model_reply s.history m)) benign))
     (λ h. ⊎_elim (λ not. within_not_done s t m reply runs not) (λ lacks. within_reply reply (No reasons.Memory) lacks.replied refl) h)
     replied
 
@@ -250,7 +250,7 @@ memory_next status benign =
     (λ h. ⊎_elim (λ e. subst (λ s. greater s OutOfMemory ≡ OutOfMemory) (sym e) refl) (λ e. subst (λ s. greater s OutOfMemory ≡ OutOfMemory) (sym e) refl) h)
     benign
 
-benign_from : (batch : ℕ) (status : Status) (s t : State) (lines : List ScriptLine) (replies : List LineReply) → IsBenign status → RunsScript batch s lines replies t → needs_of batch s lines ≤ s.store.left → t.store.stopped ≡ false → IsBenign (greatest_of_replies status replies)
+benign_from : (batch : ℕ) (status : Status) (s t : State) (lines : List ScriptLine) (replies : List LineReply) → IsBenign status → RunsScript batch s lines replies t → script_needs batch s lines ≤ s.store.left → t.store.stopped ≡ false → IsBenign (greatest_of_replies status replies)
 benign_from batch status s t [] [] benign script room runs = benign
 benign_from batch status s t [] (reply ∷ replies) benign script room runs = absurd script
 benign_from batch status s t (line ∷ lines) [] benign script room runs = absurd script
@@ -263,7 +263,7 @@ benign_from batch status s t (line ∷ lines) (reply ∷ replies) benign script 
     let running : u.store.stopped ≡ false = ran_all batch u t lines replies script.3 runs in
     ⊎_elim
     (λ same.
-    let left : needs_of batch u lines ≤ u.store.left = subst (λ (x : State). needs_of batch x lines ≤ x.store.left) (sym same) (omega (arith, room, left_after s.store asked)) in
+    let left : script_needs batch u lines ≤ u.store.left = subst (λ (x : State). script_needs batch x lines ≤ x.store.left) (sym same) (omega (arith, room, left_after s.store asked)) in
     let one : IsBenign (status_of_reply reply) = benign_reply s.store u.store m reply is.replied (benign_means batch s line.line m reply u is) (omega (arith, room, need_of_done batch s line.line m is.means)) running in
     benign_from batch (greater status (status_of_reply reply)) u t lines replies (benign_greater status (status_of_reply reply) benign one) script.3 left runs)
     (λ h. ⊎_elim
@@ -272,12 +272,12 @@ benign_from batch status s t (line ∷ lines) (reply ∷ replies) benign script 
     h)
     (line_is batch s u line.line m reply is)
 
-pub benign_script : (batch : ℕ) (s t : State) (lines : List ScriptLine) (replies : List LineReply) → RunsScript batch s lines replies t → needs_of batch s lines ≤ s.store.left → t.store.stopped ≡ false → IsBenign (status_of_replies replies)
+pub benign_script : (batch : ℕ) (s t : State) (lines : List ScriptLine) (replies : List LineReply) → RunsScript batch s lines replies t → script_needs batch s lines ≤ s.store.left → t.store.stopped ≡ false → IsBenign (status_of_replies replies)
 benign_script batch s t lines replies script room runs = benign_from batch Done s t lines replies (inl refl) script room runs
 
 -- ---- questions alone
 
-benign_question : (h : List Entry) (line : Option Line) → IsBenign (status_of_reply (reply_to h (question h line)))
+benign_question : (h : List Entry) (line : Option Line) → IsBenign (status_of_reply (model_reply h (question h line)))
 benign_question h None = inr (inl refl)
 benign_question h (Some (lines.Create id)) = inr (inl refl)
 benign_question h (Some (lines.Insert id added)) = inr (inl refl)
@@ -290,13 +290,13 @@ benign_question h (Some (lines.Refresh id)) = inr (inl refl)
 benign_question h (Some (lines.Ask id query)) = benign_ask h id query
 benign_question h (Some lines.Streams) = inl refl
 
-benign_answered : (h : List Entry) (m : Meaning) (reply : LineReply) → IsBenign (status_of_reply (reply_to h m)) → IsAnswerOrNoMemory h m reply → IsBenign (status_of_reply reply)
-benign_answered h (Commits e) reply benign is = along reply (reply_to h (Commits e)) is benign
+benign_answered : (h : List Entry) (m : Meaning) (reply : LineReply) → IsBenign (status_of_reply (model_reply h m)) → IsAnswerOrNoMemory h m reply → IsBenign (status_of_reply reply)
+benign_answered h (Commits e) reply benign is = along reply (model_reply h (Commits e)) is benign
 benign_answered h (Asks query) reply benign is =
-    ⊎_elim (λ answered. along reply (reply_to h (Asks query)) answered benign) (λ lacks. along reply (No reasons.Memory) lacks (inr (inr refl))) is
-benign_answered h (Holds count) reply benign is = along reply (reply_to h (Holds count)) is benign
-benign_answered h (Current version) reply benign is = along reply (reply_to h (Current version)) is benign
-benign_answered h (Refuses reason) reply benign is = along reply (reply_to h (Refuses reason)) is benign
+    ⊎_elim (λ answered. along reply (model_reply h (Asks query)) answered benign) (λ lacks. along reply (No reasons.Memory) lacks (inr (inr refl))) is
+benign_answered h (Holds count) reply benign is = along reply (model_reply h (Holds count)) is benign
+benign_answered h (Current version) reply benign is = along reply (model_reply h (Current version)) is benign
+benign_answered h (Refuses reason) reply benign is = along reply (model_reply h (Refuses reason)) is benign
 
 benign_answers_from : (status : Status) (h : List Entry) (lines : List ScriptLine) (replies : List LineReply) → IsBenign status → AnswersEach h lines replies → IsBenign (greatest_of_replies status replies)
 benign_answers_from status h [] [] benign answers = benign

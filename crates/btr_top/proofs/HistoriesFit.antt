@@ -8,12 +8,12 @@ use Rattle.btr_hist.specs.Legal.{Follows}
 use Rattle.btr_gate.specs.Numbers.{one, total, times, given}
 use Rattle.btr_gate.specs.Prefixes.{StartsWith}
 use Rattle.btr_gate.proofs.PrefixLemmas.{starts_refl}
-use Rattle.btr_jobs.specs.Course.{Start, Course}
+use Rattle.btr_jobs.specs.States.{StoreState, LogState}
 use Rattle.btr_load.proofs.TotalLemmas.{total_append}
 use Rattle.btr_text.specs.declared.script.ScriptLine.{ScriptLine}
 use Rattle.btr_text.specs.declared.reply.LineReply.{LineReply}
 use Rattle.btr_live.specs.Lanes.{LaneState, begun, RunsLines}
-use Rattle.btr_live.specs.OneHistory.{of_lane, lanes_of, lines_of}
+use Rattle.btr_live.specs.OneHistory.{of_lane, lanes_of, lane_lines}
 use Rattle.btr_live.specs.OneLane.{store_at}
 use Rattle.btr_store.specs.Completes.{IsBenign}
 use Rattle.btr_store.specs.declared.status.Status.{Status}
@@ -72,19 +72,19 @@ all_sum_to f top each (suc k) =
     let rest = all_sum_to f top (λ j. each (suc j)) k in
     omega (arith, sum, rest)
 
-module _ (batch rounds : ℕ) (script : List ScriptLine) (start : Start) (course : Course) (running : start.stopped ≡ false) (sound : course.failed ≡ None) (follows : Follows course.history) (begins : StartsWith course.history start.history) where
+module _ (batch rounds : ℕ) (script : List ScriptLine) (start : StoreState) (log : LogState) (running : start.stopped ≡ false) (sound : log.failed ≡ None) (follows : Follows log.history) (begins : StartsWith log.history start.history) where
   abbrev low : List Entry
   low = start.history
 
   abbrev Here : Service → Type 0
-  Here s = Served batch rounds script low course.history s
+  Here s = Served batch rounds script low log.history s
 
   abbrev Refused : List Entry → Entry → Purpose → Type 0
-  Refused p e purpose = Refusal batch rounds script start course running sound follows low p e purpose
+  Refused p e purpose = Refusal batch rounds script start log running sound follows low p e purpose
 
   all_here : (each : ℕ → List Service) → ((j : ℕ) → AllByRecursion Here (each j)) → (k : ℕ) → AllByRecursion Here (all_of each k)
   all_here each are zero = tt
-  all_here each are (suc k) = served_append batch rounds script low course.history (each 0) (all_of (λ j. each (suc j)) k) (are 0) (all_here (λ j. each (suc j)) (λ j. are (suc j)) k)
+  all_here each are (suc k) = served_append batch rounds script low log.history (each 0) (all_of (λ j. each (suc j)) k) (are 0) (all_here (λ j. each (suc j)) (λ j. are (suc j)) k)
 
   -- What the rounds beside the lanes added.
   pub record PartiesServe (own : List ℕ) : Type 0 where
@@ -99,9 +99,9 @@ module _ (batch rounds : ℕ) (script : List ScriptLine) (start : Start) (course
   pub no_party : PartiesServe []
   no_party = record { services = []; numbers = λ n. refl; are = tt; no_line = λ k. refl; landings = λ r o. omega arith; not_last = λ o. refl }
 
-  module _ (room : HasRoomForHistories batch rounds (store_at start) script) (all : List LineReply) (each : length all ≡ length script) (mine : List (List ℕ)) (lasts : ℕ → LaneState) (lanes : (k : ℕ) → RunsLines batch start course (begun low) (lines_of k script) (of_lane k (lanes_of script) all) (slice_index_or mine k []) (lasts k)) (beside lastly : List ℕ) (Calm : Type 0) (parties : PartiesServe beside) (last : RoundServes batch rounds script start course running sound follows low 0 (λ o. 1) Calm lastly) (once : (n : ℕ) → total (times n) mine + times n beside + times n lastly ≡ given (length low) (length course.history) n) where
-    lane : (k : ℕ) → LinesServe batch rounds script start course running sound follows low low [] (places_of k script) (of_lane k (lanes_of script) all) (slice_index_or mine k [])
-    lane k = lines_serve batch rounds script start course running sound follows low k (begun low) [] (places_of k script) (lines_of k script) (of_lane k (lanes_of script) all) (slice_index_or mine k []) (lasts k) (starts_refl low) (at_places script k) (waits_none script low k) (lanes k)
+  module _ (room : HasRoomForHistories batch rounds (store_at start) script) (all : List LineReply) (each : length all ≡ length script) (mine : List (List ℕ)) (lasts : ℕ → LaneState) (lanes : (k : ℕ) → RunsLines batch start log (begun low) (lane_lines k script) (of_lane k (lanes_of script) all) (slice_index_or mine k []) (lasts k)) (beside lastly : List ℕ) (Calm : Type 0) (parties : PartiesServe beside) (last : RoundServes batch rounds script start log running sound follows low 0 (λ o. 1) Calm lastly) (once : (n : ℕ) → total (times n) mine + times n beside + times n lastly ≡ given (length low) (length log.history) n) where
+    lane : (k : ℕ) → LinesServe batch rounds script start log running sound follows low low [] (places_of k script) (of_lane k (lanes_of script) all) (slice_index_or mine k [])
+    lane k = lines_serve batch rounds script start log running sound follows low k (begun low) [] (places_of k script) (lane_lines k script) (of_lane k (lanes_of script) all) (slice_index_or mine k []) (lasts k) (starts_refl low) (at_places script k) (waits_none script low k) (lanes k)
 
     abbrev lane_services : ℕ → List Service
     lane_services j = (lane j).services
@@ -117,7 +117,7 @@ module _ (batch rounds : ℕ) (script : List ScriptLine) (start : Start) (course
       abbrev services : List Service
       services = all_of lane_services count ++ rest
 
-      numbers : (n : ℕ) → counted n services ≡ given (length low) (length course.history) n
+      numbers : (n : ℕ) → counted n services ≡ given (length low) (length log.history) n
       numbers n =
           let f : Service → ℕ = λ (s : Service). one (s.number == n) in
           let whole = total_append f (all_of lane_services count) rest in
@@ -131,13 +131,13 @@ module _ (batch rounds : ℕ) (script : List ScriptLine) (start : Start) (course
           omega (arith, whole, part, sum, same, lists, first, second, all_once)
 
       are : AllByRecursion Here services
-      are = served_append batch rounds script low course.history (all_of lane_services count) rest (all_here lane_services (λ j. (lane j).are) count)
-          (served_append batch rounds script low course.history parties.services last.services parties.are last.are)
+      are = served_append batch rounds script low log.history (all_of lane_services count) rest (all_here lane_services (λ j. (lane j).are) count)
+          (served_append batch rounds script low log.history parties.services last.services parties.are last.are)
 
       -- A line that the device was full for.
       line_never : (p : List Entry) (e : Entry) (purpose : Purpose) → Refused p e purpose → ((k : ℕ) → has_line k purpose + lines_had k (up_to (length p) services) ≤ 1) → ((r o : ℕ) → has_landing r o purpose + landings_had r o (up_to (length p) services) ≤ 1) → ⊥
       line_never p e purpose refusal lines landings =
-          never_full batch rounds script low course.history follows services numbers are start p e purpose refusal.need refusal.left refl room
+          never_full batch rounds script low log.history follows services numbers are start p e purpose refusal.need refusal.left refl room
           record {
             starts = refusal.starts;
             since = refusal.since;

@@ -15,7 +15,7 @@ use Rattle.btr_gate.specs.Numbers.{one, times}
 use Rattle.btr_gate.specs.Prefixes.{StartsWith}
 use Rattle.btr_gate.proofs.NumberLemmas.{times_append}
 use Rattle.btr_gate.proofs.PrefixLemmas.{starts_refl, starts_trans, starts_length}
-use Rattle.btr_jobs.specs.Course.{Start, Course}
+use Rattle.btr_jobs.specs.States.{StoreState, LogState}
 use Rattle.btr_jobs.specs.Turns.{IsFull, IsIdle}
 use Rattle.btr_load.proofs.TotalLemmas.{total_append}
 use Rattle.btr_text.specs.declared.script.Line.{Line}
@@ -43,10 +43,10 @@ use Rattle.btr_top.proofs.WaitingPlaces.{stream_of-longer, Pending, waits_for, o
 abbrev pub AreBenign : List LineReply → Type 0
 AreBenign all = AllByRecursion (λ (reply : LineReply). IsBenign (status_of_reply reply)) all
 
-module _ (batch rounds : ℕ) (script : List ScriptLine) (start : Start) (course : Course) (running : start.stopped ≡ false) (sound : course.failed ≡ None) (follows : Follows course.history) (low : List Entry) where
+module _ (batch rounds : ℕ) (script : List ScriptLine) (start : StoreState) (log : LogState) (running : start.stopped ≡ false) (sound : log.failed ≡ None) (follows : Follows log.history) (low : List Entry) where
   -- An entry was refused after `p` because the device was full, and it would have been there for this.
   pub record Refusal (p : List Entry) (e : Entry) (purpose : Purpose) : Type 0 where
-    pub starts : StartsWith course.history p
+    pub starts : StartsWith log.history p
     pub since : StartsWith p low
     pub accepted : rejection p e ≡ None
     pub is_for : IsFor batch rounds script low p e purpose
@@ -55,10 +55,10 @@ module _ (batch rounds : ℕ) (script : List ScriptLine) (start : Start) (course
     pub full : IsFull start p e need left
 
   abbrev Here : Service → Type 0
-  Here s = Served batch rounds script low course.history s
+  Here s = Served batch rounds script low log.history s
 
   abbrev LandsHere : List Entry → Entry → Type 0
-  LandsHere p e = Lands start course running sound follows low p e
+  LandsHere p e = Lands start log running sound follows low p e
 
   abbrev NoLanding : Purpose → Type 0
   NoLanding purpose = (round output : ℕ) → has_landing round output purpose ≡ 0
@@ -97,7 +97,7 @@ module _ (batch rounds : ℕ) (script : List ScriptLine) (start : Start) (course
     }
 
     module _ (e : Entry) (purpose : Purpose) (spent kept : List Pending) (is_for : (p : List Entry) → StartsWith p a → LandsHere p e → IsFor batch rounds script low p e purpose) (none : NoLanding purpose) (fewer : (k : ℕ) → has_line k purpose + waits_for k spent ≤ waits_for k pending + one (place == k)) (kept_fewer : (k : ℕ) → waits_for k kept ≤ waits_for k pending + one (place == k)) (waits_spent : (version : ℕ) → reply ≡ Done version → Waits script a lane spent new.waiting) (waits_kept : (reason : Reason) → reply ≡ No reason → Waits script a lane kept new.waiting) where
-      added_serves : WasAdded start course running sound follows low a e reply own new.history → LineServes lane place old pending reply own new
+      added_serves : WasAdded start log running sound follows low a e reply own new.history → LineServes lane place old pending reply own new
       added_serves was =
           let s : Service = record { number = length was.p + 1; purpose = purpose } in
           let next_a : StartsWith (was.p ++ e ∷ []) a = starts_trans (was.p ++ e ∷ []) was.p a (e ∷ [], refl) was.after in
@@ -117,7 +117,7 @@ module _ (batch rounds : ℕ) (script : List ScriptLine) (start : Start) (course
             benign = λ never. along reply (Done was.version) was.replied (inl refl);
           }
 
-      refused_serves : WasRefused start course running sound follows low a e reply own new.history → LineServes lane place old pending reply own new
+      refused_serves : WasRefused start log running sound follows low a e reply own new.history → LineServes lane place old pending reply own new
       refused_serves was =
           let p_old : StartsWith was.p old.history = starts_trans was.p a old.history was.after after in
           let longer : StartsWith new.history was.p = subst (λ (h : List Entry). StartsWith h was.p) (sym was.known) (starts_refl was.p) in
@@ -133,14 +133,14 @@ module _ (batch rounds : ℕ) (script : List ScriptLine) (start : Start) (course
             landings = λ round output. refl;
             benign = λ never.
                 ⊎_elim (λ benign. benign)
-                (λ (full : WasFull start course running sound follows low was.p e).
+                (λ (full : WasFull start log running sound follows low was.p e).
                 absurd (never was.p e purpose
                 record { starts = was.there; since = starts_trans was.p a low was.after since; accepted = full.accepted; is_for = is_for was.p was.after full.lands; need = full.need; left = full.left; full = full.full }
                 none p_old longer (λ k. let f = fewer k in omega (arith, f))))
                 was.why;
           }
 
-      commit_serves : Turned start course running sound follows low a e reply own new.history → LineServes lane place old pending reply own new
+      commit_serves : Turned start log running sound follows low a e reply own new.history → LineServes lane place old pending reply own new
       commit_serves turned = ⊎_elim (λ was. added_serves was) (λ was. refused_serves was) turned
 
   -- ---- by the meaning of the line
@@ -158,12 +158,12 @@ module _ (batch rounds : ℕ) (script : List ScriptLine) (start : Start) (course
       line_for e means p starts lands = subst (λ (o : Option ScriptLine). IsAtPlace batch low p e o) (sym at_place) (turned_for e means p starts lands)
 
       -- A line that changes no feed.
-      plain_serves : (m : Meaning) → Means batch a w line m → Answers start course old.saw_failure a m reply own new.history → new.waiting ≡ w → Did
+      plain_serves : (m : Meaning) → Means batch a w line m → Answers start log old.saw_failure a m reply own new.history → new.waiting ≡ w → Did
       plain_serves (Commits e) means answers same =
           let still : Waits script a lane pending new.waiting = subst (λ (v : Waiting). Waits script a lane pending v) (sym same) waits in
           commit_serves lane place old pending a reply own new after since e (OfLine place) pending pending (line_for e means) (λ round output. refl)
           (λ k. omega arith) (λ k. omega arith) (λ version done. still) (λ reason refused. still)
-          (offered_turn start course running sound follows low old.saw_failure a e reply own new.history since answers)
+          (offered_turn start log running sound follows low old.saw_failure a e reply own new.history since answers)
       plain_serves (Asks query) means answers same =
           idle_serves lane place old pending a reply own new after since pending answers.1
           (⊎_elim (λ answered. along reply (reply_of_answer (answer a query)) answered (benign_meaning batch a w line (Asks query) means)) (λ lacks. along reply (No reasons.Memory) lacks (inr (inr refl))) answers.0)
@@ -184,13 +184,13 @@ module _ (batch rounds : ℕ) (script : List ScriptLine) (start : Start) (course
       before_same : new.waiting ≡ with_points stream (w stream) w → Waits script a lane pending new.waiting
       before_same same = subst (λ (v : Waiting). Waits script a lane pending v) (sym same) (waits_same script a lane pending w waits stream (w stream) refl)
 
-      feed_serves : (m : Meaning) → Means batch a w line m → Answers start course old.saw_failure a m reply own new.history → new.waiting ≡ waiting_after w (Some (stream, all)) m reply → Did
+      feed_serves : (m : Meaning) → Means batch a w line m → Answers start log old.saw_failure a m reply own new.history → new.waiting ≡ waiting_after w (Some (stream, all)) m reply → Did
       feed_serves (Commits e) means answers same =
           commit_serves lane place old pending a reply own new after since e (OfFeeds used) (others stream pending) kept (feeds_for e means) (λ round output. refl)
           fewer_used fewer_kept
           (λ version done. subst (λ (v : Waiting). Waits script a lane (others stream pending) v) (sym (same ∙ ap (λ (r : LineReply). waiting_after w (Some (stream, all)) (Commits e) r) done)) (waits_drop script a lane pending w waits stream))
           (λ reason refused. subst (λ (v : Waiting). Waits script a lane kept v) (sym (same ∙ ap (λ (r : LineReply). waiting_after w (Some (stream, all)) (Commits e) r) refused)) waits_kept)
-          (offered_turn start course running sound follows low old.saw_failure a e reply own new.history since answers)
+          (offered_turn start log running sound follows low old.saw_failure a e reply own new.history since answers)
       feed_serves (Asks query) means answers same =
           idle_serves lane place old pending a reply own new after since pending answers.1
           (⊎_elim (λ answered. along reply (reply_of_answer (answer a query)) answered (benign_meaning batch a w line (Asks query) means)) (λ lacks. along reply (No reasons.Memory) lacks (inr (inr refl))) answers.0)
@@ -224,7 +224,7 @@ module _ (batch rounds : ℕ) (script : List ScriptLine) (start : Start) (course
     no_stream : (P : Type 0) (e : Entry) (found : Option ℕ) (F : ℕ → Meaning) → found ≡ None → Commits e ≡ on_stream found F → P
     no_stream P e found F none same = entry_is (λ x. P) (on_stream None F) e (same ∙ ap (λ o. on_stream o F) none) tt
 
-    feed_line : (id : ℕ) (added : List Point) → AtPlace (Some (lines.Feed id added)) → (m : Meaning) → Means batch a v (Some (lines.Feed id added)) m → Answers start course old.saw_failure a m reply own new.history → Waited (Some (lines.Feed id added)) m → Finishes
+    feed_line : (id : ℕ) (added : List Point) → AtPlace (Some (lines.Feed id added)) → (m : Meaning) → Means batch a v (Some (lines.Feed id added)) m → Answers start log old.saw_failure a m reply own new.history → Waited (Some (lines.Feed id added)) m → Finishes
     feed_line id added at_place m means answers same = by (stream_of a id) refl
       where
         line : Option Line
@@ -274,7 +274,7 @@ module _ (batch rounds : ℕ) (script : List ScriptLine) (start : Start) (course
             (used stream) (entry_for stream some) m means answers
             (same ∙ ap (λ (o : Option ℕ). waiting_after v (option_map (λ s. (s, v s ++ added)) o) m reply) some)
 
-    flush_line : (id : ℕ) → AtPlace (Some (lines.Flush id)) → (m : Meaning) → Means batch a v (Some (lines.Flush id)) m → Answers start course old.saw_failure a m reply own new.history → Waited (Some (lines.Flush id)) m → Finishes
+    flush_line : (id : ℕ) → AtPlace (Some (lines.Flush id)) → (m : Meaning) → Means batch a v (Some (lines.Flush id)) m → Answers start log old.saw_failure a m reply own new.history → Waited (Some (lines.Flush id)) m → Finishes
     flush_line id at_place m means answers same = by (stream_of a id) refl
       where
         line : Option Line
@@ -311,7 +311,7 @@ module _ (batch rounds : ℕ) (script : List ScriptLine) (start : Start) (course
             (used stream) (entry_for stream some) m means answers
             (same ∙ ap (λ (o : Option ℕ). waiting_after v (option_map (λ s. (s, v s)) o) m reply) some)
 
-    discard_line : (id : ℕ) → AtPlace (Some (lines.Discard id)) → (m : Meaning) → Means batch a v (Some (lines.Discard id)) m → Answers start course old.saw_failure a m reply own new.history → Waited (Some (lines.Discard id)) m → Finishes
+    discard_line : (id : ℕ) → AtPlace (Some (lines.Discard id)) → (m : Meaning) → Means batch a v (Some (lines.Discard id)) m → Answers start log old.saw_failure a m reply own new.history → Waited (Some (lines.Discard id)) m → Finishes
     discard_line id at_place m means answers same = by (stream_of a id) refl
       where
         line : Option Line
@@ -359,7 +359,7 @@ module _ (batch rounds : ℕ) (script : List ScriptLine) (start : Start) (course
     asked_for : (line : Option Line) (e : Entry) → Commits e ≡ meaning batch a (λ stream. []) line → (p : List Entry) → StartsWith p a → IsAskedSince batch low p e line
     asked_for line e same p starts = record { at = a; since = since; before = starts; asked = sym same }
 
-    by_line : (line : Option Line) → AtPlace line → (m : Meaning) → Means batch a v line m → Answers start course old.saw_failure a m reply own new.history → Waited line m → Finishes
+    by_line : (line : Option Line) → AtPlace line → (m : Meaning) → Means batch a v line m → Answers start log old.saw_failure a m reply own new.history → Waited line m → Finishes
     by_line None at_place m means answers same =
         plain_serves lane place old pending None reply own new a after since at_place waits
         (λ e asked p starts lands. asked_for None e (asked_only batch a v None e asked) p starts) m means answers same
@@ -394,7 +394,7 @@ module _ (batch rounds : ℕ) (script : List ScriptLine) (start : Start) (course
         plain_serves lane place old pending line reply own new a after since at_place waits
         (λ e asked p starts lands. asked_for line e (asked_only batch a v line e asked) p starts) m means answers same
 
-  line_serves : (lane place : ℕ) (old : LaneState) (pending : List Pending) (line : Option Line) (reply : LineReply) (own : List ℕ) (new : LaneState) → StartsWith old.history low → slice_get script place ≡ Some (record { lane = lane; line = line }) → Waits script old.history lane pending old.waiting → RunsLine batch start course old line reply own new → LineServes lane place old pending reply own new
+  line_serves : (lane place : ℕ) (old : LaneState) (pending : List Pending) (line : Option Line) (reply : LineReply) (own : List ℕ) (new : LaneState) → StartsWith old.history low → slice_get script place ≡ Some (record { lane = lane; line = line }) → Waits script old.history lane pending old.waiting → RunsLine batch start log old line reply own new → LineServes lane place old pending reply own new
   line_serves lane place old pending line reply own new begins at_place waits is =
       by_line lane place old pending reply own new is.admitted is.after (starts_trans is.admitted old.history low is.after begins)
       (waits_longer script old.history lane pending old.waiting waits is.admitted is.after)
@@ -413,7 +413,7 @@ module _ (batch rounds : ℕ) (script : List ScriptLine) (start : Start) (course
     pub benign : ((p : List Entry) (e : Entry) (purpose : Purpose) → Refusal p e purpose → NoLanding purpose
         → ((k : ℕ) → has_line k purpose + lines_had k (up_to (length p) services) ≤ waits_for k pending + times k places) → ⊥) → AreBenign all
 
-  pub lines_serve : (lane : ℕ) (old : LaneState) (pending : List Pending) (places : List ℕ) (ls : List (Option Line)) (all : List LineReply) (own : List ℕ) (new : LaneState) → StartsWith old.history low → AtPlaces script lane places ls → Waits script old.history lane pending old.waiting → RunsLines batch start course old ls all own new → LinesServe old.history pending places all own
+  pub lines_serve : (lane : ℕ) (old : LaneState) (pending : List Pending) (places : List ℕ) (ls : List (Option Line)) (all : List LineReply) (own : List ℕ) (new : LaneState) → StartsWith old.history low → AtPlaces script lane places ls → Waits script old.history lane pending old.waiting → RunsLines batch start log old ls all own new → LinesServe old.history pending places all own
   lines_serve lane old pending [] [] [] own new begins at waits is = record {
     services = [];
     numbers = λ n. sym (ap (times n) is.0);
@@ -440,7 +440,7 @@ module _ (batch rounds : ℕ) (script : List ScriptLine) (start : Start) (course
             let later = rest.numbers n in
             let same : times n own ≡ times n (is.0 ++ is.1) = ap (times n) is.3 in
             omega (arith, sum, here, later, same, times_append n is.0 is.1);
-        are = served_append batch rounds script low course.history first.services rest.services first.are rest.are;
+        are = served_append batch rounds script low log.history first.services rest.services first.are rest.are;
         above = above_append (length old.history) first.services rest.services first.above (above_lower (length old.history) (length next.history) rest.services grown rest.above);
         lines = λ k.
             let sum = total_append (λ (s : Service). has_line k s.purpose) first.services rest.services in

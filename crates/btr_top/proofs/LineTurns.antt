@@ -21,7 +21,7 @@ use Rattle.btr_engine.specs.declared.step.StepFault.TheVariants as steps
 use Rattle.btr_gate.specs.Prefixes.{StartsWith}
 use Rattle.btr_hall.specs.declared.land.LandFault.{LandFault}
 use Rattle.btr_hall.specs.declared.land.LandFault.TheVariants as faults
-use Rattle.btr_jobs.specs.Course.{Start, Course}
+use Rattle.btr_jobs.specs.States.{StoreState, LogState}
 use Rattle.btr_jobs.specs.Turns.{IsAdded, IsFull, IsIdle, Committed, Landed}
 use Rattle.btr_text.specs.declared.reply.LineReply.{LineReply}
 use Rattle.btr_text.specs.declared.reply.LineReply.TheVariants.{Done, No}
@@ -33,22 +33,22 @@ use Rattle.btr_store.specs.Replies.{status_of_reply}
 use Rattle.btr_top.specs.Room.{LandsFor}
 use Rattle.btr_top.proofs.BenignStatuses.{benign_rejection, along}
 
-module _ (start : Start) (course : Course) (running : start.stopped ≡ false) (sound : course.failed ≡ None) (follows : Follows course.history) (low : List Entry) where
-  not_stopped : (start.stopped || is_some course.failed) ≡ true → ⊥
+module _ (start : StoreState) (log : LogState) (running : start.stopped ≡ false) (sound : log.failed ≡ None) (follows : Follows log.history) (low : List Entry) where
+  not_stopped : (start.stopped || is_some log.failed) ≡ true → ⊥
   not_stopped stopped =
-      let never : (start.stopped || is_some course.failed) ≡ false = ap (λ b. b || is_some course.failed) running ∙ ap (λ (o : Option Entry). is_some o) sound in
-      both (start.stopped || is_some course.failed) never stopped
+      let never : (start.stopped || is_some log.failed) ≡ false = ap (λ b. b || is_some log.failed) running ∙ ap (λ (o : Option Entry). is_some o) sound in
+      both (start.stopped || is_some log.failed) never stopped
     where
       both : (b : Bool) → b ≡ false → b ≡ true → ⊥
       both b is_not is = absurd (cc)
 
-  pub not_failed : (e : Entry) → course.failed ≡ Some e → ⊥
+  pub not_failed : (e : Entry) → log.failed ≡ Some e → ⊥
   not_failed e is = let both : None ≡ Some e = sym sound ∙ is in absurd (cc)
 
-  pub follows_here : (p : List Entry) → StartsWith course.history p → Follows p
+  pub follows_here : (p : List Entry) → StartsWith log.history p → Follows p
   follows_here p starts = follows-prefix p starts.0 (subst Follows starts.1 follows)
 
-  accepted : (p : List Entry) (e : Entry) → StartsWith course.history (p ++ e ∷ []) → rejection p e ≡ None
+  accepted : (p : List Entry) (e : Entry) → StartsWith log.history (p ++ e ∷ []) → rejection p e ≡ None
   accepted p e starts = follows-last p e (follows_here (p ++ e ∷ []) starts)
 
   -- ---- what is said of an entry
@@ -70,7 +70,7 @@ module _ (start : Start) (course : Course) (running : start.stopped ≡ false) (
   pub record WasAdded (a : List Entry) (e : Entry) (reply : LineReply) (own : List ℕ) (next : List Entry) : Type 0 where
     pub p : List Entry
     pub after : StartsWith p a
-    pub there : StartsWith course.history (p ++ e ∷ [])
+    pub there : StartsWith log.history (p ++ e ∷ [])
     pub lands : Lands p e
     pub numbers : own ≡ (length p + 1) ∷ []
     pub known : next ≡ p ++ e ∷ []
@@ -81,7 +81,7 @@ module _ (start : Start) (course : Course) (running : start.stopped ≡ false) (
   pub record WasRefused (a : List Entry) (e : Entry) (reply : LineReply) (own : List ℕ) (next : List Entry) : Type 0 where
     pub p : List Entry
     pub after : StartsWith p a
-    pub there : StartsWith course.history p
+    pub there : StartsWith log.history p
     pub numbers : own ≡ []
     pub known : next ≡ p
     pub reason : Reason
@@ -92,15 +92,15 @@ module _ (start : Start) (course : Course) (running : start.stopped ≡ false) (
   Turned a e reply own next = WasAdded a e reply own next ⊎ WasRefused a e reply own next
 
   module _ (a p : List Entry) (e : Entry) (reply : LineReply) (own : List ℕ) (next : List Entry) (after : StartsWith p a) where
-    added : (version : ℕ) → reply ≡ Done version → Lands p e → IsAdded course p e own next → Turned a e reply own next
+    added : (version : ℕ) → reply ≡ Done version → Lands p e → IsAdded log p e own next → Turned a e reply own next
     added version replied lands is = inl record { p = p; after = after; there = is.follows; lands = lands; numbers = is.own; known = is.next; version = version; replied = replied }
 
-    refused : (reason : Reason) → reply ≡ No reason → StartsWith course.history p → IsBenign (status_of_reply reply) ⊎ WasFull p e → IsIdle p own next → Turned a e reply own next
+    refused : (reason : Reason) → reply ≡ No reason → StartsWith log.history p → IsBenign (status_of_reply reply) ⊎ WasFull p e → IsIdle p own next → Turned a e reply own next
     refused reason replied there why is = inr record { p = p; after = after; there = there; numbers = is.own; known = is.next; reason = reason; replied = replied; why = why }
 
   -- ---- commits
 
-  committed_turn : (a p : List Entry) (e : Entry) (result : Result Receipt StepFault) (reply : LineReply) (own : List ℕ) (next : List Entry) → StartsWith p a → StartsWith course.history p → Lands p e → reply ≡ reply_of_step result → Committed start course p e result own next → Turned a e reply own next
+  committed_turn : (a p : List Entry) (e : Entry) (result : Result Receipt StepFault) (reply : LineReply) (own : List ℕ) (next : List Entry) → StartsWith p a → StartsWith log.history p → Lands p e → reply ≡ reply_of_step result → Committed start log p e result own next → Turned a e reply own next
   committed_turn a p e (Ok receipt) reply own next after there lands replied is = added a p e reply own next after receipt.version replied lands is.2
   committed_turn a p e (Err (steps.Stopped entries)) reply own next after there lands replied is = absurd (not_stopped is.0.stopped)
   committed_turn a p e (Err (steps.Rejected why)) reply own next after there lands replied is =
@@ -121,7 +121,7 @@ module _ (start : Start) (course : Course) (running : start.stopped ≡ false) (
         | inr low ↦ plan-current p plan of low
       ]
 
-  pub plan_here : (a p : List Entry) (plan : PlanValue) → StartsWith p a → StartsWith course.history p → IsNextPlan a plan.stream plan → IsPlanOf p plan
+  pub plan_here : (a p : List Entry) (plan : PlanValue) → StartsWith p a → StartsWith log.history p → IsNextPlan a plan.stream plan → IsPlanOf p plan
   plan_here a p plan after there planned =
       let then : Follows a = follows-prefix a after.0 (subst Follows after.1 (follows_here p there)) in
       subst (λ (h : List Entry). IsPlanOf h plan) (sym after.1) (plan-stays a after.0 plan then planned.of)
@@ -132,7 +132,7 @@ module _ (start : Start) (course : Course) (running : start.stopped ≡ false) (
     same_output = refl;
   }
 
-  pub landed_turn : (a p : List Entry) (plan : PlanValue) (result : Result Receipt LandFault) (reply : LineReply) (own : List ℕ) (next : List Entry) → StartsWith a low → StartsWith p a → StartsWith course.history p → IsNextPlan a plan.stream plan → reply ≡ reply_of_landing result → Landed start course p plan result own next → Turned a (entry_of plan) reply own next
+  pub landed_turn : (a p : List Entry) (plan : PlanValue) (result : Result Receipt LandFault) (reply : LineReply) (own : List ℕ) (next : List Entry) → StartsWith a low → StartsWith p a → StartsWith log.history p → IsNextPlan a plan.stream plan → reply ≡ reply_of_landing result → Landed start log p plan result own next → Turned a (entry_of plan) reply own next
   landed_turn a p plan (Ok receipt) reply own next since after there planned replied is =
       added a p (entry_of plan) reply own next after receipt.version replied
       (lands_here a p plan since after planned (current_plan p plan _ (plan_here a p plan after there planned) is.0)) is.2
@@ -154,7 +154,7 @@ module _ (start : Start) (course : Course) (running : start.stopped ≡ false) (
 
   -- ---- what was offered
 
-  pub offered_turn : (saw_failure : Bool) (a : List Entry) (e : Entry) (reply : LineReply) (own : List ℕ) (next : List Entry) → StartsWith a low → Offers start course saw_failure a e reply own next → Turned a e reply own next
+  pub offered_turn : (saw_failure : Bool) (a : List Entry) (e : Entry) (reply : LineReply) (own : List ℕ) (next : List Entry) → StartsWith a low → Offers start log saw_failure a e reply own next → Turned a e reply own next
   offered_turn saw_failure a (entries.Create id) reply own next since is =
       committed_turn a is.1.0 (entries.Create id) is.0 reply own next is.1.1 is.1.2 tt is.2 is.1.3
   offered_turn saw_failure a (entries.Define id spec) reply own next since is =

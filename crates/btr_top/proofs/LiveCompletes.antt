@@ -11,28 +11,28 @@ use Rattle.btr_hist.specs.declared.entry.Entry.{Entry}
 use Rattle.btr_text.specs.Input.{script_of}
 use Rattle.btr_text.specs.declared.script.ScriptLine.{ScriptLine}
 use Rattle.btr_open.specs.Laws.{HeldIsSound, OneHistoryIsHeld}
-use Rattle.btr_jobs.specs.Course.{Start, Course}
+use Rattle.btr_jobs.specs.States.{StoreState, LogState}
 use Rattle.btr_report.specs.declared.line.ReportLine.{ReportLine}
-use Rattle.btr_work.specs.declared.report.Brought.{Brought}
-use Rattle.btr_work.specs.declared.report.Brought.TheVariants as results
-use Rattle.btr_work.specs.declared.report.ReportLine as brought
+use Rattle.btr_work.specs.declared.report.Refreshed.{Refreshed}
+use Rattle.btr_work.specs.declared.report.Refreshed.TheVariants as results
+use Rattle.btr_work.specs.declared.report.ReportLine as refreshed
 use Rattle.btr_live.specs.declared.live.LiveReport.{LiveReport}
 use Rattle.btr_live.specs.Live as runs
-use Rattle.btr_live.specs.Script.{begun}
+use Rattle.btr_live.specs.Script.{begun_state}
 use Rattle.btr_live.specs.OneLane.{AreInLane, RunsAlone, store_at}
 use Rattle.btr_store.specs.declared.status.Status.{Status}
 use Rattle.btr_store.specs.declared.status.Status.TheVariants.{Done}
 use Rattle.btr_store.specs.declared.transcript.Transcript.{Transcript}
 use Rattle.btr_store.specs.Completes.{IsBenign}
-use Rattle.btr_store.specs.Status.{greater, greatest, status_of_line, status_of_lines}
-use Rattle.btr_store.specs.Streams.{id_of}
+use Rattle.btr_store.specs.Status.{greater, greatest_of_lines, status_of_line, status_of_lines}
+use Rattle.btr_store.specs.Streams.{id_of_stream}
 use Rattle.btr_store.specs.Work.{DoesRightly}
 use Rattle.btr_top.specs.declared.ending.Ending.{Ending}
 use Rattle.btr_top.specs.Ending.{status_of}
 use Rattle.btr_store.specs.Replies.{status_of_replies}
 use Rattle.btr_top.specs.Command.{HasRead, ExceedsInputLimit}
 use Rattle.btr_top.specs.Live.{ScriptCause, LiveCause, CanLive}
-use Rattle.btr_store.specs.Live.{LastRound, round_line, round_lines, round_status, course_status, SaysIf, RunsIf, LivesStore}
+use Rattle.btr_store.specs.Live.{LastResult, round_line, round_lines, round_status, log_status, SaysScript, RunsIf, LivesStore}
 use Rattle.btr_top.specs.Room.{HasRoomInLane, HasRoomForScript}
 use Rattle.btr_top.specs.Run.{IsPlainStatus}
 use Rattle.btr_top.proofs.BenignStatuses.{benign_greater, benign_script}
@@ -46,7 +46,7 @@ use Rattle.btr_top.proofs.StoreCompletes.{opened, began, no_failure, plain_work}
 abbrev AreBenign : List ReportLine → Type 0
 AreBenign all = AllByRecursion (λ (line : ReportLine). IsBenign (status_of_line line)) all
 
-greatest_benign : (s : Status) (all : List ReportLine) → IsBenign s → AreBenign all → IsBenign (greatest s all)
+greatest_benign : (s : Status) (all : List ReportLine) → IsBenign s → AreBenign all → IsBenign (greatest_of_lines s all)
 greatest_benign s [] benign each = benign
 greatest_benign s (line ∷ more) benign each =
     greatest_benign (greater s (status_of_line line)) more (benign_greater s (status_of_line line) benign each.0) each.1
@@ -55,93 +55,93 @@ append_benign : (a b : List ReportLine) → AreBenign a → AreBenign b → AreB
 append_benign [] b first second = second
 append_benign (line ∷ a) b first second = (first.0, append_benign a b first.1 second)
 
-line_benign : (id : ℕ) (result : Brought) → IsCalm result → AreBenign (round_line id result)
+line_benign : (id : ℕ) (result : Refreshed) → IsCalm result → AreBenign (round_line id result)
 line_benign id (results.Landed version) calm = tt
 line_benign id (results.Current version) calm = tt
 line_benign id (results.Refused fault) calm = (calm, tt)
 
-lines_benign : (h : List Entry) (report : List brought.ReportLine) → AllByRecursion (λ (line : brought.ReportLine). IsCalm line.result) report → AreBenign (round_lines h (Some (Ok report)))
+lines_benign : (h : List Entry) (report : List refreshed.ReportLine) → AllByRecursion (λ (line : refreshed.ReportLine). IsCalm line.result) report → AreBenign (round_lines h (Some (Ok report)))
 lines_benign h [] calm = tt
 lines_benign h (line ∷ report) calm =
-    append_benign (round_line (id_of h line.output) line.result) (round_lines h (Some (Ok report)))
-    (line_benign (id_of h line.output) line.result calm.0) (lines_benign h report calm.1)
+    append_benign (round_line (id_of_stream h line.output) line.result) (round_lines h (Some (Ok report)))
+    (line_benign (id_of_stream h line.output) line.result calm.0) (lines_benign h report calm.1)
 
-last_benign : (h : List Entry) (last : LastRound) → LastCalm last → IsBenign (status_of_lines (round_lines h last)) × IsBenign (round_status last)
+last_benign : (h : List Entry) (last : LastResult) → LastCalm last → IsBenign (status_of_lines (round_lines h last)) × IsBenign (round_status last)
 last_benign h None calm = (inl refl, inl refl)
 last_benign h (Some (Err error)) calm = (inl refl, inr (inr refl))
 last_benign h (Some (Ok report)) calm = (greatest_benign Done (round_lines h (Some (Ok report))) (inl refl) (lines_benign h report calm), inl refl)
 
-benign_live_status : (replies : Status) (course : Course) (last : LastRound) → IsBenign replies → LastCalm last → course.failed ≡ None → IsBenign (greater (greater replies (status_of_lines (round_lines course.history last))) (greater (round_status last) (course_status course)))
-benign_live_status replies course last benign calm sound =
-    let device : course_status course ≡ Done = ap (λ (o : Option Entry). if_failed o) sound in
-    let lines : Status = status_of_lines (round_lines course.history last) in
-    let of_last = last_benign course.history last calm in
-    benign_greater (greater replies lines) (greater (round_status last) (course_status course))
+benign_live_status : (replies : Status) (log : LogState) (last : LastResult) → IsBenign replies → LastCalm last → log.failed ≡ None → IsBenign (greater (greater replies (status_of_lines (round_lines log.history last))) (greater (round_status last) (log_status log)))
+benign_live_status replies log last benign calm sound =
+    let device : log_status log ≡ Done = ap (λ (o : Option Entry). if_failed o) sound in
+    let lines : Status = status_of_lines (round_lines log.history last) in
+    let of_last = last_benign log.history last calm in
+    benign_greater (greater replies lines) (greater (round_status last) (log_status log))
     (benign_greater replies lines benign of_last.0)
-    (benign_greater (round_status last) (course_status course) of_last.1 (inl device))
+    (benign_greater (round_status last) (log_status log) of_last.1 (inl device))
   where
     if_failed : Option Entry → Status
-    if_failed failed = course_status (record { history = course.history; failed = failed })
+    if_failed failed = log_status (record { history = log.history; failed = failed })
 
 -- A script without rounds has no last round.
-no_last : (batch : ℕ) (start : Start) (course : Course) (script : List ScriptLine) (report : LiveReport) (own : List ℕ) → runs.RunsLive batch false start course start.history script report own → report.last ≡ None
-no_last batch start course script report own is = by report.last refl
+no_last : (batch : ℕ) (start : StoreState) (log : LogState) (script : List ScriptLine) (report : LiveReport) (own : List ℕ) → runs.RunsLive batch false start log start.history script report own → report.last ≡ None
+no_last batch start log script report own is = by report.last refl
   where
-    by : (last : LastRound) → report.last ≡ last → report.last ≡ None
+    by : (last : LastResult) → report.last ≡ last → report.last ≡ None
     by None none = none
     by (Some result) some =
-        absurd (subst (λ (l : LastRound). runs.LastRound start course is.middle.history false l is.lastly) some is.last)
+        absurd (subst (λ (l : LastResult). runs.LastRound start log is.middle.history false l is.lastly) some is.last)
 
 module _ {S D : Type 0} (source : SourceGhosts S) (disk : Ghosts D) (batch : ℕ) (materialize : Bool) (given rest : S) (old new : D) (sound : HeldIsSound) (one : OneHistoryIsHeld) (can : CanLive source disk batch materialize given old) (source_told : source.is_observable) (told : disk.is_observable) (source_works : StreamRose (source.faults given) (source.faults rest) → ⊥) (device_works : Rose (disk.faults old) (disk.faults new) → ⊥) where
   not_too_long : ExceedsInputLimit source given rest → ⊥
   not_too_long exceeds = omega (arith, exceeds source_told, can.within)
 
-  abbrev store : Start
+  abbrev store : StoreState
   store = opened disk old new can.history can.blocks can.tail can.holds sound one told device_works
 
-  module _ (lines : List ScriptLine) (all : lines ≡ script_of (source.left given)) (transcript : Transcript) (does : DoesRightly disk (λ start course own. LivesStore batch materialize lines start course (Ok transcript) own) old new) where
-    abbrev What : Start → Course → List ℕ → Type 0
-    What start course own = LivesStore batch materialize lines start course (Ok transcript) own
+  module _ (lines : List ScriptLine) (all : lines ≡ script_of (source.left given)) (transcript : Transcript) (does : DoesRightly disk (λ start log own. LivesStore batch materialize lines start log (Ok transcript) own) old new) where
+    abbrev What : StoreState → LogState → List ℕ → Type 0
+    What start log own = LivesStore batch materialize lines start log (Ok transcript) own
 
-    sound_end : does.course.failed ≡ None
+    sound_end : does.log.failed ≡ None
     sound_end = no_failure disk old new can.history can.blocks can.tail can.holds sound one told device_works What does
 
     -- The room of the store, as the run found it.
     room_here : HasRoomForScript batch materialize (store_at does.first) lines
     room_here =
         let same : does.first ≡ store = began disk old new can.history can.blocks can.tail can.holds sound one told device_works What does in
-        subst (λ (s : Start). HasRoomForScript batch materialize (store_at s) lines) (sym same)
+        subst (λ (s : StoreState). HasRoomForScript batch materialize (store_at s) lines) (sym same)
         (subst (λ (ls : List ScriptLine). HasRoomForScript batch materialize (store_at store) ls) (sym all) can.room)
 
     abbrev Ran : Bool → LiveReport → Type 0
-    Ran rounds report = runs.RunsLive batch rounds does.first does.course does.first.history lines report does.own
+    Ran rounds report = runs.RunsLive batch rounds does.first does.log does.first.history lines report does.own
 
     abbrev AreCalm : LiveReport → Type 0
     AreCalm report = IsBenign (status_of_replies report.replies.items) × LastCalm report.last
 
-    benign_alone : (report : LiveReport) → materialize ≡ false → HasRoomInLane batch (store_at does.first) lines → Ran materialize report → ((lane : ℕ) → AreInLane lane lines → RunsAlone batch does.first does.course lines report.replies.items) → AreCalm report
+    benign_alone : (report : LiveReport) → materialize ≡ false → HasRoomInLane batch (store_at does.first) lines → Ran materialize report → ((lane : ℕ) → AreInLane lane lines → RunsAlone batch does.first does.log lines report.replies.items) → AreCalm report
     benign_alone report none room ran in_lane =
         let alone = in_lane room.lane room.one in
         let running : alone.last.store.stopped ≡ false = alone.stopped ∙ ap (λ (o : Option Entry). is_some o) sound_end in
         let plain : Ran false report = subst (λ (m : Bool). Ran m report) none ran in
-        let no_rounds : report.last ≡ None = no_last batch does.first does.course lines report does.own plain in (
-          benign_script batch (begun (store_at does.first)) alone.last lines report.replies.items alone.runs room.room running,
-          subst (λ (l : LastRound). LastCalm l) (sym no_rounds) tt,
+        let no_rounds : report.last ≡ None = no_last batch does.first does.log lines report does.own plain in (
+          benign_script batch (begun_state (store_at does.first)) alone.last lines report.replies.items alone.runs room.room running,
+          subst (λ (l : LastResult). LastCalm l) (sym no_rounds) tt,
         )
 
-    benign_run : (report : LiveReport) → Ran materialize report → (materialize ≡ false → (lane : ℕ) → AreInLane lane lines → RunsAlone batch does.first does.course lines report.replies.items) → AreCalm report
+    benign_run : (report : LiveReport) → Ran materialize report → (materialize ≡ false → (lane : ℕ) → AreInLane lane lines → RunsAlone batch does.first does.log lines report.replies.items) → AreCalm report
     benign_run report ran in_lane =
         ⊎_elim
         (λ room. benign_alone report room.0 room.1 ran (in_lane room.0))
-        (λ room. run_fits batch lines does.first does.course does.works.not_stopped sound_end does.works.follows does.works.begins materialize report does.own ran does.works.each_once room)
+        (λ room. run_fits batch lines does.first does.log does.works.not_stopped sound_end does.works.follows does.works.begins materialize report does.own ran does.works.each_once room)
         room_here
 
-    benign_report : (report : Option LiveReport) → RunsIf batch materialize does.first does.course lines report does.own → (materialize ≡ false → (lane : ℕ) → AreInLane lane lines → IfSome report (λ r. RunsAlone batch does.first does.course lines r.replies.items)) → SaysIf does.course report (Ok transcript) → IsBenign transcript.status
+    benign_report : (report : Option LiveReport) → RunsIf batch materialize does.first does.log lines report does.own → (materialize ≡ false → (lane : ℕ) → AreInLane lane lines → IfSome report (λ r. RunsAlone batch does.first does.log lines r.replies.items)) → SaysScript does.log report (Ok transcript) → IsBenign transcript.status
     benign_report None ran in_lane says = absurd says
     benign_report (Some report) ran in_lane says =
         let calm = benign_run report ran in_lane in
         subst (λ (s : Status). IsBenign s) (sym says.same_status)
-        (benign_live_status (status_of_replies report.replies.items) does.course report.last calm.0 calm.1 sound_end)
+        (benign_live_status (status_of_replies report.replies.items) does.log report.last calm.0 calm.1 sound_end)
 
     benign_transcript : IsBenign transcript.status
     benign_transcript =
@@ -153,7 +153,7 @@ module _ {S D : Type 0} (source : SourceGhosts S) (disk : Ghosts D) (batch : ℕ
       let lines : List ScriptLine = script_of input in
       let all : lines ≡ script_of (source.left given) = ap (λ (i : List ℕ). script_of i) (read.all source_told) in
       plain_work disk old new can.history can.blocks can.tail can.holds sound one told device_works
-      (λ said start course own. LivesStore batch materialize lines start course said own)
+      (λ said start log own. LivesStore batch materialize lines start log said own)
       (λ transcript does. benign_transcript lines all transcript does)
       e why
 

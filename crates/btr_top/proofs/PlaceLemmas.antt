@@ -6,7 +6,7 @@ use Rattle.btr_gate.specs.Numbers.{total, times}
 use Rattle.btr_gate.proofs.NumberLemmas.{one_same, one_other}
 use Rattle.btr_text.specs.declared.script.Line.{Line}
 use Rattle.btr_text.specs.declared.script.ScriptLine.{ScriptLine}
-use Rattle.btr_live.specs.OneHistory.{of_lane, lanes_of, lines_of}
+use Rattle.btr_live.specs.OneHistory.{of_lane, lanes_of, lane_lines}
 
 -- ---- sums over the first lanes
 
@@ -146,5 +146,5 @@ module _ (script : List ScriptLine) (k : ℕ) where
         | false ↦ λ is. rest
       ] refl
 
-  pub at_places : AtPlaces script k (places_of k script) (lines_of k script)
+  pub at_places : AtPlaces script k (places_of k script) (lane_lines k script)
   at_places = at_from 0 script (λ n. ap (λ m. slice_get script m) (let e : 0 + n ≡ n = omega arith in e))

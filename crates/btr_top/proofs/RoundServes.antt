@@ -16,16 +16,16 @@ use Rattle.btr_gate.specs.Prefixes.{StartsWith}
 use Rattle.btr_gate.proofs.NumberLemmas.{one_same, one_other}
 use Rattle.btr_gate.proofs.PrefixLemmas.{starts_trans}
 use Rattle.btr_hall.specs.declared.land.LandFault.TheVariants as faults
-use Rattle.btr_jobs.specs.Course.{Start, Course, GoesOn}
+use Rattle.btr_jobs.specs.States.{StoreState, LogState, GoesOn}
 use Rattle.btr_jobs.specs.TurnLaws.{goes_trans}
 use Rattle.btr_load.proofs.TotalLemmas.{total_append}
 use Rattle.btr_text.specs.declared.script.ScriptLine.{ScriptLine}
-use Rattle.btr_work.specs.declared.report.Brought.{Brought}
-use Rattle.btr_work.specs.declared.report.Brought.TheVariants as results
-use Rattle.btr_work.specs.declared.report.ReportLine as brought
+use Rattle.btr_work.specs.declared.report.Refreshed.{Refreshed}
+use Rattle.btr_work.specs.declared.report.Refreshed.TheVariants as results
+use Rattle.btr_work.specs.declared.report.ReportLine as refreshed
 use Rattle.btr_work.specs.Levels.{outputs, levels_of}
-use Rattle.btr_work.specs.Report.{IsPlanLanded, IsBrought, BringsEach, BringsLevels, Brings}
-use Rattle.btr_work.specs.ReportLaws.{brought_lasts}
+use Rattle.btr_work.specs.Report.{IsPlanLanded, IsRefreshed, RefreshesEach, RefreshesLevels, Refreshes}
+use Rattle.btr_work.specs.ReportLaws.{refreshed_lasts}
 use Rattle.btr_work.proofs.MemberLemmas.{IsIn, Distinct, IsInAny, Graded, groups-graded, graded-above, output-spec, output-level, all-members}
 use Rattle.btr_store.specs.Completes.{IsBenign}
 use Rattle.btr_store.specs.Status.{status_of_reason}
@@ -36,7 +36,7 @@ use Rattle.btr_top.proofs.LineTurns.{not_failed, current_plan, plan_here, lands_
 use Rattle.btr_top.proofs.LaneServes.{Refusal}
 
 -- The line of an output asks for a benign status.
-abbrev pub IsCalm : Brought → Type 0
+abbrev pub IsCalm : Refreshed → Type 0
 IsCalm (results.Landed version) = Unit {0}
 IsCalm (results.Current version) = Unit {0}
 IsCalm (results.Refused fault) = IsBenign (status_of_reason (reason_of_landing fault))
@@ -112,9 +112,9 @@ landing_here round output o = ap (λ b. one (b && output == o)) (eq-eqb round ro
 pub landing_elsewhere : (round r output o : ℕ) → r ≢ round → has_landing r o (OfRound round output) ≡ 0
 landing_elsewhere round r output o differs = ap (λ b. one (b && output == o)) (ne_eqb round r (λ same. differs (sym same)))
 
-module _ (batch rounds : ℕ) (script : List ScriptLine) (start : Start) (course : Course) (running : start.stopped ≡ false) (sound : course.failed ≡ None) (follows : Follows course.history) (low : List Entry) (round : ℕ) where
+module _ (batch rounds : ℕ) (script : List ScriptLine) (start : StoreState) (log : LogState) (running : start.stopped ≡ false) (sound : log.failed ≡ None) (follows : Follows log.history) (low : List Entry) (round : ℕ) where
   abbrev Here : Service → Type 0
-  Here s = Served batch rounds script low course.history s
+  Here s = Served batch rounds script low log.history s
 
   -- What a part of a round did. `most` says how often it may land each output. It is calm if no landing could have been refused.
   pub record RoundServes (most : ℕ → ℕ) (Calm : Type 0) (own : List ℕ) : Type 0 where
@@ -124,7 +124,7 @@ module _ (batch rounds : ℕ) (script : List ScriptLine) (start : Start) (course
     pub no_line : (k : ℕ) → lines_had k services ≡ 0
     pub landings : (output : ℕ) → landings_had round output services ≤ most output
     pub no_other : (r output : ℕ) → r ≢ round → landings_had r output services ≡ 0
-    pub calm : ((p : List Entry) (e : Entry) (output : ℕ) → Refusal batch rounds script start course running sound follows low p e (OfRound round output)
+    pub calm : ((p : List Entry) (e : Entry) (output : ℕ) → Refusal batch rounds script start log running sound follows low p e (OfRound round output)
         → ((o : ℕ) → one (output == o) + landings_had round o services ≤ most o) → ⊥) → Calm
 
   none_serves : (Calm : Type 0) (own : List ℕ) → Calm → ((n : ℕ) → times n own ≡ 0) → RoundServes (λ o. 0) Calm own
@@ -158,7 +158,7 @@ module _ (batch rounds : ℕ) (script : List ScriptLine) (start : Start) (course
         let g = other_part.numbers n in
         let t = sum n in
         omega (arith, s, f, g, t);
-    are = served_append batch rounds script low course.history one_part.services other_part.services one_part.are other_part.are;
+    are = served_append batch rounds script low log.history one_part.services other_part.services one_part.are other_part.are;
     no_line = λ k.
         let s = total_append (λ (x : Service). has_line k x.purpose) one_part.services other_part.services in
         let f = one_part.no_line k in
@@ -196,7 +196,7 @@ module _ (batch rounds : ℕ) (script : List ScriptLine) (start : Start) (course
     abbrev Once : ℕ → ℕ
     Once o = one (output == o)
 
-    nothing : (result : Brought) → IsCalm result → own ≡ [] → RoundServes Once (IsCalm result) own
+    nothing : (result : Refreshed) → IsCalm result → own ≡ [] → RoundServes Once (IsCalm result) own
     nothing result calm none = more_serves (λ o. 0) Once (IsCalm result) (IsCalm result) own (λ o. omega arith) (λ c. c) (none_serves (IsCalm result) own calm (λ n. ap (times n) none))
 
     -- The plan as one for the output.
@@ -206,15 +206,15 @@ module _ (batch rounds : ℕ) (script : List ScriptLine) (start : Start) (course
     lands_for : (at p : List Entry) (plan : PlanValue) → StartsWith at here → StartsWith p at → IsNextPlan at output plan → IsCurrent p plan → LandsFor low p (entry_of plan) output
     lands_for at p plan since before planned current =
         subst (λ (s : ℕ). LandsFor low p (entry_of plan) s) planned.same_stream
-        (lands_here start course running sound follows low at p plan (starts_trans at here low since after) before (planned_for at plan planned) current)
+        (lands_here start log running sound follows low at p plan (starts_trans at here low since after) before (planned_for at plan planned) current)
 
-    landed_serves : (version : ℕ) (receipt : Receipt) → IsPlanLanded start course here output (Ok receipt) own → RoundServes Once (IsCalm (results.Landed version)) own
+    landed_serves : (version : ℕ) (receipt : Receipt) → IsPlanLanded start log here output (Ok receipt) own → RoundServes Once (IsCalm (results.Landed version)) own
     landed_serves version receipt is =
         let p : List Entry = is.landed.0 in
         let s : Service = record { number = length p + 1; purpose = OfRound round output } in
         let added = is.landed.3.2 in
-        let of = plan_here start course running sound follows low is.at p is.plan is.landed.1 is.landed.2 (planned_for is.at is.plan is.planned) in
-        let current = current_plan start course running sound follows low p is.plan _ of is.landed.3.0 in
+        let of = plan_here start log running sound follows low is.at p is.plan is.landed.1 is.landed.2 (planned_for is.at is.plan is.planned) in
+        let current = current_plan start log running sound follows low p is.plan _ of is.landed.3.0 in
         let served : Here s = record {
           before = p;
           entry = entry_of is.plan;
@@ -233,7 +233,7 @@ module _ (batch rounds : ℕ) (script : List ScriptLine) (start : Start) (course
           calm = λ never. tt;
         }
 
-    full_serves : (need left : ℕ) → IsPlanLanded start course here output (Err (faults.DeviceFull need left)) own → RoundServes Once (IsCalm (results.Refused (faults.DeviceFull need left))) own
+    full_serves : (need left : ℕ) → IsPlanLanded start log here output (Err (faults.DeviceFull need left)) own → RoundServes Once (IsCalm (results.Refused (faults.DeviceFull need left))) own
     full_serves need left is =
         let p : List Entry = is.landed.0 in
         let turn = is.landed.3 in
@@ -258,48 +258,48 @@ module _ (batch rounds : ℕ) (script : List ScriptLine) (start : Start) (course
               (λ o. omega arith));
         }
 
-    brought_serves : (result : Brought) → IsBrought start course here output result own → RoundServes Once (IsCalm result) own
-    brought_serves (results.Landed version) is = landed_serves version is.0 is.2
-    brought_serves (results.Current version) is = nothing (results.Current version) tt is.none
-    brought_serves (results.Refused (faults.Stopped entries)) is = nothing (results.Refused (faults.Stopped entries)) (inr (inl refl)) is.landed.3.1.own
-    brought_serves (results.Refused (faults.Superseded version)) is = nothing (results.Refused (faults.Superseded version)) (inr (inl refl)) is.landed.3.3.own
-    brought_serves (results.Refused faults.VersionLimit) is = nothing (results.Refused faults.VersionLimit) (inr (inl refl)) is.landed.3.2.own
-    brought_serves (results.Refused (faults.Crowded at)) is = nothing (results.Refused (faults.Crowded at)) (inr (inl refl)) is.landed.3.3.own
-    brought_serves (results.Refused (faults.TooManyPoints count)) is = nothing (results.Refused (faults.TooManyPoints count)) (inr (inl refl)) is.landed.3.3.own
-    brought_serves (results.Refused faults.Want) is = nothing (results.Refused faults.Want) (inr (inr refl)) is
-    brought_serves (results.Refused (faults.DeviceFull need left)) is = full_serves need left is
-    brought_serves (results.Refused faults.DeviceFault) is = absurd (not_failed start course running sound follows low (entry_of is.plan) is.landed.3.2.failed)
+    refreshed_serves : (result : Refreshed) → IsRefreshed start log here output result own → RoundServes Once (IsCalm result) own
+    refreshed_serves (results.Landed version) is = landed_serves version is.0 is.2
+    refreshed_serves (results.Current version) is = nothing (results.Current version) tt is.none
+    refreshed_serves (results.Refused (faults.Stopped entries)) is = nothing (results.Refused (faults.Stopped entries)) (inr (inl refl)) is.landed.3.1.own
+    refreshed_serves (results.Refused (faults.Superseded version)) is = nothing (results.Refused (faults.Superseded version)) (inr (inl refl)) is.landed.3.3.own
+    refreshed_serves (results.Refused faults.VersionLimit) is = nothing (results.Refused faults.VersionLimit) (inr (inl refl)) is.landed.3.2.own
+    refreshed_serves (results.Refused (faults.Crowded at)) is = nothing (results.Refused (faults.Crowded at)) (inr (inl refl)) is.landed.3.3.own
+    refreshed_serves (results.Refused (faults.TooManyPoints count)) is = nothing (results.Refused (faults.TooManyPoints count)) (inr (inl refl)) is.landed.3.3.own
+    refreshed_serves (results.Refused faults.Want) is = nothing (results.Refused faults.Want) (inr (inr refl)) is
+    refreshed_serves (results.Refused (faults.DeviceFull need left)) is = full_serves need left is
+    refreshed_serves (results.Refused faults.DeviceFault) is = absurd (not_failed start log running sound follows low (entry_of is.plan) is.landed.3.2.failed)
 
   -- ---- all outputs
 
-  abbrev AreCalm : (ℕ → Brought) → List ℕ → Type 0
+  abbrev AreCalm : (ℕ → Refreshed) → List ℕ → Type 0
   AreCalm result level = (output : ℕ) → IsIn output level → IsCalm (result output)
 
-  each_serve : round < rounds → (early : Course) (here : List Entry) (result : ℕ → Brought) (level own : List ℕ) → GoesOn start course early → StartsWith here low → BringsEach start early here result level own → RoundServes (λ o. times o level) (AreCalm result level) own
-  each_serve is_round early here result [] own on after brings = none_serves (AreCalm result []) own (λ output is. absurd is) brings
-  each_serve is_round early here result (output ∷ level) own on after brings =
-      let first = brought_serves is_round here after output brings.0 (result output) (brought_lasts start course early here output (result output) brings.0 on brings.2) in
-      let rest = each_serve is_round early here result level brings.1 on after brings.3 in
+  each_serve : round < rounds → (early : LogState) (here : List Entry) (result : ℕ → Refreshed) (level own : List ℕ) → GoesOn start log early → StartsWith here low → RefreshesEach start early here result level own → RoundServes (λ o. times o level) (AreCalm result level) own
+  each_serve is_round early here result [] own on after refreshes = none_serves (AreCalm result []) own (λ output is. absurd is) refreshes
+  each_serve is_round early here result (output ∷ level) own on after refreshes =
+      let first = refreshed_serves is_round here after output refreshes.0 (result output) (refreshed_lasts start log early here output (result output) refreshes.0 on refreshes.2) in
+      let rest = each_serve is_round early here result level refreshes.1 on after refreshes.3 in
       more_serves (λ o. one (output == o) + times o level) (λ o. times o (output ∷ level)) (IsCalm (result output) × AreCalm result level) (AreCalm result (output ∷ level)) own
       (λ o. omega arith) (λ calm. cases calm)
-      (both_serve (λ o. one (output == o)) (λ o. times o level) (IsCalm (result output)) (AreCalm result level) own brings.0 brings.1 first rest brings.4)
+      (both_serve (λ o. one (output == o)) (λ o. times o level) (IsCalm (result output)) (AreCalm result level) own refreshes.0 refreshes.1 first rest refreshes.4)
     where
       cases : IsCalm (result output) × AreCalm result level → AreCalm result (output ∷ level)
       cases calm other (inl same) = subst (λ (x : ℕ). IsCalm (result x)) (sym same) calm.0
       cases calm other (inr is) = calm.1 other is
 
-  abbrev AreAllCalm : (ℕ → Brought) → List (List ℕ) → Type 0
+  abbrev AreAllCalm : (ℕ → Refreshed) → List (List ℕ) → Type 0
   AreAllCalm result levels = (output : ℕ) → IsInAny output levels → IsCalm (result output)
 
-  levels_serve : round < rounds → (late : Course) (here : List Entry) (result : ℕ → Brought) (levels : List (List ℕ)) (own : List ℕ) → GoesOn start course late → StartsWith here low → BringsLevels start here result levels late own → RoundServes (λ o. total (times o) levels) (AreAllCalm result levels) own
-  levels_serve is_round late here result [] own on after brings = none_serves (AreAllCalm result []) own (λ output is. absurd is) brings.1
-  levels_serve is_round late here result (level ∷ levels) own on after brings =
-      let middle : Course = brings.0 in
-      let first = each_serve is_round middle here result level brings.3 (goes_trans start course late middle on brings.1) after brings.5 in
-      let rest = levels_serve is_round late middle.history result levels brings.4 on (starts_trans middle.history here low brings.2 after) brings.6 in
+  levels_serve : round < rounds → (late : LogState) (here : List Entry) (result : ℕ → Refreshed) (levels : List (List ℕ)) (own : List ℕ) → GoesOn start log late → StartsWith here low → RefreshesLevels start here result levels late own → RoundServes (λ o. total (times o) levels) (AreAllCalm result levels) own
+  levels_serve is_round late here result [] own on after refreshes = none_serves (AreAllCalm result []) own (λ output is. absurd is) refreshes.1
+  levels_serve is_round late here result (level ∷ levels) own on after refreshes =
+      let middle : LogState = refreshes.0 in
+      let first = each_serve is_round middle here result level refreshes.3 (goes_trans start log late middle on refreshes.1) after refreshes.5 in
+      let rest = levels_serve is_round late middle.history result levels refreshes.4 on (starts_trans middle.history here low refreshes.2 after) refreshes.6 in
       more_serves (λ o. times o level + total (times o) levels) (λ o. total (times o) (level ∷ levels)) (AreCalm result level × AreAllCalm result levels) (AreAllCalm result (level ∷ levels)) own
       (λ o. omega arith) (λ calm. cases calm)
-      (both_serve (λ o. times o level) (λ o. total (times o) levels) (AreCalm result level) (AreAllCalm result levels) own brings.3 brings.4 first rest brings.7)
+      (both_serve (λ o. times o level) (λ o. total (times o) levels) (AreCalm result level) (AreAllCalm result levels) own refreshes.3 refreshes.4 first rest refreshes.7)
     where
       cases : AreCalm result level × AreAllCalm result levels → AreAllCalm result (level ∷ levels)
       cases calm other (inl is) = calm.0 other is
@@ -308,25 +308,25 @@ module _ (batch rounds : ℕ) (script : List ScriptLine) (start : Start) (course
   -- ---- a round
 
   -- Each output once.
-  pub round_serves : round < rounds → (late : Course) (known : List Entry) (report : List brought.ReportLine) (own : List ℕ) → GoesOn start course late → StartsWith known low → Brings start late known report own → RoundServes (λ o. 1) (AllByRecursion (λ (line : brought.ReportLine). IsCalm line.result) report) own
-  round_serves is_round late known report own on after brings =
-      let seen : List Entry = brings.seen in
-      let levels : List (List ℕ) = brings.levels in
-      let here : StartsWith course.history seen = starts_trans course.history late.history seen on.begins brings.before in
+  pub round_serves : round < rounds → (late : LogState) (known : List Entry) (report : List refreshed.ReportLine) (own : List ℕ) → GoesOn start log late → StartsWith known low → Refreshes start late known report own → RoundServes (λ o. 1) (AllByRecursion (λ (line : refreshed.ReportLine). IsCalm line.result) report) own
+  round_serves is_round late known report own on after refreshes =
+      let seen : List Entry = refreshes.seen in
+      let levels : List (List ℕ) = refreshes.levels in
+      let here : StartsWith log.history seen = starts_trans log.history late.history seen on.begins refreshes.before in
       let then : Follows seen = follows-prefix seen here.0 (subst Follows here.1 follows) in
-      more_serves (λ o. total (times o) levels) (λ o. 1) (AreAllCalm brings.result levels) (AllByRecursion (λ (line : brought.ReportLine). IsCalm line.result) report) own
-      (λ o. graded_once o 1 (levels_of seen) levels (groups-graded (levels_of seen) levels brings.are))
+      more_serves (λ o. total (times o) levels) (λ o. 1) (AreAllCalm refreshes.result levels) (AllByRecursion (λ (line : refreshed.ReportLine). IsCalm line.result) report) own
+      (λ o. graded_once o 1 (levels_of seen) levels (groups-graded (levels_of seen) levels refreshes.are))
       (λ calm.
-      subst (λ (r : List brought.ReportLine). AllByRecursion (λ line. IsCalm line.result) r) (sym brings.lines)
-      (all-members (λ (line : brought.ReportLine). IsCalm line.result) (λ output. record { output = output; result = brings.result output }) (outputs seen) (λ output is.
+      subst (λ (r : List refreshed.ReportLine). AllByRecursion (λ line. IsCalm line.result) r) (sym refreshes.lines)
+      (all-members (λ (line : refreshed.ReportLine). IsCalm line.result) (λ output. record { output = output; result = refreshes.result output }) (outputs seen) (λ output is.
       let spec = output-spec seen output is in
-      calm output (output-level seen levels then brings.are output spec.0 spec.1))))
-      (levels_serve is_round late seen brings.result levels own on (starts_trans seen known low brings.after after) brings.brings)
+      calm output (output-level seen levels then refreshes.are output spec.0 spec.1))))
+      (levels_serve is_round late seen refreshes.result levels own on (starts_trans seen known low refreshes.after after) refreshes.refreshes)
 
   -- A round of which nothing was done.
   pub no_round : (own : List ℕ) → ((n : ℕ) → times n own ≡ 0) → RoundServes (λ o. 1) (Unit {0}) own
   no_round own none = more_serves (λ o. 0) (λ o. 1) (Unit {0}) (Unit {0}) own (λ o. omega arith) (λ calm. calm) (none_serves (Unit {0}) own tt none)
 
-  pub any_round : round < rounds → (late : Course) (known : List Entry) (report : List brought.ReportLine) (own : List ℕ) → GoesOn start course late → StartsWith known low → Brings start late known report own → RoundServes (λ o. 1) (Unit {0}) own
-  any_round is_round late known report own on after brings =
-      more_serves (λ o. 1) (λ o. 1) (AllByRecursion (λ (line : brought.ReportLine). IsCalm line.result) report) (Unit {0}) own (λ o. omega arith) (λ calm. tt) (round_serves is_round late known report own on after brings)
+  pub any_round : round < rounds → (late : LogState) (known : List Entry) (report : List refreshed.ReportLine) (own : List ℕ) → GoesOn start log late → StartsWith known low → Refreshes start late known report own → RoundServes (λ o. 1) (Unit {0}) own
+  any_round is_round late known report own on after refreshes =
+      more_serves (λ o. 1) (λ o. 1) (AllByRecursion (λ (line : refreshed.ReportLine). IsCalm line.result) report) (Unit {0}) own (λ o. omega arith) (λ calm. tt) (round_serves is_round late known report own on after refreshes)

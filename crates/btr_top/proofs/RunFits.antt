@@ -9,7 +9,7 @@ use Rattle.btr_hist.specs.declared.entry.Entry.{Entry}
 use Rattle.btr_hist.specs.Legal.{Follows}
 use Rattle.btr_gate.specs.Numbers.{one, total, times, given}
 use Rattle.btr_gate.specs.Prefixes.{StartsWith}
-use Rattle.btr_jobs.specs.Course.{Start, Course, GoesOn}
+use Rattle.btr_jobs.specs.States.{StoreState, LogState, GoesOn}
 use Rattle.btr_jobs.specs.TurnLaws.{goes_refl}
 use Rattle.btr_text.specs.declared.script.ScriptLine.{ScriptLine}
 use Rattle.btr_work.specs.declared.report.ReportLine.{ReportLine}
@@ -17,7 +17,7 @@ use Rattle.btr_work.specs.Laws.{AreAllSince}
 use Rattle.btr_live.specs.declared.live.LiveReport.{LiveReport}
 use Rattle.btr_live.specs.Lanes.{begun, RunsLines}
 use Rattle.btr_live.specs.LaneLaws.{lines_last}
-use Rattle.btr_live.specs.OneHistory.{of_lane, lanes_of, lines_of}
+use Rattle.btr_live.specs.OneHistory.{of_lane, lanes_of, lane_lines}
 use Rattle.btr_live.specs.OneLane.{store_at}
 use Rattle.btr_live.specs.Rounds.{MakesRounds}
 use Rattle.btr_live.specs.Live.{LastRound, RunsLive}
@@ -34,48 +34,48 @@ LastCalm None = Unit {0}
 LastCalm (Some (Err error)) = Unit {0}
 LastCalm (Some (Ok report)) = AllByRecursion (λ (line : ReportLine). IsCalm line.result) report
 
-module _ (batch : ℕ) (script : List ScriptLine) (start : Start) (course : Course) (running : start.stopped ≡ false) (sound : course.failed ≡ None) (follows : Follows course.history) (begins : StartsWith course.history start.history) where
+module _ (batch : ℕ) (script : List ScriptLine) (start : StoreState) (log : LogState) (running : start.stopped ≡ false) (sound : log.failed ≡ None) (follows : Follows log.history) (begins : StartsWith log.history start.history) where
   abbrev low : List Entry
   low = start.history
 
-  last_serves : (materialize : Bool) (last : Option (Result (List ReportLine) AllocError)) (known : List Entry) (own : List ℕ) → StartsWith known low → LastRound start course known materialize last own → RoundServes batch (rounds_of materialize script) script start course running sound follows low 0 (λ o. 1) (LastCalm last) own
-  last_serves false None known own after is = no_round batch 0 script start course running sound follows low 0 own is
+  last_serves : (materialize : Bool) (last : Option (Result (List ReportLine) AllocError)) (known : List Entry) (own : List ℕ) → StartsWith known low → LastRound start log known materialize last own → RoundServes batch (rounds_of materialize script) script start log running sound follows low 0 (λ o. 1) (LastCalm last) own
+  last_serves false None known own after is = no_round batch 0 script start log running sound follows low 0 own is
   last_serves false (Some result) known own after is = absurd is
   last_serves true None known own after is = absurd is
-  last_serves true (Some (Err error)) known own after is = no_round batch (length script + 1) script start course running sound follows low 0 own is
+  last_serves true (Some (Err error)) known own after is = no_round batch (length script + 1) script start log running sound follows low 0 own is
   last_serves true (Some (Ok report)) known own after is =
-      round_serves batch (length script + 1) script start course running sound follows low 0 (omega arith) course known report own (goes_refl start course) after is
+      round_serves batch (length script + 1) script start log running sound follows low 0 (omega arith) log known report own (goes_refl start log) after is
 
   -- What the rounds beside the lanes added.
   record BesideServe (rounds : ℕ) (beside : List (List ℕ)) : Type 0 where
     own : List ℕ
-    parties : PartiesServe batch rounds script start course running sound follows begins own
+    parties : PartiesServe batch rounds script start log running sound follows begins own
     sum : (n : ℕ) → times n own ≡ total (times n) beside
 
-  beside_serves : (materialize : Bool) (middle : Course) (beside : List (List ℕ)) → GoesOn start course middle → length beside ≤ 1 → (materialize ≡ false → beside ≡ []) → ((k : ℕ) → MakesRounds start (length script) low middle (slice_index_or beside k [])) → BesideServe (rounds_of materialize script) beside
+  beside_serves : (materialize : Bool) (middle : LogState) (beside : List (List ℕ)) → GoesOn start log middle → length beside ≤ 1 → (materialize ≡ false → beside ≡ []) → ((k : ℕ) → MakesRounds start (length script) low middle (slice_index_or beside k [])) → BesideServe (rounds_of materialize script) beside
   beside_serves false middle beside on one_party none made = record {
     own = [];
-    parties = no_party batch 0 script start course running sound follows begins;
+    parties = no_party batch 0 script start log running sound follows begins;
     sum = λ n. sym (ap (λ b. total (times n) b) (none refl));
   }
   beside_serves true middle beside on one_party none made =
-      let is = party_serves batch (length script + 1) script start course running sound follows begins (length script) (omega arith) middle beside on one_party made in
+      let is = party_serves batch (length script + 1) script start log running sound follows begins (length script) (omega arith) middle beside on one_party made in
       record { own = is.0; parties = is.1; sum = is.2 }
 
-  module _ (materialize : Bool) (report : LiveReport) (own : List ℕ) (ran : RunsLive batch materialize start course low script report own) (each_once : AreAllSince low course own) (room : HasRoomForHistories batch (rounds_of materialize script) (store_at start) script) where
-    lane : (k : ℕ) → RunsLines batch start course (begun low) (lines_of k script) (of_lane k (lanes_of script) report.replies.items) (slice_index_or ran.mine k []) (ran.lanes.lasts k)
-    lane k = lines_last start course ran.middle ran.goes_on batch (begun low) (lines_of k script) (of_lane k (lanes_of script) report.replies.items) (slice_index_or ran.mine k []) (ran.lanes.lasts k) (ran.lanes.lanes k)
+  module _ (materialize : Bool) (report : LiveReport) (own : List ℕ) (ran : RunsLive batch materialize start log low script report own) (each_once : AreAllSince low log own) (room : HasRoomForHistories batch (rounds_of materialize script) (store_at start) script) where
+    lane : (k : ℕ) → RunsLines batch start log (begun low) (lane_lines k script) (of_lane k (lanes_of script) report.replies.items) (slice_index_or ran.mine k []) (ran.lanes.lasts k)
+    lane k = lines_last start log ran.middle ran.goes_on batch (begun low) (lane_lines k script) (of_lane k (lanes_of script) report.replies.items) (slice_index_or ran.mine k []) (ran.lanes.lasts k) (ran.lanes.lanes k)
 
     beside : BesideServe (rounds_of materialize script) ran.beside
     beside = beside_serves materialize ran.middle ran.beside ran.goes_on ran.one_party ran.no_rounds ran.lanes.parties
 
-    lastly : RoundServes batch (rounds_of materialize script) script start course running sound follows low 0 (λ o. 1) (LastCalm report.last) ran.lastly
+    lastly : RoundServes batch (rounds_of materialize script) script start log running sound follows low 0 (λ o. 1) (LastCalm report.last) ran.lastly
     lastly = last_serves materialize report.last ran.middle.history ran.lastly ran.after ran.last
 
-    once : (n : ℕ) → total (times n) ran.mine + times n beside.own + times n ran.lastly ≡ given (length low) (length course.history) n
+    once : (n : ℕ) → total (times n) ran.mine + times n beside.own + times n ran.lastly ≡ given (length low) (length log.history) n
     once n =
-        let none : one (is_some course.failed) ≡ 0 = ap (λ (o : Option Entry). one (is_some o)) sound in
-        let same : given (length low) (length course.history + one (is_some course.failed)) n ≡ given (length low) (length course.history) n = ap (λ m. given (length low) m n) (omega (arith, none)) in
+        let none : one (is_some log.failed) ≡ 0 = ap (λ (o : Option Entry). one (is_some o)) sound in
+        let same : given (length low) (length log.history + one (is_some log.failed)) n ≡ given (length low) (length log.history) n = ap (λ m. given (length low) m n) (omega (arith, none)) in
         let all_numbers = ran.numbers n in
         let sum = beside.sum n in
         let all_once = each_once n in
@@ -85,6 +85,6 @@ module _ (batch : ℕ) (script : List ScriptLine) (start : Start) (course : Cour
     run_fits =
         let rounds = rounds_of materialize script in
         let all = report.replies.items in (
-          replies_benign batch rounds script start course running sound follows begins room all ran.lanes.each ran.mine ran.lanes.lasts lane beside.own ran.lastly (LastCalm report.last) beside.parties lastly once,
-          last_calm batch rounds script start course running sound follows begins room all ran.lanes.each ran.mine ran.lanes.lasts lane beside.own ran.lastly (LastCalm report.last) beside.parties lastly once,
+          replies_benign batch rounds script start log running sound follows begins room all ran.lanes.each ran.mine ran.lanes.lasts lane beside.own ran.lastly (LastCalm report.last) beside.parties lastly once,
+          last_calm batch rounds script start log running sound follows begins room all ran.lanes.each ran.mine ran.lanes.lasts lane beside.own ran.lastly (LastCalm report.last) beside.parties lastly once,
         )

@@ -12,7 +12,7 @@ use Rattle.btr_gate.specs.Prefixes.{StartsWith}
 use Rattle.btr_gate.proofs.NumberLemmas.{given_inside, given_below, given_above, given_more, one_other}
 use Rattle.btr_gate.proofs.PrefixLemmas.{starts_refl, starts_trans, starts_length, starts_between, starts_more}
 use Rattle.btr_hall.specs.Commit.{needs_of}
-use Rattle.btr_jobs.specs.Course.{Start}
+use Rattle.btr_jobs.specs.States.{StoreState}
 use Rattle.btr_jobs.specs.Turns.{IsFull}
 use Rattle.btr_load.proofs.TotalLemmas.{total_append}
 use Rattle.btr_load.proofs.FitLemmas.{needs_total}
@@ -190,7 +190,7 @@ module _ (batch rounds : ℕ) (script : List ScriptLine) (low : List Entry) wher
         }
 
     -- So it does not find the device full.
-    pub never_full : (start : Start) (p : List Entry) (e : Entry) (purpose : Purpose) (need left : ℕ) → low ≡ start.history → HasRoomForHistories batch rounds (store_at start) script → IsNext p e purpose → IsFull start p e need left → ⊥
+    pub never_full : (start : StoreState) (p : List Entry) (e : Entry) (purpose : Purpose) (need left : ℕ) → low ≡ start.history → HasRoomForHistories batch rounds (store_at start) script → IsNext p e purpose → IsFull start p e need left → ⊥
     never_full start p e purpose need left begins room is full =
         let serves : ServesScript batch rounds script start.history (p ++ e ∷ []) = subst (λ (l : List Entry). ServesScript batch rounds script l (p ++ e ∷ [])) begins (serves_next p e purpose is) in
         let fits : needs_of (p ++ e ∷ []) ≤ start.left + needs_of start.history = room (p ++ e ∷ []) serves in

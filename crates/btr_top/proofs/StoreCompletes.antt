@@ -12,14 +12,14 @@ use Rattle.btr_hist.specs.declared.entry.Entry.{Entry}
 use Rattle.btr_engine.specs.Body.{bodies}
 use Rattle.btr_engine.specs.Holds.{HoldsHistory, HoldsHistoryTo}
 use Rattle.btr_open.specs.Laws.{HeldIsSound, OneHistoryIsHeld}
-use Rattle.btr_jobs.specs.Course.{Start, Course}
+use Rattle.btr_jobs.specs.States.{StoreState, LogState}
 use Rattle.btr_store.specs.declared.transcript.Transcript.{Transcript}
 use Rattle.btr_store.specs.Completes.{IsBenign}
 use Rattle.btr_store.specs.Work.{HoldsStart, DoesRightly}
 use Rattle.btr_top.specs.declared.ending.Ending.{Ending}
 use Rattle.btr_top.specs.declared.ending.Ending.TheVariants.{Usage, NoSource, TooLong, OutOfMemory, NoDevice, NoStore, Damaged, Occupied, TooSmall, Formatted, Replied}
 use Rattle.btr_top.specs.Ending.{status_of}
-use Rattle.btr_top.specs.Work.{Doing, WorkCause}
+use Rattle.btr_top.specs.Work.{WorkSays, WorkCause}
 use Rattle.btr_top.specs.Run.{IsPlainStatus}
 use Rattle.btr_top.proofs.BenignStatuses.{benign_code}
 
@@ -32,7 +32,7 @@ module _ {D : Type 0} (disk : Ghosts D) (old new : D) (history : List Entry) (bl
   held = record { blocks = blocks; tail = tail; holds = holds }
 
   -- The device holds one store.
-  same_room : (first : Start) → HoldsStart disk old first → first.left ≡ left blocks tail
+  same_room : (first : StoreState) → HoldsStart disk old first → first.left ≡ left blocks tail
   same_room first is =
       let size = disk.size old in
       let image = disk.contents old in
@@ -42,10 +42,10 @@ module _ {D : Type 0} (disk : Ghosts D) (old new : D) (history : List Entry) (bl
       is.same_left ∙ ap (λ b. left b is.tail) sizes ∙ ap (λ t. left blocks t) tails
 
   -- The store that the device holds.
-  abbrev pub opened : Start
+  abbrev pub opened : StoreState
   opened = record { history = history; left = left blocks tail; stopped = false }
 
-  pub same_start : (first : Start) → first.stopped ≡ false → HoldsStart disk old first → first ≡ opened
+  pub same_start : (first : StoreState) → first.stopped ≡ false → HoldsStart disk old first → first ≡ opened
   same_start first not_stopped is =
       let before : HoldsHistory (disk.size old) (disk.contents old) first.history = record { blocks = is.blocks; tail = is.tail; holds = is.holds } in
       let histories : first.history ≡ history = one (disk.size old) (disk.contents old) first.history history before held in
@@ -53,19 +53,19 @@ module _ {D : Type 0} (disk : Ghosts D) (old new : D) (history : List Entry) (bl
       ∙ ap (λ (n : ℕ). with_parts history n first.stopped) (same_room first is)
       ∙ ap (λ (b : Bool). with_parts history (left blocks tail) b) not_stopped
     where
-      with_parts : List Entry → ℕ → Bool → Start
+      with_parts : List Entry → ℕ → Bool → StoreState
       with_parts h n b = record { history = h; left = n; stopped = b }
 
   -- Work began with this store.
-  pub began : (What : Start → Course → List ℕ → Type 0) (does : DoesRightly disk What old new) → does.first ≡ opened
+  pub began : (What : StoreState → LogState → List ℕ → Type 0) (does : DoesRightly disk What old new) → does.first ≡ opened
   began What does = same_start does.first does.works.not_stopped (does.works.before told)
 
   -- No step failed.
-  pub no_failure : (What : Start → Course → List ℕ → Type 0) (does : DoesRightly disk What old new) → does.course.failed ≡ None
-  no_failure What does = none_if does.course.failed (λ failed. device_works (does.works.failed failed))
+  pub no_failure : (What : StoreState → LogState → List ℕ → Type 0) (does : DoesRightly disk What old new) → does.log.failed ≡ None
+  no_failure What does = none_if does.log.failed (λ failed. device_works (does.works.failed failed))
 
   -- A command that works on the store ends with the status of its lines, or without memory.
-  pub plain_work : (What : Doing) → ((transcript : Transcript) → DoesRightly disk (What (Ok transcript)) old new → IsBenign transcript.status) → (e : Ending) → WorkCause disk What old new e → IsPlainStatus (status_of e)
+  pub plain_work : (What : WorkSays) → ((transcript : Transcript) → DoesRightly disk (What (Ok transcript)) old new → IsBenign transcript.status) → (e : Ending) → WorkCause disk What old new e → IsPlainStatus (status_of e)
   plain_work What benign Usage why = absurd why.0
   plain_work What benign NoSource why = absurd why.0
   plain_work What benign TooLong why = absurd why.0

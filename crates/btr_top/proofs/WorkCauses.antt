@@ -6,13 +6,13 @@ use Rattle.btr_disk.specs.declared.disk.Disk.{Ghosts}
 use Rattle.btr_store.specs.declared.transcript.Transcript.{Transcript}
 use Rattle.btr_store.specs.Work.{DoesRightly}
 use Rattle.btr_top.specs.declared.ending.Ending.{Ending}
-use Rattle.btr_top.specs.Work.{Doing, WorkCause, ending_of}
+use Rattle.btr_top.specs.Work.{WorkSays, WorkCause, ending_of}
 
-cause_of : {D : Type 0} (disk : Ghosts D) (What : Doing) (said : Result Transcript AllocError) (old new : D) → DoesRightly disk (What said) old new → WorkCause disk What old new (ending_of said)
+cause_of : {D : Type 0} (disk : Ghosts D) (What : WorkSays) (said : Result Transcript AllocError) (old new : D) → DoesRightly disk (What said) old new → WorkCause disk What old new (ending_of said)
 cause_of disk What (Ok transcript) old new does = does
 cause_of disk What (Err error) old new does = inr (error, does)
 
-pub work_cause : {D : Type 0} (disk : Ghosts D) (What : Doing) (said : Result Transcript AllocError) (old new end : D) (e : Ending) → e ≡ ending_of said → end ≡ new → DoesRightly disk (What said) old new → WorkCause disk What old end e
+pub work_cause : {D : Type 0} (disk : Ghosts D) (What : WorkSays) (said : Result Transcript AllocError) (old new end : D) (e : Ending) → e ≡ ending_of said → end ≡ new → DoesRightly disk (What said) old new → WorkCause disk What old end e
 work_cause disk What said old new end e is same does =
     subst (λ (x : Ending). WorkCause disk What old end x) (sym is)
     (subst (λ (d : _). WorkCause disk What old d (ending_of said)) (sym same) (cause_of disk What said old new does))

@@ -9,7 +9,7 @@ use Rattle.btr_rows.specs.Rows.{rows_of}
 use Rattle.btr_rows.specs.Streams.{RowListValue, list_of}
 use Rattle.btr_load.specs.There.{AreDistinct}
 use Rattle.btr_open.specs.Laws.{HeldIsSound, OneHistoryIsHeld}
-use Rattle.btr_jobs.specs.Course.{Start, Course}
+use Rattle.btr_jobs.specs.States.{StoreState, LogState}
 use Rattle.btr_store.specs.declared.transcript.Transcript.{Transcript}
 use Rattle.btr_store.specs.Completes.{IsBenign, HasRoomForRows, HasRoomForOutputs}
 use Rattle.btr_store.specs.Work.{DoesRightly}
@@ -26,42 +26,42 @@ use Rattle.btr_top.proofs.PlainStatuses.{benign_input}
 use Rattle.btr_top.proofs.StoreCompletes.{opened, began, no_failure, plain_work}
 
 module _ {D : Type 0} (disk : Ghosts D) (workers : ℕ) (old new : D) (sound : HeldIsSound) (one : OneHistoryIsHeld) (can : CanDistil disk old) (told : disk.is_observable) (device_works : Rose (disk.faults old) (disk.faults new) → ⊥) where
-  benign_brought : (transcript : Transcript) → DoesRightly disk (λ start course own. DistilsStore start course workers (Ok transcript) own) old new → IsBenign transcript.status
+  benign_brought : (transcript : Transcript) → DoesRightly disk (λ start log own. DistilsStore start log workers (Ok transcript) own) old new → IsBenign transcript.status
   benign_brought transcript does =
-      let What : Start → Course → List ℕ → Type 0 = λ start course own. DistilsStore start course workers (Ok transcript) own in
+      let What : StoreState → LogState → List ℕ → Type 0 = λ start log own. DistilsStore start log workers (Ok transcript) own in
       let same = began disk old new can.history can.blocks can.tail can.holds sound one told device_works What does in
-      let room : HasRoomForOutputs does.first = subst (λ (s : Start). HasRoomForOutputs s) (sym same) can.room in
+      let room : HasRoomForOutputs does.first = subst (λ (s : StoreState). HasRoomForOutputs s) (sym same) can.room in
       does.what.completes room (no_failure disk old new can.history can.blocks can.tail can.holds sound one told device_works What does)
 
   pub benign_distil : (e : Ending) → DistilCause disk workers old new e → IsPlainStatus (status_of e)
   benign_distil e why =
       plain_work disk old new can.history can.blocks can.tail can.holds sound one told device_works
-      (λ said start course own. DistilsStore start course workers said own) benign_brought e why
+      (λ said start log own. DistilsStore start log workers said own) benign_brought e why
 
 module _ {D : Type 0} (disk : Ghosts D) (number streams points : ℕ) (old new : D) (sound : HeldIsSound) (one : OneHistoryIsHeld) (can : CanSample disk number streams points old) (told : disk.is_observable) (device_works : Rose (disk.faults old) (disk.faults new) → ⊥) where
-  benign_sampled : (transcript : Transcript) → DoesRightly disk (λ start course own. SamplesStore number streams points start course (Ok transcript) own) old new → IsBenign transcript.status
+  benign_sampled : (transcript : Transcript) → DoesRightly disk (λ start log own. SamplesStore number streams points start log (Ok transcript) own) old new → IsBenign transcript.status
   benign_sampled transcript does =
-      let What : Start → Course → List ℕ → Type 0 = λ start course own. SamplesStore number streams points start course (Ok transcript) own in
+      let What : StoreState → LogState → List ℕ → Type 0 = λ start log own. SamplesStore number streams points start log (Ok transcript) own in
       let same = began disk old new can.history can.blocks can.tail can.holds sound one told device_works What does in
-      let room : HasRoomForSample number streams points does.first = subst (λ (s : Start). HasRoomForSample number streams points s) (sym same) can.room in
+      let room : HasRoomForSample number streams points does.first = subst (λ (s : StoreState). HasRoomForSample number streams points s) (sym same) can.room in
       does.what.completes room (no_failure disk old new can.history can.blocks can.tail can.holds sound one told device_works What does)
 
   pub benign_sample : (e : Ending) → SampleCause disk number streams points old new e → IsPlainStatus (status_of e)
   benign_sample e why =
       plain_work disk old new can.history can.blocks can.tail can.holds sound one told device_works
-      (λ said start course own. SamplesStore number streams points start course said own) benign_sampled e why
+      (λ said start log own. SamplesStore number streams points start log said own) benign_sampled e why
 
 module _ {S D : Type 0} (source : SourceGhosts S) (disk : Ghosts D) (workers batch : ℕ) (given rest : S) (old new : D) (sound : HeldIsSound) (one : OneHistoryIsHeld) (can : CanLoad source disk batch given old) (source_told : source.is_observable) (told : disk.is_observable) (source_works : StreamRose (source.faults given) (source.faults rest) → ⊥) (device_works : Rose (disk.faults old) (disk.faults new) → ⊥) where
   not_too_long : ExceedsInputLimit source given rest → ⊥
   not_too_long exceeds = omega (arith, exceeds source_told, can.within)
 
-  benign_loaded : (rows : RowListValue) → rows ≡ list_of (rows_of (source.left given)) → (transcript : Transcript) → DoesRightly disk (λ start course own. LoadsStore start course rows batch workers (Ok transcript) own) old new → IsBenign transcript.status
+  benign_loaded : (rows : RowListValue) → rows ≡ list_of (rows_of (source.left given)) → (transcript : Transcript) → DoesRightly disk (λ start log own. LoadsStore start log rows batch workers (Ok transcript) own) old new → IsBenign transcript.status
   benign_loaded rows all transcript does =
-      let What : Start → Course → List ℕ → Type 0 = λ start course own. LoadsStore start course rows batch workers (Ok transcript) own in
+      let What : StoreState → LogState → List ℕ → Type 0 = λ start log own. LoadsStore start log rows batch workers (Ok transcript) own in
       let store = opened disk old new can.history can.blocks can.tail can.holds sound one told device_works in
       let same = began disk old new can.history can.blocks can.tail can.holds sound one told device_works What does in
       let room : HasRoomForRows does.first rows batch =
-      subst (λ (s : Start). HasRoomForRows s rows batch) (sym same)
+      subst (λ (s : StoreState). HasRoomForRows s rows batch) (sym same)
       (subst (λ (rs : RowListValue). HasRoomForRows store rs batch) (sym all) can.room) in
       does.what.completes room (no_failure disk old new can.history can.blocks can.tail can.holds sound one told device_works What does)
 
@@ -70,7 +70,7 @@ module _ {S D : Type 0} (source : SourceGhosts S) (disk : Ghosts D) (workers bat
       let rows : RowListValue = list_of (rows_of input) in
       let all : rows ≡ list_of (rows_of (source.left given)) = ap (λ (i : List ℕ). list_of (rows_of i)) (read.all source_told) in
       plain_work disk old new can.history can.blocks can.tail can.holds sound one told device_works
-      (λ said start course own. LoadsStore start course rows batch workers said own) (benign_loaded rows all) e why
+      (λ said start log own. LoadsStore start log rows batch workers said own) (benign_loaded rows all) e why
 
   pub benign_load : (e : Ending) → LoadCause source disk workers batch given rest old new e → IsPlainStatus (status_of e)
   benign_load e why =

@@ -18,7 +18,7 @@ module _ {D : Type 0} (disk : Ghosts D) where
   -- Why `live` ends so, after its lines were read.
   abbrev pub ScriptCause : ℕ → Bool → List ScriptLine → D → D → Ending → Type 0
   ScriptCause batch materialize script old new e =
-      WorkCause disk (λ said start course own. LivesStore batch materialize script start course said own) old new e
+      WorkCause disk (λ said start log own. LivesStore batch materialize script start log said own) old new e
 
 module _ {S D : Type 0} (source : SourceGhosts S) (disk : Ghosts D) where
   -- Why `live` ends so.

@@ -18,7 +18,7 @@ use Rattle.btr_text.specs.declared.script.Line.TheVariants as lines
 use Rattle.btr_text.specs.declared.script.ScriptLine.{ScriptLine}
 use Rattle.btr_live.specs.Feeds.{none_waiting}
 use Rattle.btr_live.specs.Meaning.{Commits, meaning}
-use Rattle.btr_live.specs.Script.{Store, begun, needs_of}
+use Rattle.btr_live.specs.Script.{Store, begun_state, script_needs}
 use Rattle.btr_live.specs.OneLane.{AreInLane}
 use Rattle.btr_store.specs.Completes.{IsPlannedSince}
 
@@ -28,7 +28,7 @@ use Rattle.btr_store.specs.Completes.{IsPlannedSince}
 pub record HasRoomInLane (batch : ℕ) (store : Store) (script : List ScriptLine) : Type 0 where
   pub lane : ℕ
   pub one : AreInLane lane script
-  pub room : needs_of batch (begun store) script ≤ store.left
+  pub room : script_needs batch (begun_state store) script ≤ store.left
 
 -- ---- what an entry is there for
 

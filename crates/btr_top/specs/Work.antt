@@ -9,7 +9,7 @@ use Rattle.btr_engine.specs.Holds.{HoldsHistoryTo}
 use Rattle.btr_rows.specs.Rows.{rows_of}
 use Rattle.btr_rows.specs.Streams.{RowListValue, list_of}
 use Rattle.btr_load.specs.There.{AreDistinct}
-use Rattle.btr_jobs.specs.Course.{Start, Course}
+use Rattle.btr_jobs.specs.States.{StoreState, LogState}
 use Rattle.btr_store.specs.declared.transcript.Transcript.{Transcript}
 use Rattle.btr_store.specs.Completes.{HasRoomForRows, HasRoomForOutputs}
 use Rattle.btr_store.specs.Work.{DoesRightly}
@@ -27,14 +27,14 @@ abbrev pub ending_of : Result Transcript AllocError → Ending
 ending_of (Ok transcript) = Replied transcript
 ending_of (Err error) = OutOfMemory
 
--- What work does that says this: from a start, over a course, with these numbers of what it added.
-abbrev pub Doing : Type 1
-Doing = Result Transcript AllocError → Start → Course → List ℕ → Type 0
+-- What work does that says this: from a start, over a state of the log, with these numbers of what it added.
+abbrev pub WorkSays : Type 1
+WorkSays = Result Transcript AllocError → StoreState → LogState → List ℕ → Type 0
 
 module _ {D : Type 0} (disk : Ghosts D) where
   -- Why a command ends so that opens a store and does this work on it. If memory runs out the store was not opened and nothing was
   -- written, or the work was done as far as it says.
-  abbrev pub WorkCause : Doing → D → D → Ending → Type 0
+  abbrev pub WorkCause : WorkSays → D → D → Ending → Type 0
   WorkCause What old new (Replied transcript) = DoesRightly disk (What (Ok transcript)) old new
   WorkCause What old new OutOfMemory =
       IsKept disk old new ⊎ ((error : AllocError) × DoesRightly disk (What (Err error)) old new)
@@ -42,17 +42,17 @@ module _ {D : Type 0} (disk : Ghosts D) where
 
   -- Why `distil` ends so.
   abbrev pub DistilCause : ℕ → D → D → Ending → Type 0
-  DistilCause workers old new e = WorkCause (λ said start course own. DistilsStore start course workers said own) old new e
+  DistilCause workers old new e = WorkCause (λ said start log own. DistilsStore start log workers said own) old new e
 
   -- Why `sample` ends so.
   abbrev pub SampleCause : ℕ → ℕ → ℕ → D → D → Ending → Type 0
   SampleCause number streams points old new e =
-      WorkCause (λ said start course own. SamplesStore number streams points start course said own) old new e
+      WorkCause (λ said start log own. SamplesStore number streams points start log said own) old new e
 
   -- Why `load` ends so, after its rows were read.
   abbrev pub RowsCause : ℕ → ℕ → RowListValue → D → D → Ending → Type 0
   RowsCause workers batch rows old new e =
-      WorkCause (λ said start course own. LoadsStore start course rows batch workers said own) old new e
+      WorkCause (λ said start log own. LoadsStore start log rows batch workers said own) old new e
 
 module _ {D : Type 0} (disk : Ghosts D) where
   -- The device holds a store with room for all that may be landed for its outputs, each at most once.

@@ -21,7 +21,7 @@ mod run_command;
 mod laws;
 
 pub use btr_live::{lines_keep_legal, refreshes_are_current};
+pub use command::MAX_INPUT;
 pub use ending::Ending;
 pub use laws::{run_limits_are_these, script_fits};
 pub use run_command::{Outcome, run, run_paced};
-pub use command::MAX_INPUT;

@@ -28,14 +28,14 @@ use Rattle.btr_hall.specs.declared.land.LandFault.TheVariants as faults
 use Rattle.btr_plan.specs.Next.{IsUpToDate, IsNextPlan}
 use Rattle.btr_plan.specs.Plan.{IsPlanOf, IsCurrent, landing_of, reply_to}
 use Rattle.btr_plan.proofs.PlanLemmas.{plan-stays, plan-entry, reply-current}
-use Rattle.btr_jobs.specs.Course.{Start, Course}
-use Rattle.btr_work.specs.declared.report.Brought.{Brought}
-use Rattle.btr_work.specs.declared.report.Brought.TheVariants as brought
-use Rattle.btr_work.specs.Report.{IsBrought, BringsEach, BringsLevels, Brings}
+use Rattle.btr_jobs.specs.States.{StoreState, LogState}
+use Rattle.btr_work.specs.declared.report.Refreshed.{Refreshed}
+use Rattle.btr_work.specs.declared.report.Refreshed.TheVariants as refreshed
+use Rattle.btr_work.specs.Report.{IsRefreshed, RefreshesEach, RefreshesLevels, Refreshes}
 use Rattle.btr_work.specs.declared.report.ReportLine.{ReportLine}
 use Rattle.btr_work.specs.Levels.{levels_of, outputs, AreGroups}
 use Rattle.btr_work.specs.Laws.{AreAllSince}
-use Rattle.btr_work.specs.Alike.{landed_next, landed_each, landed_levels, result_by, IsUndisturbed, IsAlike, BroughtIsAlike}
+use Rattle.btr_work.specs.Alike.{landed_next, landed_each, landed_levels, result_by, IsUndisturbed, IsAlike, RefreshedIsAlike}
 use Rattle.btr_gate.proofs.NumberLemmas.{one_other, given_inside}
 use Rattle.btr_work.proofs.OwnLemmas.{same_some, AreAll, IsSplit, each-split, levels-owned, all-first, all-rest}
 use Rattle.btr_work.proofs.CurrentLemmas.{spec-stays, level-quiet, mine-quiet, not-superseded, levels-quiet, all-since}
@@ -299,16 +299,16 @@ module _ (at p : List Entry) (output : ℕ) (spec : Spec) (plan : PlanValue) (fo
 -- ---- the result of an output, by the versions before and after
 
 module _ (low hist : List Entry) (output : ℕ) where
-  abbrev chosen : Bool → Bool → Brought
+  abbrev chosen : Bool → Bool → Refreshed
   chosen more behind =
-      cond more (brought.Landed (latest hist output)) (cond behind (brought.Refused faults.VersionLimit) (brought.Current (latest hist output)))
+      cond more (refreshed.Landed (latest hist output)) (cond behind (refreshed.Refused faults.VersionLimit) (refreshed.Current (latest hist output)))
 
   behind : (o : Option Landing) → plan_of hist output (spec_of hist output) ≡ o → nat_lt (latest low output) (latest hist output) ≡ false → result_by low hist output ≡ chosen false (is_some o)
   behind o is not_more = ap (λ t. chosen t (is_some (plan_of hist output (spec_of hist output)))) not_more ∙ ap (λ x. chosen false (is_some x)) is
 
-  result-landed : (version : ℕ) → latest low output < latest hist output → version ≡ latest hist output → brought.Landed version ≡ result_by low hist output
+  result-landed : (version : ℕ) → latest low output < latest hist output → version ≡ latest hist output → refreshed.Landed version ≡ result_by low hist output
   result-landed version more is =
-      ap brought.Landed is ∙ sym (ap (λ t. chosen t (is_some (plan_of hist output (spec_of hist output)))) (lt-ltb (latest low output) (latest hist output) more))
+      ap refreshed.Landed is ∙ sym (ap (λ t. chosen t (is_some (plan_of hist output (spec_of hist output)))) (lt-ltb (latest low output) (latest hist output) more))
 
   module _ (spec : Spec) (is_spec : spec_of hist output ≡ Some spec) (same : Same output low hist) (inputs : SameInputs low hist spec) where
     planned-hist : plan_of hist output (spec_of hist output) ≡ planned low output spec
@@ -317,10 +317,10 @@ module _ (low hist : List Entry) (output : ℕ) where
     no-more : nat_lt (latest low output) (latest hist output) ≡ false
     no-more = le-ltb (latest low output) (latest hist output) (let l = latest-same low hist output same in omega (arith, l))
 
-    result-current : (version : ℕ) → planned low output spec ≡ None → version ≡ latest hist output → brought.Current version ≡ result_by low hist output
-    result-current version none is = ap brought.Current is ∙ sym (behind None (planned-hist ∙ none) no-more)
+    result-current : (version : ℕ) → planned low output spec ≡ None → version ≡ latest hist output → refreshed.Current version ≡ result_by low hist output
+    result-current version none is = ap refreshed.Current is ∙ sym (behind None (planned-hist ∙ none) no-more)
 
-    result-limit : (l : Landing) → planned low output spec ≡ Some l → brought.Refused faults.VersionLimit ≡ result_by low hist output
+    result-limit : (l : Landing) → planned low output spec ≡ Some l → refreshed.Refused faults.VersionLimit ≡ result_by low hist output
     result-limit l some = sym (behind (Some l) (planned-hist ∙ some) no-more)
 
 -- It depends on the commits of the output and of its inputs alone.
@@ -330,7 +330,7 @@ result-same low other hist after output spec in_hist in_after before same inputs
     let to = latest-same hist after output same in
     let plan : plan_of after output (spec_of after output) ≡ plan_of hist output (spec_of hist output) =
     ap (plan_of after output) in_after ∙ planned-same hist after output spec same inputs ∙ sym (ap (plan_of hist output) in_hist) in
-    λ i. cond (nat_lt (from i) (to i)) (brought.Landed (to i)) (cond (is_some (plan i)) (brought.Refused faults.VersionLimit) (brought.Current (to i)))
+    λ i. cond (nat_lt (from i) (to i)) (refreshed.Landed (to i)) (cond (is_some (plan i)) (refreshed.Refused faults.VersionLimit) (refreshed.Current (to i)))
 
 -- ---- one output of a level
 
@@ -342,11 +342,11 @@ module _ (low hist : List Entry) (output : ℕ) (spec : Spec) (is_spec : spec_of
   }
 
   -- What is said of an output in the end.
-  abbrev pub IsEnd : Brought → Type 0
+  abbrev pub IsEnd : Refreshed → Type 0
   IsEnd r = Same output (landed_next low output) hist × (r ≡ result_by low hist output)
 
   -- An output that was up to date.
-  pub end-current : (at : List Entry) (version : ℕ) → StartsWith at low → StartsWith hist at → IsUpToDate at output version → Quiet output low hist → IsEnd (brought.Current version)
+  pub end-current : (at : List Entry) (version : ℕ) → StartsWith at low → StartsWith hist at → IsUpToDate at output version → Quiet output low hist → IsEnd (refreshed.Current version)
   end-current at version above inside is quiet =
       let same_at = quiet-same output low at above (quiet-less output low at hist inside quiet) in
       let same_hist = quiet-same output low hist whole quiet in
@@ -383,7 +383,7 @@ module _ (low hist : List Entry) (output : ℕ) (spec : Spec) (is_spec : spec_of
     p-is = landed-here at p output spec plan follows starts spec-at is same-at inputs-at
 
     -- An output whose plan landed.
-    pub end-landed : (version : ℕ) (r : machine.Receipt) → reply_to p plan ≡ Accepted r → version ≡ latest p plan.stream + 1 → StartsWith hist (p ++ plans.entry_of plan ∷ []) → Quiet output (p ++ plans.entry_of plan ∷ []) hist → IsEnd (brought.Landed version)
+    pub end-landed : (version : ℕ) (r : machine.Receipt) → reply_to p plan ≡ Accepted r → version ≡ latest p plan.stream + 1 → StartsWith hist (p ++ plans.entry_of plan ∷ []) → Quiet output (p ++ plans.entry_of plan ∷ []) hist → IsEnd (refreshed.Landed version)
     end-landed version r reply version_is follows_p after =
         let e = plans.entry_of plan in
         let none = accepted-here at p output spec plan follows starts spec-at is same-at inputs-at r reply in
@@ -400,7 +400,7 @@ module _ (low hist : List Entry) (output : ℕ) (spec : Spec) (is_spec : spec_of
         )
 
     -- An output that has as many versions as a stream can have.
-    pub end-limit : reply_to p plan ≡ Rejected rejections.VersionLimit → Quiet output low hist → IsEnd (brought.Refused faults.VersionLimit)
+    pub end-limit : reply_to p plan ≡ Rejected rejections.VersionLimit → Quiet output low hist → IsEnd (refreshed.Refused faults.VersionLimit)
     end-limit reply quiet_hist =
         let e = plans.entry_of plan in
         let why = rejected-here at p output spec plan follows starts spec-at is same-at inputs-at rejections.VersionLimit reply in
@@ -414,19 +414,19 @@ module _ (low hist : List Entry) (output : ℕ) (spec : Spec) (is_spec : spec_of
           result-limit low hist output spec (spec-stays hist low output spec whole is_spec) same_hist (inputs-between low hist (starts_refl low) whole (starts_refl hist)) (landing_of plan) some,
         )
 
-module _ (start : Start) (course : Course) (low : List Entry) (result : ℕ → Brought) (level own : List ℕ) (brings : BringsEach start course low result level own) (all : AreAll low course.history own) (output : ℕ) (split : IsSplit start course low result output level own) (legal : Legal course.history) (spec : Spec) (is_spec : spec_of low output ≡ Some spec) (whole : StartsWith course.history low) (first : Quiet spec.first low course.history) (second : (s : ℕ) → spec.second ≡ Some s → Quiet s low course.history) where
+module _ (start : StoreState) (log : LogState) (low : List Entry) (result : ℕ → Refreshed) (level own : List ℕ) (refreshes : RefreshesEach start log low result level own) (all : AreAll low log.history own) (output : ℕ) (split : IsSplit start log low result output level own) (legal : Legal log.history) (spec : Spec) (is_spec : spec_of low output ≡ Some spec) (whole : StartsWith log.history low) (first : Quiet spec.first low log.history) (second : (s : ℕ) → spec.second ≡ Some s → Quiet s low log.history) where
   abbrev pub hist : List Entry
-  hist = course.history
+  hist = log.history
 
   quiet-idle : split.mine ≡ [] → Quiet output low hist
-  quiet-idle none n after e at = mine-quiet start course low result level own brings all output split n after (ap (times n) none) e at
+  quiet-idle none n after e at = mine-quiet start log low result level own refreshes all output split n after (ap (times n) none) e at
 
   follows-at : (p : List Entry) → StartsWith hist p → Legal p
   follows-at p inside = legal-prefix p inside.0 (subst Legal inside.1 legal)
 
   -- The output has in the end what its landing alone leaves, and its result is by that.
-  pub level-end : (r : Brought) → IsUndisturbed r → IsBrought start course low output r split.mine → IsEnd low hist output spec is_spec whole first second r
-  level-end (brought.Landed version) free is =
+  pub level-end : (r : Refreshed) → IsUndisturbed r → IsRefreshed start log low output r split.mine → IsEnd low hist output spec is_spec whole first second r
+  level-end (refreshed.Landed version) free is =
       let l = is.2 in
       let p = l.landed.0 in
       let e = plans.entry_of l.plan in
@@ -435,7 +435,7 @@ module _ (start : Start) (course : Course) (low : List Entry) (result : ℕ → 
       let besides : (n : ℕ) → length low < n → (n ≡ length p + 1 → ⊥) → (x : Entry) → slice_get hist (n - 1) ≡ Some x → IsOther output x = λ n after differs x at.
       let m = one_other (length p + 1) n (λ same. differs (sym same)) in
       let none : times n split.mine ≡ 0 = ap (times n) added.own ∙ (omega (arith, m)) in
-      mine-quiet start course low result level own brings all output split n after none x at in
+      mine-quiet start log low result level own refreshes all output split n after none x at in
       let quiet : Quiet output low p = λ n after x at.
       let inside = get-past p (n - 1) x at in
       besides n after (λ same. absurd (omega (arith, same, inside))) x
@@ -445,21 +445,21 @@ module _ (start : Start) (course : Course) (low : List Entry) (result : ℕ → 
       besides n above (λ same. absurd (omega (arith, same, more, long))) x at in
       end-landed low hist output spec is_spec whole first second l.at p l.plan (legal-follows p (follows-at p l.landed.2)) l.after l.landed.1 l.landed.2 l.planned quiet
       version (machine.receipt p e) l.landed.3.0 (is.1 ∙ l.landed.3.1.version) added.follows after
-  level-end (brought.Current version) free is =
+  level-end (refreshed.Current version) free is =
       end-current low hist output spec is_spec whole first second is.at version is.after is.seen is.current (quiet-idle is.none)
-  level-end (brought.Refused faults.VersionLimit) free is =
+  level-end (refreshed.Refused faults.VersionLimit) free is =
       let p = is.landed.0 in
       let quiet = quiet-idle is.landed.3.2.own in
       end-limit low hist output spec is_spec whole first second is.at p is.plan (legal-follows p (follows-at p is.landed.2)) is.after is.landed.1 is.landed.2 is.planned (quiet-less output low p hist is.landed.2 quiet)
       is.landed.3.1 quiet
-  level-end (brought.Refused (faults.Superseded version)) free is =
-      absurd (not-superseded start course low result level own brings all output split spec version is_spec is)
-  level-end (brought.Refused (faults.Crowded at)) free is = absurd (is.landed.3.2 (follows-at is.landed.0 is.landed.2))
-  level-end (brought.Refused (faults.TooManyPoints count)) free is = absurd (is.landed.3.2 (follows-at is.landed.0 is.landed.2))
-  level-end (brought.Refused (faults.Stopped entries)) free is = absurd free
-  level-end (brought.Refused faults.Want) free is = absurd free
-  level-end (brought.Refused (faults.DeviceFull need left)) free is = absurd free
-  level-end (brought.Refused faults.DeviceFault) free is = absurd free
+  level-end (refreshed.Refused (faults.Superseded version)) free is =
+      absurd (not-superseded start log low result level own refreshes all output split spec version is_spec is)
+  level-end (refreshed.Refused (faults.Crowded at)) free is = absurd (is.landed.3.2 (follows-at is.landed.0 is.landed.2))
+  level-end (refreshed.Refused (faults.TooManyPoints count)) free is = absurd (is.landed.3.2 (follows-at is.landed.0 is.landed.2))
+  level-end (refreshed.Refused (faults.Stopped entries)) free is = absurd free
+  level-end (refreshed.Refused faults.Want) free is = absurd free
+  level-end (refreshed.Refused (faults.DeviceFull need left)) free is = absurd free
+  level-end (refreshed.Refused faults.DeviceFault) free is = absurd free
 
 -- ---- all levels
 
@@ -484,23 +484,23 @@ levels-starts seen h (level ∷ levels) starts are =
     levels-starts seen (landed_each h level) levels
     (starts_trans (landed_each h level) h seen (each-starts seen h level starts (λ s is. are s (inl is))) starts) (λ s is. are s (inr is))
 
-module _ (start : Start) (result : ℕ → Brought) (seen : List Entry) (follows : Follows seen) where
+module _ (start : StoreState) (result : ℕ → Refreshed) (seen : List Entry) (follows : Follows seen) where
   abbrev of : ℕ → ℕ
   of stream = slice_index_or (levels_of seen) stream 0
 
   -- What is said of a level.
-  module _ (base : ℕ) (low : List Entry) (level : List ℕ) (levels : List (List ℕ)) (late : Course) (own : List ℕ) (begins : StartsWith low seen) (graded : Graded (levels_of seen) base (level ∷ levels)) (are : AreAllOutputs seen (level ∷ levels)) (brings : BringsLevels start low result (level ∷ levels) late own) (all : AreAll low late.history own) (legal : Legal late.history) (free : (s : ℕ) → IsInAny s (level ∷ levels) → IsUndisturbed (result s)) where
-    abbrev middle : Course
-    middle = brings.0
+  module _ (base : ℕ) (low : List Entry) (level : List ℕ) (levels : List (List ℕ)) (late : LogState) (own : List ℕ) (begins : StartsWith low seen) (graded : Graded (levels_of seen) base (level ∷ levels)) (are : AreAllOutputs seen (level ∷ levels)) (refreshes : RefreshesLevels start low result (level ∷ levels) late own) (all : AreAll low late.history own) (legal : Legal late.history) (free : (s : ℕ) → IsInAny s (level ∷ levels) → IsUndisturbed (result s)) where
+    abbrev middle : LogState
+    middle = refreshes.0
 
-    first-all : AreAll low middle.history brings.3
-    first-all = all-first start result low level levels late own brings all
+    first-all : AreAll low middle.history refreshes.3
+    first-all = all-first start result low level levels late own refreshes all
 
     legal-middle : Legal middle.history
-    legal-middle = legal-prefix middle.history brings.1.begins.0 (subst Legal brings.1.begins.1 legal)
+    legal-middle = legal-prefix middle.history refreshes.1.begins.0 (subst Legal refreshes.1.begins.1 legal)
 
     quiet-other : (stream : ℕ) → (IsIn stream level → ⊥) → Quiet stream low middle.history
-    quiet-other stream not = level-quiet start middle low result level brings.3 brings.5 first-all stream not
+    quiet-other stream not = level-quiet start middle low result level refreshes.3 refreshes.5 first-all stream not
 
     lower-not : (stream : ℕ) → of stream < base → IsIn stream level → ⊥
     lower-not stream lower is = absurd (omega (arith, lower, graded.0 stream is))
@@ -519,9 +519,9 @@ module _ (start : Start) (result : ℕ → Brought) (seen : List Entry) (follows
     level-ends : (output : ℕ) → IsIn output level → Same output (landed_next low output) middle.history × (result output ≡ result_by low middle.history output)
     level-ends output here =
         let spec = are output (inl here) in
-        let split = each-split start middle low result level brings.3 output brings.5 graded.1 here in
-        level-end start middle low result level brings.3 brings.5 first-all output split legal-middle spec.0 (spec-stays low seen output spec.0 begins spec.1) brings.2
-        (end-first output here) (end-second output here) (result output) (free output (inl here)) split.brought
+        let split = each-split start middle low result level refreshes.3 output refreshes.5 graded.1 here in
+        level-end start middle low result level refreshes.3 refreshes.5 first-all output split legal-middle spec.0 (spec-stays low seen output spec.0 begins spec.1) refreshes.2
+        (end-first output here) (end-second output here) (result output) (free output (inl here)) split.refreshed
 
     -- If each stream had the same commits before the level, each has so after it.
     level-alike : (h : List Entry) → StartsWith h seen → ((stream : ℕ) → Same stream h low) → (stream : ℕ) → Same stream (landed_each h level) middle.history
@@ -540,68 +540,68 @@ module _ (start : Start) (result : ℕ → Brought) (seen : List Entry) (follows
           | inr not ↦
               same_trans stream (landed_each h level) h middle.history
               (same_sym stream h (landed_each h level) (each-other seen h level stream starts (λ s is. are s (inl is)) not))
-              (same_trans stream h low middle.history (same stream) (quiet-same stream low middle.history brings.2 (quiet-other stream not)))
+              (same_trans stream h low middle.history (same stream) (quiet-same stream low middle.history refreshes.2 (quiet-other stream not)))
         ]
 
-  none-after : (low : List Entry) (late : Course) (own : List ℕ) → ((n : ℕ) → times n own ≡ 0) → AreAll low late.history own → (stream : ℕ) → Quiet stream low late.history
+  none-after : (low : List Entry) (late : LogState) (own : List ℕ) → ((n : ℕ) → times n own ≡ 0) → AreAll low late.history own → (stream : ℕ) → Quiet stream low late.history
   none-after low late own none all stream n after e at =
       let inside = get-past late.history (n - 1) e at in
       let some = all n after (omega (arith, inside, after)) in
       absurd (omega (arith, some, none n))
 
   -- Each stream has in the end the commits that one worker leaves.
-  pub levels-alike : (base : ℕ) (low h : List Entry) (levels : List (List ℕ)) (late : Course) (own : List ℕ) → StartsWith low seen → StartsWith h seen → Graded (levels_of seen) base levels → AreAllOutputs seen levels → BringsLevels start low result levels late own → AreAll low late.history own → Legal late.history → ((s : ℕ) → IsInAny s levels → IsUndisturbed (result s)) → ((stream : ℕ) → Same stream h low) → (stream : ℕ) → Same stream (landed_levels h levels) late.history
-  levels-alike base low h [] late own begins starts graded are brings all legal free same stream =
-      same_trans stream h low late.history (same stream) (quiet-same stream low late.history brings.0 (none-after low late own brings.1 all stream))
-  levels-alike base low h (level ∷ levels) late own begins starts graded are brings all legal free same stream =
-      levels-alike (suc base) brings.0.history (landed_each h level) levels late brings.4 (starts_trans brings.0.history low seen brings.2 begins)
+  pub levels-alike : (base : ℕ) (low h : List Entry) (levels : List (List ℕ)) (late : LogState) (own : List ℕ) → StartsWith low seen → StartsWith h seen → Graded (levels_of seen) base levels → AreAllOutputs seen levels → RefreshesLevels start low result levels late own → AreAll low late.history own → Legal late.history → ((s : ℕ) → IsInAny s levels → IsUndisturbed (result s)) → ((stream : ℕ) → Same stream h low) → (stream : ℕ) → Same stream (landed_levels h levels) late.history
+  levels-alike base low h [] late own begins starts graded are refreshes all legal free same stream =
+      same_trans stream h low late.history (same stream) (quiet-same stream low late.history refreshes.0 (none-after low late own refreshes.1 all stream))
+  levels-alike base low h (level ∷ levels) late own begins starts graded are refreshes all legal free same stream =
+      levels-alike (suc base) refreshes.0.history (landed_each h level) levels late refreshes.4 (starts_trans refreshes.0.history low seen refreshes.2 begins)
       (starts_trans (landed_each h level) h seen (each-starts seen h level starts (λ s is. are s (inl is))) starts)
-      graded.2 (λ s is. are s (inr is)) brings.6 (all-rest start result low level levels late own brings all) legal (λ s is. free s (inr is))
-      (level-alike base low level levels late own begins graded are brings all legal free h starts same) stream
+      graded.2 (λ s is. are s (inr is)) refreshes.6 (all-rest start result low level levels late own refreshes all) legal (λ s is. free s (inr is))
+      (level-alike base low level levels late own begins graded are refreshes all legal free h starts same) stream
 
   -- Each result is that by the versions before and after.
-  pub levels-results : (base : ℕ) (low : List Entry) (levels : List (List ℕ)) (late : Course) (own : List ℕ) → StartsWith low seen → Graded (levels_of seen) base levels → AreAllOutputs seen levels → BringsLevels start low result levels late own → AreAll low late.history own → Legal late.history → ((s : ℕ) → IsInAny s levels → IsUndisturbed (result s)) → (output : ℕ) → IsInAny output levels → result output ≡ result_by low late.history output
-  levels-results base low [] late own begins graded are brings all legal free output any = absurd any
-  levels-results base low (level ∷ levels) late own begins graded are brings all legal free output (inl here) =
-      let mid = brings.0.history in
+  pub levels-results : (base : ℕ) (low : List Entry) (levels : List (List ℕ)) (late : LogState) (own : List ℕ) → StartsWith low seen → Graded (levels_of seen) base levels → AreAllOutputs seen levels → RefreshesLevels start low result levels late own → AreAll low late.history own → Legal late.history → ((s : ℕ) → IsInAny s levels → IsUndisturbed (result s)) → (output : ℕ) → IsInAny output levels → result output ≡ result_by low late.history output
+  levels-results base low [] late own begins graded are refreshes all legal free output any = absurd any
+  levels-results base low (level ∷ levels) late own begins graded are refreshes all legal free output (inl here) =
+      let mid = refreshes.0.history in
       let spec = are output (inl here) in
-      let in_mid = spec-stays mid seen output spec.0 (starts_trans mid low seen brings.2 begins) spec.1 in
-      let in_late = spec-stays late.history mid output spec.0 brings.1.begins in_mid in
-      let rest = all-rest start result low level levels late own brings all in
+      let in_mid = spec-stays mid seen output spec.0 (starts_trans mid low seen refreshes.2 begins) spec.1 in
+      let in_late = spec-stays late.history mid output spec.0 refreshes.1.begins in_mid in
+      let rest = all-rest start result low level levels late own refreshes all in
       let still : (s : ℕ) → of s ≤ of output → Same s mid late.history = λ s lower.
-      quiet-same s mid late.history brings.1.begins
-      (levels-quiet start result seen follows (suc base) mid levels late brings.4 graded.2 brings.6 rest s (omega (arith, lower, graded.0 output here))) in
+      quiet-same s mid late.history refreshes.1.begins
+      (levels-quiet start result seen follows (suc base) mid levels late refreshes.4 graded.2 refreshes.6 rest s (omega (arith, lower, graded.0 output here))) in
       let inputs : SameInputs mid late.history spec.0 = record {
         first = still spec.0.first (let l = first-lower seen follows output spec.0 spec.1 in omega (arith, l));
         second = λ s is. still s (let l = second-below seen follows output spec.0 spec.1 s is in omega (arith, l));
       } in
-      (level-ends base low level levels late own begins graded are brings all legal free output here).1
+      (level-ends base low level levels late own begins graded are refreshes all legal free output here).1
       ∙ sym (result-same low low mid late.history output spec.0 in_mid in_late (same_refl output low) (still output (omega arith)) inputs)
-  levels-results base low (level ∷ levels) late own begins graded are brings all legal free output (inr later) =
-      let mid = brings.0.history in
+  levels-results base low (level ∷ levels) late own begins graded are refreshes all legal free output (inr later) =
+      let mid = refreshes.0.history in
       let spec = are output (inr later) in
-      let in_late = spec-stays late.history seen output spec.0 (starts_trans late.history mid seen brings.1.begins (starts_trans mid low seen brings.2 begins)) spec.1 in
+      let in_late = spec-stays late.history seen output spec.0 (starts_trans late.history mid seen refreshes.1.begins (starts_trans mid low seen refreshes.2 begins)) spec.1 in
       let above = graded-above (levels_of seen) (suc base) levels output graded.2 later in
-      let before : Same output low mid = quiet-same output low mid brings.2
-      (quiet-other base low level levels late own begins graded are brings all legal free output (λ is. absurd (omega (arith, above, graded.0 output is)))) in
+      let before : Same output low mid = quiet-same output low mid refreshes.2
+      (quiet-other base low level levels late own begins graded are refreshes all legal free output (λ is. absurd (omega (arith, above, graded.0 output is)))) in
       let inputs : SameInputs late.history late.history spec.0 = record { first = same_refl spec.0.first late.history; second = λ s is. same_refl s late.history } in
-      levels-results (suc base) mid levels late brings.4 (starts_trans mid low seen brings.2 begins) graded.2 (λ s is. are s (inr is)) brings.6 (all-rest start result low level levels late own brings all) legal (λ s is. free s (inr is)) output later
+      levels-results (suc base) mid levels late refreshes.4 (starts_trans mid low seen refreshes.2 begins) graded.2 (λ s is. are s (inr is)) refreshes.6 (all-rest start result low level levels late own refreshes all) legal (λ s is. free s (inr is)) output later
       ∙ sym (result-same mid low late.history late.history output spec.0 in_late in_late (same_sym output low mid before) (same_refl output late.history) inputs)
 
 -- ---- the whole
 
 -- Nobody added anything before the call saw the history.
-pub seen-low : (start : Start) (course : Course) (low : List Entry) (report : List ReportLine) (own : List ℕ) (brings : Brings start course low report own) → AreAllSince low course own → brings.seen ≡ low
-seen-low start course low report own brings all =
-    elim (cases_lt (length low) (length brings.seen)) [
+pub seen-low : (start : StoreState) (log : LogState) (low : List Entry) (report : List ReportLine) (own : List ℕ) (refreshes : Refreshes start log low report own) → AreAllSince low log own → refreshes.seen ≡ low
+seen-low start log low report own refreshes all =
+    elim (cases_lt (length low) (length refreshes.seen)) [
       | inl more ↦
           let n = length low + 1 in
-          let inside = starts_length course.history brings.seen brings.before in
-          let one = given_inside (length low) (length course.history + one (is_some course.failed)) n (omega arith) (omega (arith, more, inside)) in
-          let r = levels-owned start brings.result brings.seen brings.levels course own brings.brings n (omega (arith, all n, one)) in
+          let inside = starts_length log.history refreshes.seen refreshes.before in
+          let one = given_inside (length low) (length log.history + one (is_some log.failed)) n (omega arith) (omega (arith, more, inside)) in
+          let r = levels-owned start refreshes.result refreshes.seen refreshes.levels log own refreshes.refreshes n (omega (arith, all n, one)) in
           let above = r.2.above in
           absurd (omega (arith, above, more))
-      | inr short ↦ starts_whole brings.seen low brings.after short
+      | inr short ↦ starts_whole refreshes.seen low refreshes.after short
     ]
 
 same-result : {A : Type 0} (f g : ℕ → A) (xs : List ℕ) → ((x : ℕ) → IsIn x xs → f x ≡ g x) → map f xs ≡ map g xs
@@ -616,60 +616,60 @@ member-of P f [] all x is = absurd is
 member-of P f (y ∷ xs) all x (inl here) = subst (λ z. P (f z)) (sym here) all.0
 member-of P f (y ∷ xs) all x (inr later) = member-of P f xs all.1 x later
 
-module _ (start : Start) (course : Course) (low : List Entry) (report : List ReportLine) (own : List ℕ) (brings : Brings start course low report own) (legal : Legal course.history) (every : AreAll brings.seen course.history own) (undisturbed : AllByRecursion (λ (line : ReportLine). IsUndisturbed line.result) report) where
+module _ (start : StoreState) (log : LogState) (low : List Entry) (report : List ReportLine) (own : List ℕ) (refreshes : Refreshes start log low report own) (legal : Legal log.history) (every : AreAll refreshes.seen log.history own) (undisturbed : AllByRecursion (λ (line : ReportLine). IsUndisturbed line.result) report) where
   abbrev seen : List Entry
-  seen = brings.seen
+  seen = refreshes.seen
 
   abbrev line : ℕ → ReportLine
-  line output = record { output = output; result = brings.result output }
+  line output = record { output = output; result = refreshes.result output }
 
   seen-follows : Follows seen
-  seen-follows = legal-follows seen (legal-prefix seen brings.before.0 (subst Legal brings.before.1 legal))
+  seen-follows = legal-follows seen (legal-prefix seen refreshes.before.0 (subst Legal refreshes.before.1 legal))
 
-  graded : Graded (levels_of seen) 1 brings.levels
-  graded = groups-graded (levels_of seen) brings.levels brings.are
+  graded : Graded (levels_of seen) 1 refreshes.levels
+  graded = groups-graded (levels_of seen) refreshes.levels refreshes.are
 
-  are-outputs : AreAllOutputs seen brings.levels
-  are-outputs output any = level-output seen output (graded-above (levels_of seen) 1 brings.levels output graded any)
+  are-outputs : AreAllOutputs seen refreshes.levels
+  are-outputs output any = level-output seen output (graded-above (levels_of seen) 1 refreshes.levels output graded any)
 
-  free : (s : ℕ) → IsInAny s brings.levels → IsUndisturbed (brings.result s)
+  free : (s : ℕ) → IsInAny s refreshes.levels → IsUndisturbed (refreshes.result s)
   free s any =
       let spec = are-outputs s any in
-      member-of (λ (l : ReportLine). IsUndisturbed l.result) line (outputs seen) (subst (AllByRecursion (λ (l : ReportLine). IsUndisturbed l.result)) brings.lines undisturbed) s
+      member-of (λ (l : ReportLine). IsUndisturbed l.result) line (outputs seen) (subst (AllByRecursion (λ (l : ReportLine). IsUndisturbed l.result)) refreshes.lines undisturbed) s
       (output-in seen s spec.0 spec.1)
 
   after : List Entry
-  after = landed_levels seen brings.levels
+  after = landed_levels seen refreshes.levels
 
-  alike : (stream : ℕ) → Same stream (landed_levels seen brings.levels) course.history
-  alike = levels-alike start brings.result seen seen-follows 1 seen seen brings.levels course own (starts_refl seen) (starts_refl seen) graded are-outputs brings.brings every legal free (λ s. same_refl s seen)
+  alike : (stream : ℕ) → Same stream (landed_levels seen refreshes.levels) log.history
+  alike = levels-alike start refreshes.result seen seen-follows 1 seen seen refreshes.levels log own (starts_refl seen) (starts_refl seen) graded are-outputs refreshes.refreshes every legal free (λ s. same_refl s seen)
 
-  result-is : (output : ℕ) → IsIn output (outputs seen) → brings.result output ≡ result_by seen (landed_levels seen brings.levels) output
+  result-is : (output : ℕ) → IsIn output (outputs seen) → refreshes.result output ≡ result_by seen (landed_levels seen refreshes.levels) output
   result-is output is =
       let spec = output-spec seen output is in
-      let any = output-level seen brings.levels seen-follows brings.are output spec.0 spec.1 in
-      let end = landed_levels seen brings.levels in
-      let back : (s : ℕ) → Same s course.history end = λ s. same_sym s end course.history (alike s) in
-      levels-results start brings.result seen seen-follows 1 seen brings.levels course own (starts_refl seen) graded are-outputs brings.brings every legal free output any
-      ∙ sym (result-same seen seen course.history end output spec.0 (spec-stays course.history seen output spec.0 brings.before spec.1)
-      (spec-stays end seen output spec.0 (levels-starts seen seen brings.levels (starts_refl seen) are-outputs) spec.1)
+      let any = output-level seen refreshes.levels seen-follows refreshes.are output spec.0 spec.1 in
+      let end = landed_levels seen refreshes.levels in
+      let back : (s : ℕ) → Same s log.history end = λ s. same_sym s end log.history (alike s) in
+      levels-results start refreshes.result seen seen-follows 1 seen refreshes.levels log own (starts_refl seen) graded are-outputs refreshes.refreshes every legal free output any
+      ∙ sym (result-same seen seen log.history end output spec.0 (spec-stays log.history seen output spec.0 refreshes.before spec.1)
+      (spec-stays end seen output spec.0 (levels-starts seen seen refreshes.levels (starts_refl seen) are-outputs) spec.1)
       (same_refl output seen) (back output) (record { first = back spec.0.first; second = λ s at. back s }))
 
-  pub seen-alike : IsAlike course.history (landed_levels seen brings.levels) seen report
+  pub seen-alike : IsAlike log.history (landed_levels seen refreshes.levels) seen report
   seen-alike = record {
     commits = λ stream. (alike stream).commits;
     recorded = λ stream. (alike stream).recorded;
     lines =
-        brings.lines
-        ∙ same-result line (λ output. record { output = output; result = result_by seen (landed_levels seen brings.levels) output }) (outputs seen)
+        refreshes.lines
+        ∙ same-result line (λ output. record { output = output; result = result_by seen (landed_levels seen refreshes.levels) output }) (outputs seen)
         (λ output is. ap (λ r. record { output = output; result = r }) (result-is output is));
   }
 
-pub brought-alike : BroughtIsAlike
-brought-alike start course low report own levels brings legal all are undisturbed =
-    let seen_is = seen-low start course low report own brings all in
-    let every = all-since low brings.seen course own brings.after all in
-    let at_seen = seen-alike start course low report own brings legal every undisturbed in
-    let same : brings.levels ≡ levels = groups-unique (levels_of brings.seen) brings.levels levels brings.are (subst (λ h. AreGroups (levels_of h) levels) (sym seen_is) are) in
-    subst (λ h. IsAlike course.history (landed_levels h levels) h report) seen_is
-    (subst (λ ls. IsAlike course.history (landed_levels brings.seen ls) brings.seen report) same at_seen)
+pub refreshed-alike : RefreshedIsAlike
+refreshed-alike start log low report own levels refreshes legal all are undisturbed =
+    let seen_is = seen-low start log low report own refreshes all in
+    let every = all-since low refreshes.seen log own refreshes.after all in
+    let at_seen = seen-alike start log low report own refreshes legal every undisturbed in
+    let same : refreshes.levels ≡ levels = groups-unique (levels_of refreshes.seen) refreshes.levels levels refreshes.are (subst (λ h. AreGroups (levels_of h) levels) (sym seen_is) are) in
+    subst (λ h. IsAlike log.history (landed_levels h levels) h report) seen_is
+    (subst (λ ls. IsAlike log.history (landed_levels refreshes.seen ls) refreshes.seen report) same at_seen)

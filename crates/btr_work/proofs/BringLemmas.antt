@@ -19,16 +19,16 @@ use Rattle.btr_hall.specs.Trace.{history_of, has_halt, stopped_in}
 use Rattle.btr_hall.proofs.TraceLemmas.{halt_append}
 use Rattle.btr_hall.specs.Session.{IsSame, Looks, opening_of, seen_of}
 use Rattle.btr_hall.specs.Landing.{Lands}
-use Rattle.btr_jobs.specs.Course.{Start, Course, course_of, start_of}
+use Rattle.btr_jobs.specs.States.{StoreState, LogState, log_of, start_of}
 use Rattle.btr_jobs.specs.Jobs.{IsAt, Does}
-use Rattle.btr_jobs.proofs.CourseLemmas.{history_goes_on}
+use Rattle.btr_jobs.proofs.StateLemmas.{history_goes_on}
 use Rattle.btr_jobs.proofs.DoesLemmas.{does_then}
 use Rattle.btr_jobs.proofs.TurnLemmas.{land_turn, look_turn}
-use Rattle.btr_work.specs.declared.report.Brought.{Brought}
-use Rattle.btr_work.specs.declared.report.Brought.TheVariants as brought
-use Rattle.btr_work.specs.Report.{IsPlanLanded, IsBrought, IsOfStopped, KnowsStopped}
-use Rattle.btr_work.specs.Bringing.{IsPlannedAt}
-use Rattle.btr_work.specs.ReportLaws.{brought_lowers}
+use Rattle.btr_work.specs.declared.report.Refreshed.{Refreshed}
+use Rattle.btr_work.specs.declared.report.Refreshed.TheVariants as refreshed
+use Rattle.btr_work.specs.Report.{IsPlanLanded, IsRefreshed, IsOfStopped, KnowsStopped}
+use Rattle.btr_work.specs.Refreshing.{IsPlannedAt}
+use Rattle.btr_work.specs.ReportLaws.{refreshed_lowers}
 
 or_more : (a b c : Bool) → (a || b) ≡ true → (a || (b || c)) ≡ true
 or_more true b c is = refl
@@ -48,26 +48,26 @@ module _ {D : Type 0} {disk : Ghosts D} where
       (knows.0, knows.1, stopped_longer (opening_of hall) (seen_of new) (seen_of old) looks.grows knows.2)
 
 -- A refused landing.
-refused-by : (start : Start) (course : Course) (low : List Entry) (output : ℕ) (fault : LandFault) (own : List ℕ) → IsPlanLanded start course low output (Err fault) own → IsBrought start course low output (brought.Refused fault) own
-refused-by start course low output (faults.Stopped entries) own is = is
-refused-by start course low output (faults.Superseded version) own is = is
-refused-by start course low output faults.VersionLimit own is = is
-refused-by start course low output (faults.Crowded at) own is = is
-refused-by start course low output (faults.TooManyPoints count) own is = is
-refused-by start course low output faults.Want own is = is.landed.3.2.own
-refused-by start course low output (faults.DeviceFull need left) own is = is
-refused-by start course low output faults.DeviceFault own is = is
+refused-by : (start : StoreState) (log : LogState) (low : List Entry) (output : ℕ) (fault : LandFault) (own : List ℕ) → IsPlanLanded start log low output (Err fault) own → IsRefreshed start log low output (refreshed.Refused fault) own
+refused-by start log low output (faults.Stopped entries) own is = is
+refused-by start log low output (faults.Superseded version) own is = is
+refused-by start log low output faults.VersionLimit own is = is
+refused-by start log low output (faults.Crowded at) own is = is
+refused-by start log low output (faults.TooManyPoints count) own is = is
+refused-by start log low output faults.Want own is = is.landed.3.2.own
+refused-by start log low output (faults.DeviceFull need left) own is = is
+refused-by start log low output faults.DeviceFault own is = is
 
 module _ {D : Type 0} {disk : Ghosts D} (hall : Hall D disk) (output : ℕ) where
   module _ (old new : Session D disk) where
-    landed-turn : (plan : PlanValue) (result : Result Receipt LandFault) → IsSame old new → Lands hall old new plan result → IsPlannedAt hall old output plan → Does hall old new (λ start course low own. IsPlanLanded start course low output result own)
+    landed-turn : (plan : PlanValue) (result : Result Receipt LandFault) → IsSame old new → Lands hall old new plan result → IsPlannedAt hall old output plan → Does hall old new (λ start log low own. IsPlanLanded start log low output result own)
     landed-turn plan result same lands planned =
         let turn = land_turn hall old new plan result same lands in (
           turn.0,
           turn.1,
           λ h of. record {
-            at = (course_of h old).history;
-            after = starts_refl (course_of h old).history;
+            at = (log_of h old).history;
+            after = starts_refl (log_of h old).history;
             seen = history_goes_on h new old turn.1.seen;
             plan = plan;
             planned = planned h of;
@@ -77,45 +77,45 @@ module _ {D : Type 0} {disk : Ghosts D} (hall : Hall D disk) (output : ℕ) wher
         )
 
     -- A plan was landed.
-    pub landed-brought : (plan : PlanValue) (receipt : Receipt) → IsSame old new → Lands hall old new plan (Ok receipt) → IsPlannedAt hall old output plan → Does hall old new (λ start course low own. IsBrought start course low output (brought.Landed receipt.version) own)
-    landed-brought plan receipt same lands planned =
+    pub landed-refreshed : (plan : PlanValue) (receipt : Receipt) → IsSame old new → Lands hall old new plan (Ok receipt) → IsPlannedAt hall old output plan → Does hall old new (λ start log low own. IsRefreshed start log low output (refreshed.Landed receipt.version) own)
+    landed-refreshed plan receipt same lands planned =
         let turn = landed-turn plan (Ok receipt) same lands planned in
         (turn.0, turn.1, λ h of. (receipt, refl, turn.2 h of))
 
     -- A landing was refused.
-    pub refused-brought : (plan : PlanValue) (fault : LandFault) → IsSame old new → Lands hall old new plan (Err fault) → IsPlannedAt hall old output plan → Does hall old new (λ start course low own. IsBrought start course low output (brought.Refused fault) own)
-    refused-brought plan fault same lands planned =
+    pub refused-refreshed : (plan : PlanValue) (fault : LandFault) → IsSame old new → Lands hall old new plan (Err fault) → IsPlannedAt hall old output plan → Does hall old new (λ start log low own. IsRefreshed start log low output (refreshed.Refused fault) own)
+    refused-refreshed plan fault same lands planned =
         let turn = landed-turn plan (Err fault) same lands planned in
-        (turn.0, turn.1, λ h of. refused-by (start_of h hall) (course_of h new) (course_of h old).history output fault turn.0 (turn.2 h of))
+        (turn.0, turn.1, λ h of. refused-by (start_of h hall) (log_of h new) (log_of h old).history output fault turn.0 (turn.2 h of))
 
     -- There was no memory.
-    pub want-brought : Looks hall old new → Does hall old new (λ start course low own. IsBrought start course low output (brought.Refused faults.Want) own)
-    want-brought looks =
+    pub want-refreshed : Looks hall old new → Does hall old new (λ start log low own. IsRefreshed start log low output (refreshed.Refused faults.Want) own)
+    want-refreshed looks =
         let turn = look_turn hall old new looks (λ _. Unit {0}) (λ h of. tt) in
         (turn.0, turn.1, λ h of. (turn.2 h of).0)
 
     -- The output was up to date.
-    pub current-brought : (version : ℕ) → Looks hall old new → ((h : List Entry) → IsEngineOf h (opening_of hall) → IsUpToDate (history_of h (seen_of new)) output version) → Does hall old new (λ start course low own. IsBrought start course low output (brought.Current version) own)
-    current-brought version looks current =
+    pub current-refreshed : (version : ℕ) → Looks hall old new → ((h : List Entry) → IsEngineOf h (opening_of hall) → IsUpToDate (history_of h (seen_of new)) output version) → Does hall old new (λ start log low own. IsRefreshed start log low output (refreshed.Current version) own)
+    current-refreshed version looks current =
         let turn = look_turn hall old new looks (λ h. IsUpToDate h output version) current in (
           turn.0,
           turn.1,
           λ h of. record {
-            at = (course_of h new).history;
+            at = (log_of h new).history;
             after = (turn.2 h of).1;
-            seen = starts_refl (course_of h new).history;
+            seen = starts_refl (log_of h new).history;
             current = (turn.2 h of).2;
             none = (turn.2 h of).0;
           },
         )
 
   -- The output was brought up to date after a look.
-  pub look-brought : (old mid new : Session D disk) (result : Brought) → IsAt hall new → Looks hall old mid → Does hall mid new (λ start course low own. IsBrought start course low output result own) → Does hall old new (λ start course low own. IsBrought start course low output result own)
-  look-brought old mid new result at looks does =
+  pub look-refreshed : (old mid new : Session D disk) (result : Refreshed) → IsAt hall new → Looks hall old mid → Does hall mid new (λ start log low own. IsRefreshed start log low output result own) → Does hall old new (λ start log low own. IsRefreshed start log low output result own)
+  look-refreshed old mid new result at looks does =
       let turn = look_turn hall old mid looks (λ _. Unit {0}) (λ h of. tt) in
-      does_then hall old mid new (λ start course low own. (own ≡ []) × StartsWith course.history low × Unit {0}) (λ start course low own. IsBrought start course low output result own) (λ start course low own. IsBrought start course low output result own) at
+      does_then hall old mid new (λ start log low own. (own ≡ []) × StartsWith log.history low × Unit {0}) (λ start log low own. IsRefreshed start log low output result own) (λ start log low own. IsRefreshed start log low output result own) at
       (λ start late early low a b on starts first second.
-      subst (λ own. IsBrought start late low output result (own ++ b)) (sym first.0) (brought_lowers start late early.history low output result b starts second))
+      subst (λ own. IsRefreshed start late low output result (own ++ b)) (sym first.0) (refreshed_lowers start late early.history low output result b starts second))
       turn does
 
 -- ---- a store that is stopped
@@ -126,11 +126,11 @@ module _ {D : Type 0} {disk : Ghosts D} (hall : Hall D disk) (old new : Session 
       (length (history_of knows.0 lands.before), lands.stopped (stopped_longer (opening_of hall) lands.before (seen_of old) lands.grows knows.2) knows.0 knows.1)
 
   -- Nothing is landed.
-  pub lands-stopped : (receipt : Receipt) (version : ℕ) → Lands hall old new plan (Ok receipt) → KnowsStopped hall old → IsOfStopped (brought.Landed version)
+  pub lands-stopped : (receipt : Receipt) (version : ℕ) → Lands hall old new plan (Ok receipt) → KnowsStopped hall old → IsOfStopped (refreshed.Landed version)
   lands-stopped receipt version lands knows = let is = (stops (Ok receipt) lands knows).1 in absurd (cc)
 
   -- What is refused is refused for that reason.
-  pub refuses-stopped : (fault : LandFault) → Lands hall old new plan (Err fault) → KnowsStopped hall old → IsOfStopped (brought.Refused fault)
+  pub refuses-stopped : (fault : LandFault) → Lands hall old new plan (Err fault) → KnowsStopped hall old → IsOfStopped (refreshed.Refused fault)
   refuses-stopped fault lands knows =
       let is = stops (Err fault) lands knows in
       of fault is.0 is.1
@@ -138,7 +138,7 @@ module _ {D : Type 0} {disk : Ghosts D} (hall : Hall D disk) (old new : Session 
       refused : LandFault → Result Receipt LandFault
       refused fault = Err fault
 
-      of : (fault : LandFault) (count : ℕ) → refused fault ≡ refused (faults.Stopped count) → IsOfStopped (brought.Refused fault)
+      of : (fault : LandFault) (count : ℕ) → refused fault ≡ refused (faults.Stopped count) → IsOfStopped (refreshed.Refused fault)
       of (faults.Stopped entries) count is = tt
       of (faults.Superseded version) count is = absurd (cc)
       of faults.VersionLimit count is = absurd (cc)

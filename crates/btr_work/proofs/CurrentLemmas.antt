@@ -23,13 +23,13 @@ use Rattle.btr_plan.specs.Plan.{landing_of}
 use Rattle.btr_plan.proofs.PlanLemmas.{planned-none}
 use Rattle.btr_hall.specs.declared.land.LandFault.{LandFault}
 use Rattle.btr_hall.specs.declared.land.LandFault.TheVariants as faults
-use Rattle.btr_jobs.specs.Course.{Start, Course}
-use Rattle.btr_work.specs.declared.report.Brought.{Brought}
-use Rattle.btr_work.specs.declared.report.Brought.TheVariants as brought
+use Rattle.btr_jobs.specs.States.{StoreState, LogState}
+use Rattle.btr_work.specs.declared.report.Refreshed.{Refreshed}
+use Rattle.btr_work.specs.declared.report.Refreshed.TheVariants as refreshed
 use Rattle.btr_work.specs.declared.report.ReportLine.{ReportLine}
 use Rattle.btr_work.specs.Levels.{levels_of, outputs}
-use Rattle.btr_work.specs.Report.{IsBrought, IsPlanLanded, BringsEach, BringsLevels}
-use Rattle.btr_work.specs.Laws.{AreAllSince, IsNotSuperseded, IsCurrentIn, BroughtIsCurrent}
+use Rattle.btr_work.specs.Report.{IsRefreshed, IsPlanLanded, RefreshesEach, RefreshesLevels}
+use Rattle.btr_work.specs.Laws.{AreAllSince, IsNotOvertaken, IsCurrentIn, RefreshedIsCurrent}
 use Rattle.btr_work.proofs.MemberLemmas.{IsIn, IsInAny, Graded, groups-graded, graded-above, first-lower, second-below, output-level, output-spec, all-members}
 use Rattle.btr_work.proofs.QuietLemmas.{IsOther, Quiet, Same, SameInputs, quiet-same, quiet-more, quiet-less, get-past, latest-same, latest_reads-same, reads-same, up_to_date-same}
 use Rattle.btr_work.proofs.OwnLemmas.{same_some, AreAll, IsSplit, each-owned, each-split, levels-owned, all-first, all-rest}
@@ -95,29 +95,29 @@ module _ (h at : List Entry) (output : ℕ) (spec : Spec) (starts : StartsWith h
 number-inside : (low h : List Entry) (n : ℕ) (e : Entry) → length low < n → slice_get h (n - 1) ≡ Some e → n ≤ length h
 number-inside low h n e after at = omega (arith, after, get-past h (n - 1) e at)
 
-module _ (start : Start) (course : Course) (low : List Entry) (result : ℕ → Brought) (level own : List ℕ) (brings : BringsEach start course low result level own) (all : AreAll low course.history own) where
+module _ (start : StoreState) (log : LogState) (low : List Entry) (result : ℕ → Refreshed) (level own : List ℕ) (refreshes : RefreshesEach start log low result level own) (all : AreAll low log.history own) where
   -- A stream that is not of the level is left alone.
-  pub level-quiet : (stream : ℕ) → (IsIn stream level → ⊥) → Quiet stream low course.history
+  pub level-quiet : (stream : ℕ) → (IsIn stream level → ⊥) → Quiet stream low log.history
   level-quiet stream not n after e at =
-      let r = each-owned start course low result level own brings n (all n after (number-inside low course.history n e after at)) in
+      let r = each-owned start log low result level own refreshes n (all n after (number-inside low log.history n e after at)) in
       r.2.other e at stream (λ same. not (subst (λ s. IsIn s level) same r.1))
 
-  module _ (output : ℕ) (split : IsSplit start course low result output level own) where
+  module _ (output : ℕ) (split : IsSplit start log low result output level own) where
     -- An output of the level is left alone but for its own numbers.
-    pub mine-quiet : (n : ℕ) → length low < n → times n split.mine ≡ 0 → (e : Entry) → slice_get course.history (n - 1) ≡ Some e → IsOther output e
+    pub mine-quiet : (n : ℕ) → length low < n → times n split.mine ≡ 0 → (e : Entry) → slice_get log.history (n - 1) ≡ Some e → IsOther output e
     mine-quiet n after none e at =
-        let some = all n after (number-inside low course.history n e after at) in
+        let some = all n after (number-inside low log.history n e after at) in
         let r = split.owned n (omega (arith, some, split.sum n, none)) in
         r.3.other e at output r.2
 
     -- No other version came first.
-    pub not-superseded : (spec : Spec) (version : ℕ) → spec_of low output ≡ Some spec → IsPlanLanded start course low output (Err (faults.Superseded version)) split.mine → ⊥
+    pub not-superseded : (spec : Spec) (version : ℕ) → spec_of low output ≡ Some spec → IsPlanLanded start log low output (Err (faults.Superseded version)) split.mine → ⊥
     not-superseded spec version spec_is is =
         let p = is.landed.0 in
-        let quiet : Quiet output is.at course.history = λ n after x at.
+        let quiet : Quiet output is.at log.history = λ n after x at.
         mine-quiet n (omega (arith, after, starts_length is.at low is.after)) (ap (times n) is.landed.3.3.own) x at in
         let last : latest p output ≡ latest is.at output =
-        latest-same is.at p output (quiet-same output is.at p is.landed.1 (quiet-less output is.at p course.history is.landed.2 quiet)) in
+        latest-same is.at p output (quiet-same output is.at p is.landed.1 (quiet-less output is.at p log.history is.landed.2 quiet)) in
         let planned_is : planned is.at output spec ≡ Some (landing_of is.plan) =
         sym (ap (plan_of is.at output) (spec-stays is.at low output spec is.after spec_is)) ∙ is.planned.planned in
         let base : is.plan.base ≡ latest is.at output =
@@ -125,7 +125,7 @@ module _ (start : Start) (course : Course) (low : List Entry) (result : ℕ → 
         let first : version ≡ latest p output = is.landed.3.2 ∙ ap (latest p) is.planned.same_stream in
         absurd (omega (arith, is.landed.3.1, first, last, base))
 
-    level-refused : (spec : Spec) (fault : LandFault) → spec_of low output ≡ Some spec → IsBrought start course low output (brought.Refused fault) split.mine → IsNotSuperseded fault
+    level-refused : (spec : Spec) (fault : LandFault) → spec_of low output ≡ Some spec → IsRefreshed start log low output (refreshed.Refused fault) split.mine → IsNotOvertaken fault
     level-refused spec (faults.Superseded version) spec_is is = not-superseded spec version spec_is is
     level-refused spec faults.VersionLimit spec_is is = tt
     level-refused spec (faults.Crowded at) spec_is is = tt
@@ -136,38 +136,38 @@ module _ (start : Start) (course : Course) (low : List Entry) (result : ℕ → 
     level-refused spec faults.DeviceFault spec_is is = tt
 
     -- An output that is no refusal is up to date at the end of the level, if its inputs are left alone.
-    level-current : (spec : Spec) (r : Brought) → spec_of low output ≡ Some spec → ((at : List Entry) → StartsWith at low → StartsWith course.history at → SameInputs at course.history spec) → IsBrought start course low output r split.mine → IsCurrentIn course.history output r
-    level-current spec (brought.Landed version) spec_is inputs is =
+    level-current : (spec : Spec) (r : Refreshed) → spec_of low output ≡ Some spec → ((at : List Entry) → StartsWith at low → StartsWith log.history at → SameInputs at log.history spec) → IsRefreshed start log low output r split.mine → IsCurrentIn log.history output r
+    level-current spec (refreshed.Landed version) spec_is inputs is =
         let landed = is.2 in
         let p = landed.landed.0 in
         let e = entry_of landed.plan in
         let added = landed.landed.3.2 in
         let receipt_is : is.0.version ≡ latest p landed.plan.stream + 1 = landed.landed.3.1.version in
         let at_output : latest p landed.plan.stream + 1 ≡ latest p output + 1 = ap (λ s. latest p s + 1) landed.planned.same_stream in
-        let quiet : Quiet output (p ++ e ∷ []) course.history = λ n after x at.
+        let quiet : Quiet output (p ++ e ∷ []) log.history = λ n after x at.
         let long = length-append p (e ∷ []) in
         let above : length low < n = omega (arith, after, long, starts_length p landed.at landed.landed.1, starts_length landed.at low landed.after) in
         let none : times n split.mine ≡ 0 = ap (times n) added.own ∙ (let m = one_other (length p + 1) n (λ same. absurd (omega (arith, same, after, long))) in omega (arith, m)) in
         mine-quiet n above none x at in
-        landed-still course.history landed.at output spec landed.seen (spec-stays landed.at low output spec landed.after spec_is) (inputs landed.at landed.after landed.seen) landed.plan p version landed.planned (is.1 ∙ receipt_is ∙ at_output) added.follows
-        (quiet-same output (p ++ e ∷ []) course.history added.follows quiet)
-    level-current spec (brought.Current version) spec_is inputs is =
-        let quiet : Quiet output is.at course.history = λ n after x at.
+        landed-still log.history landed.at output spec landed.seen (spec-stays landed.at low output spec landed.after spec_is) (inputs landed.at landed.after landed.seen) landed.plan p version landed.planned (is.1 ∙ receipt_is ∙ at_output) added.follows
+        (quiet-same output (p ++ e ∷ []) log.history added.follows quiet)
+    level-current spec (refreshed.Current version) spec_is inputs is =
+        let quiet : Quiet output is.at log.history = λ n after x at.
         mine-quiet n (omega (arith, after, starts_length is.at low is.after)) (ap (times n) is.none) x at in
-        current-still course.history is.at output spec is.seen (spec-stays is.at low output spec is.after spec_is) (inputs is.at is.after is.seen) version is.current
-        (quiet-same output is.at course.history is.seen quiet)
-    level-current spec (brought.Refused fault) spec_is inputs is = level-refused spec fault spec_is is
+        current-still log.history is.at output spec is.seen (spec-stays is.at low output spec is.after spec_is) (inputs is.at is.after is.seen) version is.current
+        (quiet-same output is.at log.history is.seen quiet)
+    level-current spec (refreshed.Refused fault) spec_is inputs is = level-refused spec fault spec_is is
 
 -- ---- all levels
 
-module _ (start : Start) (result : ℕ → Brought) (seen : List Entry) (follows : Follows seen) where
+module _ (start : StoreState) (result : ℕ → Refreshed) (seen : List Entry) (follows : Follows seen) where
   abbrev of : ℕ → ℕ
   of stream = slice_index_or (levels_of seen) stream 0
 
   -- Streams of lower levels are left alone.
-  pub levels-quiet : (base : ℕ) (low : List Entry) (levels : List (List ℕ)) (late : Course) (own : List ℕ) → Graded (levels_of seen) base levels → BringsLevels start low result levels late own → AreAll low late.history own → (stream : ℕ) → of stream < base → Quiet stream low late.history
-  levels-quiet base low levels late own graded brings all stream lower n after e at =
-      let r = levels-owned start result low levels late own brings n (all n after (number-inside low late.history n e after at)) in
+  pub levels-quiet : (base : ℕ) (low : List Entry) (levels : List (List ℕ)) (late : LogState) (own : List ℕ) → Graded (levels_of seen) base levels → RefreshesLevels start low result levels late own → AreAll low late.history own → (stream : ℕ) → of stream < base → Quiet stream low late.history
+  levels-quiet base low levels late own graded refreshes all stream lower n after e at =
+      let r = levels-owned start result low levels late own refreshes n (all n after (number-inside low late.history n e after at)) in
       r.2.other e at stream (λ same. let above = graded-above (levels_of seen) base levels r.0 graded r.1 in absurd (omega (arith, above, lower, ap of same)))
 
   -- The inputs of an output are left alone from its level on.
@@ -177,52 +177,52 @@ module _ (start : Start) (result : ℕ → Brought) (seen : List Entry) (follows
     second = λ s is. same s (omega (arith, level, second-below seen follows output spec spec_is s is));
   }
 
-  still : (base : ℕ) (a b : List Entry) (output : ℕ) (spec : Spec) (r : Brought) → spec_of seen output ≡ Some spec → StartsWith a seen → StartsWith b a → of output ≡ base → ((stream : ℕ) → of stream ≤ base → Same stream a b) → IsCurrentIn a output r → IsCurrentIn b output r
-  still base a b output spec (brought.Landed version) spec_is begins starts level same is =
+  still : (base : ℕ) (a b : List Entry) (output : ℕ) (spec : Spec) (r : Refreshed) → spec_of seen output ≡ Some spec → StartsWith a seen → StartsWith b a → of output ≡ base → ((stream : ℕ) → of stream ≤ base → Same stream a b) → IsCurrentIn a output r → IsCurrentIn b output r
+  still base a b output spec (refreshed.Landed version) spec_is begins starts level same is =
       current-still b a output spec starts (spec-stays a seen output spec begins spec_is) (inputs-same base a b output spec spec_is level (λ s lower. same s (omega (arith, lower)))) version is (same output (omega (arith, level)))
-  still base a b output spec (brought.Current version) spec_is begins starts level same is =
+  still base a b output spec (refreshed.Current version) spec_is begins starts level same is =
       current-still b a output spec starts (spec-stays a seen output spec begins spec_is) (inputs-same base a b output spec spec_is level (λ s lower. same s (omega (arith, lower)))) version is (same output (omega (arith, level)))
-  still base a b output spec (brought.Refused fault) spec_is begins starts level same is = is
+  still base a b output spec (refreshed.Refused fault) spec_is begins starts level same is = is
 
   -- Each output of the levels that is no refusal is up to date in the end.
-  pub levels-current : (base : ℕ) (low : List Entry) (levels : List (List ℕ)) (late : Course) (own : List ℕ) → StartsWith low seen → Graded (levels_of seen) base levels → BringsLevels start low result levels late own → AreAll low late.history own → (output : ℕ) (spec : Spec) → IsInAny output levels → spec_of seen output ≡ Some spec → IsCurrentIn late.history output (result output)
-  levels-current base low [] late own begins graded brings all output spec any spec_is = absurd any
-  levels-current base low (level ∷ levels) late own begins graded brings all output spec (inl here) spec_is =
-      let middle = brings.0 in
-      let first = all-first start result low level levels late own brings all in
-      let rest = all-rest start result low level levels late own brings all in
+  pub levels-current : (base : ℕ) (low : List Entry) (levels : List (List ℕ)) (late : LogState) (own : List ℕ) → StartsWith low seen → Graded (levels_of seen) base levels → RefreshesLevels start low result levels late own → AreAll low late.history own → (output : ℕ) (spec : Spec) → IsInAny output levels → spec_of seen output ≡ Some spec → IsCurrentIn late.history output (result output)
+  levels-current base low [] late own begins graded refreshes all output spec any spec_is = absurd any
+  levels-current base low (level ∷ levels) late own begins graded refreshes all output spec (inl here) spec_is =
+      let middle = refreshes.0 in
+      let first = all-first start result low level levels late own refreshes all in
+      let rest = all-rest start result low level levels late own refreshes all in
       let at_level : of output ≡ base = graded.0 output here in
-      let split = each-split start middle low result level brings.3 output brings.5 graded.1 here in
+      let split = each-split start middle low result level refreshes.3 output refreshes.5 graded.1 here in
       let quiet : (stream : ℕ) → of stream < base → Quiet stream low middle.history = λ stream lower.
-      level-quiet start middle low result level brings.3 brings.5 first stream (λ is. absurd (omega (arith, lower, graded.0 stream is))) in
+      level-quiet start middle low result level refreshes.3 refreshes.5 first stream (λ is. absurd (omega (arith, lower, graded.0 stream is))) in
       let inputs : (at : List Entry) → StartsWith at low → StartsWith middle.history at → SameInputs at middle.history spec = λ at after before.
       inputs-same base at middle.history output spec spec_is at_level (λ stream lower.
       quiet-same stream at middle.history before (quiet-more stream low at middle.history after (quiet stream lower))) in
-      let then = level-current start middle low result level brings.3 brings.5 first output split spec (result output) (spec-stays low seen output spec begins spec_is) inputs split.brought in
-      still base middle.history late.history output spec (result output) spec_is (starts_trans middle.history low seen brings.2 begins) brings.1.begins at_level
-      (λ stream lower. quiet-same stream middle.history late.history brings.1.begins
-      (levels-quiet (suc base) middle.history levels late brings.4 graded.2 brings.6 rest stream (omega (arith, lower)))) then
-  levels-current base low (level ∷ levels) late own begins graded brings all output spec (inr later) spec_is =
-      levels-current (suc base) brings.0.history levels late brings.4 (starts_trans brings.0.history low seen brings.2 begins) graded.2 brings.6 (all-rest start result low level levels late own brings all) output spec later spec_is
+      let then = level-current start middle low result level refreshes.3 refreshes.5 first output split spec (result output) (spec-stays low seen output spec begins spec_is) inputs split.refreshed in
+      still base middle.history late.history output spec (result output) spec_is (starts_trans middle.history low seen refreshes.2 begins) refreshes.1.begins at_level
+      (λ stream lower. quiet-same stream middle.history late.history refreshes.1.begins
+      (levels-quiet (suc base) middle.history levels late refreshes.4 graded.2 refreshes.6 rest stream (omega (arith, lower)))) then
+  levels-current base low (level ∷ levels) late own begins graded refreshes all output spec (inr later) spec_is =
+      levels-current (suc base) refreshes.0.history levels late refreshes.4 (starts_trans refreshes.0.history low seen refreshes.2 begins) graded.2 refreshes.6 (all-rest start result low level levels late own refreshes all) output spec later spec_is
 
 -- ---- the whole
 
 -- The numbers of all that was added.
-pub all-since : (low seen : List Entry) (course : Course) (own : List ℕ) → StartsWith seen low → AreAllSince low course own → AreAll seen course.history own
-all-since low seen course own starts all n after inside =
-    let one = given_inside (length low) (length course.history + one (is_some course.failed)) n (omega (arith, after, starts_length seen low starts)) (omega (arith, inside)) in
+pub all-since : (low seen : List Entry) (log : LogState) (own : List ℕ) → StartsWith seen low → AreAllSince low log own → AreAll seen log.history own
+all-since low seen log own starts all n after inside =
+    let one = given_inside (length low) (length log.history + one (is_some log.failed)) n (omega (arith, after, starts_length seen low starts)) (omega (arith, inside)) in
     omega (arith, all n, one)
 
-pub brought-current : BroughtIsCurrent
-brought-current start course low report own brings follows all =
-    let seen = brings.seen in
-    let seen_follows : Follows seen = follows-prefix seen brings.before.0 (subst Follows brings.before.1 follows) in
-    let every = all-since low seen course own brings.after all in
-    let graded = groups-graded (levels_of seen) brings.levels brings.are in
-    let result = brings.result in
+pub refreshed-current : RefreshedIsCurrent
+refreshed-current start log low report own refreshes follows all =
+    let seen = refreshes.seen in
+    let seen_follows : Follows seen = follows-prefix seen refreshes.before.0 (subst Follows refreshes.before.1 follows) in
+    let every = all-since low seen log own refreshes.after all in
+    let graded = groups-graded (levels_of seen) refreshes.levels refreshes.are in
+    let result = refreshes.result in
     let line : ℕ → ReportLine = λ output. record { output = output; result = result output } in
-    subst (AllByRecursion (λ line. IsCurrentIn course.history line.output line.result)) (sym brings.lines)
-    (all-members (λ (l : ReportLine). IsCurrentIn course.history l.output l.result) line (outputs seen) (λ output is.
+    subst (AllByRecursion (λ line. IsCurrentIn log.history line.output line.result)) (sym refreshes.lines)
+    (all-members (λ (l : ReportLine). IsCurrentIn log.history l.output l.result) line (outputs seen) (λ output is.
     let spec = output-spec seen output is in
-    levels-current start result seen seen_follows 1 seen brings.levels course own (starts_refl seen) graded brings.brings every output spec.0
-    (output-level seen brings.levels seen_follows brings.are output spec.0 spec.1) spec.1))
+    levels-current start result seen seen_follows 1 seen refreshes.levels log own (starts_refl seen) graded refreshes.refreshes every output spec.0
+    (output-level seen refreshes.levels seen_follows refreshes.are output spec.0 spec.1) spec.1))

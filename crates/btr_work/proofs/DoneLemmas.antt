@@ -15,30 +15,30 @@ use Rattle.btr_hall.specs.declared.session.Hall.{Hall}
 use Rattle.btr_hall.specs.declared.session.Session.{Session}
 use Rattle.btr_hall.specs.Trace.{history_of}
 use Rattle.btr_hall.specs.Session.{Looks, opening_of, seen_of}
-use Rattle.btr_jobs.specs.Course.{Start, Course}
+use Rattle.btr_jobs.specs.States.{StoreState, LogState}
 use Rattle.btr_jobs.specs.Jobs.{Doing, AllDid, DidInTurn, IsAt, Does}
 use Rattle.btr_jobs.specs.JobLaws.{all_did_lowers}
 use Rattle.btr_jobs.proofs.DoesLemmas.{does_then}
 use Rattle.btr_jobs.proofs.RunLemmas.{Lowers, length_after, rest_after, items_more, now_more}
 use Rattle.btr_jobs.proofs.InTurnLemmas.{flat, turn_implied, turn_lowers, turn_all, turn_flat, in_turn_none, in_turn_more}
 use Rattle.btr_jobs.proofs.TurnLemmas.{look_turn}
-use Rattle.btr_work.specs.declared.bringing.OutputJob.{OutputJob}
+use Rattle.btr_work.specs.declared.refreshing.OutputJob.{OutputJob}
 use Rattle.btr_work.specs.declared.prepare.Level.{Level}
 use Rattle.btr_work.specs.declared.prepare.Work.{Work}
-use Rattle.btr_work.specs.declared.report.Brought.{Brought}
-use Rattle.btr_work.specs.declared.report.Brought.TheVariants.{Refused}
+use Rattle.btr_work.specs.declared.report.Refreshed.{Refreshed}
+use Rattle.btr_work.specs.declared.report.Refreshed.TheVariants.{Refused}
 use Rattle.btr_work.specs.declared.report.ReportLine.{ReportLine}
 use Rattle.btr_work.specs.Levels.{levels_of, by_levels, outputs}
-use Rattle.btr_work.specs.Report.{IsBrought, BringsEach, BringsLevels, Brings, BringsInTurn}
+use Rattle.btr_work.specs.Report.{IsRefreshed, RefreshesEach, RefreshesLevels, Refreshes, BringsInTurn}
 use Rattle.btr_work.specs.ReportLaws.{done_lasts, done_lowers}
-use Rattle.btr_work.specs.Bringing.{IsDone, outputs_in, jobs_in, groups_in, blank, IsPrepared, noted, noted_all, result_at, filled}
+use Rattle.btr_work.specs.Refreshing.{IsDone, outputs_in, jobs_in, groups_in, blank_line, IsPrepared, noted, noted_all, result_at, filled}
 use Rattle.btr_work.proofs.MemberLemmas.{IsIn, IsInAny, Distinct, Graded, groups-graded, graded-above, inside-some, levels-length}
 
 -- ---- one level more
 
 -- Of each level this was done, one level after another.
-abbrev pub LevelsDone : Doing (List OutputJob) → List Level → List Level → Start → Course → List Entry → List ℕ → Type 0
-LevelsDone did before after start course low own = DidInTurn did start course low (jobs_in before) (jobs_in after) own
+abbrev pub LevelsDone : Doing (List OutputJob) → List Level → List Level → StoreState → LogState → List Entry → List ℕ → Type 0
+LevelsDone did before after start log low own = DidInTurn did start log low (jobs_in before) (jobs_in after) own
 
 jobs-snoc : (levels : List Level) (level : Level) → jobs_in levels ++ level.jobs.items ∷ [] ≡ jobs_in (levels ++ level ∷ [])
 jobs-snoc [] level = refl
@@ -51,28 +51,28 @@ module _ (did : Doing (List OutputJob)) {D : Type 0} {disk : Ghosts D} (hall : H
 
   module _ (lowers : Lowers did) where
     -- One level more was done.
-    levels-more : (old mid new : Session D disk) (before after : List Level) (was now : Level) → IsAt hall new → Does hall old mid (LevelsDone did before after) → Does hall mid new (λ start course low own. did start course low was.jobs.items now.jobs.items own) → Does hall old new (LevelsDone did (before ++ was ∷ []) (after ++ now ∷ []))
+    levels-more : (old mid new : Session D disk) (before after : List Level) (was now : Level) → IsAt hall new → Does hall old mid (LevelsDone did before after) → Does hall mid new (λ start log low own. did start log low was.jobs.items now.jobs.items own) → Does hall old new (LevelsDone did (before ++ was ∷ []) (after ++ now ∷ []))
     levels-more old mid new before after was now at done level =
-        subst (λ js. Does hall old new (λ start course low own. DidInTurn did start course low js (jobs_in (after ++ now ∷ [])) own)) (jobs-snoc before was)
-        (subst (λ js. Does hall old new (λ start course low own. DidInTurn did start course low (jobs_in before ++ was.jobs.items ∷ []) js own)) (jobs-snoc after now)
+        subst (λ js. Does hall old new (λ start log low own. DidInTurn did start log low js (jobs_in (after ++ now ∷ [])) own)) (jobs-snoc before was)
+        (subst (λ js. Does hall old new (λ start log low own. DidInTurn did start log low (jobs_in before ++ was.jobs.items ∷ []) js own)) (jobs-snoc after now)
         (in_turn_more did hall lowers old mid new (jobs_in before) (jobs_in after) was.jobs.items now.jobs.items at done level))
 
     -- The level at the index i was done too.
-    levels-next : (old mid new : Session D disk) (levels now : List Level) (i : ℕ) (was done : Level) → i < length now → length now ≡ length levels → drop i now ≡ drop i levels → was ≡ get_or now i was → IsAt hall new → Does hall old mid (LevelsDone did (take i levels) (take i now)) → Does hall mid new (λ start course low own. did start course low (get_or now i was).jobs.items done.jobs.items own) → Does hall old new (LevelsDone did (take (i + 1) levels) (take (i + 1) (set now i done)))
+    levels-next : (old mid new : Session D disk) (levels now : List Level) (i : ℕ) (was done : Level) → i < length now → length now ≡ length levels → drop i now ≡ drop i levels → was ≡ get_or now i was → IsAt hall new → Does hall old mid (LevelsDone did (take i levels) (take i now)) → Does hall mid new (λ start log low own. did start log low (get_or now i was).jobs.items done.jobs.items own) → Does hall old new (LevelsDone did (take (i + 1) levels) (take (i + 1) (set now i done)))
     levels-next old mid new levels now i was done inside long rest is at so_far one =
-        let level = subst (λ (w : Level). Does hall mid new (λ start course low own. did start course low w.jobs.items done.jobs.items own)) (sym is) one in
+        let level = subst (λ (w : Level). Does hall mid new (λ start log low own. did start log low w.jobs.items done.jobs.items own)) (sym is) one in
         let more = levels-more old mid new (take i levels) (take i now) was done at so_far level in
         let before = items_more levels now i was done inside long rest is in
         let after = now_more levels now i was done inside long rest is in
         subst (λ l. Does hall old new (LevelsDone did (take (i + 1) levels) l)) after (subst (λ l. Does hall old new (LevelsDone did l (take i now ++ done ∷ []))) before more)
 
 all-lowers : Lowers (AllDid IsDone)
-all-lowers start course low less was now own starts all =
-    all_did_lowers IsDone start course low less (λ w n o. done_lowers start course low less w n o starts) was now own all
+all-lowers start log low less was now own starts all =
+    all_did_lowers IsDone start log low less (λ w n o. done_lowers start log low less w n o starts) was now own all
 
 turn-lowers : Lowers (DidInTurn IsDone)
-turn-lowers start course low less was now own starts turn =
-    turn_lowers IsDone start done_lowers course low less was now own starts turn
+turn-lowers start log low less was now own starts turn =
+    turn_lowers IsDone start done_lowers log low less was now own starts turn
 
 module _ {D : Type 0} {disk : Ghosts D} (hall : Hall D disk) (workers : ℕ) where
   -- The levels before the index i were done. The others are as they were.
@@ -85,7 +85,7 @@ module _ {D : Type 0} {disk : Ghosts D} (hall : Hall D disk) (workers : ℕ) whe
   pub levels-begin : (s : Session D disk) (levels : List Level) → IsAt hall s → LevelsDoneTo s s 0 levels levels
   levels-begin s levels at = (at, refl, refl, levels-none (AllDid IsDone) hall s, λ few. levels-none (DidInTurn IsDone) hall s)
 
-  pub levels-step : (old mid new : Session D disk) (levels now : List Level) (i : ℕ) (was done : Level) → i < length now → LevelsDoneTo old mid i levels now → was ≡ get_or now i was → IsAt hall new → Does hall mid new (λ start course low own. AllDid IsDone start course low (get_or now i was).jobs.items done.jobs.items own) → (workers ≤ 1 → Does hall mid new (λ start course low own. DidInTurn IsDone start course low (get_or now i was).jobs.items done.jobs.items own)) → LevelsDoneTo old new (i + 1) levels (set now i done)
+  pub levels-step : (old mid new : Session D disk) (levels now : List Level) (i : ℕ) (was done : Level) → i < length now → LevelsDoneTo old mid i levels now → was ≡ get_or now i was → IsAt hall new → Does hall mid new (λ start log low own. AllDid IsDone start log low (get_or now i was).jobs.items done.jobs.items own) → (workers ≤ 1 → Does hall mid new (λ start log low own. DidInTurn IsDone start log low (get_or now i was).jobs.items done.jobs.items own)) → LevelsDoneTo old new (i + 1) levels (set now i done)
   levels-step old mid new levels now i was done inside so_far is at all turn =
       let long = so_far.1 in
       let rest = so_far.2 in (
@@ -99,24 +99,24 @@ module _ {D : Type 0} {disk : Ghosts D} (hall : Hall D disk) (workers : ℕ) whe
 -- ---- from jobs to results
 
 -- The results of jobs are those of their outputs.
-abbrev pub Told : (ℕ → Brought) → List OutputJob → Type 0
+abbrev pub Told : (ℕ → Refreshed) → List OutputJob → Type 0
 Told result [] = Unit {0}
 Told result (job ∷ jobs) = (result job.output ≡ job.result) × Told result jobs
 
-abbrev pub ToldAll : (ℕ → Brought) → List (List OutputJob) → Type 0
+abbrev pub ToldAll : (ℕ → Refreshed) → List (List OutputJob) → Type 0
 ToldAll result [] = Unit {0}
 ToldAll result (jobs ∷ levels) = Told result jobs × ToldAll result levels
 
-module _ (start : Start) (result : ℕ → Brought) where
-  each-from : (low : List Entry) (course : Course) (before after : List OutputJob) (own : List ℕ) → AllDid IsDone start course low before after own → Told result after → BringsEach start course low result (outputs_in before) own
-  each-from low course [] [] own all told = all
-  each-from low course [] (now ∷ after) own all told = absurd all
-  each-from low course (was ∷ before) [] own all told = absurd all
-  each-from low course (was ∷ before) (now ∷ after) own all told =
+module _ (start : StoreState) (result : ℕ → Refreshed) where
+  each-from : (low : List Entry) (log : LogState) (before after : List OutputJob) (own : List ℕ) → AllDid IsDone start log low before after own → Told result after → RefreshesEach start log low result (outputs_in before) own
+  each-from low log [] [] own all told = all
+  each-from low log [] (now ∷ after) own all told = absurd all
+  each-from low log (was ∷ before) [] own all told = absurd all
+  each-from low log (was ∷ before) (now ∷ after) own all told =
       let is = sym told.0 ∙ ap result all.2.output in
-      (all.0, all.1, subst (λ r. IsBrought start course low was.output r all.0) is all.2.brought, each-from low course before after all.1 all.3 told.1, all.4)
+      (all.0, all.1, subst (λ r. IsRefreshed start log low was.output r all.0) is all.2.refreshed, each-from low log before after all.1 all.3 told.1, all.4)
 
-  levels-from : (low : List Entry) (before after : List (List OutputJob)) (late : Course) (own : List ℕ) → DidInTurn (AllDid IsDone) start late low before after own → ToldAll result after → BringsLevels start low result (map outputs_in before) late own
+  levels-from : (low : List Entry) (before after : List (List OutputJob)) (late : LogState) (own : List ℕ) → DidInTurn (AllDid IsDone) start late low before after own → ToldAll result after → RefreshesLevels start low result (map outputs_in before) late own
   levels-from low [] [] late own done told = done
   levels-from low [] (now ∷ after) late own done told = absurd done
   levels-from low (was ∷ before) [] late own done told = absurd done
@@ -124,15 +124,15 @@ module _ (start : Start) (result : ℕ → Brought) where
       (done.0, done.1, done.2, done.3, done.4, each-from low done.0 was now done.3 done.5 told.0, levels-from done.0.history before after late done.4 done.6 told.1, done.7)
 
   -- The outputs of the jobs are the same.
-  each-outputs : (low : List Entry) (course : Course) (before after : List OutputJob) (own : List ℕ) → AllDid IsDone start course low before after own → outputs_in after ≡ outputs_in before
-  each-outputs low course [] [] own all = refl
-  each-outputs low course [] (now ∷ after) own all = absurd all
-  each-outputs low course (was ∷ before) [] own all = absurd all
-  each-outputs low course (was ∷ before) (now ∷ after) own all =
-      let rest = each-outputs low course before after all.1 all.3 in
+  each-outputs : (low : List Entry) (log : LogState) (before after : List OutputJob) (own : List ℕ) → AllDid IsDone start log low before after own → outputs_in after ≡ outputs_in before
+  each-outputs low log [] [] own all = refl
+  each-outputs low log [] (now ∷ after) own all = absurd all
+  each-outputs low log (was ∷ before) [] own all = absurd all
+  each-outputs low log (was ∷ before) (now ∷ after) own all =
+      let rest = each-outputs low log before after all.1 all.3 in
       λ i. all.2.output i ∷ rest i
 
-  levels-outputs : (low : List Entry) (before after : List (List OutputJob)) (late : Course) (own : List ℕ) → DidInTurn (AllDid IsDone) start late low before after own → map outputs_in after ≡ map outputs_in before
+  levels-outputs : (low : List Entry) (before after : List (List OutputJob)) (late : LogState) (own : List ℕ) → DidInTurn (AllDid IsDone) start late low before after own → map outputs_in after ≡ map outputs_in before
   levels-outputs low [] [] late own done = refl
   levels-outputs low [] (now ∷ after) late own done = absurd done
   levels-outputs low (was ∷ before) [] late own done = absurd done
@@ -143,23 +143,23 @@ module _ (start : Start) (result : ℕ → Brought) where
 
 -- ---- what is noted
 
-noted-length : (results : List Brought) (jobs : List OutputJob) → length (noted results jobs) ≡ length results
+noted-length : (results : List Refreshed) (jobs : List OutputJob) → length (noted results jobs) ≡ length results
 noted-length results [] = refl
 noted-length results (job ∷ jobs) = noted-length (slice_set results job.output job.result) jobs ∙ length-set results job.output job.result
 
 -- An output that is not among those of the jobs keeps its result.
-noted-other : (results : List Brought) (jobs : List OutputJob) (output : ℕ) → (IsIn output (outputs_in jobs) → ⊥) → result_at (noted results jobs) output ≡ result_at results output
+noted-other : (results : List Refreshed) (jobs : List OutputJob) (output : ℕ) → (IsIn output (outputs_in jobs) → ⊥) → result_at (noted results jobs) output ≡ result_at results output
 noted-other results [] output not = refl
 noted-other results (job ∷ jobs) output not =
     noted-other (slice_set results job.output job.result) jobs output (λ is. not (inr is))
     ∙ get_or-set_other results job.output output job.result (Refused Want) (λ same. not (inl same))
 
-noted_all-other : (results : List Brought) (levels : List (List OutputJob)) (output : ℕ) → (IsInAny output (map outputs_in levels) → ⊥) → result_at (noted_all results levels) output ≡ result_at results output
+noted_all-other : (results : List Refreshed) (levels : List (List OutputJob)) (output : ℕ) → (IsInAny output (map outputs_in levels) → ⊥) → result_at (noted_all results levels) output ≡ result_at results output
 noted_all-other results [] output not = refl
 noted_all-other results (jobs ∷ levels) output not =
     noted_all-other (noted results jobs) levels output (λ is. not (inr is)) ∙ noted-other results jobs output (λ is. not (inl is))
 
-told-jobs : (last results : List Brought) (jobs : List OutputJob) → Distinct (outputs_in jobs) → ((output : ℕ) → IsIn output (outputs_in jobs) → output < length results) → ((output : ℕ) → IsIn output (outputs_in jobs) → result_at last output ≡ result_at (noted results jobs) output) → Told (result_at last) jobs
+told-jobs : (last results : List Refreshed) (jobs : List OutputJob) → Distinct (outputs_in jobs) → ((output : ℕ) → IsIn output (outputs_in jobs) → output < length results) → ((output : ℕ) → IsIn output (outputs_in jobs) → result_at last output ≡ result_at (noted results jobs) output) → Told (result_at last) jobs
 told-jobs last results [] distinct inside same = tt
 told-jobs last results (job ∷ jobs) distinct inside same =
     let next = slice_set results job.output job.result in
@@ -170,7 +170,7 @@ told-jobs last results (job ∷ jobs) distinct inside same =
       told-jobs last next jobs distinct.1 (λ output is. omega (arith, inside output (inr is), long)) (λ output is. same output (inr is)),
     )
 
-told-all : (levels : List ℕ) (base : ℕ) (results : List Brought) (jobs : List (List OutputJob)) → Graded levels base (map outputs_in jobs) → ((output : ℕ) → IsInAny output (map outputs_in jobs) → output < length results) → ToldAll (result_at (noted_all results jobs)) jobs
+told-all : (levels : List ℕ) (base : ℕ) (results : List Refreshed) (jobs : List (List OutputJob)) → Graded levels base (map outputs_in jobs) → ((output : ℕ) → IsInAny output (map outputs_in jobs) → output < length results) → ToldAll (result_at (noted_all results jobs)) jobs
 told-all levels base results [] graded inside = tt
 told-all levels base results (first ∷ jobs) graded inside =
     let next = noted results first in
@@ -186,12 +186,12 @@ groups-jobs : (levels : List Level) → map outputs_in (jobs_in levels) ≡ grou
 groups-jobs [] = refl
 groups-jobs (l ∷ levels) = ap (λ gs. outputs_in l.jobs.items ∷ gs) (groups-jobs levels)
 
-lines-filled : (results : List Brought) (outputs : List ℕ) → map (filled results) (map blank outputs) ≡ map (λ output. record { output = output; result = result_at results output }) outputs
+lines-filled : (results : List Refreshed) (outputs : List ℕ) → map (filled results) (map blank_line outputs) ≡ map (λ output. record { output = output; result = result_at results output }) outputs
 lines-filled results [] = refl
 lines-filled results (output ∷ outputs) = ap (λ ls. record { output = output; result = result_at results output } ∷ ls) (lines-filled results outputs)
 
 -- The results of the jobs are those that are noted.
-done-told : (start : Start) (seen : List Entry) (work : Work) (after : List Level) (late : Course) (own : List ℕ) → IsPrepared seen work → DidInTurn (AllDid IsDone) start late seen (jobs_in work.levels.items) (jobs_in after) own → ToldAll (result_at (noted_all work.results.items (jobs_in after))) (jobs_in after)
+done-told : (start : StoreState) (seen : List Entry) (work : Work) (after : List Level) (late : LogState) (own : List ℕ) → IsPrepared seen work → DidInTurn (AllDid IsDone) start late seen (jobs_in work.levels.items) (jobs_in after) own → ToldAll (result_at (noted_all work.results.items (jobs_in after))) (jobs_in after)
 done-told start seen work after late own prepared done =
     let same : map outputs_in (jobs_in after) ≡ groups_in work.levels.items =
     levels-outputs start (λ _. Refused Want) seen (jobs_in work.levels.items) (jobs_in after) late own done ∙ groups-jobs work.levels.items in
@@ -202,8 +202,8 @@ done-told start seen work after late own prepared done =
     told-all (levels_of seen) 1 work.results.items (jobs_in after) graded inside
 
 -- Work that was prepared and done gives the report.
-pub done-brings : (start : Start) (low seen : List Entry) (work : Work) (after : List Level) (late : Course) (own : List ℕ) → StartsWith seen low → StartsWith late.history seen → IsPrepared seen work → DidInTurn (AllDid IsDone) start late seen (jobs_in work.levels.items) (jobs_in after) own → Brings start late low (map (filled (noted_all work.results.items (jobs_in after))) work.lines.items) own
-done-brings start low seen work after late own starts before prepared done =
+pub done-refreshes : (start : StoreState) (low seen : List Entry) (work : Work) (after : List Level) (late : LogState) (own : List ℕ) → StartsWith seen low → StartsWith late.history seen → IsPrepared seen work → DidInTurn (AllDid IsDone) start late seen (jobs_in work.levels.items) (jobs_in after) own → Refreshes start late low (map (filled (noted_all work.results.items (jobs_in after))) work.lines.items) own
+done-refreshes start low seen work after late own starts before prepared done =
     let last = noted_all work.results.items (jobs_in after) in
     let told = done-told start seen work after late own prepared done in
     record {
@@ -214,18 +214,18 @@ done-brings start low seen work after late own starts before prepared done =
       are = prepared.levels;
       result = result_at last;
       lines = ap (map (filled last)) prepared.lines ∙ lines-filled last (outputs seen);
-      brings =
-          subst (λ gs. BringsLevels start seen (result_at last) gs late own) (groups-jobs work.levels.items)
+      refreshes =
+          subst (λ gs. RefreshesLevels start seen (result_at last) gs late own) (groups-jobs work.levels.items)
           (levels-from start (result_at last) seen (jobs_in work.levels.items) (jobs_in after) late own done told);
     }
 
 -- ---- one worker
 
-told-append : (result : ℕ → Brought) (a b : List OutputJob) → Told result a → Told result b → Told result (a ++ b)
+told-append : (result : ℕ → Refreshed) (a b : List OutputJob) → Told result a → Told result b → Told result (a ++ b)
 told-append result [] b first second = second
 told-append result (job ∷ a) b first second = (first.0, told-append result a b first.1 second)
 
-told-flat : (result : ℕ → Brought) (jobs : List (List OutputJob)) → ToldAll result jobs → Told result (flat jobs)
+told-flat : (result : ℕ → Refreshed) (jobs : List (List OutputJob)) → ToldAll result jobs → Told result (flat jobs)
 told-flat result [] told = tt
 told-flat result (first ∷ jobs) told = told-append result first (flat jobs) told.0 (told-flat result jobs told.1)
 
@@ -239,7 +239,7 @@ outputs-flat (l ∷ levels) =
     outputs-append l.jobs.items (flat (jobs_in levels)) ∙ ap (λ os. outputs_in l.jobs.items ++ os) (outputs-flat levels)
 
 -- Each job is a level of its own.
-turn-from : (start : Start) (result : ℕ → Brought) (low : List Entry) (before after : List OutputJob) (late : Course) (own : List ℕ) → DidInTurn IsDone start late low before after own → Told result after → BringsLevels start low result (map (λ output. output ∷ []) (outputs_in before)) late own
+turn-from : (start : StoreState) (result : ℕ → Refreshed) (low : List Entry) (before after : List OutputJob) (late : LogState) (own : List ℕ) → DidInTurn IsDone start late low before after own → Told result after → RefreshesLevels start low result (map (λ output. output ∷ []) (outputs_in before)) late own
 turn-from start result low [] [] late own turn told = turn
 turn-from start result low [] (now ∷ after) late own turn told = absurd turn
 turn-from start result low (was ∷ before) [] late own turn told = absurd turn
@@ -251,33 +251,33 @@ turn-from start result low (was ∷ before) (now ∷ after) late own turn told =
       turn.2,
       turn.3,
       turn.4,
-      (turn.3, [], subst (λ r. IsBrought start turn.0 low was.output r turn.3) is done.brought, (λ n. refl), λ n. omega arith),
+      (turn.3, [], subst (λ r. IsRefreshed start turn.0 low was.output r turn.3) is done.refreshed, (λ n. refl), λ n. omega arith),
       turn-from start result turn.0.history before after late turn.4 turn.6 told.1,
       turn.7,
     )
 
 -- Work that was prepared and done by one worker.
-pub done-turn : (start : Start) (low seen : List Entry) (work : Work) (after : List Level) (late : Course) (own : List ℕ) → StartsWith seen low → StartsWith late.history seen → IsPrepared seen work → DidInTurn (DidInTurn IsDone) start late seen (jobs_in work.levels.items) (jobs_in after) own → BringsInTurn start late low (map (filled (noted_all work.results.items (jobs_in after))) work.lines.items) own
-unfolding done-brings
+pub done-turn : (start : StoreState) (low seen : List Entry) (work : Work) (after : List Level) (late : LogState) (own : List ℕ) → StartsWith seen low → StartsWith late.history seen → IsPrepared seen work → DidInTurn (DidInTurn IsDone) start late seen (jobs_in work.levels.items) (jobs_in after) own → BringsInTurn start late low (map (filled (noted_all work.results.items (jobs_in after))) work.lines.items) own
+unfolding done-refreshes
 done-turn start low seen work after late own starts before prepared turn =
     let result = result_at (noted_all work.results.items (jobs_in after)) in
-    let done = turn_implied (DidInTurn IsDone) (AllDid IsDone) start (λ course low was now own t. turn_all IsDone start done_lowers done_lasts course low was now own t) late seen (jobs_in work.levels.items) (jobs_in after) own turn in
+    let done = turn_implied (DidInTurn IsDone) (AllDid IsDone) start (λ log low was now own t. turn_all IsDone start done_lowers done_lasts log low was now own t) late seen (jobs_in work.levels.items) (jobs_in after) own turn in
     let told = done-told start seen work after late own prepared done in
     let all = turn_flat IsDone start done_lowers late seen (jobs_in work.levels.items) (jobs_in after) own turn in
     record {
-      brings = done-brings start low seen work after late own starts before prepared done;
+      refreshes = done-refreshes start low seen work after late own starts before prepared done;
       in_turn =
-          subst (λ os. BringsLevels start seen result (map (λ output. output ∷ []) os) late own) (outputs-flat work.levels.items)
+          subst (λ os. RefreshesLevels start seen result (map (λ output. output ∷ []) os) late own) (outputs-flat work.levels.items)
           (turn-from start result seen (flat (jobs_in work.levels.items)) (flat (jobs_in after)) late own all (told-flat result (jobs_in after) told));
     }
 
 module _ {D : Type 0} {disk : Ghosts D} (hall : Hall D disk) where
   -- The report that is made from work that was prepared and done, if this follows of it.
-  brought-by : (did : Doing (List OutputJob)) (What : Start → Course → List Entry → List ReportLine → List ℕ → Type 0) → ((start : Start) (low seen : List Entry) (work : Work) (after : List Level) (late : Course) (own : List ℕ) → StartsWith seen low → StartsWith late.history seen → IsPrepared seen work → DidInTurn did start late seen (jobs_in work.levels.items) (jobs_in after) own → What start late low (map (filled (noted_all work.results.items (jobs_in after))) work.lines.items) own) → (old mid new : Session D disk) (work : Work) (before after : List Level) (report : List ReportLine) → IsAt hall new → Looks hall old mid → ((h : List Entry) → IsEngineOf h (opening_of hall) → IsPrepared (history_of h (seen_of mid)) work) → before ≡ work.levels.items → length after ≡ work.levels.len → Does hall mid new (LevelsDone did before after) → report ≡ map (filled (noted_all work.results.items (jobs_in (with_items work.levels after).items))) work.lines.items → Does hall old new (λ start course low own. What start course low report own)
-  brought-by did What follows old mid new work before after report at looks prepared same long done is =
+  refreshed-by : (did : Doing (List OutputJob)) (What : StoreState → LogState → List Entry → List ReportLine → List ℕ → Type 0) → ((start : StoreState) (low seen : List Entry) (work : Work) (after : List Level) (late : LogState) (own : List ℕ) → StartsWith seen low → StartsWith late.history seen → IsPrepared seen work → DidInTurn did start late seen (jobs_in work.levels.items) (jobs_in after) own → What start late low (map (filled (noted_all work.results.items (jobs_in after))) work.lines.items) own) → (old mid new : Session D disk) (work : Work) (before after : List Level) (report : List ReportLine) → IsAt hall new → Looks hall old mid → ((h : List Entry) → IsEngineOf h (opening_of hall) → IsPrepared (history_of h (seen_of mid)) work) → before ≡ work.levels.items → length after ≡ work.levels.len → Does hall mid new (LevelsDone did before after) → report ≡ map (filled (noted_all work.results.items (jobs_in (with_items work.levels after).items))) work.lines.items → Does hall old new (λ start log low own. What start log low report own)
+  refreshed-by did What follows old mid new work before after report at looks prepared same long done is =
       let made = is ∙ ap (λ ls. map (filled (noted_all work.results.items (jobs_in ls))) work.lines.items) (with_items_is work.levels after long) in
       let all = subst (λ ls. Does hall mid new (LevelsDone did ls after)) same done in
-      does_then hall old mid new (λ start course low own. (own ≡ []) × StartsWith course.history low × IsPrepared course.history work) (LevelsDone did work.levels.items after) (λ start course low own. What start course low report own) at
+      does_then hall old mid new (λ start log low own. (own ≡ []) × StartsWith log.history low × IsPrepared log.history work) (LevelsDone did work.levels.items after) (λ start log low own. What start log low report own) at
       (λ start late early low a b on starts first second.
       subst (λ own. What start late low report (own ++ b)) (sym first.0)
       (subst (λ r. What start late low r b) (sym made)
@@ -285,14 +285,14 @@ module _ {D : Type 0} {disk : Ghosts D} (hall : Hall D disk) where
       (look_turn hall old mid looks (λ h. IsPrepared h work) prepared) all
 
   module _ (old mid new : Session D disk) (work : Work) (before after : List Level) (report : List ReportLine) (at : IsAt hall new) (looks : Looks hall old mid) (prepared : (h : List Entry) → IsEngineOf h (opening_of hall) → IsPrepared (history_of h (seen_of mid)) work) (same : before ≡ work.levels.items) (long : length after ≡ work.levels.len) (is : report ≡ map (filled (noted_all work.results.items (jobs_in (with_items work.levels after).items))) work.lines.items) where
-    pub all-brought : Does hall mid new (LevelsDone (AllDid IsDone) before after) → Does hall old new (λ start course low own. Brings start course low report own)
-    all-brought done = brought-by (AllDid IsDone) Brings done-brings old mid new work before after report at looks prepared same long done is
+    pub all-refreshed : Does hall mid new (LevelsDone (AllDid IsDone) before after) → Does hall old new (λ start log low own. Refreshes start log low report own)
+    all-refreshed done = refreshed-by (AllDid IsDone) Refreshes done-refreshes old mid new work before after report at looks prepared same long done is
 
-    pub turn-brought : Does hall mid new (LevelsDone (DidInTurn IsDone) before after) → Does hall old new (λ start course low own. BringsInTurn start course low report own)
-    turn-brought done = brought-by (DidInTurn IsDone) BringsInTurn done-turn old mid new work before after report at looks prepared same long done is
+    pub turn-refreshed : Does hall mid new (LevelsDone (DidInTurn IsDone) before after) → Does hall old new (λ start log low own. BringsInTurn start log low report own)
+    turn-refreshed done = refreshed-by (DidInTurn IsDone) BringsInTurn done-turn old mid new work before after report at looks prepared same long done is
 
   -- Nothing was added.
-  pub none-brought : (old new : Session D disk) → Looks hall old new → Does hall old new (λ start course low own. (n : ℕ) → times n own ≡ 0)
-  none-brought old new looks =
+  pub none-refreshed : (old new : Session D disk) → Looks hall old new → Does hall old new (λ start log low own. (n : ℕ) → times n own ≡ 0)
+  none-refreshed old new looks =
       let turn = look_turn hall old new looks (λ _. Unit {0}) (λ h of. tt) in
       (turn.0, turn.1, λ h of. λ n. ap (times n) (turn.2 h of).0)

@@ -6,7 +6,7 @@ use Rattle.std.proofs.lemmas.Bool.{eq-eqb, ne_eqb, cases_eq, cases_lt}
 use Rattle.std.proofs.lemmas.List.{get_or-set_same, get_or-set_other, get_or_append_left, get_or-append_right, length-set, append-nil}
 use Rattle.btr_hist.specs.declared.kernel.Spec.{Spec}
 use Rattle.btr_work.specs.Levels.{next_level, levels_from, places_from, streams_at, AreGroups}
-use Rattle.btr_work.specs.Leveling.{IsPlaced, IsBelow}
+use Rattle.btr_work.specs.Leveling.{PlacesStream, IsBelow}
 
 -- ---- the places of a number
 
@@ -47,7 +47,7 @@ below-snoc ns n top next below more low place =
 -- ---- placing a stream
 
 -- A stream at the end of a level that is there.
-pub placed-there : (groups : List (List ℕ)) (level stream : ℕ) (group : List ℕ) → 0 < level → level ≤ length groups → group ≡ slice_index_or groups (level - 1) [] ++ stream ∷ [] → IsPlaced level stream groups (slice_set groups (level - 1) group)
+pub placed-there : (groups : List (List ℕ)) (level stream : ℕ) (group : List ℕ) → 0 < level → level ≤ length groups → group ≡ slice_index_or groups (level - 1) [] ++ stream ∷ [] → PlacesStream level stream groups (slice_set groups (level - 1) group)
 placed-there groups level stream group some low is = record {
   each = λ k.
       elim (cases_eq level (k + 1)) [
@@ -64,7 +64,7 @@ placed-there groups level stream group some low is = record {
   counted = let l = length-set groups (level - 1) group in omega arith;
 }
 
-module _ (levels : List ℕ) (level : ℕ) (old new : List (List ℕ)) (are : AreGroups levels old) (low : level ≤ length old + 1) (placed : IsPlaced level (length levels) old new) where
+module _ (levels : List ℕ) (level : ℕ) (old new : List (List ℕ)) (are : AreGroups levels old) (low : level ≤ length old + 1) (placed : PlacesStream level (length levels) old new) where
   zero_more : 0 + length levels ≡ length levels
   zero_more = omega arith
 

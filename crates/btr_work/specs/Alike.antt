@@ -7,12 +7,12 @@ use Rattle.btr_hist.specs.History.{spec_of, commits, recorded, latest}
 use Rattle.btr_hist.specs.Legal.{Legal}
 use Rattle.btr_hist.specs.Machine.{plan_of, after_landing}
 use Rattle.btr_hall.specs.declared.land.LandFault.TheVariants as faults
-use Rattle.btr_jobs.specs.Course.{Start, Course}
-use Rattle.btr_work.specs.declared.report.Brought.{Brought}
-use Rattle.btr_work.specs.declared.report.Brought.TheVariants.{Landed, Current, Refused}
+use Rattle.btr_jobs.specs.States.{StoreState, LogState}
+use Rattle.btr_work.specs.declared.report.Refreshed.{Refreshed}
+use Rattle.btr_work.specs.declared.report.Refreshed.TheVariants.{Landed, Current, Refused}
 use Rattle.btr_work.specs.declared.report.ReportLine.{ReportLine}
 use Rattle.btr_work.specs.Levels.{AreLevels, outputs}
-use Rattle.btr_work.specs.Report.{Brings}
+use Rattle.btr_work.specs.Report.{Refreshes}
 use Rattle.btr_work.specs.Laws.{AreAllSince}
 
 -- The history after the landing of what the model plans for an output, if it plans anything.
@@ -31,14 +31,14 @@ landed_levels h (level ∷ levels) = landed_levels (landed_each h level) levels
 
 -- What became of an output, by the histories before and after: it has a new version, or it is up to date, or it has as many versions
 -- as a stream can have.
-abbrev pub result_by : List Entry → List Entry → ℕ → Brought
+abbrev pub result_by : List Entry → List Entry → ℕ → Refreshed
 result_by before after output =
     if nat_lt (latest before output) (latest after output) then Landed (latest after output)
     else if is_some (plan_of after output (spec_of after output)) then Refused faults.VersionLimit
     else Current (latest after output)
 
 -- The result came neither from the memory nor from the device.
-abbrev pub IsUndisturbed : Brought → Type 0
+abbrev pub IsUndisturbed : Refreshed → Type 0
 IsUndisturbed (Refused (faults.Stopped entries)) = ⊥
 IsUndisturbed (Refused faults.Want) = ⊥
 IsUndisturbed (Refused (faults.DeviceFull need left)) = ⊥
@@ -53,9 +53,9 @@ pub record IsAlike (h after low : List Entry) (report : List ReportLine) : Type 
 
 -- If nobody else added anything, and the memory and the device sufficed, any number of workers leaves the commits and makes the report
 -- of one that lands the outputs one after another, level by level, each level in rising order.
-abbrev pub BroughtIsAlike : Type 0
-BroughtIsAlike =
-    (start : Start) (course : Course) (low : List Entry) (report : List ReportLine) (own : List ℕ) (levels : List (List ℕ))
-    → Brings start course low report own → Legal course.history → AreAllSince low course own → AreLevels low levels
+abbrev pub RefreshedIsAlike : Type 0
+RefreshedIsAlike =
+    (start : StoreState) (log : LogState) (low : List Entry) (report : List ReportLine) (own : List ℕ) (levels : List (List ℕ))
+    → Refreshes start log low report own → Legal log.history → AreAllSince low log own → AreLevels low levels
     → AllByRecursion (λ line. IsUndisturbed line.result) report
-    → IsAlike course.history (landed_levels low levels) low report
+    → IsAlike log.history (landed_levels low levels) low report

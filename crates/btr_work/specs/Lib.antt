@@ -10,4 +10,4 @@ pub mod Alike
 pub mod InOrder
 -- what the private functions promise
 pub mod Leveling
-pub mod Bringing
+pub mod Refreshing

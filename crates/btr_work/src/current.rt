@@ -6,8 +6,8 @@ ghost use Rattle.btr_gate.specs.Numbers.{times};
 ghost use Rattle.btr_hall.specs.Trace.{history_of};
 ghost use Rattle.btr_hall.specs.Session.{Looks, opening_of, seen_of};
 ghost use Rattle.btr_jobs.specs.Jobs.{IsAt, Does, AllDid, DidInTurn};
-ghost use Rattle.btr_work.specs.Report.{Brings, BringsInTurn};
-ghost use Rattle.btr_work.specs.Bringing.{IsDone, IsPrepared, jobs_in};
+ghost use Rattle.btr_work.specs.Report.{Refreshes, BringsInTurn};
+ghost use Rattle.btr_work.specs.Refreshing.{IsDone, IsPrepared, jobs_in};
 
 use crate::filling::report_of;
 use crate::prepare::{Level, Work, prepare};
@@ -40,14 +40,14 @@ pub fn bring_current<R: Threads + Wait + Sync, D: Disk + Send, P: Pace + Sync>(
 ) -> Result<Report, AllocError>
     requires at { IsAt hall.now session.old }
     ensures at { IsAt hall.now session.new }
-    ensures refused { OnErr result (Does hall.now session.old session.new (λ start course low own. (n : ℕ) → times n own ≡ 0)) }
-    ensures brings { IfOk result (λ report. Does hall.now session.old session.new
-        (λ start course low own. Brings start course low report own)) }
+    ensures refused { OnErr result (Does hall.now session.old session.new (λ start log low own. (n : ℕ) → times n own ≡ 0)) }
+    ensures refreshes { IfOk result (λ report. Does hall.now session.old session.new
+        (λ start log low own. Refreshes start log low report own)) }
     ensures in_turn { workers ≤ 1 → IfOk result (λ report. Does hall.now session.old session.new
-        (λ start course low own. BringsInTurn start course low report own)) }
+        (λ start log low own. BringsInTurn start log low report own)) }
 {
     let mut work = prepare_seen(rt, alloc, hall, session)?;
-    bring_levels(rt, alloc, hall, session, workers, &mut work.levels, pace);
+    refresh_levels(rt, alloc, hall, session, workers, &mut work.levels, pace);
     Ok(report_of(work))
 }
 
@@ -69,7 +69,7 @@ pub(crate) fn prepare_seen<R: Wait, D: Disk>(
 }
 
 /// Does the jobs of all levels, one level after another.
-fn bring_levels<R: Threads + Wait + Sync, D: Disk + Send, P: Pace + Sync>(
+fn refresh_levels<R: Threads + Wait + Sync, D: Disk + Send, P: Pace + Sync>(
     rt: &R,
     alloc: Global,
     hall: &Hall<D>,
@@ -82,17 +82,17 @@ fn bring_levels<R: Threads + Wait + Sync, D: Disk + Send, P: Pace + Sync>(
     ensures at { IsAt hall.now session.new }
     ensures levels { length levels.new ≡ length levels.old }
     ensures done { Does hall.now session.old session.new
-        (λ start course low own. DidInTurn (AllDid IsDone) start course low (jobs_in levels.old) (jobs_in levels.new) own) }
+        (λ start log low own. DidInTurn (AllDid IsDone) start log low (jobs_in levels.old) (jobs_in levels.new) own) }
     ensures in_turn { workers ≤ 1 → Does hall.now session.old session.new
-        (λ start course low own. DidInTurn (DidInTurn IsDone) start course low (jobs_in levels.old) (jobs_in levels.new) own) }
+        (λ start log low own. DidInTurn (DidInTurn IsDone) start log low (jobs_in levels.old) (jobs_in levels.new) own) }
 {
     for level in levels.iter_mut() {
-        bring_level(rt, alloc, hall, session, workers, level, pace);
+        refresh_level(rt, alloc, hall, session, workers, level, pace);
     }
 }
 
 /// Does the jobs of a level.
-fn bring_level<R: Threads + Wait + Sync, D: Disk + Send, P: Pace + Sync>(
+fn refresh_level<R: Threads + Wait + Sync, D: Disk + Send, P: Pace + Sync>(
     rt: &R,
     alloc: Global,
     hall: &Hall<D>,
@@ -104,9 +104,9 @@ fn bring_level<R: Threads + Wait + Sync, D: Disk + Send, P: Pace + Sync>(
     requires at { IsAt hall.now session.old }
     ensures at { IsAt hall.now session.new }
     ensures done { Does hall.now session.old session.new
-        (λ start course low own. AllDid IsDone start course low level.old.jobs.items level.new.jobs.items own) }
+        (λ start log low own. AllDid IsDone start log low level.old.jobs.items level.new.jobs.items own) }
     ensures in_turn { workers ≤ 1 → Does hall.now session.old session.new
-        (λ start course low own. DidInTurn IsDone start course low level.old.jobs.items level.new.jobs.items own) }
+        (λ start log low own. DidInTurn IsDone start log low level.old.jobs.items level.new.jobs.items own) }
 {
     let turns = LevelTurns {
         pace,

@@ -1,10 +1,10 @@
 //! The report is filled in from the jobs that were done.
 ghost use Rattle.std.specs.Prelude.{◌≡◌, map, slice_set};
-ghost use Rattle.btr_work.specs.Bringing.{noted, noted_all, result_at, filled, jobs_in};
+ghost use Rattle.btr_work.specs.Refreshing.{noted, noted_all, result_at, filled, jobs_in};
 
-use crate::bringing::OutputJob;
 use crate::prepare::{Level, Work};
-use crate::report::{Brought, Report, ReportLine};
+use crate::refreshing::OutputJob;
+use crate::report::{Refreshed, Report, ReportLine};
 use btr_hall::LandFault;
 
 /// Makes the report of work that was done. It takes no memory.
@@ -22,7 +22,7 @@ pub(crate) fn report_of(work: Work) -> Report
 }
 
 /// Notes the results of all jobs.
-fn note_all(results: &mut [Brought], levels: &[Level])
+fn note_all(results: &mut [Refreshed], levels: &[Level])
     ensures { results.new ≡ noted_all results.old (jobs_in levels.now) }
 {
     for level in levels {
@@ -31,7 +31,7 @@ fn note_all(results: &mut [Brought], levels: &[Level])
 }
 
 /// Notes the results of jobs.
-fn note(results: &mut [Brought], jobs: &[OutputJob])
+fn note(results: &mut [Refreshed], jobs: &[OutputJob])
     ensures { results.new ≡ noted results.old jobs.now }
 {
     for job in jobs {
@@ -40,7 +40,7 @@ fn note(results: &mut [Brought], jobs: &[OutputJob])
 }
 
 /// Puts the result of a job in its place.
-fn put(results: &mut [Brought], job: &OutputJob)
+fn put(results: &mut [Refreshed], job: &OutputJob)
     ensures { results.new ≡ slice_set results.old job.now.output job.now.result }
 {
     let place = job.output as usize;
@@ -50,7 +50,7 @@ fn put(results: &mut [Brought], job: &OutputJob)
 }
 
 /// Fills in the results of all lines.
-fn fill(lines: &mut [ReportLine], results: &[Brought])
+fn fill(lines: &mut [ReportLine], results: &[Refreshed])
     ensures { lines.new ≡ map (filled results.now) lines.old }
 {
     for line in lines.iter_mut() {
@@ -59,11 +59,11 @@ fn fill(lines: &mut [ReportLine], results: &[Brought])
 }
 
 /// Returns the result of an output.
-fn result_at(results: &[Brought], output: u32) -> Brought
+fn result_at(results: &[Refreshed], output: u32) -> Refreshed
     ensures { result ≡ result_at results.now output }
 {
     match results.get(output as usize) {
-        None => Brought::Refused(LandFault::Want),
+        None => Refreshed::Refused(LandFault::Want),
         Some(result) => *result,
     }
 }

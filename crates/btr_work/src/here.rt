@@ -2,13 +2,13 @@
 ghost use Rattle.std.specs.Prelude.{◌≡◌, ℕ, length, IfOk, OnErr};
 ghost use Rattle.btr_gate.specs.Numbers.{times};
 ghost use Rattle.btr_jobs.specs.Jobs.{IsAt, Does, AllDid, DidInTurn};
-ghost use Rattle.btr_work.specs.Report.{Brings, BringsInTurn};
-ghost use Rattle.btr_work.specs.Bringing.{IsDone, jobs_in};
+ghost use Rattle.btr_work.specs.Report.{Refreshes, BringsInTurn};
+ghost use Rattle.btr_work.specs.Refreshing.{IsDone, jobs_in};
 
-use crate::bringing::OutputJob;
 use crate::current::prepare_seen;
 use crate::filling::report_of;
 use crate::prepare::Level;
+use crate::refreshing::OutputJob;
 use crate::report::Report;
 use btr_disk::Disk;
 use btr_hall::{Hall, Session};
@@ -27,19 +27,19 @@ pub fn bring_current_here<R: Wait, D: Disk>(
 ) -> Result<Report, AllocError>
     requires at { IsAt hall.now session.old }
     ensures at { IsAt hall.now session.new }
-    ensures refused { OnErr result (Does hall.now session.old session.new (λ start course low own. (n : ℕ) → times n own ≡ 0)) }
-    ensures brings { IfOk result (λ report. Does hall.now session.old session.new
-        (λ start course low own. Brings start course low report own)) }
+    ensures refused { OnErr result (Does hall.now session.old session.new (λ start log low own. (n : ℕ) → times n own ≡ 0)) }
+    ensures refreshes { IfOk result (λ report. Does hall.now session.old session.new
+        (λ start log low own. Refreshes start log low report own)) }
     ensures in_turn { IfOk result (λ report. Does hall.now session.old session.new
-        (λ start course low own. BringsInTurn start course low report own)) }
+        (λ start log low own. BringsInTurn start log low report own)) }
 {
     let mut work = prepare_seen(rt, alloc, hall, session)?;
-    bring_levels_here(rt, alloc, hall, session, &mut work.levels);
+    refresh_levels_here(rt, alloc, hall, session, &mut work.levels);
     Ok(report_of(work))
 }
 
 /// Does the jobs of all levels, one level after another.
-fn bring_levels_here<R: Wait, D: Disk>(
+fn refresh_levels_here<R: Wait, D: Disk>(
     rt: &R,
     alloc: Global,
     hall: &Hall<D>,
@@ -50,17 +50,17 @@ fn bring_levels_here<R: Wait, D: Disk>(
     ensures at { IsAt hall.now session.new }
     ensures levels { length levels.new ≡ length levels.old }
     ensures done { Does hall.now session.old session.new
-        (λ start course low own. DidInTurn (AllDid IsDone) start course low (jobs_in levels.old) (jobs_in levels.new) own) }
+        (λ start log low own. DidInTurn (AllDid IsDone) start log low (jobs_in levels.old) (jobs_in levels.new) own) }
     ensures in_turn { Does hall.now session.old session.new
-        (λ start course low own. DidInTurn (DidInTurn IsDone) start course low (jobs_in levels.old) (jobs_in levels.new) own) }
+        (λ start log low own. DidInTurn (DidInTurn IsDone) start log low (jobs_in levels.old) (jobs_in levels.new) own) }
 {
     for level in levels.iter_mut() {
-        bring_level_here(rt, alloc, hall, session, level);
+        refresh_level_here(rt, alloc, hall, session, level);
     }
 }
 
 /// Does the jobs of a level.
-fn bring_level_here<R: Wait, D: Disk>(
+fn refresh_level_here<R: Wait, D: Disk>(
     rt: &R,
     alloc: Global,
     hall: &Hall<D>,
@@ -70,7 +70,7 @@ fn bring_level_here<R: Wait, D: Disk>(
     requires at { IsAt hall.now session.old }
     ensures at { IsAt hall.now session.new }
     ensures in_turn { Does hall.now session.old session.new
-        (λ start course low own. DidInTurn IsDone start course low level.old.jobs.items level.new.jobs.items own) }
+        (λ start log low own. DidInTurn IsDone start log low level.old.jobs.items level.new.jobs.items own) }
 {
     bring_each(rt, alloc, hall, session, &mut level.jobs);
 }
@@ -87,7 +87,7 @@ fn bring_each<R: Wait, D: Disk>(
     ensures at { IsAt hall.now session.new }
     ensures jobs { length jobs.new ≡ length jobs.old }
     ensures in_turn { Does hall.now session.old session.new
-        (λ start course low own. DidInTurn IsDone start course low jobs.old jobs.new own) }
+        (λ start log low own. DidInTurn IsDone start log low jobs.old jobs.new own) }
 {
     for job in jobs.iter_mut() {
         job.bring(rt, alloc, hall, session);

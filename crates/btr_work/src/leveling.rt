@@ -3,7 +3,7 @@ ghost use Rattle.std.specs.Prelude.{◌≡◌, ◌+◌, ◌<◌, ◌≤◌, ◌^
 ghost use Rattle.btr_hist.specs.declared.entry.Entry.{Entry as EntrySpec};
 ghost use Rattle.btr_engine.specs.Snapshot.{IsSnapshotOf};
 ghost use Rattle.btr_work.specs.Levels.{AreLevels, next_level};
-ghost use Rattle.btr_work.specs.Leveling.{IsPlaced, IsBelow};
+ghost use Rattle.btr_work.specs.Leveling.{PlacesStream, IsBelow};
 
 use btr_engine::Snapshot;
 use btr_hist::Spec;
@@ -62,7 +62,7 @@ fn place(
     stream: u32,
 ) -> Result<(), AllocError>
     requires { level ≤ length groups.old.items + 1 }
-    ensures { OnOk result (IsPlaced level stream (map (λ l. l.items) groups.old.items) (map (λ l. l.items) groups.new.items)) }
+    ensures { OnOk result (PlacesStream level stream (map (λ l. l.items) groups.old.items) (map (λ l. l.items) groups.new.items)) }
 {
     if level == 0 {
         return Ok(());

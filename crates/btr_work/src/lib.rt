@@ -2,7 +2,7 @@
 //!
 //! [`levels`] sorts the outputs of a store by levels: each stands above its inputs. [`bring_current`] brings each output up to date
 //! once, level by level; the outputs of a level are shared among workers. Its [`Report`] says what became of each. One worker has just
-//! one outcome, also if blocks do not suffice for all: `specs/InOrder.antt` says which. [`bring_output`] brings one output up to date.
+//! one outcome, also if blocks do not suffice for all: `specs/InOrder.antt` says which. [`refresh_output`] brings one output up to date.
 #![tactic(auto)]
 
 // which outputs come first
@@ -10,7 +10,7 @@ mod leveling;
 // what became of each output
 mod report;
 // the work of one output
-mod bringing;
+mod refreshing;
 // the work of all outputs: what is made ready, how it is done, and how the report is filled in
 mod current;
 mod filling;
@@ -19,9 +19,9 @@ mod prepare;
 // laws of reports
 mod laws;
 
-pub use bringing::bring_output;
+pub use bringing::refresh_output;
 pub use current::bring_current;
 pub use here::bring_current_here;
-pub use laws::{brought_in_order, brought_is_alike, brought_is_current};
+pub use laws::{refreshed_in_order, refreshed_is_alike, refreshed_is_current};
 pub use leveling::levels;
-pub use report::{Brought, Report, ReportLine};
+pub use report::{Refreshed, Report, ReportLine};

@@ -4,11 +4,11 @@ ghost use Rattle.btr_hist.specs.declared.entry.Entry.{Entry as EntrySpec};
 ghost use Rattle.btr_hist.specs.History.{ids};
 ghost use Rattle.btr_engine.specs.Snapshot.{IsSnapshotOf};
 ghost use Rattle.btr_work.specs.Levels.{outputs, outputs_from};
-ghost use Rattle.btr_work.specs.Bringing.{IsPrepared, outputs_in, groups_in, blank};
+ghost use Rattle.btr_work.specs.Refreshing.{IsPrepared, outputs_in, groups_in, blank_line};
 
-use crate::bringing::OutputJob;
 use crate::leveling::levels;
-use crate::report::{Brought, ReportLine};
+use crate::refreshing::OutputJob;
+use crate::report::{Refreshed, ReportLine};
 use btr_engine::Snapshot;
 use btr_hall::LandFault;
 use btr_hist::Spec;
@@ -23,7 +23,7 @@ pub(crate) struct Work {
     pub(crate) lines: Vec<ReportLine>,
 
     /// A result for each stream, also for those that are no outputs.
-    pub(crate) results: Vec<Brought>,
+    pub(crate) results: Vec<Refreshed>,
 }
 
 /// The jobs of a level, and the numbers of their turns.
@@ -37,12 +37,12 @@ pub(crate) struct Level {
 #[derive(Drop)]
 struct Streams {
     lines: Vec<ReportLine>,
-    results: Vec<Brought>,
+    results: Vec<Refreshed>,
     turns: Vec<u32>,
 }
 
 /// What became of an output for which nothing was done: as if there had been no memory.
-const NOTHING: Brought = Brought::Refused(LandFault::Want);
+const NOTHING: Refreshed = Refreshed::Refused(LandFault::Want);
 
 /// Makes the work for the outputs of a snapshot. An `Err` means out of memory.
 pub(crate) fn prepare(alloc: Global, snapshot: &Snapshot) -> Result<Work, AllocError>
@@ -64,7 +64,7 @@ pub(crate) fn prepare(alloc: Global, snapshot: &Snapshot) -> Result<Work, AllocE
 
 /// Makes the lines and results of all streams.
 fn streams_of(alloc: Global, snapshot: &Snapshot) -> Result<Streams, AllocError>
-    ensures lines { (h : List EntrySpec) → IsSnapshotOf h snapshot.now → IfOk result (λ s. s.lines.items ≡ map blank (outputs h)) }
+    ensures lines { (h : List EntrySpec) → IsSnapshotOf h snapshot.now → IfOk result (λ s. s.lines.items ≡ map blank_line (outputs h)) }
     ensures results { (h : List EntrySpec) → IsSnapshotOf h snapshot.now → IfOk result (λ s. length s.results.items ≡ length (ids h)) }
 {
     let mut lines = Vec::new(alloc);
@@ -84,7 +84,7 @@ fn streams_of(alloc: Global, snapshot: &Snapshot) -> Result<Streams, AllocError>
 
 /// Adds the line of a stream, if it is an output.
 fn push_line(lines: &mut Vec<ReportLine>, stream: u32, kind: Option<Spec>) -> Result<(), AllocError>
-    ensures { OnOk result (lines.new.items ≡ lines.old.items ++ map blank (outputs_from stream (kind ∷ []))) }
+    ensures { OnOk result (lines.new.items ≡ lines.old.items ++ map blank_line (outputs_from stream (kind ∷ []))) }
 {
     if kind.is_some() {
         lines.push(ReportLine {

@@ -4,7 +4,7 @@ use std::marker::Model;
 
 /// What became of an output.
 #[derive(Clone, Copy, PartialEq, Eq)]
-pub enum Brought {
+pub enum Refreshed {
     /// A commit was planned and landed, and made this version of the output. It has read the latest versions of the inputs, as they
     /// were when it was planned.
     Landed { version: u64 },
@@ -20,7 +20,7 @@ pub enum Brought {
 #[derive(Clone, Copy, PartialEq, Eq)]
 pub struct ReportLine {
     pub output: u32,
-    pub result: Brought,
+    pub result: Refreshed,
 }
 
 /// What became of each output, in the order in which the outputs were defined.

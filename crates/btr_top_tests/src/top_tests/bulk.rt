@@ -226,7 +226,7 @@ fn rows_are_loaded(rt: HostRuntime) -> Result<(), Fail> {
 }
 
 #[test]
-fn outputs_are_brought_up_to_date(rt: HostRuntime) -> Result<(), Fail> {
+fn outputs_are_refreshed_up_to_date(rt: HostRuntime) -> Result<(), Fail> {
     play(&rt, &[], CHAIN)?;
     Ok(())
 }

@@ -114,7 +114,7 @@ fn lanes_have_their_own_lines(rt: HostRuntime) -> Result<(), Fail> {
 }
 
 #[test]
-fn rounds_bring_outputs_up_to_date(rt: HostRuntime) -> Result<(), Fail> {
+fn rounds_refresh_outputs_up_to_date(rt: HostRuntime) -> Result<(), Fail> {
     play(&rt, &[], ROUNDS)?;
     play(&rt, &[], FULL_ROUNDS)
 }

@@ -3,7 +3,7 @@ use Rattle.btr_hall_tests.proofs.work_tests.bring.Goals as goal
 
 pub returns-in-Ok-clause-alone : goal.returns-in-Ok-clause-alone
 returns-in-Ok-clause-alone g c =
-    let does = c.in-Ok.ensures.brings in
+    let does = c.in-Ok.ensures.refreshes in
     stays_alone c.args.session.now c.bring_current.new.session does.0 does.1 c.requires.alone
 
 pub returns-in-Err-clause-alone : goal.returns-in-Err-clause-alone

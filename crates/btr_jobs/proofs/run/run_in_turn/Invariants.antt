@@ -6,4 +6,4 @@ abbrev pub invariant-loop-job : goal.invariant-loop-job
 invariant-loop-job g l =
     IsAt l.hall l.session × (length l.jobs ≡ length l.initial.jobs)
     × (drop l.job-index l.jobs ≡ drop l.job-index l.initial.jobs)
-    × Does l.hall l.initial.session l.session (λ start course low own. DidInTurn g.J.Job.did start course low (take l.job-index l.initial.jobs) (take l.job-index l.jobs) own)
+    × Does l.hall l.initial.session l.session (λ start log low own. DidInTurn g.J.Job.did start log low (take l.job-index l.initial.jobs) (take l.job-index l.jobs) own)

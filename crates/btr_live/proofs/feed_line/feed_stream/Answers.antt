@@ -4,7 +4,7 @@ use Rattle.btr_base.specs.declared.point.Point.{Point}
 use Rattle.btr_text.specs.declared.reply.LineReply.TheVariants.{No}
 use Rattle.btr_text.specs.declared.reply.Reason.{Reason}
 use Rattle.btr_live.specs.Feeds.{Waiting, waiting_of}
-use Rattle.btr_live.specs.Meaning.{Holds, Refuses, insert, reason_of_fault}
+use Rattle.btr_live.specs.Meaning.{Holds, Refuses, insert_points, reason_of_fault}
 use Rattle.btr_live.specs.Serving.{RepliesIn}
 use Rattle.btr_live.proofs.WaitingLemmas.{at_stream}
 use Rattle.btr_live.proofs.FeedLines.{added_held, added_due, added_fault, due_waits}
@@ -29,11 +29,11 @@ returns-in-Ok-Due-clause-replies g c =
     let after : Waiting = waiting_of c.commit_feed.new.feeds in
     let reply = c.commit_feed.result in
     let has = ap (λ (v : Waiting). v c.args.stream) arm.ensures.waiting.waiting ∙ at_stream c.args.stream all w in (
-      insert c.args.stream all,
+      insert_points c.args.stream all,
       added_due c.args.feeds.now.batch w c.args.stream c.args.points.now c.insert.result c.insert.ensures.fault arm.field-0-0 reply after
           (arm.is ∙ ap Ok arm.field-0-is) (sym arm.field-0-is ∙ arm.ensures.held)
           (due_waits w mid after c.args.stream all reply arm.ensures.waiting.waiting c.commit_feed.ensures.waiting.waiting),
-      subst (λ (ps : List Point). RepliesIn c.args.hall.now c.args.session.now c.commit_feed.new.session (insert c.args.stream ps) reply) has c.commit_feed.ensures.replies,
+      subst (λ (ps : List Point). RepliesIn c.args.hall.now c.args.session.now c.commit_feed.new.session (insert_points c.args.stream ps) reply) has c.commit_feed.ensures.replies,
     )
 
 pub returns-in-Err-clause-replies : goal.returns-in-Err-clause-replies

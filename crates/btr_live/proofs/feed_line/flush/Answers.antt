@@ -6,7 +6,7 @@ use Rattle.btr_text.specs.declared.reply.Reason.TheVariants as reasons
 use Rattle.btr_text.specs.declared.reply.LineReply.TheVariants.{No}
 use Rattle.btr_jobs.proofs.TurnLemmas.{look_at}
 use Rattle.btr_live.specs.Feeds.{waiting_of}
-use Rattle.btr_live.specs.Meaning.{insert}
+use Rattle.btr_live.specs.Meaning.{insert_points}
 use Rattle.btr_live.proofs.FeedLines.{output_is, plain_is, flush_no_stream, flush_output, flush_none, flush_some}
 use Rattle.btr_live.proofs.ServeLemmas.{replies_serve, after_look, look_refuses}
 use Rattle.btr_live.proofs.feed_line.flush.Goals as goal
@@ -50,7 +50,7 @@ returns-else-is_empty-clause-line g c =
     let stream = c.in-Some.found.stream in
     let w = waiting_of c.args.feeds.now in
     after_look c.args.hall.now c.args.session.now c.find.new.self c.commit_feed.new.session _ c.commit_feed.result c.commit_feed.ensures.at c.find.ensures.looks
-    (replies_serve c.args.hall.now c.find.new.self c.commit_feed.new.session _ (insert stream (w stream)) c.commit_feed.result
+    (replies_serve c.args.hall.now c.find.new.self c.commit_feed.new.session _ (insert_points stream (w stream)) c.commit_feed.result
     (λ h of.
     let found = c.in-Some.ensures.found h of in
     flush_some c.args.feeds.now.batch (history_of h (seen_of c.find.new.self)) w c.args.id stream c.commit_feed.result (waiting_of c.commit_feed.new.feeds) found.0 (plain_is (history_of h (seen_of c.find.new.self)) stream (found.1 ∙ c.in-None-spec.is))

@@ -19,9 +19,9 @@ loop-line-init g c = record {
       let rest = ap length c.into_iter-line-iterator.ensures.into_iter_gives.0 in
       let none = ap length c.requires.empty in
       omega (arith, rest, none, c.requires.room, c.args.lines.ok.0, c.args.replies.now.ok.0);
-  runs = subst (λ (f : FeedsValue). Does c.args.hall.now c.args.session.now c.args.session.now (λ start course low own. RunsTo c.args.batch start course low [] c.args.replies.now.items own (waiting_of f))) (sym c.new-feeds.ensures)
-      (subst (λ (rs : List LineReply). Does c.args.hall.now c.args.session.now c.args.session.now (λ start course low own. RunsTo c.args.batch start course low [] rs own none_waiting)) (sym c.requires.empty)
-      (does_none c.args.hall.now c.args.session.now (λ start course low own. RunsTo c.args.batch start course low [] [] own none_waiting) (λ start course. runs_none c.args.batch start course)));
+  runs = subst (λ (f : FeedsValue). Does c.args.hall.now c.args.session.now c.args.session.now (λ start log low own. RunsTo c.args.batch start log low [] c.args.replies.now.items own (waiting_of f))) (sym c.new-feeds.ensures)
+      (subst (λ (rs : List LineReply). Does c.args.hall.now c.args.session.now c.args.session.now (λ start log low own. RunsTo c.args.batch start log low [] rs own none_waiting)) (sym c.requires.empty)
+      (does_none c.args.hall.now c.args.session.now (λ start log low own. RunsTo c.args.batch start log low [] [] own none_waiting) (λ start log. runs_none c.args.batch start log)));
 }
 
 pub loop-line-preserved : goal.loop-line-preserved
@@ -41,11 +41,11 @@ loop-line-preserved g c =
       room =
           let rest = ap length c.in-Some.ensures.steps.0 in
           omega (arith, rest, before.room, c.push_back_reserved.ensures.len, c.push_back_reserved.ensures.capacity);
-      runs = subst (λ (rs : List LineReply). Does c.args.hall.now c.args.session.now c.answer_line-reply.new.session (λ start course low own. RunsTo batch start course low (c.loop-line.yielded ++ line ∷ []) rs own after)) (sym c.push_back_reserved.ensures.items)
+      runs = subst (λ (rs : List LineReply). Does c.args.hall.now c.args.session.now c.answer_line-reply.new.session (λ start log low own. RunsTo batch start log low (c.loop-line.yielded ++ line ∷ []) rs own after)) (sym c.push_back_reserved.ensures.items)
           (does_then c.args.hall.now c.args.session.now c.loop-line.session c.answer_line-reply.new.session
-          (λ start course low own. RunsTo batch start course low c.loop-line.yielded told own w × (seen ≡ has_failed start course))
-          (λ start course low own. Serves start course seen low (LineAsks batch w line reply after) reply own)
-          (λ start course low own. RunsTo batch start course low (c.loop-line.yielded ++ line ∷ []) (told ++ reply ∷ []) own after)
+          (λ start log low own. RunsTo batch start log low c.loop-line.yielded told own w × (seen ≡ has_failed start log))
+          (λ start log low own. Serves start log seen low (LineAsks batch w line reply after) reply own)
+          (λ start log low own. RunsTo batch start log low (c.loop-line.yielded ++ line ∷ []) (told ++ reply ∷ []) own after)
           c.answer_line-reply.ensures.at
           (λ start late early low a b on starts first second. runs_push batch start late early low c.loop-line.yielded told line reply w after a b seen on first.1 first.0 second)
           (before.runs.0, before.runs.1, λ h of. (before.runs.2 h of, told_failed h c.args.hall.now c.loop-line.session))

@@ -12,5 +12,5 @@ invariant-loop-line g l = record {
   batch : l.feeds.batch ≡ l.fn.batch;
   at : IsAt l.fn.hall l.session;
   room : length l.line-iterator.rest.items + deque_len l.replies ≤ deque_capacity l.replies;
-  runs : Does l.fn.hall l.fn.session l.session (λ start course low own. RunsTo l.fn.batch start course low l.yielded l.replies.items own (waiting_of l.feeds));
+  runs : Does l.fn.hall l.fn.session l.session (λ start log low own. RunsTo l.fn.batch start log low l.yielded l.replies.items own (waiting_of l.feeds));
 }

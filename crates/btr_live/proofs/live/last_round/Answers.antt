@@ -8,10 +8,10 @@ use Rattle.btr_live.proofs.live.last_round.Goals as goal
 
 pub returns-then-not-materialize-clause-last : goal.returns-then-not-materialize-clause-last
 returns-then-not-materialize-clause-last g c =
-    subst (λ m. Does c.args.hall.now c.args.session.now c.args.session.now (λ start course low own. LastRound start course low m None own)) (sym c.if-not-materialize.true)
-    (does_none c.args.hall.now c.args.session.now (λ start course low own. LastRound start course low false None own) (λ start course n. refl))
+    subst (λ m. Does c.args.hall.now c.args.session.now c.args.session.now (λ start log low own. LastRound start log low m None own)) (sym c.if-not-materialize.true)
+    (does_none c.args.hall.now c.args.session.now (λ start log low own. LastRound start log low false None own) (λ start log n. refl))
 
 pub returns-clause-last : goal.returns-clause-last
 returns-clause-last g c =
-    subst (λ m. Does c.args.hall.now c.args.session.now c.bring_current.new.session (λ start course low own. LastRound start course low m (Some c.bring_current.result) own)) (sym c.if-not-materialize.false)
-    (round_is_last c.args.hall.now c.args.session.now c.bring_current.new.session c.bring_current.result c.bring_current.ensures.refused c.bring_current.ensures.brings)
+    subst (λ m. Does c.args.hall.now c.args.session.now c.bring_current.new.session (λ start log low own. LastRound start log low m (Some c.bring_current.result) own)) (sym c.if-not-materialize.false)
+    (round_is_last c.args.hall.now c.args.session.now c.bring_current.new.session c.bring_current.result c.bring_current.ensures.refused c.bring_current.ensures.refreshes)

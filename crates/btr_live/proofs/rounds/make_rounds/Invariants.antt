@@ -7,5 +7,5 @@ use Rattle.btr_live.proofs.rounds.make_rounds.Given as goal
 abbrev pub invariant-loop : goal.invariant-loop
 invariant-loop g l = record {
   at : IsAt l.fn.hall l.session;
-  rounds : Does l.fn.hall l.fn.session l.session (λ start course low own. MakesRounds start l.counter low course own);
+  rounds : Does l.fn.hall l.fn.session l.session (λ start log low own. MakesRounds start l.counter low log own);
 }

@@ -10,9 +10,9 @@ pub loop-of_stream-preserved : goal.loop-of_stream-preserved
 loop-of_stream-preserved c =
     let at = c.loop-of_stream in
     let x = c.in-Some.of_stream in
-    let fate = c.in_ok-fate.fate in
+    let outcome = c.in_ok-outcome.outcome in
     let steps : into_iter_items at.of_stream-iterator ≡ x ∷ into_iter_items c.next.new.self = c.in-Some.ensures.steps.0 in
-    let s : LoadedStream = record { rows = x; batch = c.args.batch; fate = fate } in
+    let s : LoadedStream = record { rows = x; batch = c.args.batch; outcome = outcome } in
     let pushed : c.push.new.self.items ≡ at.streams.items ++ s ∷ [] = c.in_ok-push.ensures.items in
     record {
       rest = append_assoc at.yielded (x ∷ []) _ ∙ rw (← steps) at.invariant.rest;
@@ -21,8 +21,8 @@ loop-of_stream-preserved c =
           let gone = c.in-Some.ensures.steps.1 in
           let short = ap length steps in
           omega arith;
-      ready = subst AreReady (sym pushed) (ready_push at.streams.items s (record { some = c.requires.batch; blank = c.in_ok-fate.ensures.blank }) at.invariant.ready);
-      planned = λ h of. subst (ArePlanned h c.args.batch (at.yielded ++ x ∷ [])) (sym pushed) (planned_push h c.args.batch at.yielded at.streams.items x fate (c.in_ok-fate.ensures.planned h of) (at.invariant.planned h of));
+      ready = subst AreReady (sym pushed) (ready_push at.streams.items s (record { some = c.requires.batch; blank = c.in_ok-outcome.ensures.blank }) at.invariant.ready);
+      planned = λ h of. subst (ArePlanned h c.args.batch (at.yielded ++ x ∷ [])) (sym pushed) (planned_push h c.args.batch at.yielded at.streams.items x outcome (c.in_ok-outcome.ensures.planned h of) (at.invariant.planned h of));
     }
 
 pub returns-clause-planned : goal.returns-clause-planned

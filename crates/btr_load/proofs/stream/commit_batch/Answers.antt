@@ -16,11 +16,11 @@ pub returns-clause-does : goal.returns-clause-does
 returns-clause-does g c =
     let turn = commit_turn c.args.hall.now c.args.session.now c.commit.new.self c.in_ok-entry.entry c.commit.result c.commit.ensures.same c.commit.ensures.commits in
     does_implied c.args.hall.now c.args.session.now c.commit.new.self
-    (λ start course low own. (next : List Entry) × CommittedAfter start course low c.in_ok-entry.entry c.commit.result own next × StartsWith course.history next)
-    (λ start course low own. OneBatchDid start course low c.args.stream c.args.batch.now c.commit.result own)
-    (λ start course low own did. (did.0, inl (subst (λ e. CommittedAfter start course low e c.commit.result own did.0) c.in_ok-entry.ensures did.1), did.2)) turn
+    (λ start log low own. (next : List Entry) × CommittedAfter start log low c.in_ok-entry.entry c.commit.result own next × StartsWith log.history next)
+    (λ start log low own. OneBatchDid start log low c.args.stream c.args.batch.now c.commit.result own)
+    (λ start log low own did. (did.0, inl (subst (λ e. CommittedAfter start log low e c.commit.result own did.0) c.in_ok-entry.ensures did.1), did.2)) turn
 
 pub returns-in_err-entry-clause-does : goal.returns-in_err-entry-clause-does
 returns-in_err-entry-clause-does g c =
-    does_none c.args.hall.now c.args.session.now (λ start course low own. OneBatchDid start course low c.args.stream c.args.batch.now c.from_residual.result own)
-    (λ start course. (course.history, inr (search rules, record { own = refl; next = refl }), starts_refl course.history))
+    does_none c.args.hall.now c.args.session.now (λ start log low own. OneBatchDid start log low c.args.stream c.args.batch.now c.from_residual.result own)
+    (λ start log. (log.history, inr (search rules, record { own = refl; next = refl }), starts_refl log.history))

@@ -10,8 +10,8 @@ loop-i-init g c = record {
   at = c.requires.at;
   long = refl;
   does = does_none c.args.hall.now c.args.session.now
-      (λ start course low own. SomeDone start course low c.args.stream c.args.batch c.args.points.now c.args.points.now [] own)
-      (λ start course. done_none start course c.args.stream c.args.batch c.args.points.now);
+      (λ start log low own. SomeDone start log low c.args.stream c.args.batch c.args.points.now c.args.points.now [] own)
+      (λ start log. done_none start log c.args.stream c.args.batch c.args.points.now);
 }
 
 pub loop-i-preserved : goal.loop-i-preserved
@@ -28,9 +28,9 @@ loop-i-preserved g c =
       at = c.commit_batch.ensures.at;
       long = length-set c.loop-i.results c.loop-i.i result ∙ inv.long;
       does = does_then c.args.hall.now c.args.session.now c.loop-i.session c.commit_batch.new.session
-          (λ start course low own. SomeDone start course low stream c.args.batch points rest told own)
-          (λ start course low own. OneBatchDid start course low stream c.split_at.result.0.now result own)
-          (λ start course low own. SomeDone start course low stream c.args.batch points c.split_at.result.1.now (take (c.loop-i.i + 1) (set c.loop-i.results c.loop-i.i result)) own)
+          (λ start log low own. SomeDone start log low stream c.args.batch points rest told own)
+          (λ start log low own. OneBatchDid start log low stream c.split_at.result.0.now result own)
+          (λ start log low own. SomeDone start log low stream c.args.batch points c.split_at.result.1.now (take (c.loop-i.i + 1) (set c.loop-i.results c.loop-i.i result)) own)
           c.commit_batch.ensures.at
           (λ start late early low a b on starts was one.
           done_step start late early low stream c.args.batch points rest c.split_at.result.0.now c.split_at.result.1.now told (take (c.loop-i.i + 1) (set c.loop-i.results c.loop-i.i result)) result a b
@@ -49,8 +49,8 @@ returns-clause-does g c =
     let told = take c.loop-i.i c.loop-i.results in
     let whole : told ≡ c.loop-i.results = take_all c.loop-i.i c.loop-i.results (omega (arith, inv.long)) in
     does_implied c.args.hall.now c.args.session.now c.loop-i.session
-    (λ start course low own. SomeDone start course low stream c.args.batch points c.loop-i.rest.now told own)
-    (λ start course low own. AllBatchesDid start course low stream c.args.batch points c.args.results.now c.loop-i.results own)
-    (λ start course low own was. subst (λ l. AllBatchesDid start course low stream c.args.batch points c.args.results.now l own) whole
-    (done_all start course low stream c.args.batch points c.loop-i.rest.now c.args.results.now told own (ap length whole ∙ inv.long) was))
+    (λ start log low own. SomeDone start log low stream c.args.batch points c.loop-i.rest.now told own)
+    (λ start log low own. AllBatchesDid start log low stream c.args.batch points c.args.results.now c.loop-i.results own)
+    (λ start log low own was. subst (λ l. AllBatchesDid start log low stream c.args.batch points c.args.results.now l own) whole
+    (done_all start log low stream c.args.batch points c.loop-i.rest.now c.args.results.now told own (ap length whole ∙ inv.long) was))
     inv.does

@@ -8,5 +8,5 @@ invariant-loop-i g l = record {
   at : IsAt l.hall l.session;
   long : length l.results ≡ length l.fn.results;
   does : Does l.hall l.fn.session l.session
-      (λ start course low own. SomeDone start course low l.stream l.batch l.points l.rest (take l.i l.results) own);
+      (λ start log low own. SomeDone start log low l.stream l.batch l.points l.rest (take l.i l.results) own);
 }

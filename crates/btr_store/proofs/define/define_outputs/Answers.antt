@@ -14,9 +14,9 @@ loop-stream-init g c = record {
   alone = c.requires.alone;
   long = ap (length {A = DefinedOutput}) c.new-outputs.ensures.items;
   does = does_none c.args.hall.now c.args.session.now
-      (λ start course low own. DefinesEach start course low 0 c.new-outputs.result.items own course.history)
-      (λ start course.
-      subst (λ (l : List DefinedOutput). DefinesEach start course course.history 0 l [] course.history) (sym c.new-outputs.ensures.items)
+      (λ start log low own. DefinesEach start log low 0 c.new-outputs.result.items own log.history)
+      (λ start log.
+      subst (λ (l : List DefinedOutput). DefinesEach start log log.history 0 l [] log.history) (sym c.new-outputs.ensures.items)
       (record { own = refl; next = refl }));
 }
 
@@ -32,7 +32,7 @@ loop-stream-preserved g c =
       at = done.at;
       alone = done.alone;
       long = ap (length {A = DefinedOutput}) items ∙ length-append before (output ∷ []) ∙ omega (arith, inv.long);
-      does = subst (λ (l : List DefinedOutput). Does hall c.args.session.now c.define.new.session (λ start course low own. DefinesEach start course low 0 l own course.history)) (sym items)
+      does = subst (λ (l : List DefinedOutput). Does hall c.args.session.now c.define.new.session (λ start log low own. DefinesEach start log low 0 l own log.history)) (sym items)
           (each_then hall c.args.session.now c.loop-stream.session c.define.new.session before c.loop-stream.stream output inv.long done.at inv.does done.does);
     }
 

@@ -11,5 +11,5 @@ invariant-loop-stream g l = record {
   at : IsAt l.hall l.session;
   alone : IsAlone l.session;
   long : length l.outputs.items ≡ l.stream;
-  does : Does l.hall l.fn.session l.session (λ start course low own. DefinesEach start course low 0 l.outputs.items own course.history);
+  does : Does l.hall l.fn.session l.session (λ start log low own. DefinesEach start log low 0 l.outputs.items own log.history);
 }

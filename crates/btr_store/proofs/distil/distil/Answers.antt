@@ -5,12 +5,12 @@ use Rattle.btr_store.proofs.distil.distil.Goals as goal
 
 pub say_report-requires-clause-alone : goal.say_report-requires-clause-alone
 say_report-requires-clause-alone g c =
-    alone_alike c.args.session.now c.bring_current.new.session c.in-Ok.ensures.brings.1.paths c.requires.alone
+    alone_alike c.args.session.now c.bring_current.new.session c.in-Ok.ensures.refreshes.1.paths c.requires.alone
 
 pub returns-in-Ok-clause-alone : goal.returns-in-Ok-clause-alone
 returns-in-Ok-clause-alone g c =
     stays_alone c.bring_current.new.session c.say_report.new.session c.say_report.ensures.stays
-    (alone_alike c.args.session.now c.bring_current.new.session c.in-Ok.ensures.brings.1.paths c.requires.alone)
+    (alone_alike c.args.session.now c.bring_current.new.session c.in-Ok.ensures.refreshes.1.paths c.requires.alone)
 
 pub returns-in-Err-clause-alone : goal.returns-in-Err-clause-alone
 returns-in-Err-clause-alone g c =
@@ -18,7 +18,7 @@ returns-in-Err-clause-alone g c =
 
 pub returns-in-Ok-clause-does : goal.returns-in-Ok-clause-does
 returns-in-Ok-clause-does g c =
-    distils_said c.args.hall.now c.args.session.now c.bring_current.new.session c.say_report.new.session c.in-Ok.report c.say_report.result c.in-Ok.ensures.brings c.say_report.ensures.stays c.say_report.ensures.says
+    distils_said c.args.hall.now c.args.session.now c.bring_current.new.session c.say_report.new.session c.in-Ok.report c.say_report.result c.in-Ok.ensures.refreshes c.say_report.ensures.stays c.say_report.ensures.says
 
 pub returns-in-Err-clause-does : goal.returns-in-Err-clause-does
 returns-in-Err-clause-does g c =

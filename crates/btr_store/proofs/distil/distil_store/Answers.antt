@@ -19,17 +19,17 @@ returns-clause-done g c =
     let new = c.close_hall-disk.result in
     elim (cases_lt 1 workers) [
       | inl many ↦
-          does_more disk (λ start course own. Distils start course start.history said own) (λ start course own. DistilsStore start course workers said own) old new
-          (λ start course own works legal is. distils_store disk old new start course workers own said works legal many is)
-          (does_rightly disk (λ start course low own. Distils start course low said own) old new hall session last
-          (λ start course own is. distils_allowed start course said own is)
+          does_more disk (λ start log own. Distils start log start.history said own) (λ start log own. DistilsStore start log workers said own) old new
+          (λ start log own works legal is. distils_store disk old new start log workers own said works legal many is)
+          (does_rightly disk (λ start log low own. Distils start log low said own) old new hall session last
+          (λ start log own is. distils_allowed start log said own is)
           begun c.distil-said.ensures.does
           (λ opened own goes. c.close_hall-disk.ensures.works old opened session own begun.begins goes))
       | inr few ↦
-          does_more disk (λ start course own. DistilsInTurn start course start.history said own) (λ start course own. DistilsStore start course workers said own) old new
-          (λ start course own works legal is. distils_store_in_order disk old new start course workers own said works legal is)
-          (does_rightly disk (λ start course low own. DistilsInTurn start course low said own) old new hall session last
-          (λ start course own is. distils_allowed start course said own is.did)
+          does_more disk (λ start log own. DistilsInTurn start log start.history said own) (λ start log own. DistilsStore start log workers said own) old new
+          (λ start log own works legal is. distils_store_in_order disk old new start log workers own said works legal is)
+          (does_rightly disk (λ start log low own. DistilsInTurn start log low said own) old new hall session last
+          (λ start log own is. distils_allowed start log said own is.did)
           begun (c.distil-said.ensures.in_turn few)
           (λ opened own goes. c.close_hall-disk.ensures.works old opened session own begun.begins goes))
     ]

@@ -14,10 +14,10 @@ returns-clause-done g c =
     let begun = c.in_ok-hall.ensures.begun in
     let hall = c.in_ok-hall.hall in
     let session = c.in_ok-hall.session in
-    let rightly = does_rightly g.D.Disk (λ start course low own. Lives batch materialize script start course low said own) c.args.disk c.close_hall-disk.result hall session c.live-said.new.session
-    (λ start course own is. lives_allowed batch materialize script start course said own is)
+    let rightly = does_rightly g.D.Disk (λ start log low own. Lives batch materialize script start log low said own) c.args.disk c.close_hall-disk.result hall session c.live-said.new.session
+    (λ start log own is. lives_allowed batch materialize script start log said own is)
     begun c.live-said.ensures.does
     (λ opened own goes. c.close_hall-disk.ensures.works c.args.disk opened session own begun.begins goes) in
-    does_more g.D.Disk (λ start course own. Lives batch materialize script start course start.history said own) (λ start course own. LivesStore batch materialize script start course said own) c.args.disk c.close_hall-disk.result
-    (λ start course own works legal is. lives_store c.runs_are_one_history.ensures c.one_lane_is_the_model.ensures c.last_is_current.ensures batch materialize script start course own works.each_once works.not_stopped works.follows works.fits said is)
+    does_more g.D.Disk (λ start log own. Lives batch materialize script start log start.history said own) (λ start log own. LivesStore batch materialize script start log said own) c.args.disk c.close_hall-disk.result
+    (λ start log own works legal is. lives_store c.runs_are_one_history.ensures c.one_lane_is_the_model.ensures c.last_is_current.ensures batch materialize script start log own works.each_once works.not_stopped works.follows works.fits said is)
     rightly

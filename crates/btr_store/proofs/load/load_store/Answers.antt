@@ -21,17 +21,17 @@ returns-clause-done g c =
     let new = c.close_hall-disk.result in
     elim (cases_lt 1 workers) [
       | inl many ↦
-          does_more disk (λ start course own. LoadsRows start course start.history rows batch said own) (λ start course own. LoadsStore start course rows batch workers said own) old new
-          (λ start course own works legal is. loads_store disk old new start course rows batch workers own said works many is)
-          (does_rightly disk (λ start course low own. LoadsRows start course low rows batch said own) old new hall session last
-          (λ start course own is. loads_if_allowed start course start.history rows batch is.loaded own is.loads)
+          does_more disk (λ start log own. LoadsRows start log start.history rows batch said own) (λ start log own. LoadsStore start log rows batch workers said own) old new
+          (λ start log own works legal is. loads_store disk old new start log rows batch workers own said works many is)
+          (does_rightly disk (λ start log low own. LoadsRows start log low rows batch said own) old new hall session last
+          (λ start log own is. loads_if_allowed start log start.history rows batch is.loaded own is.loads)
           begun c.load_rows-said.ensures.does
           (λ opened own goes. c.close_hall-disk.ensures.works old opened session own begun.begins goes))
       | inr few ↦
-          does_more disk (λ start course own. LoadsRowsInTurn start course start.history rows batch said own) (λ start course own. LoadsStore start course rows batch workers said own) old new
-          (λ start course own works legal is. loads_store_in_order disk old new start course rows batch workers own said works is)
-          (does_rightly disk (λ start course low own. LoadsRowsInTurn start course low rows batch said own) old new hall session last
-          (λ start course own is. loads_if_allowed start course start.history rows batch is.did.loaded own is.did.loads)
+          does_more disk (λ start log own. LoadsRowsInTurn start log start.history rows batch said own) (λ start log own. LoadsStore start log rows batch workers said own) old new
+          (λ start log own works legal is. loads_store_in_order disk old new start log rows batch workers own said works is)
+          (does_rightly disk (λ start log low own. LoadsRowsInTurn start log low rows batch said own) old new hall session last
+          (λ start log own is. loads_if_allowed start log start.history rows batch is.did.loaded own is.did.loads)
           begun (c.load_rows-said.ensures.in_turn few)
           (λ opened own goes. c.close_hall-disk.ensures.works old opened session own begun.begins goes))
     ]

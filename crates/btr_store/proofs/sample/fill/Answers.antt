@@ -8,7 +8,7 @@ use Rattle.btr_store.proofs.sample.fill.Goals as goal
 pub returns-in_err-rows-clause-does : goal.returns-in_err-rows-clause-does
 returns-in_err-rows-clause-does g c =
     filled_none c.args.number c.args.streams c.args.points c.args.hall.now c.args.session.now c.args.session.now c.from_residual.result c.from_residual.ensures.0
-    (does_none c.args.hall.now c.args.session.now (λ start course low own. own ≡ []) (λ start course. refl))
+    (does_none c.args.hall.now c.args.session.now (λ start log low own. own ≡ []) (λ start log. refl))
 
 pub returns-in_err-loaded-clause-does : goal.returns-in_err-loaded-clause-does
 returns-in_err-loaded-clause-does g c =
@@ -44,7 +44,7 @@ returns-in_err-report-clause-does g c =
 
 pub returns-clause-alone : goal.returns-clause-alone
 returns-clause-alone g c =
-    alone_alike c.define_outputs.new.session c.bring_current.new.session c.in_ok-report.ensures.brings.1.paths c.define_outputs.ensures.alone
+    alone_alike c.define_outputs.new.session c.bring_current.new.session c.in_ok-report.ensures.refreshes.1.paths c.define_outputs.ensures.alone
 
 pub returns-clause-does : goal.returns-clause-does
 returns-clause-does g c =
@@ -58,4 +58,4 @@ returns-clause-does g c =
     let report = c.in_ok-report.report in
     filled_all c.args.number c.args.streams c.args.points hall old next new (record { loaded = loaded; outputs = outputs; report = report }) c.in_ok-report.ensures.at
     (two_parts c.args.number c.args.streams c.args.points hall old mid next c.in_ok-rows.rows loaded (Ok outputs) c.in_ok-rows.ensures c.define_outputs.ensures.at c.in_ok-loaded.ensures.loads c.in_ok-outputs.ensures.does)
-    c.in_ok-report.ensures.brings
+    c.in_ok-report.ensures.refreshes

@@ -15,10 +15,10 @@ returns-clause-done g c =
     let begun = c.in_ok-hall.ensures.begun in
     let hall = c.in_ok-hall.hall in
     let session = c.in_ok-hall.session in
-    let rightly = does_rightly g.D.Disk (λ start course low own. Samples number streams points start course low said own) c.args.disk c.close_hall-disk.result hall session c.sample-said.new.session
-    (λ start course own is. samples_allowed number streams points start course start.history said own is)
+    let rightly = does_rightly g.D.Disk (λ start log low own. Samples number streams points start log low said own) c.args.disk c.close_hall-disk.result hall session c.sample-said.new.session
+    (λ start log own is. samples_allowed number streams points start log start.history said own is)
     begun c.sample-said.ensures.does
     (λ opened own goes. c.close_hall-disk.ensures.works c.args.disk opened session own begun.begins goes) in
-    does_more g.D.Disk (λ start course own. Samples number streams points start course start.history said own) (λ start course own. SamplesStore number streams points start course said own) c.args.disk c.close_hall-disk.result
-    (λ start course own works legal is. samples_store number streams points start course own works.each_once works.follows legal said is)
+    does_more g.D.Disk (λ start log own. Samples number streams points start log start.history said own) (λ start log own. SamplesStore number streams points start log said own) c.args.disk c.close_hall-disk.result
+    (λ start log own works legal is. samples_store number streams points start log own works.each_once works.follows legal said is)
     rightly

@@ -4,11 +4,11 @@ use Rattle.std.specs.List.{range_with_len}
 use Rattle.btr_hist.specs.declared.entry.Entry.{Entry}
 use Rattle.btr_engine.specs.Snapshot.{IsSnapshotOf}
 use Rattle.btr_store.specs.Transcript.{AddsLines}
-use Rattle.btr_store.specs.Streams.{AreStreams, id_of}
+use Rattle.btr_store.specs.Streams.{AreStreams, id_of_stream}
 use Rattle.btr_store.specs.SampleLines.{summary_line}
 use Rattle.btr_store.proofs.sample_lines.add_summaries.Given as goal
 
 -- the streams up to here have their lines
 abbrev pub invariant-loop-stream : goal.invariant-loop-stream
 invariant-loop-stream l = (h : List Entry) → IsSnapshotOf h l.snapshot → AreStreams h l.streams
-    → AddsLines (map (λ stream. summary_line h (id_of h stream) stream) (range_with_len 0 l.stream)) l.fn.transcript l.transcript
+    → AddsLines (map (λ stream. summary_line h (id_of_stream h stream) stream) (range_with_len 0 l.stream)) l.fn.transcript l.transcript

@@ -2,9 +2,9 @@ use Rattle.std.proofs.Common.{◌≡◌, ◌<◌, length, [], ◌∷◌, ◌++�
 use Rattle.std.proofs.lemmas.List.{get_or_default}
 use mathlib.Core.List.{map-append}
 use Rattle.btr_jobs.proofs.RunLemmas.{length_after, rest_after, items_more, now_more}
-use Rattle.btr_work.specs.declared.report.Brought.TheVariants.{Landed}
+use Rattle.btr_work.specs.declared.report.Refreshed.TheVariants.{Landed}
 use Rattle.btr_work.specs.declared.report.ReportLine.{ReportLine}
-use Rattle.btr_work.specs.Bringing.{filled}
+use Rattle.btr_work.specs.Refreshing.{filled}
 use Rattle.btr_work.proofs.filling.fill.Goals as goal
 
 pub loop-line-preserved : goal.loop-line-preserved

@@ -1,5 +1,5 @@
 use Rattle.std.proofs.Common.{◌≡◌, length, take, drop, map}
-use Rattle.btr_work.specs.Bringing.{filled}
+use Rattle.btr_work.specs.Refreshing.{filled}
 use Rattle.btr_work.proofs.filling.fill.Given as goal
 
 -- The lines so far are filled in. The others are as they were.

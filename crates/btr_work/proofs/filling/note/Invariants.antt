@@ -1,5 +1,5 @@
 use Rattle.std.proofs.Common.{◌≡◌, drop}
-use Rattle.btr_work.specs.Bringing.{noted}
+use Rattle.btr_work.specs.Refreshing.{noted}
 use Rattle.btr_work.proofs.filling.note.Given as goal
 
 -- The results so far with those of the jobs that are left are those of all jobs.

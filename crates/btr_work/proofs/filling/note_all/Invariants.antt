@@ -1,5 +1,5 @@
 use Rattle.std.proofs.Common.{◌≡◌, drop}
-use Rattle.btr_work.specs.Bringing.{noted_all, jobs_in}
+use Rattle.btr_work.specs.Refreshing.{noted_all, jobs_in}
 use Rattle.btr_work.proofs.filling.note_all.Given as goal
 
 -- The results so far with those of the levels that are left are those of all levels.

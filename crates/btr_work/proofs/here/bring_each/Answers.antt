@@ -3,9 +3,9 @@ use Rattle.std.proofs.Common.{◌≡◌, ◌<◌, ◌+◌, ℕ, List, zero, suc,
 use Rattle.btr_jobs.specs.Jobs.{Does}
 use Rattle.btr_jobs.proofs.RunLemmas.{length_after, rest_after, items_more, now_more}
 use Rattle.btr_jobs.proofs.InTurnLemmas.{InTurn, in_turn_none, in_turn_more}
-use Rattle.btr_work.specs.declared.bringing.OutputJob.{OutputJob}
-use Rattle.btr_work.specs.declared.report.Brought.TheVariants.{Landed}
-use Rattle.btr_work.specs.Bringing.{IsDone}
+use Rattle.btr_work.specs.declared.refreshing.OutputJob.{OutputJob}
+use Rattle.btr_work.specs.declared.report.Refreshed.TheVariants.{Landed}
+use Rattle.btr_work.specs.Refreshing.{IsDone}
 use Rattle.btr_work.specs.ReportLaws.{done_lowers}
 use Rattle.btr_work.proofs.here.bring_each.Goals as goal
 

@@ -1,7 +1,7 @@
 -- The loop of jobs.
 use Rattle.std.proofs.Common.{◌≡◌, length, take, drop}
 use Rattle.btr_jobs.specs.Jobs.{IsAt, Does, DidInTurn}
-use Rattle.btr_work.specs.Bringing.{IsDone}
+use Rattle.btr_work.specs.Refreshing.{IsDone}
 use Rattle.btr_work.proofs.here.bring_each.Given as goal
 
 -- the jobs up to here are done, and the others are what they were
@@ -9,4 +9,4 @@ abbrev pub invariant-loop-job : goal.invariant-loop-job
 invariant-loop-job g l =
     IsAt l.hall l.session × (length l.jobs ≡ length l.initial.jobs)
     × (drop l.job-index l.jobs ≡ drop l.job-index l.initial.jobs)
-    × Does l.hall l.initial.session l.session (λ start course low own. DidInTurn IsDone start course low (take l.job-index l.initial.jobs) (take l.job-index l.jobs) own)
+    × Does l.hall l.initial.session l.session (λ start log low own. DidInTurn IsDone start log low (take l.job-index l.initial.jobs) (take l.job-index l.jobs) own)

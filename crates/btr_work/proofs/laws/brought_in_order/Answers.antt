@@ -1,5 +1,5 @@
-use Rattle.btr_work.proofs.InOrderLemmas.{brought-in-order}
-use Rattle.btr_work.proofs.laws.brought_in_order.Goals as goal
+use Rattle.btr_work.proofs.InOrderLemmas.{refreshed-in-order}
+use Rattle.btr_work.proofs.laws.refreshed_in_order.Goals as goal
 
 pub returns : goal.returns
-returns c = brought-in-order
+returns c = refreshed-in-order

@@ -1,5 +1,5 @@
-use Rattle.btr_work.proofs.AlikeLemmas.{brought-alike}
-use Rattle.btr_work.proofs.laws.brought_is_alike.Goals as goal
+use Rattle.btr_work.proofs.AlikeLemmas.{refreshed-alike}
+use Rattle.btr_work.proofs.laws.refreshed_is_alike.Goals as goal
 
 pub returns : goal.returns
-returns c start course low report own levels brings legal all are undisturbed = brought-alike start course low report own levels brings legal all are undisturbed
+returns c start log low report own levels refreshes legal all are undisturbed = refreshed-alike start log low report own levels refreshes legal all are undisturbed

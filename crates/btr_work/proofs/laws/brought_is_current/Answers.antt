@@ -1,5 +1,5 @@
-use Rattle.btr_work.proofs.CurrentLemmas.{brought-current}
-use Rattle.btr_work.proofs.laws.brought_is_current.Goals as goal
+use Rattle.btr_work.proofs.CurrentLemmas.{refreshed-current}
+use Rattle.btr_work.proofs.laws.refreshed_is_current.Goals as goal
 
 pub returns : goal.returns
-returns c start course low report own brings follows all = brought-current start course low report own brings follows all
+returns c start log low report own refreshes follows all = refreshed-current start log low report own refreshes follows all

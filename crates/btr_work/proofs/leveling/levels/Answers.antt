@@ -3,7 +3,7 @@ use Rattle.std.proofs.lemmas.List.{take_more, take_all, length-map, length-appen
 use Rattle.btr_hist.specs.History.{kinds, spec_of}
 use Rattle.btr_hist.proofs.HistoryLemmas.{length-kinds}
 use Rattle.btr_work.specs.Levels.{AreGroups, next_level, levels_from}
-use Rattle.btr_work.specs.Leveling.{IsPlaced, IsBelow}
+use Rattle.btr_work.specs.Leveling.{PlacesStream, IsBelow}
 use Rattle.btr_work.proofs.LevelLemmas.{levels-snoc, below-snoc, groups-more}
 use Rattle.btr_work.proofs.leveling.levels.Goals as goal
 
@@ -18,7 +18,7 @@ loop-stream-preserved c =
     let was = length-map c.loop-stream.groups.items f in
     let is = length-map c.place.new.groups.items f in
     let low : level ≤ length old + 1 = omega (arith, c.next_level-level.ensures.top, c.len.ensures, was) in
-    let placed : IsPlaced level (length c.loop-stream.found.items) old new = subst (λ n. IsPlaced level n old new) (sym so_far.counted) c.in_ok-place.ensures in
+    let placed : PlacesStream level (length c.loop-stream.found.items) old new = subst (λ n. PlacesStream level n old new) (sym so_far.counted) c.in_ok-place.ensures in
     let pushed = c.in_ok-push.ensures.items in
     let counted : length new ≡ max (length old) level = placed.counted in
     record {

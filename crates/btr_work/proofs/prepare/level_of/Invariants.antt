@@ -1,5 +1,5 @@
 use Rattle.std.proofs.Common.{◌≡◌, take}
-use Rattle.btr_work.specs.Bringing.{outputs_in}
+use Rattle.btr_work.specs.Refreshing.{outputs_in}
 use Rattle.btr_work.proofs.prepare.level_of.Given as goal
 
 abbrev pub invariant-loop-output : goal.invariant-loop-output

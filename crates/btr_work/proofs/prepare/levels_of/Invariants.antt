@@ -1,5 +1,5 @@
 use Rattle.std.proofs.Common.{◌≡◌, take, map}
-use Rattle.btr_work.specs.Bringing.{groups_in}
+use Rattle.btr_work.specs.Refreshing.{groups_in}
 use Rattle.btr_work.proofs.prepare.levels_of.Given as goal
 
 abbrev pub invariant-loop-group : goal.invariant-loop-group

@@ -3,8 +3,8 @@ use Rattle.btr_hist.specs.declared.entry.Entry.{Entry}
 use Rattle.btr_engine.specs.Snapshot.{IsSnapshotOf}
 use Rattle.btr_hall.specs.Session.{IsAlone}
 use Rattle.btr_jobs.specs.Jobs.{IsAt, Does}
-use Rattle.btr_load.specs.Plan.{AreOpened}
-use Rattle.btr_load.proofs.opening.open_streams.Given as goal
+use Rattle.btr_load.specs.Plan.{AreStreamsSettled}
+use Rattle.btr_load.proofs.creating.create_streams.Given as goal
 
 abbrev pub invariant-loop-stream : goal.invariant-loop-stream
 invariant-loop-stream g l = record {
@@ -12,6 +12,6 @@ invariant-loop-stream g l = record {
   alone : IsAlone l.session;
   long : length l.streams ≡ length l.fn.streams;
   rest : drop l.stream-index l.streams ≡ drop l.stream-index l.fn.streams;
-  does : Does l.hall l.fn.session l.session (λ start course low own. (h : List Entry) → IsSnapshotOf h l.snapshot
-      → AreOpened start course h low (take l.stream-index l.fn.streams) (take l.stream-index l.streams) own course.history);
+  does : Does l.hall l.fn.session l.session (λ start log low own. (h : List Entry) → IsSnapshotOf h l.snapshot
+      → AreStreamsSettled start log h low (take l.stream-index l.fn.streams) (take l.stream-index l.streams) own log.history);
 }

@@ -1,5 +1,5 @@
 use Rattle.btr_load.proofs.BatchLemmas.{blank_is}
-use Rattle.btr_load.proofs.plan.blank_fate.Goals as goal
+use Rattle.btr_load.proofs.plan.blank_outcome.Goals as goal
 
 pub returns-clause-planned : goal.returns-clause-planned
 returns-clause-planned c =

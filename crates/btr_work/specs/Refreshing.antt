@@ -11,20 +11,20 @@ use Rattle.btr_hall.specs.declared.session.Hall.{Hall}
 use Rattle.btr_hall.specs.declared.session.Session.{Session}
 use Rattle.btr_hall.specs.Trace.{history_of}
 use Rattle.btr_hall.specs.Session.{opening_of, seen_of}
-use Rattle.btr_jobs.specs.Course.{Start, Course}
-use Rattle.btr_work.specs.declared.bringing.OutputJob.{OutputJob}
+use Rattle.btr_jobs.specs.States.{StoreState, LogState}
+use Rattle.btr_work.specs.declared.refreshing.OutputJob.{OutputJob}
 use Rattle.btr_work.specs.declared.prepare.Level.{Level}
 use Rattle.btr_work.specs.declared.prepare.Work.{Work}
-use Rattle.btr_work.specs.declared.report.Brought.{Brought}
-use Rattle.btr_work.specs.declared.report.Brought.TheVariants.{Refused}
+use Rattle.btr_work.specs.declared.report.Refreshed.{Refreshed}
+use Rattle.btr_work.specs.declared.report.Refreshed.TheVariants.{Refused}
 use Rattle.btr_work.specs.declared.report.ReportLine.{ReportLine}
 use Rattle.btr_work.specs.Levels.{AreLevels, outputs}
-use Rattle.btr_work.specs.Report.{IsBrought}
+use Rattle.btr_work.specs.Report.{IsRefreshed}
 
 -- The job was done: it is that of the same output, and says what became of it.
-pub record IsDone (start : Start) (course : Course) (low : List Entry) (was now : OutputJob) (own : List ℕ) : Type 0 where
+pub record IsDone (start : StoreState) (log : LogState) (low : List Entry) (was now : OutputJob) (own : List ℕ) : Type 0 where
   pub output : now.output ≡ was.output
-  pub brought : IsBrought start course low was.output now.result own
+  pub refreshed : IsRefreshed start log low was.output now.result own
 
 module _ {D : Type 0} {disk : Ghosts D} where
   -- The plan is the one that the model makes for the output after all that the session has seen.
@@ -46,31 +46,31 @@ abbrev pub groups_in : List Level → List (List ℕ)
 groups_in levels = map (λ l. outputs_in l.jobs.items) levels
 
 -- The line of an output for which nothing was done.
-abbrev pub blank : ℕ → ReportLine
-blank output = record { output = output; result = Refused Want }
+abbrev pub blank_line : ℕ → ReportLine
+blank_line output = record { output = output; result = Refused Want }
 
 -- The work for the outputs of a history, before any was done.
 pub record IsPrepared (h : List Entry) (work : Work) : Type 0 where
   pub levels : AreLevels h (groups_in work.levels.items)
-  pub lines : work.lines.items ≡ map blank (outputs h)
+  pub lines : work.lines.items ≡ map blank_line (outputs h)
   pub results : length work.results.items ≡ length (ids h)
 
 -- ---- how the report is filled in
 
 -- The results of streams, with those of jobs in their places.
-abbrev pub noted : List Brought → List OutputJob → List Brought
+abbrev pub noted : List Refreshed → List OutputJob → List Refreshed
 noted results [] = results
 noted results (job ∷ jobs) = noted (slice_set results job.output job.result) jobs
 
 -- The same with the jobs of levels.
-abbrev pub noted_all : List Brought → List (List OutputJob) → List Brought
+abbrev pub noted_all : List Refreshed → List (List OutputJob) → List Refreshed
 noted_all results [] = results
 noted_all results (jobs ∷ levels) = noted_all (noted results jobs) levels
 
 -- The result of an output.
-abbrev pub result_at : List Brought → ℕ → Brought
+abbrev pub result_at : List Refreshed → ℕ → Refreshed
 result_at results output = slice_index_or results output (Refused Want)
 
 -- A line with the result of its output.
-abbrev pub filled : List Brought → ReportLine → ReportLine
+abbrev pub filled : List Refreshed → ReportLine → ReportLine
 filled results line = record { output = line.output; result = result_at results line.output }

@@ -6,12 +6,12 @@ ghost use Rattle.btr_gate.specs.Prefixes.{StartsWith};
 ghost use Rattle.btr_hall.specs.Trace.{history_of};
 ghost use Rattle.btr_hall.specs.Session.{Looks, opening_of, seen_of};
 ghost use Rattle.btr_plan.specs.Next.{IsNext};
-ghost use Rattle.btr_jobs.specs.Course.{Start, Course, GoesOn};
+ghost use Rattle.btr_jobs.specs.States.{StoreState, LogState, GoesOn};
 ghost use Rattle.btr_jobs.specs.Jobs.{IsAt, Does};
-ghost use Rattle.btr_work.specs.Report.{IsBrought, IsOfStopped, KnowsStopped};
-ghost use Rattle.btr_work.specs.Bringing.{IsDone, IsPlannedAt};
+ghost use Rattle.btr_work.specs.Report.{IsRefreshed, IsOfStopped, KnowsStopped};
+ghost use Rattle.btr_work.specs.Refreshing.{IsDone, IsPlannedAt};
 
-use crate::report::Brought;
+use crate::report::Refreshed;
 use btr_disk::Disk;
 use btr_distil::Plan;
 use btr_hall::{Hall, LandFault, Session};
@@ -26,7 +26,7 @@ use std::thread::Threads;
 #[derive(Drop)]
 pub(crate) struct OutputJob {
     pub(crate) output: u32,
-    pub(crate) result: Brought,
+    pub(crate) result: Refreshed,
 }
 
 impl OutputJob {
@@ -40,14 +40,14 @@ impl OutputJob {
     )
         requires at { IsAt hall.now session.old }
         ensures at { IsAt hall.now session.new }
-        ensures done { Does hall.now session.old session.new (λ start course low own. IsDone start course low self.old self.new own) }
+        ensures done { Does hall.now session.old session.new (λ start log low own. IsDone start log low self.old self.new own) }
     {
-        self.result = bring_output(rt, alloc, hall, session, self.output);
+        self.result = refresh_output(rt, alloc, hall, session, self.output);
     }
 }
 
 impl Job for OutputJob {
-    ghost use Rattle.btr_work.specs.Bringing.{IsDone};
+    ghost use Rattle.btr_work.specs.Refreshing.{IsDone};
     ghost use Rattle.btr_work.specs.ReportLaws.{done_lasts, done_lowers};
 
     ghost did = { IsDone };
@@ -71,23 +71,23 @@ impl Job for OutputJob {
 /// is no output, that is as if there had been no memory.
 ///
 /// It costs what the plan and the landing cost, which follows what has changed in the inputs since the latest version of the output.
-pub fn bring_output<R: Wait, D: Disk>(
+pub fn refresh_output<R: Wait, D: Disk>(
     rt: &R,
     alloc: Global,
     hall: &Hall<D>,
     session: &mut Session<D>,
     output: u32,
-) -> Brought
+) -> Refreshed
     requires at { IsAt hall.now session.old }
     ensures at { IsAt hall.now session.new }
-    ensures brought { Does hall.now session.old session.new (λ start course low own. IsBrought start course low output result own) }
+    ensures refreshed { Does hall.now session.old session.new (λ start log low own. IsRefreshed start log low output result own) }
     ensures stopped { KnowsStopped hall.now session.old → IsOfStopped result }
 {
     match plan_output(rt, alloc, hall, session, output) {
-        Ok(Next::UpToDate { version }) => Brought::Current { version },
+        Ok(Next::UpToDate { version }) => Refreshed::Current { version },
         Ok(Next::Plan(plan)) => land(rt, alloc, hall, session, output, &plan),
         // An output stays one: it has a plan or is up to date, unless there is no memory.
-        Ok(Next::NotOutput) | Err(_) => Brought::Refused(LandFault::Want),
+        Ok(Next::NotOutput) | Err(_) => Refreshed::Refused(LandFault::Want),
     }
 }
 
@@ -117,17 +117,17 @@ fn land<R: Wait, D: Disk>(
     session: &mut Session<D>,
     output: u32,
     plan: &Plan,
-) -> Brought
+) -> Refreshed
     requires at { IsAt hall.now session.old }
     requires planned { IsPlannedAt hall.now session.old output plan.now }
     ensures at { IsAt hall.now session.new }
-    ensures brought { Does hall.now session.old session.new (λ start course low own. IsBrought start course low output result own) }
+    ensures refreshed { Does hall.now session.old session.new (λ start log low own. IsRefreshed start log low output result own) }
     ensures stopped { KnowsStopped hall.now session.old → IsOfStopped result }
 {
     match session.land(rt, alloc, hall, plan) {
-        Ok(receipt) => Brought::Landed {
+        Ok(receipt) => Refreshed::Landed {
             version: receipt.version,
         },
-        Err(fault) => Brought::Refused(fault),
+        Err(fault) => Refreshed::Refused(fault),
     }
 }

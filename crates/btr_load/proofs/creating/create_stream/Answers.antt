@@ -9,19 +9,19 @@ use Rattle.btr_jobs.proofs.TurnLemmas.{commit_at}
 use Rattle.btr_engine.specs.Snapshot.{IsSnapshotOf}
 use Rattle.btr_hist.specs.declared.entry.Entry.{Entry}
 use Rattle.std.proofs.Common.{List}
-use Rattle.btr_load.specs.Plan.{IsOpened}
+use Rattle.btr_load.specs.Plan.{IsStreamSettled}
 use Rattle.btr_load.proofs.CreateLemmas.{turn_alone, opened_still, opened_new}
-use Rattle.btr_load.proofs.opening.open_stream.Goals as goal
+use Rattle.btr_load.proofs.creating.create_stream.Goals as goal
 
 pub returns-then-is_some-clause-does : goal.returns-then-is_some-clause-does
 returns-then-is_some-clause-does g c =
     let s = c.args.stream.now in
     does_none c.args.hall.now c.args.session.now
-    (λ start course low own. (h : List Entry) → IsSnapshotOf h c.args.snapshot.now → IsOpened start course h low s s own course.history)
-    (λ start course. λ h of.
+    (λ start log low own. (h : List Entry) → IsSnapshotOf h c.args.snapshot.now → IsStreamSettled start log h low s s own log.history)
+    (λ start log. λ h of.
     let found : is_some (stream_of h s.rows.id) ≡ true =
     ap (λ id. is_some (stream_of h id)) (sym c.id-id.ensures) ∙ sym (ap is_some (c.find.ensures h of)) ∙ sym c.is_some.ensures ∙ c.if-is_some.true in
-    opened_still start course h course.history s found)
+    opened_still start log h log.history s found)
 
 pub returns-clause-at : goal.returns-clause-at
 returns-clause-at g c =
@@ -37,13 +37,13 @@ returns-clause-does g c =
     let done = c.commit-result.ensures in
     let result = c.commit-result.result in
     does_implied c.args.hall.now c.args.session.now c.commit-result.new.self
-    (λ start course low own. turns.Committed start course low (entries.Create c.id-id.result) result own course.history)
-    (λ start course low own. (h : List Entry) → IsSnapshotOf h c.args.snapshot.now
-    → IsOpened start course h low s (record { rows = s.rows; batch = s.batch; fate = c.settle.new.fate }) own course.history)
-    (λ start course low own did. λ h of.
+    (λ start log low own. turns.Committed start log low (entries.Create c.id-id.result) result own log.history)
+    (λ start log low own. (h : List Entry) → IsSnapshotOf h c.args.snapshot.now
+    → IsStreamSettled start log h low s (record { rows = s.rows; batch = s.batch; outcome = c.settle.new.outcome }) own log.history)
+    (λ start log low own did. λ h of.
     let missing : is_some (stream_of h s.rows.id) ≡ false =
     ap (λ id. is_some (stream_of h id)) (sym c.id-id.ensures) ∙ sym (ap is_some (c.find.ensures h of)) ∙ sym c.is_some.ensures ∙ c.if-is_some.false in
-    subst (λ f. IsOpened start course h low s (record { rows = s.rows; batch = s.batch; fate = f }) own course.history) (sym c.settle.ensures)
-    (opened_new start course h low s result own course.history missing
-    (subst (λ id. turns.Committed start course low (entries.Create id) result own course.history) c.id-id.ensures did)))
+    subst (λ f. IsStreamSettled start log h low s (record { rows = s.rows; batch = s.batch; outcome = f }) own log.history) (sym c.settle.ensures)
+    (opened_new start log h low s result own log.history missing
+    (subst (λ id. turns.Committed start log low (entries.Create id) result own log.history) c.id-id.ensures did)))
     (turn_alone c.args.hall.now c.args.session.now c.commit-result.new.self (entries.Create c.id-id.result) result done.same done.commits c.requires.alone)

@@ -14,19 +14,19 @@ use Rattle.btr_hall.specs.Trace.{history_of}
 use Rattle.btr_hall.specs.Session.{opening_of, seen_of}
 
 -- A store when its hall began: its history, the blocks that were left, and whether it was stopped.
-pub record Start : Type 0 where
+pub record StoreState : Type 0 where
   pub history : List Entry
   pub left : ℕ
   pub stopped : Bool
 
 -- What has happened in a hall: its history, and the entry in whose step the device failed, if it did.
-pub record Course : Type 0 where
+pub record LogState : Type 0 where
   pub history : List Entry
   pub failed : Option Entry
 
--- The second course is an earlier one of a hall that began so: the later history begins with the earlier one. Nothing follows if the
+-- The second state of the log is an earlier one of a hall that began so: the later history begins with the earlier one. Nothing follows if the
 -- store was stopped when the hall began, or after a failure.
-pub record GoesOn (start : Start) (late early : Course) : Type 0 where
+pub record GoesOn (start : StoreState) (late early : LogState) : Type 0 where
   pub begins : StartsWith late.history early.history
   pub ends : (start.stopped || is_some early.failed) ≡ true → late ≡ early
 
@@ -39,13 +39,13 @@ module _ {D : Type 0} {disk : Ghosts D} where
   failed_in (Halted entry engine ∷ l) = Some entry.value
 
   -- An engine of this history, as the store with which a hall begins.
-  abbrev pub start_with : List Entry → Engine D disk → Start
+  abbrev pub start_with : List Entry → Engine D disk → StoreState
   start_with h x = record { history = h; left = room_of x; stopped = is_stopped x }
 
   -- What a session has seen happen, if the hall began with this history.
-  abbrev pub course_of : List Entry → Session D disk → Course
-  course_of h s = record { history = history_of h (seen_of s); failed = failed_in (seen_of s) }
+  abbrev pub log_of : List Entry → Session D disk → LogState
+  log_of h s = record { history = history_of h (seen_of s); failed = failed_in (seen_of s) }
 
   -- The store with which a hall began, if it was of this history.
-  abbrev pub start_of : List Entry → Hall D disk → Start
+  abbrev pub start_of : List Entry → Hall D disk → StoreState
   start_of h hall = start_with h (opening_of hall)

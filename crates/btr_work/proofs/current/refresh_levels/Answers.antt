@@ -1,14 +1,14 @@
 use Rattle.std.proofs.Common.{◌<◌, length, arith}
 use Rattle.btr_work.proofs.DoneLemmas.{levels-begin, levels-step}
-use Rattle.btr_work.proofs.current.bring_levels.Goals as goal
+use Rattle.btr_work.proofs.current.refresh_levels.Goals as goal
 
 pub loop-level-init : goal.loop-level-init
 loop-level-init g c = levels-begin c.args.hall.now c.args.workers c.args.session.now c.args.levels.now c.requires.at
 
 pub loop-level-preserved : goal.loop-level-preserved
 loop-level-preserved g c =
-    let done = c.bring_level.ensures in
+    let done = c.refresh_level.ensures in
     let now = c.loop-level.levels in
     let i = c.loop-level.level-index in
     let inside : i < length now = omega (arith, c.loop-level-test.true, c.loop-level.invariant.1) in
-    levels-step c.args.hall.now c.args.workers c.args.session.now c.loop-level.session c.bring_level.new.session c.args.levels.now now i c.level-item.result c.bring_level.new.level inside c.loop-level.invariant c.level-item.is done.at done.done done.in_turn
+    levels-step c.args.hall.now c.args.workers c.args.session.now c.loop-level.session c.refresh_level.new.session c.args.levels.now now i c.level-item.result c.refresh_level.new.level inside c.loop-level.invariant c.level-item.is done.at done.done done.in_turn

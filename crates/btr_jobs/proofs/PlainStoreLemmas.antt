@@ -12,10 +12,10 @@ use Rattle.btr_engine.specs.declared.step.StepFault.TheVariants as steps
 use Rattle.btr_engine.specs.Body.{need_of}
 use Rattle.btr_gate.specs.Prefixes.{StartsWith}
 use Rattle.btr_hall.specs.Commit.{needs_of}
-use Rattle.btr_jobs.specs.Course.{Start, Course, GoesOn}
+use Rattle.btr_jobs.specs.States.{StoreState, LogState, GoesOn}
 use Rattle.btr_jobs.specs.Turns.{IsStopped, IsFull, Committed}
-use Rattle.btr_jobs.specs.Contents.{Contents, receipt_of, outcome_by, contents_by, outcome, contents_after, result_of, first_contents, RunsThrough}
-use Rattle.btr_jobs.specs.Contents.Outcome.{Taken, Rejected, Full}
+use Rattle.btr_jobs.specs.PlainStore.{PlainStore, receipt_of, take_result_by, store_by, take_result, store_after, result_of, first_store, RunsThrough}
+use Rattle.btr_jobs.specs.PlainStore.TakeResult.{Taken, Rejected, Full}
 use Rattle.btr_jobs.proofs.TurnLemmas.{needs_append}
 
 -- A history that another one begins with needs no more.
@@ -25,8 +25,8 @@ needs_prefix h p starts =
     let both = needs_append p starts.0 in
     omega (arith, all, both)
 
--- What ran through to the end of a course did so up to its middle.
-pub middle_runs : (start : Start) (late middle : Course) → GoesOn start late middle → RunsThrough start late → RunsThrough start middle
+-- What ran through to the end of a state of the log did so up to its middle.
+pub middle_runs : (start : StoreState) (late middle : LogState) → GoesOn start late middle → RunsThrough start late → RunsThrough start middle
 middle_runs start late middle on ran = record {
   runs = ran.runs;
   whole = none_left middle.failed refl;
@@ -37,37 +37,37 @@ middle_runs start late middle on ran = record {
     none_left None is = is
     none_left (Some e) is =
         let same = on.ends (or_right start.stopped (is_some middle.failed) (ap is_some is)) in
-        let both : None ≡ Some e = sym ran.whole ∙ ap (λ (c : Course). c.failed) same ∙ is in
+        let both : None ≡ Some e = sym ran.whole ∙ ap (λ (c : LogState). c.failed) same ∙ is in
         absurd (cc)
 
 -- ---- what becomes of an entry
 
-module _ (c : Contents) (e : Entry) where
-  pub outcome_taken : rejection c.history e ≡ None → need_of e ≤ c.left → outcome c e ≡ Taken (receipt_of c.history e)
+module _ (c : PlainStore) (e : Entry) where
+  pub outcome_taken : rejection c.history e ≡ None → need_of e ≤ c.left → take_result c e ≡ Taken (receipt_of c.history e)
   outcome_taken allowed fits =
-      ap (outcome_by c e) allowed
+      ap (take_result_by c e) allowed
       ∙ ap (λ t. if t then Full (need_of e) c.left else Taken (receipt_of c.history e)) (le-ltb c.left (need_of e) fits)
 
-  pub outcome_full : rejection c.history e ≡ None → c.left < need_of e → outcome c e ≡ Full (need_of e) c.left
+  pub outcome_full : rejection c.history e ≡ None → c.left < need_of e → take_result c e ≡ Full (need_of e) c.left
   outcome_full allowed short =
-      ap (outcome_by c e) allowed
+      ap (take_result_by c e) allowed
       ∙ ap (λ t. if t then Full (need_of e) c.left else Taken (receipt_of c.history e)) (lt-ltb c.left (need_of e) short)
 
-  pub outcome_rejected : (why : Rejection) → rejection c.history e ≡ Some why → outcome c e ≡ Rejected why
-  outcome_rejected why is = ap (outcome_by c e) is
+  pub outcome_rejected : (why : Rejection) → rejection c.history e ≡ Some why → take_result c e ≡ Rejected why
+  outcome_rejected why is = ap (take_result_by c e) is
 
 -- ---- what the store has
 
-module _ (start : Start) where
+module _ (start : StoreState) where
   -- The plain store has this history, and what is left of the blocks that were left at the start.
-  pub record Holds (c : Contents) (h : List Entry) : Type 0 where
+  pub record Holds (c : PlainStore) (h : List Entry) : Type 0 where
     pub same : c.history ≡ h
     pub left : c.left + needs_of h ≡ start.left + needs_of start.history
 
-  pub first_holds : Holds (first_contents start) start.history
+  pub first_holds : Holds (first_store start) start.history
   first_holds = record { same = refl; left = refl }
 
-  module _ (c : Contents) (p : List Entry) (e : Entry) (holds : Holds c p) where
+  module _ (c : PlainStore) (p : List Entry) (e : Entry) (holds : Holds c p) where
     -- There was room for an entry that was added.
     pub added_fits : needs_of (p ++ e ∷ []) ≤ start.left + needs_of start.history → need_of e ≤ c.left
     added_fits fits =
@@ -75,19 +75,19 @@ module _ (start : Start) where
         let left = holds.left in
         omega (arith, both, left, fits)
 
-    pub holds_added : (next : List Entry) → outcome c e ≡ Taken (receipt_of c.history e) → need_of e ≤ c.left → next ≡ p ++ e ∷ [] → Holds (contents_after c e) next
+    pub holds_added : (next : List Entry) → take_result c e ≡ Taken (receipt_of c.history e) → need_of e ≤ c.left → next ≡ p ++ e ∷ [] → Holds (store_after c e) next
     holds_added next is fits grown =
         let both = needs_append p (e ∷ []) in
         let left = holds.left in
         let all : needs_of next ≡ needs_of (p ++ e ∷ []) = ap needs_of grown in
-        subst (λ d. Holds d next) (sym (ap (contents_by c e) is))
+        subst (λ d. Holds d next) (sym (ap (store_by c e) is))
         (record { same = ap (λ h. h ++ e ∷ []) holds.same ∙ sym grown; left = omega (arith, both, left, all, fits) })
 
-    pub holds_full : (next : List Entry) → outcome c e ≡ Full (need_of e) c.left → next ≡ p → Holds (contents_after c e) next
-    holds_full next is same = subst (λ d. Holds d next) (sym (ap (contents_by c e) is)) (subst (Holds c) (sym same) holds)
+    pub holds_full : (next : List Entry) → take_result c e ≡ Full (need_of e) c.left → next ≡ p → Holds (store_after c e) next
+    holds_full next is same = subst (λ d. Holds d next) (sym (ap (store_by c e) is)) (subst (Holds c) (sym same) holds)
 
-    pub holds_rejected : (next : List Entry) (why : Rejection) → outcome c e ≡ Rejected why → next ≡ p → Holds (contents_after c e) next
-    holds_rejected next why is same = subst (λ d. Holds d next) (sym (ap (contents_by c e) is)) (subst (Holds c) (sym same) holds)
+    pub holds_rejected : (next : List Entry) (why : Rejection) → take_result c e ≡ Rejected why → next ≡ p → Holds (store_after c e) next
+    holds_rejected next why is same = subst (λ d. Holds d next) (sym (ap (store_by c e) is)) (subst (Holds c) (sym same) holds)
 
     -- What a turn says is left.
     pub full_left : (need left : ℕ) → IsFull start p e need left → (need ≡ need_of e) × (left ≡ c.left) × (c.left < need_of e)
@@ -98,19 +98,19 @@ module _ (start : Start) where
         let short = full.short in
         (needed, omega (arith, here, room), omega (arith, here, room, needed, short))
 
-module _ (start : Start) (course : Course) (ran : RunsThrough start course) where
-  pub never_stopped : (p : List Entry) (count : ℕ) → IsStopped start course p count → ⊥
+module _ (start : StoreState) (log : LogState) (ran : RunsThrough start log) where
+  pub never_stopped : (p : List Entry) (count : ℕ) → IsStopped start log p count → ⊥
   never_stopped p count is =
-      let both : (start.stopped || is_some course.failed) ≡ false = λ i. ran.runs i || is_some (ran.whole i) in
+      let both : (start.stopped || is_some log.failed) ≡ false = λ i. ran.runs i || is_some (ran.whole i) in
       let wrong : true ≡ false = sym is.stopped ∙ both in
       absurd (cc)
 
   -- The turn of an entry, right after the history of the plain store.
-  pub committed_plain : (c : Contents) (p : List Entry) (e : Entry) (result : Result Receipt StepFault) (own : List ℕ) (next : List Entry) → Holds start c p → (result ≡ Err steps.Want → ⊥) → Committed start course p e result own next → (result ≡ result_of (outcome c e)) × Holds start (contents_after c e) next
+  pub committed_plain : (c : PlainStore) (p : List Entry) (e : Entry) (result : Result Receipt StepFault) (own : List ℕ) (next : List Entry) → Holds start c p → (result ≡ Err steps.Want → ⊥) → Committed start log p e result own next → (result ≡ result_of (take_result c e)) × Holds start (store_after c e) next
   committed_plain c p e (Ok receipt) own next holds memory is =
       let added = is.2 in
       let allowed : rejection c.history e ≡ None = ap (λ h. rejection h e) holds.same ∙ is.0 in
-      let room = added_fits start c p e holds (let least = needs_prefix course.history (p ++ e ∷ []) added.follows in let fits = ran.fits in omega (arith, least, fits)) in
+      let room = added_fits start c p e holds (let least = needs_prefix log.history (p ++ e ∷ []) added.follows in let fits = ran.fits in omega (arith, least, fits)) in
       let taken = outcome_taken c e allowed room in
       let model : receipt ≡ receipt_of p e = λ i. record { number = is.1.number i; stream = is.1.stream i; version = is.1.version i } in
       let same : receipt ≡ receipt_of c.history e = model ∙ ap (λ h. receipt_of h e) (sym holds.same) in

@@ -9,18 +9,18 @@ use Rattle.btr_engine.specs.declared.step.StepFault.{StepFault}
 use Rattle.btr_engine.specs.declared.step.StepFault.TheVariants as steps
 use Rattle.btr_engine.specs.Body.{need_of}
 use Rattle.btr_hall.specs.Commit.{needs_of}
-use Rattle.btr_jobs.specs.Course.{Start, Course}
+use Rattle.btr_jobs.specs.States.{StoreState, LogState}
 
 -- What the store has: a history, and the blocks that are left.
-pub record Contents : Type 0 where
+pub record PlainStore : Type 0 where
   pub history : List Entry
   pub left : ℕ
 
 -- What becomes of an entry: it is added, with this receipt; the model rejects it; or it needs so many blocks, and only so many are left.
-pub data Outcome : Type 0 where
-  Taken : Receipt → Outcome
-  Rejected : Rejection → Outcome
-  Full : ℕ → ℕ → Outcome
+pub data TakeResult : Type 0 where
+  Taken : Receipt → TakeResult
+  Rejected : Rejection → TakeResult
+  Full : ℕ → ℕ → TakeResult
 
 -- The model's receipt of an entry that follows h.
 abbrev pub receipt_of : List Entry → Entry → Receipt
@@ -31,36 +31,36 @@ receipt_of h e = record {
 }
 
 -- What becomes of an entry, by the model's rejection of it.
-abbrev pub outcome_by : Contents → Entry → Option Rejection → Outcome
-outcome_by c e (Some why) = Rejected why
-outcome_by c e None = if nat_lt c.left (need_of e) then Full (need_of e) c.left else Taken (receipt_of c.history e)
+abbrev pub take_result_by : PlainStore → Entry → Option Rejection → TakeResult
+take_result_by c e (Some why) = Rejected why
+take_result_by c e None = if nat_lt c.left (need_of e) then Full (need_of e) c.left else Taken (receipt_of c.history e)
 
 -- What the store has after an entry of which this became.
-abbrev pub contents_by : Contents → Entry → Outcome → Contents
-contents_by c e (Taken receipt) = record { history = c.history ++ e ∷ []; left = c.left - need_of e }
-contents_by c e (Rejected why) = c
-contents_by c e (Full need left) = c
+abbrev pub store_by : PlainStore → Entry → TakeResult → PlainStore
+store_by c e (Taken receipt) = record { history = c.history ++ e ∷ []; left = c.left - need_of e }
+store_by c e (Rejected why) = c
+store_by c e (Full need left) = c
 
 -- What becomes of an entry that is offered.
-abbrev pub outcome : Contents → Entry → Outcome
-outcome c e = outcome_by c e (rejection c.history e)
+abbrev pub take_result : PlainStore → Entry → TakeResult
+take_result c e = take_result_by c e (rejection c.history e)
 
 -- What the store has after it.
-abbrev pub contents_after : Contents → Entry → Contents
-contents_after c e = contents_by c e (outcome c e)
+abbrev pub store_after : PlainStore → Entry → PlainStore
+store_after c e = store_by c e (take_result c e)
 
 -- The result of an entry of which this became.
-abbrev pub result_of : Outcome → Result Receipt StepFault
+abbrev pub result_of : TakeResult → Result Receipt StepFault
 result_of (Taken receipt) = Ok receipt
 result_of (Rejected why) = Err (steps.Rejected why)
 result_of (Full need left) = Err (steps.DeviceFull need left)
 
 -- What a store had when its hall began.
-abbrev pub first_contents : Start → Contents
-first_contents start = record { history = start.history; left = start.left }
+abbrev pub first_store : StoreState → PlainStore
+first_store start = record { history = start.history; left = start.left }
 
 -- The store was not stopped, and the device did not fail. The entries need no more blocks than there were.
-pub record RunsThrough (start : Start) (course : Course) : Type 0 where
+pub record RunsThrough (start : StoreState) (log : LogState) : Type 0 where
   pub runs : start.stopped ≡ false
-  pub whole : course.failed ≡ None
-  pub fits : needs_of course.history ≤ start.left + needs_of start.history
+  pub whole : log.failed ≡ None
+  pub fits : needs_of log.history ≤ start.left + needs_of start.history

@@ -21,7 +21,7 @@ use Rattle.btr_hall.specs.Session.{opening_of, seen_of}
 use Rattle.btr_hall.specs.StoreLaws.{ends_stopped}
 use Rattle.btr_hall.proofs.LandLemmas.{history_starts}
 use Rattle.btr_hall.proofs.TraceLemmas.{engine_of_list, length_of_list}
-use Rattle.btr_jobs.specs.Course.{Course, GoesOn, failed_in, start_with, course_of, start_of}
+use Rattle.btr_jobs.specs.States.{LogState, GoesOn, failed_in, start_with, log_of, start_of}
 use Rattle.btr_jobs.specs.Jobs.{IsAt, Goes}
 
 either : (a b : Bool) (P : Type 0) → (a ≡ true → P) → (b ≡ true → P) → (a || b) ≡ true → P
@@ -38,9 +38,9 @@ no_rest (x ∷ l) rest is = absurd (cc)
 module _ {D : Type 0} {disk : Ghosts D} where
   -- ---- failures
 
-  -- The course of a list of the hall, if the hall began with this history.
-  abbrev pub course_at : List Entry → List (Item D disk) → Course
-  course_at h l = record { history = history_of h l; failed = failed_in l }
+  -- The log of a list of the hall, if the hall began with this history.
+  abbrev pub log_at : List Entry → List (Item D disk) → LogState
+  log_at h l = record { history = history_of h l; failed = failed_in l }
 
   -- There is an entry in whose step the device failed exactly if there is a halt.
   pub failed_halt : (l : List (Item D disk)) → is_some (failed_in l) ≡ has_halt l
@@ -83,61 +83,61 @@ module _ {D : Type 0} {disk : Ghosts D} where
   all_earlier (suc n) (item ∷ l) rest is =
       λ i. sym (head-eq_of_cons-eq is) i ∷ all_earlier n l rest (tail-eq_of_cons-eq is) i
 
-  course_earlier : (h : List Entry) (n : ℕ) (l : List (Item D disk)) → l ≡ replicate n Earlier → course_at h l ≡ record { history = h ++ []; failed = None }
-  course_earlier h n [] is = refl
-  course_earlier h zero (item ∷ l) is = absurd (cc)
-  course_earlier h (suc n) (item ∷ l) is =
+  log_earlier : (h : List Entry) (n : ℕ) (l : List (Item D disk)) → l ≡ replicate n Earlier → log_at h l ≡ record { history = h ++ []; failed = None }
+  log_earlier h n [] is = refl
+  log_earlier h zero (item ∷ l) is = absurd (cc)
+  log_earlier h (suc n) (item ∷ l) is =
       let head : item ≡ Earlier = head-eq_of_cons-eq is in
-      ap (λ i. course_at h (i ∷ l)) head ∙ course_earlier h n l (tail-eq_of_cons-eq is)
+      ap (λ i. log_at h (i ∷ l)) head ∙ log_earlier h n l (tail-eq_of_cons-eq is)
 
-  -- ---- courses
+  -- ---- states of the log
 
   -- A later list of a hall goes on from each list that begins it.
-  pub list_goes_on : (h : List Entry) (x : Engine D disk) (later earlier : List (Item D disk)) → IsEngineOf h x → IsTraceOf x later → StartsWith later earlier → GoesOn (start_with h x) (course_at h later) (course_at h earlier)
+  pub list_goes_on : (h : List Entry) (x : Engine D disk) (later earlier : List (Item D disk)) → IsEngineOf h x → IsTraceOf x later → StartsWith later earlier → GoesOn (start_with h x) (log_at h later) (log_at h earlier)
   list_goes_on h x later earlier of trace starts = record {
     begins = history_starts h later earlier starts;
-    ends = either (is_stopped x) (is_some (failed_in earlier)) (course_at h later ≡ course_at h earlier) from_stopped from_failed;
+    ends = either (is_stopped x) (is_some (failed_in earlier)) (log_at h later ≡ log_at h earlier) from_stopped from_failed;
   }
     where
       is : replicate (entries_of x) Earlier ++ trace.steps ≡ earlier ++ starts.0
       is = sym trace.is ∙ starts.1
 
-      from_failed : is_some (failed_in earlier) ≡ true → course_at h later ≡ course_at h earlier
+      from_failed : is_some (failed_in earlier) ≡ true → log_at h later ≡ log_at h earlier
       from_failed failed =
           let none = list_ends (entries_of x) h x trace.steps earlier starts.0 of is trace.trace failed in
-          ap (course_at h) (starts.1 ∙ ap (λ m. earlier ++ m) none ∙ append-nil earlier)
+          ap (log_at h) (starts.1 ∙ ap (λ m. earlier ++ m) none ∙ append-nil earlier)
 
-      from_stopped : is_stopped x ≡ true → course_at h later ≡ course_at h earlier
+      from_stopped : is_stopped x ≡ true → log_at h later ≡ log_at h earlier
       from_stopped stopped =
           let none : trace.steps ≡ [] = ends_stopped x trace.steps stopped trace.trace in
           let old : replicate (entries_of x) Earlier ≡ later =
           sym (append-nil (replicate (entries_of x) Earlier)) ∙ sym (ap (λ m. replicate (entries_of x) Earlier ++ m) none) ∙ sym trace.is in
           let whole = all_earlier (entries_of x) later [] (old ∙ sym (append-nil later)) in
           let front = all_earlier (entries_of x) earlier starts.0 (old ∙ starts.1) in
-          course_earlier h (length later) later whole ∙ sym (course_earlier h (length earlier) earlier front)
+          log_earlier h (length later) later whole ∙ sym (log_earlier h (length earlier) earlier front)
 
   -- What a session has seen goes on from what it, or another one of the hall, had seen, if that begins it.
-  pub goes_on : (h : List Entry) (hall : Hall D disk) (new old : Session D disk) → IsEngineOf h (opening_of hall) → IsAt hall new → StartsWith (seen_of new) (seen_of old) → GoesOn (start_of h hall) (course_of h new) (course_of h old)
+  pub goes_on : (h : List Entry) (hall : Hall D disk) (new old : Session D disk) → IsEngineOf h (opening_of hall) → IsAt hall new → StartsWith (seen_of new) (seen_of old) → GoesOn (start_of h hall) (log_of h new) (log_of h old)
   goes_on h hall new old of at starts = list_goes_on h (opening_of hall) (seen_of new) (seen_of old) of at.trace starts
 
   -- The history that a session has seen begins with the one that it had seen.
-  pub history_goes_on : (h : List Entry) (new old : Session D disk) → StartsWith (seen_of new) (seen_of old) → StartsWith (course_of h new).history (course_of h old).history
+  pub history_goes_on : (h : List Entry) (new old : Session D disk) → StartsWith (seen_of new) (seen_of old) → StartsWith (log_of h new).history (log_of h old).history
   history_goes_on h new old starts = history_starts h (seen_of new) (seen_of old) starts
 
   -- A session has seen an item for each entry, and one more if the device failed.
-  pub course_length : (h : List Entry) (hall : Hall D disk) (s : Session D disk) → IsEngineOf h (opening_of hall) → IsAt hall s → length (seen_of s) ≡ length (course_of h s).history + one (is_some (course_of h s).failed)
-  course_length h hall s of at =
+  pub log_length : (h : List Entry) (hall : Hall D disk) (s : Session D disk) → IsEngineOf h (opening_of hall) → IsAt hall s → length (seen_of s) ≡ length (log_of h s).history + one (is_some (log_of h s).failed)
+  log_length h hall s of at =
       let all = length_of_list h (opening_of hall) (seen_of s) of at.trace in
       let entries = (engine_of_list h (opening_of hall) (seen_of s) of at.trace).entries in
       let failed : one (is_some (failed_in (seen_of s))) ≡ one (has_halt (seen_of s)) = ap one (failed_halt (seen_of s)) in
       omega (arith, all, entries, failed)
 
   -- If a session added anything, the store was not stopped when the hall began, and the session had not seen the device fail.
-  pub not_ended : (h : List Entry) (hall : Hall D disk) (old new : Session D disk) (own : List ℕ) → IsEngineOf h (opening_of hall) → IsAt hall old → IsAt hall new → Goes old new own → (n : ℕ) → 1 ≤ times n own → ((start_of h hall).stopped || is_some (course_of h old).failed) ≡ false
+  pub not_ended : (h : List Entry) (hall : Hall D disk) (old new : Session D disk) (own : List ℕ) → IsEngineOf h (opening_of hall) → IsAt hall old → IsAt hall new → Goes old new own → (n : ℕ) → 1 ≤ times n own → ((start_of h hall).stopped || is_some (log_of h old).failed) ≡ false
   not_ended h hall old new own of before after goes n some =
-      false_from_ne_true ((start_of h hall).stopped || is_some (course_of h old).failed) (λ ended.
+      false_from_ne_true ((start_of h hall).stopped || is_some (log_of h old).failed) (λ ended.
       let same = (goes_on h hall new old of after goes.seen).ends ended in
-      let entries : length (course_of h new).history ≡ length (course_of h old).history = ap (λ (c : Course). length c.history) same in
-      let failed : one (is_some (course_of h new).failed) ≡ one (is_some (course_of h old).failed) = ap (λ (c : Course). one (is_some c.failed)) same in
+      let entries : length (log_of h new).history ≡ length (log_of h old).history = ap (λ (c : LogState). length c.history) same in
+      let failed : one (is_some (log_of h new).failed) ≡ one (is_some (log_of h old).failed) = ap (λ (c : LogState). one (is_some c.failed)) same in
       let fresh = goes.fresh n some in
-      omega (arith, entries, failed, fresh.0, fresh.1, course_length h hall old of before, course_length h hall new of after))
+      omega (arith, entries, failed, fresh.0, fresh.1, log_length h hall old of before, log_length h hall new of after))

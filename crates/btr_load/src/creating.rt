@@ -4,9 +4,9 @@ ghost use Rattle.btr_hist.specs.declared.entry.Entry.{Entry as EntrySpec};
 ghost use Rattle.btr_engine.specs.Snapshot.{IsSnapshotOf};
 ghost use Rattle.btr_hall.specs.Session.{IsAlone};
 ghost use Rattle.btr_jobs.specs.Jobs.{IsAt, Does};
-ghost use Rattle.btr_load.specs.Plan.{IsOpened, AreOpened, settled};
+ghost use Rattle.btr_load.specs.Plan.{IsStreamSettled, AreStreamsSettled, settled_outcome};
 
-use crate::fate::Fate;
+use crate::outcome::RowsOutcome;
 use crate::stream::LoadedStream;
 use btr_disk::Disk;
 use btr_engine::{Receipt, Snapshot, StepFault};
@@ -16,7 +16,7 @@ use std::alloc::Global;
 use std::sync::Wait;
 
 /// Opens the streams, in order.
-pub(crate) fn open_streams<R: Wait, D: Disk>(
+pub(crate) fn create_streams<R: Wait, D: Disk>(
     rt: &R,
     alloc: Global,
     hall: &Hall<D>,
@@ -28,16 +28,16 @@ pub(crate) fn open_streams<R: Wait, D: Disk>(
     requires alone { IsAlone session.old }
     ensures at { IsAt hall.now session.new }
     ensures alone { IsAlone session.new }
-    ensures does { Does hall.now session.old session.new (λ start course low own. (h : List EntrySpec) → IsSnapshotOf h snapshot.now
-        → AreOpened start course h low streams.old streams.new own course.history) }
+    ensures does { Does hall.now session.old session.new (λ start log low own. (h : List EntrySpec) → IsSnapshotOf h snapshot.now
+        → AreStreamsSettled start log h low streams.old streams.new own log.history) }
 {
     for stream in streams.iter_mut() {
-        open_stream(rt, alloc, hall, session, snapshot, stream);
+        create_stream(rt, alloc, hall, session, snapshot, stream);
     }
 }
 
 /// Creates the stream of these rows, if the snapshot has none of this id.
-fn open_stream<R: Wait, D: Disk>(
+fn create_stream<R: Wait, D: Disk>(
     rt: &R,
     alloc: Global,
     hall: &Hall<D>,
@@ -49,8 +49,8 @@ fn open_stream<R: Wait, D: Disk>(
     requires alone { IsAlone session.old }
     ensures at { IsAt hall.now session.new }
     ensures alone { IsAlone session.new }
-    ensures does { Does hall.now session.old session.new (λ start course low own. (h : List EntrySpec) → IsSnapshotOf h snapshot.now
-        → IsOpened start course h low stream.old stream.new own course.history) }
+    ensures does { Does hall.now session.old session.new (λ start log low own. (h : List EntrySpec) → IsSnapshotOf h snapshot.now
+        → IsStreamSettled start log h low stream.old stream.new own log.history) }
 {
     let id = stream.rows.id();
     if snapshot.find(id).is_some() {
@@ -58,19 +58,19 @@ fn open_stream<R: Wait, D: Disk>(
     }
     let entry = Entry::Create { id };
     let result = session.commit(rt, alloc, hall, &entry);
-    settle(&mut stream.fate, result);
+    settle(&mut stream.outcome, result);
 }
 
-/// Sets the fate of rows after the create of their stream returned this.
-fn settle(fate: &mut Fate, told: Result<Receipt, StepFault>)
-    ensures { fate.new ≡ settled fate.old told }
+/// Sets the outcome of rows after the create of their stream returned this.
+fn settle(outcome: &mut RowsOutcome, told: Result<Receipt, StepFault>)
+    ensures { outcome.new ≡ settled_outcome outcome.old told }
 {
     match told {
         Ok(receipt) => {
-            if let Fate::Committed { stream, .. } = fate {
+            if let RowsOutcome::Committed { stream, .. } = outcome {
                 *stream = receipt.stream;
             }
         }
-        Err(fault) => *fate = Fate::NotCreated(fault),
+        Err(fault) => *outcome = RowsOutcome::NotCreated(fault),
     }
 }

@@ -42,7 +42,7 @@ impl BatchResults {
 
 /// What became of the rows of one stream.
 #[derive(Drop)]
-pub enum Fate {
+pub enum RowsOutcome {
     /// The id is that of an output, which takes no points. Nothing was committed.
     Output,
 
