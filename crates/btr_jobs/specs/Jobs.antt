@@ -13,8 +13,8 @@ use Rattle.btr_hall.specs.Session as session
 use Rattle.btr_hall.specs.Session.{IsSessionOf, opening_of, seen_of, mine_of, share_of}
 use Rattle.btr_jobs.specs.States.{StoreState, LogState, GoesOn, log_of, start_of}
 
--- What a kind of job does: after this state of the log of a hall that began so, a job that had seen this history went from its first state to
--- its second, and these are the numbers of what it added.
+-- What a kind of job does: after this state of the log of a hall that began so, a job that had seen this history went from its first state
+-- to its second, and these are the numbers of what it added.
 abbrev pub Doing : Type 0 → Type 1
 Doing J = StoreState → LogState → List Entry → J → J → List ℕ → Type 0
 

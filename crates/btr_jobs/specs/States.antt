@@ -24,8 +24,8 @@ pub record LogState : Type 0 where
   pub history : List Entry
   pub failed : Option Entry
 
--- The second state of the log is an earlier one of a hall that began so: the later history begins with the earlier one. Nothing follows if the
--- store was stopped when the hall began, or after a failure.
+-- The second state of the log is an earlier one of a hall that began so: the later history begins with the earlier one. Nothing follows if
+-- the store was stopped when the hall began, or after a failure.
 pub record GoesOn (start : StoreState) (late early : LogState) : Type 0 where
   pub begins : StartsWith late.history early.history
   pub ends : (start.stopped || is_some early.failed) ≡ true → late ≡ early

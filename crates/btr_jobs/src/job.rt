@@ -14,8 +14,8 @@ use std::thread::Threads;
 
 /// A piece of work at a hall, done in one session. Its state says what became of it.
 pub trait Job {
-    // After this state of the log of a hall that began so, a job that had seen this history went from the first state to the second. These are
-    // the numbers of what it added.
+    // After this state of the log of a hall that began so, a job that had seen this history went from the first state to the second. These
+    // are the numbers of what it added.
     ghost did: { StoreState → LogState → List EntrySpec → Self → Self → List ℕ → Type 0 };
 
     /// Does the work, in turns of this session, on this thread.

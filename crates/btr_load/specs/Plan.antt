@@ -38,7 +38,8 @@ settled_outcome (NotCreated fault) (Ok receipt) = NotCreated fault
 settled_outcome (Committed stream results latest) (Ok receipt) = Committed receipt.stream results latest
 
 -- The stream of rows was opened, right after the history p, if it was planned after the history h.
-pub record IsStreamSettled (start : StoreState) (log : LogState) (h p : List Entry) (was now : LoadedStream) (own : List ℕ) (next : List Entry)
+pub record IsStreamSettled (start : StoreState) (log : LogState) (h p : List Entry) (was now : LoadedStream) (own : List ℕ)
+    (next : List Entry)
     : Type 0 where
   pub rows : now.rows ≡ was.rows
   pub batch : now.batch ≡ was.batch

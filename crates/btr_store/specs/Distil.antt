@@ -66,7 +66,8 @@ SaysReport h (Some report) (Ok transcript) = SaysLines (map (output_line h) repo
 
 -- Each output was brought up to date once, after all of `low` had been seen, and this was said of them after the log. `own` are the
 -- numbers of what was added.
-pub record Distils (start : StoreState) (log : LogState) (low : List Entry) (said : Result Transcript AllocError) (own : List ℕ) : Type 0 where
+pub record Distils (start : StoreState) (log : LogState) (low : List Entry) (said : Result Transcript AllocError)
+    (own : List ℕ) : Type 0 where
   pub report : Option (List refreshed.ReportLine)
   pub refreshes : RefreshesIf start log low report own
   pub says : SaysReport log.history report said

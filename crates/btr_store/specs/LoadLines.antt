@@ -91,7 +91,8 @@ points_by_result points (Err fault) = 0
 -- The number of points in the accepted ones of batches of this size, with these results.
 abbrev pub points_committed : ℕ → List NumberedPoint → List (Result Receipt StepFault) → ℕ
 points_committed size points [] = 0
-points_committed size points (result ∷ results) = points_by_result (take size points) result + points_committed size (drop size points) results
+points_committed size points (result ∷ results) = points_by_result (take size points) result
+    + points_committed size (drop size points) results
 
 -- The line of what was committed to a stream, if anything was to be.
 abbrev pub outcome_line : ℕ → ℕ → List NumberedPoint → RowsOutcome → List ReportLine

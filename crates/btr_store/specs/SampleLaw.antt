@@ -15,7 +15,8 @@ use Rattle.btr_store.specs.SampleRoom.{HasRoomForSample}
 
 -- An empty store was filled that nobody else used. What is said of a part of the work is said if the device did not fail before its end
 -- or, of the outputs, before its begin.
-pub record FillsStore (number streams points : ℕ) (start : StoreState) (log : LogState) (low : List Entry) (said : Result Transcript AllocError)
+pub record FillsStore (number streams points : ℕ) (start : StoreState) (log : LogState) (low : List Entry)
+    (said : Result Transcript AllocError)
     (own : List ℕ) (did : Fills number streams points start log low said own) : Type 0 where
   -- after the load just the creates and the batches that were accepted are there, each batch at the number of its receipt
   pub there : did.work.load_end.failed ≡ None → IfSome did.loaded (AreThere did.work.load_end.history low)
@@ -36,7 +37,8 @@ SettlesStore number streams points start log (e ∷ low) said own did = Unit {0}
 
 -- A store that nobody else used was filled with a sample if it was empty, and left as it is if not. This was said of it. `own` are the
 -- numbers of what was added.
-pub record SamplesStore (number streams points : ℕ) (start : StoreState) (log : LogState) (said : Result Transcript AllocError) (own : List ℕ)
+pub record SamplesStore (number streams points : ℕ) (start : StoreState) (log : LogState) (said : Result Transcript AllocError)
+    (own : List ℕ)
     : Type 0 where
   pub did : Samples number streams points start log start.history said own
   pub settles : SettlesStore number streams points start log start.history said own did

@@ -71,8 +71,8 @@ module _ {D : Type 0} (disk : Ghosts D) where
     pub holds : HoldsHistory (disk.size d) (disk.contents d) h
     pub only : Only (disk.contents d) (disk.images_now d)
 
-  -- The device was `d` when the history was `h`, and work went on to the device `new` and to this state of the log. A crash at `d` leaves just
-  -- the history `h`. A crash at any moment from `d` to `new` leaves a prefix of the last history that has all entries of `h`.
+  -- The device was `d` when the history was `h`, and work went on to the device `new` and to this state of the log. A crash at `d` leaves
+  -- just the history `h`. A crash at any moment from `d` to `new` leaves a prefix of the last history that has all entries of `h`.
   pub record Keeps (log : LogState) (new d : D) (h : List Entry) : Type 0 where
     pub now : (c : Image) → disk.images_now d c → HoldsHistory (disk.size new) c h
     pub since : Leaves disk.calls disk.images_since d new (HoldsPrefix (disk.size new) (length h) log)
@@ -106,10 +106,10 @@ module _ {D : Type 0} (disk : Ghosts D) where
     -- At the end a crash leaves the whole history.
     pub now : (c : Image) → disk.images_now new c → HoldsLog (disk.size new) log c
 
-  -- Work at a hall that began with `first` and went on to this state of the log, from the device `old` to the device `new`. Each entry may follow
-  -- those before it, also if the device is not observable. If the device failed in a step, its count of faults rose. If the first
-  -- history is legal, and each entry that was added is allowed, each version of each output is right at the end, also with the entry
-  -- in whose step the device failed.
+  -- Work at a hall that began with `first` and went on to this state of the log, from the device `old` to the device `new`. Each entry may
+  -- follow those before it, also if the device is not observable. If the device failed in a step, its count of faults rose. If the first
+  -- history is legal, and each entry that was added is allowed, each version of each output is right at the end, also with the entry in
+  -- whose step the device failed.
   pub record Works (first : StoreState) (log : LogState) (own : List ℕ) (old new : D) : Type 0 where
     pub same_size : disk.size new ≡ disk.size old
     pub begins : StartsWith log.history first.history

@@ -1,7 +1,9 @@
 //! The lines of `load`.
 ghost use Rattle.std.specs.Prelude.{◌≡◌, ◌≤◌, ◌++◌, length, map, take, drop, IfOk, OnOk};
 ghost use Rattle.btr_store.specs.Transcript.{AddsLines, SaysLines};
-ghost use Rattle.btr_store.specs.LoadLines.{AreRefused, SaysLoad, SaysRefused, row_line, first_number, last_row, rows_refused, output_rows, refused_point, stream_lines, stream_spans, span_line, batch_span, batch_spans, points_committed, points_by_result, good_in, total_line};
+ghost use Rattle.btr_store.specs.LoadLines.{AreRefused, SaysLoad, SaysRefused, row_line, first_number, last_row, rows_refused};
+ghost use Rattle.btr_store.specs.LoadLines.{output_rows, refused_point, stream_lines, stream_spans, span_line, batch_span, batch_spans};
+ghost use Rattle.btr_store.specs.LoadLines.{points_committed, points_by_result, good_in, total_line};
 
 use crate::transcript::Transcript;
 use btr_engine::{Receipt, StepFault};

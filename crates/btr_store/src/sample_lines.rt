@@ -6,7 +6,8 @@ ghost use Rattle.btr_engine.specs.Snapshot.{IsSnapshotOf};
 ghost use Rattle.btr_store.specs.Transcript.{AddsLines};
 ghost use Rattle.btr_store.specs.Streams.{AreStreams};
 ghost use Rattle.btr_store.specs.LoadLines.{stream_spans};
-ghost use Rattle.btr_store.specs.SampleLines.{SaysFilled, summary_line, summary_lines, define_line, landing_line, landing_refusal, refusal_line};
+ghost use Rattle.btr_store.specs.SampleLines.{SaysFilled, summary_line, summary_lines, define_line, landing_line, landing_refusal};
+ghost use Rattle.btr_store.specs.SampleLines.{refusal_line};
 
 use crate::define::DefinedOutput;
 use crate::load_lines::{add_spans, refused_lines};

@@ -22,7 +22,7 @@ use Rattle.btr_top.proofs.PlainStatuses.{benign_input}
 
 module _ {S D : Type 0} (source : SourceGhosts S) (disk : Ghosts D) (given rest : S) (old new : D) (sound : HeldIsSound) (can : CanAsk source disk given old) (source_told : source.is_observable) (told : disk.is_observable) (source_works : StreamRose (source.faults given) (source.faults rest) → ⊥) (device_works : Rose (disk.faults old) (disk.faults new) → ⊥) where
   not_too_long : ExceedsInputLimit source given rest → ⊥
-  not_too_long exceeds = omega (arith, exceeds source_told, can.within)
+  not_too_long exceeds = omega (arith, exceeds source_told, can.0)
 
   benign_cause : (lines : List ScriptLine) → (e : Ending) → QuestionsCause disk lines old new e → IsPlainStatus (status_of e)
   benign_cause lines Usage why = absurd why.0
@@ -30,9 +30,9 @@ module _ {S D : Type 0} (source : SourceGhosts S) (disk : Ghosts D) (given rest 
   benign_cause lines TooLong why = absurd why.0
   benign_cause lines OutOfMemory why = inr (inr refl)
   benign_cause lines NoDevice why = absurd (device_works why.0)
-  benign_cause lines NoStore why = absurd ((sound (disk.size old) 0 (disk.contents old) can.history can.holds).0 (why.0 told))
+  benign_cause lines NoStore why = absurd ((sound (disk.size old) 0 (disk.contents old) can.1.history (record { blocks = can.1.blocks; tail = can.1.tail; holds = can.1.holds })).0 (why.0 told))
   benign_cause lines (Damaged block) why =
-      absurd ((sound (disk.size old) block (disk.contents old) can.history can.holds).1 (why.0 told))
+      absurd ((sound (disk.size old) block (disk.contents old) can.1.history (record { blocks = can.1.blocks; tail = can.1.tail; holds = can.1.holds })).1 (why.0 told))
   benign_cause lines Occupied why = absurd why.0
   benign_cause lines (TooSmall asked has) why = absurd why.0
   benign_cause lines (Formatted blocks) why = absurd why.0

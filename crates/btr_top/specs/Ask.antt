@@ -1,5 +1,5 @@
 -- The command `ask`: what each line is answered, and why the command ends as it does.
-use Rattle.std.specs.Prelude.{◌≤◌, List, [], ◌∷◌, length}
+use Rattle.std.specs.Prelude.{List, [], ◌∷◌}
 use Rattle.btr_io.specs.declared.source.Source.{Ghosts as SourceGhosts}
 use Rattle.btr_disk.specs.declared.disk.Disk.{Ghosts}
 use Rattle.btr_disk.specs.Bytes.{Image}
@@ -9,13 +9,12 @@ use Rattle.btr_text.specs.Input.{questions_of}
 use Rattle.btr_text.specs.declared.script.ScriptLine.{ScriptLine}
 use Rattle.btr_text.specs.declared.reply.LineReply.{LineReply}
 use Rattle.btr_engine.specs.Holds.{HoldsHistory}
-use Rattle.btr_top.specs.declared.command.TheConstants.{MAX_INPUT}
 use Rattle.btr_store.specs.declared.transcript.Transcript.{Transcript}
 use Rattle.btr_top.specs.declared.ending.Ending.{Ending}
 use Rattle.btr_top.specs.declared.ending.Ending.TheVariants.{Replied}
 use Rattle.btr_live.specs.Meaning.{question}
 use Rattle.btr_live.specs.Serving.{IsAnswerOrNoMemory}
-use Rattle.btr_top.specs.Command.{IsKept, OpeningCause, CommandCause}
+use Rattle.btr_top.specs.Command.{HoldsStoreWith, IsWithinLimit, IsKept, OpeningCause, CommandCause}
 use Rattle.btr_store.specs.Replies.{IsTranscript}
 
 -- One reply to each line, in order, all from the same history.
@@ -49,10 +48,8 @@ module _ {S D : Type 0} (source : SourceGhosts S) (disk : Ghosts D) where
   AskCause given rest old new e = CommandCause source (λ input. QuestionsCause disk (questions_of input)) given rest old new e
 
   -- The device holds a store, and the input is within the limit.
-  pub record CanAsk (given : S) (old : D) : Type 0 where
-    pub history : List Entry
-    pub holds : HoldsHistory (disk.size old) (disk.contents old) history
-    pub within : length (source.left given) ≤ MAX_INPUT
+  abbrev pub CanAsk : S → D → Type 0
+  CanAsk given old = IsWithinLimit source given × HoldsStoreWith disk (λ store. Unit {0}) old
 
 -- ---- private promises
 

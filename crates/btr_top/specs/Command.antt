@@ -11,8 +11,17 @@ use Rattle.btr_open.specs.Damage.{IsDamaged}
 use Rattle.btr_top.specs.declared.command.TheConstants.{MAX_INPUT}
 use Rattle.btr_top.specs.declared.ending.Ending.{Ending}
 use Rattle.btr_top.specs.declared.ending.Ending.TheVariants.{NoSource, TooLong, OutOfMemory, NoDevice, NoStore, Damaged}
+use Rattle.btr_hist.specs.declared.entry.Entry.{Entry}
+use Rattle.btr_engine.specs.Holds.{HoldsHistoryTo}
+use Rattle.btr_log.specs.Extents.{left}
+use Rattle.btr_jobs.specs.States.{StoreState}
+use Rattle.std.specs.Prelude.{false}
 
 module _ {S : Type 0} (source : SourceGhosts S) where
+  -- The input is within the limit.
+  abbrev pub IsWithinLimit : S → Type 0
+  IsWithinLimit given = length (source.left given) ≤ MAX_INPUT
+
   -- The source gave its whole input, which is within the limit.
   pub record HasRead (input : List ℕ) (old new : S) : Type 0 where
     pub within : length input ≤ MAX_INPUT
@@ -42,6 +51,14 @@ module _ {D : Type 0} (disk : Ghosts D) where
   OpeningCause old new (Damaged block) = disk.is_observable → IsDamaged (disk.size old) (disk.contents old) block
   OpeningCause old new OutOfMemory = Unit {0}
   OpeningCause old new _ = ⊥
+
+  -- The device holds a store, and this is true of its state.
+  pub record HoldsStoreWith (Room : StoreState → Type 0) (old : D) : Type 0 where
+    pub history : List Entry
+    pub blocks : ℕ
+    pub tail : ℕ
+    pub holds : HoldsHistoryTo (disk.size old) (disk.contents old) blocks tail history
+    pub room : Room (record { history = history; left = left blocks tail; stopped = false })
 
 -- Why a command ends so that reads its whole input and then does something with it, for which `cause` says why it ends so. The device
 -- is not called before all of the input is read.

@@ -1,16 +1,13 @@
 -- The command `live`: why it ends as it does, and when it comes to its end.
-use Rattle.std.specs.Prelude.{ℕ, ◌≤◌, Bool, false, List, length}
+use Rattle.std.specs.Prelude.{ℕ, Bool, List}
 use Rattle.btr_io.specs.declared.source.Source.{Ghosts as SourceGhosts}
 use Rattle.btr_disk.specs.declared.disk.Disk.{Ghosts}
 use Rattle.btr_log.specs.Extents.{left}
-use Rattle.btr_hist.specs.declared.entry.Entry.{Entry}
 use Rattle.btr_text.specs.Input.{script_of}
 use Rattle.btr_text.specs.declared.script.ScriptLine.{ScriptLine}
-use Rattle.btr_engine.specs.Holds.{HoldsHistoryTo}
 use Rattle.btr_report.specs.declared.line.ReportLine.TheVariants as lines
-use Rattle.btr_top.specs.declared.command.TheConstants.{MAX_INPUT}
 use Rattle.btr_top.specs.declared.ending.Ending.{Ending}
-use Rattle.btr_top.specs.Command.{CommandCause}
+use Rattle.btr_top.specs.Command.{HoldsStoreWith, IsWithinLimit, CommandCause}
 use Rattle.btr_top.specs.Room.{HasRoomForScript}
 use Rattle.btr_top.specs.Work.{WorkCause}
 
@@ -27,11 +24,6 @@ module _ {S D : Type 0} (source : SourceGhosts S) (disk : Ghosts D) where
       CommandCause source (λ input. ScriptCause disk batch materialize (script_of input)) given rest old new e
 
   -- The device holds a store with room for what the lines of the input need, and the rounds, and the input is within the limit.
-  pub record CanLive (batch : ℕ) (materialize : Bool) (given : S) (old : D) : Type 0 where
-    pub history : List Entry
-    pub blocks : ℕ
-    pub tail : ℕ
-    pub holds : HoldsHistoryTo (disk.size old) (disk.contents old) blocks tail history
-    pub within : length (source.left given) ≤ MAX_INPUT
-    pub room : HasRoomForScript batch materialize (record { history = history; left = left blocks tail; stopped = false })
-        (script_of (source.left given))
+  abbrev pub CanLive : ℕ → Bool → S → D → Type 0
+  CanLive batch materialize given old = IsWithinLimit source given
+      × HoldsStoreWith disk (λ store. HasRoomForScript batch materialize store (script_of (source.left given))) old

@@ -1,11 +1,9 @@
 -- The commands `load`, `distil` and `sample`: what they did on the store, and why they end as they do.
-use Rattle.std.specs.Prelude.{◌⊎◌, ℕ, ◌≤◌, false, List, length, Result, Ok, Err}
+use Rattle.std.specs.Prelude.{◌⊎◌, ℕ, List, Result, Ok, Err}
 use Rattle.std.specs.declared.alloc.AllocError.{AllocError}
 use Rattle.btr_io.specs.declared.source.Source.{Ghosts as SourceGhosts}
 use Rattle.btr_disk.specs.declared.disk.Disk.{Ghosts}
 use Rattle.btr_log.specs.Extents.{left}
-use Rattle.btr_hist.specs.declared.entry.Entry.{Entry}
-use Rattle.btr_engine.specs.Holds.{HoldsHistoryTo}
 use Rattle.btr_rows.specs.Rows.{rows_of}
 use Rattle.btr_rows.specs.Streams.{RowListValue, list_of}
 use Rattle.btr_load.specs.There.{AreDistinct}
@@ -17,10 +15,9 @@ use Rattle.btr_store.specs.Load.{LoadsStore}
 use Rattle.btr_store.specs.Distil.{DistilsStore}
 use Rattle.btr_store.specs.SampleRoom.{HasRoomForSample}
 use Rattle.btr_store.specs.SampleLaw.{SamplesStore}
-use Rattle.btr_top.specs.declared.command.TheConstants.{MAX_INPUT}
 use Rattle.btr_top.specs.declared.ending.Ending.{Ending}
 use Rattle.btr_top.specs.declared.ending.Ending.TheVariants.{OutOfMemory, Replied}
-use Rattle.btr_top.specs.Command.{IsKept, OpeningCause, CommandCause}
+use Rattle.btr_top.specs.Command.{HoldsStoreWith, IsWithinLimit, IsKept, OpeningCause, CommandCause}
 
 -- How a command ends that did its work and says this of it.
 abbrev pub ending_of : Result Transcript AllocError → Ending
@@ -56,20 +53,12 @@ module _ {D : Type 0} (disk : Ghosts D) where
 
 module _ {D : Type 0} (disk : Ghosts D) where
   -- The device holds a store with room for all that may be landed for its outputs, each at most once.
-  pub record CanDistil (old : D) : Type 0 where
-    pub history : List Entry
-    pub blocks : ℕ
-    pub tail : ℕ
-    pub holds : HoldsHistoryTo (disk.size old) (disk.contents old) blocks tail history
-    pub room : HasRoomForOutputs (record { history = history; left = left blocks tail; stopped = false })
+  abbrev pub CanDistil : D → Type 0
+  CanDistil old = HoldsStoreWith disk HasRoomForOutputs old
 
   -- The device holds a store with room for a sample. If the store has an entry, the sample needs no room.
-  pub record CanSample (number streams points : ℕ) (old : D) : Type 0 where
-    pub history : List Entry
-    pub blocks : ℕ
-    pub tail : ℕ
-    pub holds : HoldsHistoryTo (disk.size old) (disk.contents old) blocks tail history
-    pub room : HasRoomForSample number streams points (record { history = history; left = left blocks tail; stopped = false })
+  abbrev pub CanSample : ℕ → ℕ → ℕ → D → Type 0
+  CanSample number streams points old = HoldsStoreWith disk (HasRoomForSample number streams points) old
 
 -- Why `load` ends so. Each id has its rows once.
 abbrev pub LoadCause : {S D : Type 0} → SourceGhosts S → Ghosts D → ℕ → ℕ → S → S → D → D → Ending → Type 0
@@ -79,11 +68,6 @@ LoadCause source disk workers batch given rest old new e =
     given rest old new e
 
 -- The device holds a store with room for the rows of the input, and the input is within the limit.
-pub record CanLoad {S D : Type 0} (source : SourceGhosts S) (disk : Ghosts D) (batch : ℕ) (given : S) (old : D) : Type 0 where
-  pub history : List Entry
-  pub blocks : ℕ
-  pub tail : ℕ
-  pub holds : HoldsHistoryTo (disk.size old) (disk.contents old) blocks tail history
-  pub within : length (source.left given) ≤ MAX_INPUT
-  pub room : HasRoomForRows (record { history = history; left = left blocks tail; stopped = false })
-      (list_of (rows_of (source.left given))) batch
+abbrev pub CanLoad : {S D : Type 0} → SourceGhosts S → Ghosts D → ℕ → S → D → Type 0
+CanLoad source disk batch given old = IsWithinLimit source given
+    × HoldsStoreWith disk (λ store. HasRoomForRows store (list_of (rows_of (source.left given))) batch) old

@@ -25,7 +25,8 @@ use Rattle.btr_work.specs.Levels.{AreLevels, by_levels, outputs}
 
 -- A plan for the output was landed with this result, after all of `low` had been seen. It is what the model plans for it after `at`,
 -- the history that was seen when it was made.
-pub record IsPlanLanded (start : StoreState) (log : LogState) (low : List Entry) (output : ℕ) (result : Result Receipt LandFault) (own : List ℕ)
+pub record IsPlanLanded (start : StoreState) (log : LogState) (low : List Entry) (output : ℕ) (result : Result Receipt LandFault)
+    (own : List ℕ)
     : Type 0 where
   pub at : List Entry
   pub after : StartsWith at low

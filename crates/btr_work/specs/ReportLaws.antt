@@ -98,7 +98,8 @@ module _ (start : StoreState) where
 
 -- ---- jobs
 
-pub done_lasts : (start : StoreState) (late early : LogState) (low : List Entry) (was now : OutputJob) (own : List ℕ) → GoesOn start late early
+pub done_lasts : (start : StoreState) (late early : LogState) (low : List Entry) (was now : OutputJob) (own : List ℕ)
+    → GoesOn start late early
     → IsDone start early low was now own → IsDone start late low was now own
 done_lasts start late early low was now own on is =
     record { output = is.output; refreshed = refreshed_lasts start late early low was.output now.result own on is.refreshed }
@@ -110,7 +111,8 @@ done_lowers start log low less was now own starts is =
 
 -- ---- reports
 
-levels_lasts : (start : StoreState) (result : ℕ → Refreshed) (low : List Entry) (levels : List (List ℕ)) (late early : LogState) (own : List ℕ)
+levels_lasts : (start : StoreState) (result : ℕ
+    → Refreshed) (low : List Entry) (levels : List (List ℕ)) (late early : LogState) (own : List ℕ)
     → GoesOn start late early → RefreshesLevels start low result levels early own → RefreshesLevels start low result levels late own
 levels_lasts start result low [] late early own on is = (starts_trans late.history early.history low on.begins is.0, is.1)
 levels_lasts start result low (level ∷ levels) late early own on is = (
