@@ -8,7 +8,7 @@ mod DeleteLines
 -- the turns of a line
 mod ToldLemmas
 mod ServeLemmas
-mod BringLines
+mod RefreshLines
 mod AskLines
 -- lanes
 mod LaneLemmas

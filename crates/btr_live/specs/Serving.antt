@@ -68,10 +68,10 @@ abbrev pub RefreshAsks : ℕ → Asking
 RefreshAsks stream = λ a m. (m ≡ refresh a stream (spec_of a stream)) ⊎ (m ≡ Refuses reasons.Memory)
 
 -- The reply to a line that brings an output up to date, by what became of the output.
-abbrev pub reply_of_brought : Refreshed → LineReply
-reply_of_brought (Landed version) = Done version
-reply_of_brought (Current version) = Done version
-reply_of_brought (Refused fault) = No (reason_of_landing fault)
+abbrev pub reply_of_refreshed : Refreshed → LineReply
+reply_of_refreshed (Landed version) = Done version
+reply_of_refreshed (Current version) = Done version
+reply_of_refreshed (Refused fault) = No (reason_of_landing fault)
 
 -- The reply is that of the history. An answer may lack memory; what is refused is always refused.
 abbrev pub IsAnswerOrNoMemory : List Entry → Meaning → LineReply → Type 0

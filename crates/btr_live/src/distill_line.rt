@@ -7,7 +7,7 @@ ghost use Rattle.btr_jobs.specs.Jobs.{IsAt};
 ghost use Rattle.btr_live.specs.Feeds.{Waiting};
 ghost use Rattle.btr_live.specs.Meaning.{Commits, define, on_stream};
 ghost use Rattle.btr_live.specs.Replies.{Means};
-ghost use Rattle.btr_live.specs.Serving.{AsksFor, RefreshAsks, ServesIn, reply_of_brought};
+ghost use Rattle.btr_live.specs.Serving.{AsksFor, RefreshAsks, ServesIn, reply_of_refreshed};
 
 use crate::line::commit;
 use crate::reasons::reason_of_landing;
@@ -117,12 +117,12 @@ fn refresh_stream<R: Wait, D: Disk>(
     ensures serves { ServesIn hall.now session.old session.new (RefreshAsks stream) result }
 {
     let refreshed = refresh_output(rt, alloc, hall, session, stream);
-    reply_of_brought(refreshed)
+    reply_of_refreshed(refreshed)
 }
 
 /// The reply to a refresh, by what became of the output.
-fn reply_of_brought(refreshed: Refreshed) -> LineReply
-    ensures { result ≡ reply_of_brought refreshed }
+fn reply_of_refreshed(refreshed: Refreshed) -> LineReply
+    ensures { result ≡ reply_of_refreshed refreshed }
 {
     match refreshed {
         Refreshed::Landed { version } | Refreshed::Current { version } => LineReply::Done {

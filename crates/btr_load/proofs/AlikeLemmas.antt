@@ -43,7 +43,7 @@ use Rattle.btr_load.proofs.TotalLemmas.{total_append}
 use Rattle.btr_load.proofs.BatchLemmas.{did_long}
 use Rattle.btr_load.proofs.CreateLemmas.{next_is}
 use Rattle.btr_load.proofs.ThereLemmas.{accepted_count, accepted_own, accepted_other, commit_of, latest_push, latest_grows, versions_least}
-use Rattle.btr_load.proofs.ThereLemmas.{FateIsNamed, IsNamed, IsOnly, ids_in, load_sound}
+use Rattle.btr_load.proofs.ThereLemmas.{OutcomeIsNamed, IsNamed, IsOnly, ids_in, load_sound}
 
 -- ---- the creates
 
@@ -184,10 +184,10 @@ AreOther stream streams = AllByRecursion (λ s. IsOther stream s.outcome) stream
 
 -- What is known of the batches of a outcome: its stream is there after the creates, no other outcome is of it, and the history has no version
 -- of it that is not of one of them.
-abbrev pub FateIsFit : LogState → List Entry → List LoadedStream → RowsOutcome → Type 0
-FateIsFit log mid others Output = Unit {0}
-FateIsFit log mid others (NotCreated fault) = Unit {0}
-FateIsFit log mid others (Committed stream results latest) =
+abbrev pub OutcomeIsFit : LogState → List Entry → List LoadedStream → RowsOutcome → Type 0
+OutcomeIsFit log mid others Output = Unit {0}
+OutcomeIsFit log mid others (NotCreated fault) = Unit {0}
+OutcomeIsFit log mid others (Committed stream results latest) =
     (stream < length (ids mid)) × AreOther stream others
     × (history.latest log.history stream ≤ history.latest mid stream + accepted_count results)
 
@@ -200,22 +200,22 @@ AreFit start log mid batch (r ∷ rows) [] streams own = ⊥
 AreFit start log mid batch (r ∷ rows) (t ∷ ts) [] own = ⊥
 AreFit start log mid batch (r ∷ rows) (t ∷ ts) (s ∷ streams) own =
     (first rest : List ℕ) × Agrees t s.outcome × OutcomeDid start log mid (batches_of batch r.points) s.outcome first
-    × FateIsFit log mid streams s.outcome × IsPlainOutcome s.outcome × AreFit start log mid batch rows ts streams rest
+    × OutcomeIsFit log mid streams s.outcome × IsPlainOutcome s.outcome × AreFit start log mid batch rows ts streams rest
 
 -- The history has as many commits of the streams as after the creates.
-abbrev FateIsFresh : List Entry → List Entry → RowsOutcome → Type 0
-FateIsFresh mid q Output = Unit {0}
-FateIsFresh mid q (NotCreated fault) = Unit {0}
-FateIsFresh mid q (Committed stream results latest) = commits q stream ≡ commits mid stream
+abbrev OutcomeIsFresh : List Entry → List Entry → RowsOutcome → Type 0
+OutcomeIsFresh mid q Output = Unit {0}
+OutcomeIsFresh mid q (NotCreated fault) = Unit {0}
+OutcomeIsFresh mid q (Committed stream results latest) = commits q stream ≡ commits mid stream
 
 module _ (start : StoreState) (log : LogState) (mid : List Entry) (begins : StartsWith log.history mid) (batch : ℕ) where
   -- The batches of one stream leave the others fresh.
-  stay_fresh : (q : List Entry) (stream : ℕ) (batches : List (List NumberedPoint)) (streams : List LoadedStream) → AreOther stream streams → AllByRecursion (λ s. FateIsFresh mid q s.outcome) streams → AllByRecursion (λ s. FateIsFresh mid (offered q stream batches) s.outcome) streams
+  stay_fresh : (q : List Entry) (stream : ℕ) (batches : List (List NumberedPoint)) (streams : List LoadedStream) → AreOther stream streams → AllByRecursion (λ s. OutcomeIsFresh mid q s.outcome) streams → AllByRecursion (λ s. OutcomeIsFresh mid (offered q stream batches) s.outcome) streams
   stay_fresh q stream batches [] other fresh = tt
   stay_fresh q stream batches (s ∷ streams) other fresh =
       (one_fresh s.outcome other.0 fresh.0, stay_fresh q stream batches streams other.1 fresh.1)
     where
-      one_fresh : (outcome : RowsOutcome) → IsOther stream outcome → FateIsFresh mid q outcome → FateIsFresh mid (offered q stream batches) outcome
+      one_fresh : (outcome : RowsOutcome) → IsOther stream outcome → OutcomeIsFresh mid q outcome → OutcomeIsFresh mid (offered q stream batches) outcome
       one_fresh Output other fresh = tt
       one_fresh (NotCreated fault) other fresh = tt
       one_fresh (Committed of results latest) other fresh = all_commits q stream of batches (λ e. other (sym e)) ∙ fresh
@@ -226,7 +226,7 @@ module _ (start : StoreState) (log : LogState) (mid : List Entry) (begins : Star
   rows_start q r (To stream) = all_starts q stream (batches_of batch r.points)
 
   -- The outcome of one stream, and the others after its batches.
-  outcome_says : (q : List Entry) (r : StreamValue) (t : Target) (outcome : RowsOutcome) (others : List LoadedStream) (own : List ℕ) → StartsWith q mid → Agrees t outcome → OutcomeDid start log mid (batches_of batch r.points) outcome own → FateIsFit log mid others outcome → IsPlainOutcome outcome → FateIsFresh mid q outcome → AllByRecursion (λ s. FateIsFresh mid q s.outcome) others → SaysOutcome q batch r t outcome × AllByRecursion (λ s. FateIsFresh mid (after_rows q batch r t) s.outcome) others
+  outcome_says : (q : List Entry) (r : StreamValue) (t : Target) (outcome : RowsOutcome) (others : List LoadedStream) (own : List ℕ) → StartsWith q mid → Agrees t outcome → OutcomeDid start log mid (batches_of batch r.points) outcome own → OutcomeIsFit log mid others outcome → IsPlainOutcome outcome → OutcomeIsFresh mid q outcome → AllByRecursion (λ s. OutcomeIsFresh mid q s.outcome) others → SaysOutcome q batch r t outcome × AllByRecursion (λ s. OutcomeIsFresh mid (after_rows q batch r t) s.outcome) others
   outcome_says q r AnOutput outcome others own q_mid agrees did fit fits fresh rest = (agrees, rest)
   outcome_says q r (Refused why) outcome others own q_mid agrees did fit fits fresh rest = (agrees, rest)
   outcome_says q r (To stream) Output others own q_mid agrees did fit fits fresh rest = absurd agrees
@@ -237,7 +237,7 @@ module _ (start : StoreState) (log : LogState) (mid : List Entry) (begins : Star
       let other = subst (λ n. AreOther n others) agrees fit.1 in
       ((agrees, subst (λ n. SaysBatches q n batches results) agrees says.0), stay_fresh q stream batches others other rest)
 
-  all_say : (q : List Entry) (rows : List StreamValue) (ts : List Target) (streams : List LoadedStream) (own : List ℕ) → StartsWith q mid → AreFit start log mid batch rows ts streams own → AllByRecursion (λ s. FateIsFresh mid q s.outcome) streams → SaysOutcomes q batch rows ts streams
+  all_say : (q : List Entry) (rows : List StreamValue) (ts : List Target) (streams : List LoadedStream) (own : List ℕ) → StartsWith q mid → AreFit start log mid batch rows ts streams own → AllByRecursion (λ s. OutcomeIsFresh mid q s.outcome) streams → SaysOutcomes q batch rows ts streams
   all_say q [] [] [] own q_mid fit fresh = tt
   all_say q [] [] (s ∷ streams) own q_mid fit fresh = absurd fit
   all_say q [] (t ∷ ts) streams own q_mid fit fresh = absurd fit
@@ -269,7 +269,7 @@ module _ (start : StoreState) (log : LogState) (mid : List Entry) (begins : Star
       all_other (after_rows q batch r t) x rows ts streams fit.1 fit.6 other.1 ∙ outcome_other q x r t s.outcome fit.2 other.0
 
   -- Either the batches of the stream of this number come next, or those of another one.
-  outcome_here : (q : List Entry) (x : ℕ) (r : StreamValue) (t : Target) (outcome : RowsOutcome) (others : List LoadedStream) (own : List ℕ) → StartsWith q mid → Agrees t outcome → OutcomeDid start log mid (batches_of batch r.points) outcome own → FateIsFit log mid others outcome → IsPlainOutcome outcome → commits q x ≡ commits mid x → ((commits (after_rows q batch r t) x ≡ commits log.history x) × AreOther x others) ⊎ IsOther x outcome
+  outcome_here : (q : List Entry) (x : ℕ) (r : StreamValue) (t : Target) (outcome : RowsOutcome) (others : List LoadedStream) (own : List ℕ) → StartsWith q mid → Agrees t outcome → OutcomeDid start log mid (batches_of batch r.points) outcome own → OutcomeIsFit log mid others outcome → IsPlainOutcome outcome → commits q x ≡ commits mid x → ((commits (after_rows q batch r t) x ≡ commits log.history x) × AreOther x others) ⊎ IsOther x outcome
   outcome_here q x r t Output others own q_mid agrees did fit fits same = inr tt
   outcome_here q x r t (NotCreated fault) others own q_mid agrees did fit fits same = inr tt
   outcome_here q x r AnOutput (Committed of results latest) others own q_mid agrees did fit fits same = absurd (cc)
@@ -305,7 +305,7 @@ module _ (start : StoreState) (log : LogState) (mid : List Entry) (begins : Star
 -- ---- the loads fit
 
 module _ (low mid : List Entry) where
-  other_number : (id other stream : ℕ) (outcome : RowsOutcome) → slice_get (ids mid) stream ≡ Some id → other ≢ id → FateIsNamed low mid other outcome → IsOther stream outcome
+  other_number : (id other stream : ℕ) (outcome : RowsOutcome) → slice_get (ids mid) stream ≡ Some id → other ≢ id → OutcomeIsNamed low mid other outcome → IsOther stream outcome
   other_number id other stream Output is ne named = tt
   other_number id other stream (NotCreated fault) is ne named = tt
   other_number id other stream (Committed of results latest) is ne named = λ e.
@@ -320,7 +320,7 @@ module _ (low mid : List Entry) where
   )
 
 module _ (start : StoreState) (log : LogState) (low mid : List Entry) (mid_low : StartsWith mid low) where
-  outcome_fits : (id : ℕ) (others : List LoadedStream) (batches : List (List NumberedPoint)) (outcome : RowsOutcome) (own : List ℕ) → OutcomeDid start log mid batches outcome own → FateIsNamed low mid id outcome → AllByRecursion (IsNamed low mid) others → times id (ids_in others) ≡ 0 → IsOnly log low mid id batches outcome → FateIsFit log mid others outcome
+  outcome_fits : (id : ℕ) (others : List LoadedStream) (batches : List (List NumberedPoint)) (outcome : RowsOutcome) (own : List ℕ) → OutcomeDid start log mid batches outcome own → OutcomeIsNamed low mid id outcome → AllByRecursion (IsNamed low mid) others → times id (ids_in others) ≡ 0 → IsOnly log low mid id batches outcome → OutcomeIsFit log mid others outcome
   outcome_fits id others batches Output own did named rest none only = tt
   outcome_fits id others batches (NotCreated fault) own did named rest none only = tt
   outcome_fits id others batches (Committed stream results latest) own did named rest none only =
@@ -431,11 +431,11 @@ all_rows_ids q batch (r ∷ rows) (t ∷ ts) =
 
 -- ---- the law
 
-fresh_first : (mid : List Entry) (streams : List LoadedStream) → AllByRecursion (λ s. FateIsFresh mid mid s.outcome) streams
+fresh_first : (mid : List Entry) (streams : List LoadedStream) → AllByRecursion (λ s. OutcomeIsFresh mid mid s.outcome) streams
 fresh_first mid [] = tt
 fresh_first mid (s ∷ streams) = (one s.outcome, fresh_first mid streams)
   where
-    one : (outcome : RowsOutcome) → FateIsFresh mid mid outcome
+    one : (outcome : RowsOutcome) → OutcomeIsFresh mid mid outcome
     one Output = tt
     one (NotCreated fault) = tt
     one (Committed stream results latest) = refl

@@ -29,7 +29,7 @@ use Rattle.btr_load.specs.Work.{BatchDid, BatchesDid, OutcomeDid, StreamsInTurn}
 use Rattle.btr_load.specs.Loads.{IsCommittedTo, OutcomeOfFound, OutcomeOfCreated, CreatesIfNew, CreatesEach}
 use Rattle.btr_load.specs.There.{accepted, outcome_entries, batch_entries, create_entry, create_entries}
 use Rattle.btr_load.specs.InOrder.{store_after_all, results_all, with_stream, with_streams, found_outcome, created_outcome, first_outcome, first_outcomes}
-use Rattle.btr_load.specs.InOrder.{with_batches, with_rows, last_outcome, last_outcomes, HadMemory, FateHadMemory, LoadsInOrder}
+use Rattle.btr_load.specs.InOrder.{with_batches, with_rows, last_outcome, last_outcomes, HadMemory, OutcomeHadMemory, LoadsInOrder}
 use Rattle.btr_load.proofs.CreateLemmas.{next_is}
 use Rattle.btr_load.proofs.SumLemmas.{load_sum}
 use Rattle.btr_load.proofs.TotalLemmas.{total_append, entries_sum}
@@ -166,7 +166,7 @@ module _ (start : StoreState) (log : LogState) (ran : RunsThrough start log) whe
         subst (λ n. Holds start (store_after_all d (map (batch_entry n) batches)) log.history) same exact.1,
       )
 
-  outcome_exact : (d : PlainStore) (low : List Entry) (batch : ℕ) (r : StreamValue) (first now : RowsOutcome) (own : List ℕ) → IsFrom first now → OutcomeDid start log low (batches_of batch r.points) now own → Holds start d low → StartsWith log.history low → length log.history ≤ length low + total each (outcome_entries (batches_of batch r.points) now) → FateHadMemory now → (now ≡ last_outcome d batch r first) × Holds start (with_batches d batch r first) log.history
+  outcome_exact : (d : PlainStore) (low : List Entry) (batch : ℕ) (r : StreamValue) (first now : RowsOutcome) (own : List ℕ) → IsFrom first now → OutcomeDid start log low (batches_of batch r.points) now own → Holds start d low → StartsWith log.history low → length log.history ≤ length low + total each (outcome_entries (batches_of batch r.points) now) → OutcomeHadMemory now → (now ≡ last_outcome d batch r first) × Holds start (with_batches d batch r first) log.history
   outcome_exact d low batch r Output Output own from did holds starts most memory = (refl, whole_holds d low holds starts (omega (arith, most)))
   outcome_exact d low batch r Output (NotCreated fault) own from did holds starts most memory = absurd (cc)
   outcome_exact d low batch r Output (Committed stream results latest) own from did holds starts most memory = absurd (cc)
@@ -180,7 +180,7 @@ module _ (start : StoreState) (log : LogState) (ran : RunsThrough start log) whe
 
 -- ---- all streams
 
-fates_exact : (start : StoreState) (late : LogState) (low : List Entry) (d : PlainStore) (batch : ℕ) (rows : List StreamValue) (outcomes : List RowsOutcome) (streams : List LoadedStream) (own : List ℕ) → RunsThrough start late → AreFrom batch rows outcomes streams → StreamsInTurn start late low streams own → Holds start d low → length late.history ≤ length low + total each (batch_entries streams) → AllByRecursion (λ s. FateHadMemory s.outcome) streams → (map (λ s. s.outcome) streams ≡ last_outcomes d batch rows outcomes) × Holds start (with_rows d batch rows outcomes) late.history
+fates_exact : (start : StoreState) (late : LogState) (low : List Entry) (d : PlainStore) (batch : ℕ) (rows : List StreamValue) (outcomes : List RowsOutcome) (streams : List LoadedStream) (own : List ℕ) → RunsThrough start late → AreFrom batch rows outcomes streams → StreamsInTurn start late low streams own → Holds start d low → length late.history ≤ length low + total each (batch_entries streams) → AllByRecursion (λ s. OutcomeHadMemory s.outcome) streams → (map (λ s. s.outcome) streams ≡ last_outcomes d batch rows outcomes) × Holds start (with_rows d batch rows outcomes) late.history
 fates_exact start late low d batch [] [] [] own ran from turn holds most memory =
     (refl, subst (Holds start d) (sym (starts_whole late.history low turn.0 (omega (arith, most)))) holds)
 fates_exact start late low d batch [] [] (s ∷ streams) own ran from turn holds most memory = absurd from
@@ -233,7 +233,7 @@ module _ (start : StoreState) (log : LogState) (ran : RunsThrough start log) (lo
   history_count p e (Ok receipt) = length-append p (e ∷ [])
   history_count p e (Err fault) = omega arith
 
-  open_exact : (c : PlainStore) (p : List Entry) (id : ℕ) (o : Option ℕ) (outcome : RowsOutcome) (own : List ℕ) (next : List Entry) → Holds start c p → FateHadMemory outcome → CreatesIfNew start log low p id o outcome own next → Opened c p id o outcome next
+  open_exact : (c : PlainStore) (p : List Entry) (id : ℕ) (o : Option ℕ) (outcome : RowsOutcome) (own : List ℕ) (next : List Entry) → Holds start c p → OutcomeHadMemory outcome → CreatesIfNew start log low p id o outcome own next → Opened c p id o outcome next
   open_exact c p id (Some stream) outcome own next holds memory opens = record {
     from = found_from low stream (spec_of low stream) outcome opens.0;
     holds = subst (Holds start c) (sym opens.1.next) holds;
@@ -243,7 +243,7 @@ module _ (start : StoreState) (log : LogState) (ran : RunsThrough start log) (lo
   open_exact c p id None outcome own next holds memory opens =
       let e = Create id in
       let result = opens.0 in
-      let here = committed_plain start log ran c p e result own next holds (λ want. subst FateHadMemory (subst (λ r. OutcomeOfCreated r outcome) want opens.2) memory) opens.1 in
+      let here = committed_plain start log ran c p e result own next holds (λ want. subst OutcomeHadMemory (subst (λ r. OutcomeOfCreated r outcome) want opens.2) memory) opens.1 in
       let after = next_is start log p e result own next opens.1 in
       record {
         from = created_from (take_result c e) result outcome here.0 opens.2;
@@ -263,7 +263,7 @@ module _ (start : StoreState) (log : LogState) (ran : RunsThrough start log) (lo
     pub begins : StartsWith last p
     pub count : length last ≡ length p + total each (create_entries low streams)
 
-  all_open_exact : (c : PlainStore) (p : List Entry) (batch : ℕ) (rows : List StreamValue) (streams : List LoadedStream) (own : List ℕ) (last : List Entry) → Holds start c p → AllByRecursion (λ s. FateHadMemory s.outcome) streams → CreatesEach start log low p batch rows streams own last → AllOpened c p batch rows streams last
+  all_open_exact : (c : PlainStore) (p : List Entry) (batch : ℕ) (rows : List StreamValue) (streams : List LoadedStream) (own : List ℕ) (last : List Entry) → Holds start c p → AllByRecursion (λ s. OutcomeHadMemory s.outcome) streams → CreatesEach start log low p batch rows streams own last → AllOpened c p batch rows streams last
   all_open_exact c p batch [] [] own last holds memory opens = record {
     from = tt;
     holds = subst (Holds start c) (sym opens.next) holds;

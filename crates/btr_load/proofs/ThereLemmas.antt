@@ -196,14 +196,14 @@ accepted_other stream other (batch ∷ batches) (Err fault ∷ results) ne = acc
 -- ---- the numbers of the streams
 
 -- The stream of the rows has this id, and the load began with its latest version.
-abbrev pub FateIsNamed : List Entry → List Entry → ℕ → RowsOutcome → Type 0
-FateIsNamed low mid id Output = Unit {0}
-FateIsNamed low mid id (NotCreated fault) = Unit {0}
-FateIsNamed low mid id (Committed stream results latest) =
+abbrev pub OutcomeIsNamed : List Entry → List Entry → ℕ → RowsOutcome → Type 0
+OutcomeIsNamed low mid id Output = Unit {0}
+OutcomeIsNamed low mid id (NotCreated fault) = Unit {0}
+OutcomeIsNamed low mid id (Committed stream results latest) =
     (slice_get (ids mid) stream ≡ Some id) × (latest ≡ last_version (history.latest low stream) results)
 
 abbrev pub IsNamed : List Entry → List Entry → LoadedStream → Type 0
-IsNamed low mid s = FateIsNamed low mid s.rows.id s.outcome
+IsNamed low mid s = OutcomeIsNamed low mid s.rows.id s.outcome
 
 -- The id of a stream stays.
 id_stays : (late early : List Entry) (stream id : ℕ) → StartsWith late early → slice_get (ids early) stream ≡ Some id → slice_get (ids late) stream ≡ Some id
@@ -211,7 +211,7 @@ id_stays late early stream id starts is =
     let all : ids late ≡ ids early ++ ids starts.0 = ap ids starts.1 ∙ ids-append early starts.0 in
     subst (λ l. slice_get l stream ≡ Some id) (sym all) (get-append (ids early) (ids starts.0) stream id is)
 
-named_stays : (low late early : List Entry) (id : ℕ) (outcome : RowsOutcome) → StartsWith late early → FateIsNamed low early id outcome → FateIsNamed low late id outcome
+named_stays : (low late early : List Entry) (id : ℕ) (outcome : RowsOutcome) → StartsWith late early → OutcomeIsNamed low early id outcome → OutcomeIsNamed low late id outcome
 named_stays low late early id Output starts named = named
 named_stays low late early id (NotCreated fault) starts named = named
 named_stays low late early id (Committed stream results latest) starts named = (id_stays late early stream id starts named.0, named.1)
@@ -230,21 +230,21 @@ found_id id at (x ∷ xs) n is =
           (let low = rest.0 in omega arith, ap (slice_get (x ∷ xs)) next ∙ rest.1)
     ] refl is
 
-to_named : (low mid : List Entry) (id stream version : ℕ) (outcome : RowsOutcome) → slice_get (ids mid) stream ≡ Some id → version ≡ history.latest low stream → IsCommittedTo stream version outcome → FateIsNamed low mid id outcome
+to_named : (low mid : List Entry) (id stream version : ℕ) (outcome : RowsOutcome) → slice_get (ids mid) stream ≡ Some id → version ≡ history.latest low stream → IsCommittedTo stream version outcome → OutcomeIsNamed low mid id outcome
 to_named low mid id stream version Output is same to = tt
 to_named low mid id stream version (NotCreated fault) is same to = tt
 to_named low mid id stream version (Committed of results latest) is same to =
     (ap (slice_get (ids mid)) to.0 ∙ is, to.1 ∙ ap (λ v. last_version v results) (same ∙ ap (history.latest low) (sym to.0)))
 
-output_named : (low mid : List Entry) (id : ℕ) (outcome : RowsOutcome) → outcome ≡ Output → FateIsNamed low mid id outcome
-output_named low mid id outcome is = subst (FateIsNamed low mid id) (sym is) tt
+output_named : (low mid : List Entry) (id : ℕ) (outcome : RowsOutcome) → outcome ≡ Output → OutcomeIsNamed low mid id outcome
+output_named low mid id outcome is = subst (OutcomeIsNamed low mid id) (sym is) tt
 
-found_named : (low mid : List Entry) (id stream : ℕ) (o : Option Spec) (outcome : RowsOutcome) → slice_get (ids mid) stream ≡ Some id → OutcomeOfFound low stream o outcome → FateIsNamed low mid id outcome
+found_named : (low mid : List Entry) (id stream : ℕ) (o : Option Spec) (outcome : RowsOutcome) → slice_get (ids mid) stream ≡ Some id → OutcomeOfFound low stream o outcome → OutcomeIsNamed low mid id outcome
 found_named low mid id stream None outcome is to = to_named low mid id stream (history.latest low stream) outcome is refl to
 found_named low mid id stream (Some spec) outcome is out = output_named low mid id outcome out
 
-refused_named : (low mid : List Entry) (id : ℕ) (outcome : RowsOutcome) (fault : StepFault) → outcome ≡ NotCreated fault → FateIsNamed low mid id outcome
-refused_named low mid id outcome fault is = subst (FateIsNamed low mid id) (sym is) tt
+refused_named : (low mid : List Entry) (id : ℕ) (outcome : RowsOutcome) (fault : StepFault) → outcome ≡ NotCreated fault → OutcomeIsNamed low mid id outcome
+refused_named low mid id outcome fault is = subst (OutcomeIsNamed low mid id) (sym is) tt
 
 after_starts : (result : Result Receipt StepFault) (p : List Entry) (e : Entry) → StartsWith (history_after result p e) p
 after_starts (Ok receipt) p e = (e ∷ [], refl)
@@ -264,7 +264,7 @@ module _ (start : StoreState) (log : LogState) (low : List Entry) (follows : Fol
   all_open_grow p batch (r ∷ rows) (s ∷ streams) own last opens =
       starts_trans last opens.4 p (all_open_grow opens.4 batch rows streams opens.3 last opens.7) (opens_grows p r.id (stream_of low r.id) s.outcome opens.2 opens.4 opens.6)
 
-  created_named : (p : List Entry) (id : ℕ) (result : Result Receipt StepFault) (outcome : RowsOutcome) (own : List ℕ) (next : List Entry) → StartsWith p low → turns.Committed start log p (entries.Create id) result own next → OutcomeOfCreated result outcome → FateIsNamed low next id outcome
+  created_named : (p : List Entry) (id : ℕ) (result : Result Receipt StepFault) (outcome : RowsOutcome) (own : List ℕ) (next : List Entry) → StartsWith p low → turns.Committed start log p (entries.Create id) result own next → OutcomeOfCreated result outcome → OutcomeIsNamed low next id outcome
   created_named p id (Err fault) outcome own next starts turn is = refused_named low next id outcome fault is
   created_named p id (Ok receipt) outcome own next starts turn is =
       let told = turn.1.stream in
@@ -277,7 +277,7 @@ module _ (start : StoreState) (log : LogState) (low : List Entry) (follows : Fol
       let none = unknown low receipt.stream follows (omega (arith, told, long)) in
       to_named low next id receipt.stream 0 outcome place (sym none) is
 
-  opens_named : (p : List Entry) (id : ℕ) (o : Option ℕ) (outcome : RowsOutcome) (own : List ℕ) (next : List Entry) → stream_of low id ≡ o → StartsWith p low → CreatesIfNew start log low p id o outcome own next → FateIsNamed low next id outcome
+  opens_named : (p : List Entry) (id : ℕ) (o : Option ℕ) (outcome : RowsOutcome) (own : List ℕ) (next : List Entry) → stream_of low id ≡ o → StartsWith p low → CreatesIfNew start log low p id o outcome own next → OutcomeIsNamed low next id outcome
   opens_named p id None outcome own next is starts opens = created_named p id opens.0 outcome own next starts opens.1 opens.2
   opens_named p id (Some stream) outcome own next is starts opens =
       let none : stream ≡ stream - 0 = omega arith in
@@ -296,7 +296,7 @@ module _ (start : StoreState) (log : LogState) (low : List Entry) (follows : Fol
       let grows = opens_grows p r.id (stream_of low r.id) s.outcome opens.2 next opens.6 in
       let later = all_open_grow next batch rows streams opens.3 last opens.7 in
       let id : r.id ≡ s.rows.id = sym (ap (λ (v : StreamValue). v.id) opens.0) in (
-        subst (λ n. FateIsNamed low last n s.outcome) id (named_stays low last next r.id s.outcome later one),
+        subst (λ n. OutcomeIsNamed low last n s.outcome) id (named_stays low last next r.id s.outcome later one),
         all_named next batch rows streams opens.3 last (starts_trans next p low grows starts) opens.7,
       )
 
@@ -340,7 +340,7 @@ all_push P (first ∷ streams) s all one = (all.0, all_push P streams s all.1 on
 
 module _ (low mid : List Entry) where
   -- The batches of another id are of another stream.
-  outcome_absent : (id stream other : ℕ) (batches : List (List NumberedPoint)) (outcome : RowsOutcome) → slice_get (ids mid) stream ≡ Some id → other ≢ id → FateIsNamed low mid other outcome → total (commit_of stream) (outcome_entries batches outcome) ≡ 0
+  outcome_absent : (id stream other : ℕ) (batches : List (List NumberedPoint)) (outcome : RowsOutcome) → slice_get (ids mid) stream ≡ Some id → other ≢ id → OutcomeIsNamed low mid other outcome → total (commit_of stream) (outcome_entries batches outcome) ≡ 0
   outcome_absent id stream other batches Output is ne named = refl
   outcome_absent id stream other batches (NotCreated fault) is ne named = refl
   outcome_absent id stream other batches (Committed n results latest) is ne named =
@@ -388,7 +388,7 @@ all_only log low mid front (s ∷ back) distinct count named_front named =
     )
 
 module _ (start : StoreState) (log : LogState) (low mid : List Entry) (mid_low : StartsWith mid low) (begins : StartsWith log.history mid) where
-  outcome_there : (id : ℕ) (batches : List (List NumberedPoint)) (outcome : RowsOutcome) (own : List ℕ) → OutcomeDid start log mid batches outcome own → FateIsNamed low mid id outcome → IsOnly log low mid id batches outcome → OutcomeIsThere log.history batches outcome
+  outcome_there : (id : ℕ) (batches : List (List NumberedPoint)) (outcome : RowsOutcome) (own : List ℕ) → OutcomeDid start log mid batches outcome own → OutcomeIsNamed low mid id outcome → IsOnly log low mid id batches outcome → OutcomeIsThere log.history batches outcome
   outcome_there id batches Output own did named alone = tt
   outcome_there id batches (NotCreated fault) own did named alone = tt
   outcome_there id batches (Committed stream results latest) own did named alone =

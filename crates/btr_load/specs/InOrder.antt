@@ -112,10 +112,10 @@ abbrev pub HadMemory : Result Receipt StepFault → Type 0
 HadMemory (Err steps.Want) = ⊥
 HadMemory result = Unit {0}
 
-abbrev pub FateHadMemory : RowsOutcome → Type 0
-FateHadMemory Output = Unit {0}
-FateHadMemory (NotCreated fault) = HadMemory (Err fault)
-FateHadMemory (Committed stream results latest) = AllByRecursion HadMemory results
+abbrev pub OutcomeHadMemory : RowsOutcome → Type 0
+OutcomeHadMemory Output = Unit {0}
+OutcomeHadMemory (NotCreated fault) = HadMemory (Err fault)
+OutcomeHadMemory (Committed stream results latest) = AllByRecursion HadMemory results
 
 -- The history and the outcomes are those that one worker leaves.
 pub record IsLoadedInOrder (start : StoreState) (log : LogState) (rows : List StreamValue) (batch : ℕ) (streams : List LoadedStream)
@@ -129,5 +129,5 @@ LoadsInOrder =
     (start : StoreState) (log : LogState) (rows : RowListValue) (batch : ℕ) (told : LoadedValue) (numbers : List ℕ)
     → RunsThrough start log → OnlyOwn log start.history numbers
     → LoadsInTurn start log start.history rows batch told numbers
-    → AllByRecursion (λ s. FateHadMemory s.outcome) told.streams
+    → AllByRecursion (λ s. OutcomeHadMemory s.outcome) told.streams
     → IsLoadedInOrder start log rows.streams batch told.streams

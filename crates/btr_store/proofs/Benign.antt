@@ -76,10 +76,10 @@ Ran (Err steps.Want) = Unit {0}
 Ran (Err (steps.DeviceFull need left)) = Unit {0}
 Ran (Err steps.DeviceFault) = ⊥
 
-abbrev pub FateRan : RowsOutcome → Type 0
-FateRan Output = Unit {0}
-FateRan (NotCreated fault) = Ran (Err fault)
-FateRan (Committed stream results latest) = AllByRecursion Ran results
+abbrev pub OutcomeRan : RowsOutcome → Type 0
+OutcomeRan Output = Unit {0}
+OutcomeRan (NotCreated fault) = Ran (Err fault)
+OutcomeRan (Committed stream results latest) = AllByRecursion Ran results
 
 rejection_benign : (why : Rejection) → IsBenign (status_of_reason (reason_of_rejection why))
 rejection_benign rejections.NoStream = inr (inl refl)
@@ -113,18 +113,18 @@ spans_benign id size points (Ok receipt ∷ all) room ran = spans_benign id size
 spans_benign id size points (Err fault ∷ all) room ran =
     (step_benign fault room.0 ran.0, spans_benign id size (drop size points) all room.1 ran.1)
 
-outcome_benign : (id size : ℕ) (points : List NumberedPoint) (outcome : RowsOutcome) → OutcomeHadRoom outcome → FateRan outcome → AreBenign (outcome_spans id size points outcome ++ outcome_line id size points outcome)
+outcome_benign : (id size : ℕ) (points : List NumberedPoint) (outcome : RowsOutcome) → OutcomeHadRoom outcome → OutcomeRan outcome → AreBenign (outcome_spans id size points outcome ++ outcome_line id size points outcome)
 outcome_benign id size points Output room ran = tt
 outcome_benign id size points (NotCreated fault) room ran = (step_benign fault room ran, tt)
 outcome_benign id size points (Committed stream all latest) room ran =
     append_benign (batch_spans id size points all) (outcome_line id size points (Committed stream all latest)) (spans_benign id size points all room ran) (inl refl, tt)
 
-streams_benign : (streams : List LoadedStream) → AllByRecursion (λ s. OutcomeHadRoom s.outcome) streams → AllByRecursion (λ s. FateRan s.outcome) streams → AreBenign (flat_map stream_lines streams)
+streams_benign : (streams : List LoadedStream) → AllByRecursion (λ s. OutcomeHadRoom s.outcome) streams → AllByRecursion (λ s. OutcomeRan s.outcome) streams → AreBenign (flat_map stream_lines streams)
 streams_benign [] room ran = tt
 streams_benign (s ∷ streams) room ran =
     append_benign (stream_lines s) (flat_map stream_lines streams) (outcome_benign s.rows.id s.batch s.rows.points s.outcome room.0 ran.0) (streams_benign streams room.1 ran.1)
 
-pub load_benign : (l : LoadedValue) (t : Transcript) → SaysLoad l t → AllByRecursion (λ s. OutcomeHadRoom s.outcome) l.streams → AllByRecursion (λ s. FateRan s.outcome) l.streams → IsBenign t.status
+pub load_benign : (l : LoadedValue) (t : Transcript) → SaysLoad l t → AllByRecursion (λ s. OutcomeHadRoom s.outcome) l.streams → AllByRecursion (λ s. OutcomeRan s.outcome) l.streams → IsBenign t.status
 load_benign l t says room ran =
     let rows : List ReportLine = map row_line says.0 in
     let streams : List ReportLine = flat_map stream_lines l.streams in
@@ -169,12 +169,12 @@ report_benign h (line ∷ report) calm =
 
 -- ---- samples
 
-outcome_spans_benign : (id size : ℕ) (points : List NumberedPoint) (outcome : RowsOutcome) → OutcomeHadRoom outcome → FateRan outcome → AreBenign (outcome_spans id size points outcome)
+outcome_spans_benign : (id size : ℕ) (points : List NumberedPoint) (outcome : RowsOutcome) → OutcomeHadRoom outcome → OutcomeRan outcome → AreBenign (outcome_spans id size points outcome)
 outcome_spans_benign id size points Output room ran = tt
 outcome_spans_benign id size points (NotCreated fault) room ran = (step_benign fault room ran, tt)
 outcome_spans_benign id size points (Committed stream all latest) room ran = spans_benign id size points all room ran
 
-all_spans_benign : (streams : List LoadedStream) → AllByRecursion (λ s. OutcomeHadRoom s.outcome) streams → AllByRecursion (λ s. FateRan s.outcome) streams → AreBenign (flat_map stream_spans streams)
+all_spans_benign : (streams : List LoadedStream) → AllByRecursion (λ s. OutcomeHadRoom s.outcome) streams → AllByRecursion (λ s. OutcomeRan s.outcome) streams → AreBenign (flat_map stream_spans streams)
 all_spans_benign [] room ran = tt
 all_spans_benign (s ∷ streams) room ran =
     append_benign (stream_spans s) (flat_map stream_spans streams) (outcome_spans_benign s.rows.id s.batch s.rows.points s.outcome room.0 ran.0) (all_spans_benign streams room.1 ran.1)
@@ -206,7 +206,7 @@ summaries_benign : (h : List Entry) (streams : List ℕ) → AreBenign (map (λ 
 summaries_benign h [] = tt
 summaries_benign h (stream ∷ streams) = (inl refl, summaries_benign h streams)
 
-pub sample_benign : (h : List Entry) (l : LoadedValue) (outputs : List DefinedOutput) (report : List refreshed.ReportLine) (t : Transcript) → SaysAll h l outputs report t → AllByRecursion (λ s. OutcomeHadRoom s.outcome) l.streams → AllByRecursion (λ s. FateRan s.outcome) l.streams → AllByRecursion IsCalmOutput outputs → AllByRecursion (λ line. IsCalm line.result) report → IsBenign t.status
+pub sample_benign : (h : List Entry) (l : LoadedValue) (outputs : List DefinedOutput) (report : List refreshed.ReportLine) (t : Transcript) → SaysAll h l outputs report t → AllByRecursion (λ s. OutcomeHadRoom s.outcome) l.streams → AllByRecursion (λ s. OutcomeRan s.outcome) l.streams → AllByRecursion IsCalmOutput outputs → AllByRecursion (λ line. IsCalm line.result) report → IsBenign t.status
 sample_benign h l outputs report t says room ran defined calm =
     let rows : List ReportLine = map row_line says.0 in
     let spans : List ReportLine = flat_map stream_spans l.streams in

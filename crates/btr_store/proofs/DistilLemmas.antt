@@ -23,7 +23,7 @@ use Rattle.btr_hall.specs.declared.land.LandFault.TheVariants as faults
 use Rattle.btr_work.specs.declared.report.Refreshed.{Refreshed}
 use Rattle.btr_work.specs.declared.report.Refreshed.TheVariants.{Landed, Current, Refused}
 use Rattle.btr_work.specs.declared.report.ReportLine as refreshed
-use Rattle.btr_work.specs.Report.{IsPlanLanded, IsRefreshed, RefreshesEach, RefreshesLevels, Refreshes, BringsInTurn}
+use Rattle.btr_work.specs.Report.{IsPlanLanded, IsRefreshed, RefreshesEach, RefreshesLevels, Refreshes, RefreshesInTurn}
 use Rattle.btr_work.specs.ReportLaws.{refreshed_lasts}
 use Rattle.btr_work.proofs.CurrentLemmas.{refreshed-current}
 use Rattle.btr_work.proofs.AlikeLemmas.{refreshed-alike}
@@ -32,7 +32,7 @@ use Rattle.btr_store.specs.declared.transcript.Transcript.{Transcript}
 use Rattle.btr_store.specs.Streams.{Stays}
 use Rattle.btr_store.specs.Transcript.{SaysLines}
 use Rattle.btr_store.specs.Distil.{output_line, RefreshesIf, SaysReport, Distils, DistilsInTurn, AreCurrent, AreUndisturbed, AreOfOneWorker}
-use Rattle.btr_store.specs.Distil.{HadMemoryForOutputs, AreBroughtInOrder, DistilsStore}
+use Rattle.btr_store.specs.Distil.{HadMemoryForOutputs, AreRefreshedInOrder, DistilsStore}
 use Rattle.btr_store.specs.Work.{AddsAllowed, OwnsEachOnce, Works}
 use Rattle.btr_store.proofs.Allowing.{allows_none, allows_nothing, allows_both, allows_landed}
 use Rattle.btr_store.proofs.DistilCompletes.{report_completes}
@@ -72,7 +72,7 @@ module _ {D : Type 0} {disk : Ghosts D} where
   )
 
   -- The same of one worker.
-  pub turn_said : (hall : Hall D disk) (old mid new : Session D disk) (report : List refreshed.ReportLine) (said : Result Transcript AllocError) → Does hall old mid (λ start log low own. BringsInTurn start log low report own) → Stays mid new → ((h : List Entry) → IsEngineOf h (opening_of hall) → IfOk said (SaysLines (map (output_line (history_of h (seen_of mid))) report))) → Does hall old new (λ start log low own. DistilsInTurn start log low said own)
+  pub turn_said : (hall : Hall D disk) (old mid new : Session D disk) (report : List refreshed.ReportLine) (said : Result Transcript AllocError) → Does hall old mid (λ start log low own. RefreshesInTurn start log low report own) → Stays mid new → ((h : List Entry) → IsEngineOf h (opening_of hall) → IfOk said (SaysLines (map (output_line (history_of h (seen_of mid))) report))) → Does hall old new (λ start log low own. DistilsInTurn start log low said own)
   turn_said hall old mid new report said does stays says = (
     does.0,
     goes_stays old mid new does.0 does.1 stays,
@@ -153,12 +153,12 @@ module _ (start : StoreState) (log : LogState) (own : List ℕ) (each : OwnsEach
   report_alike (Some report) legal refreshes = λ undisturbed levels are.
       refreshed-alike start log start.history report own levels refreshes legal each are undisturbed
 
-  report_in_order : (report : Option (List refreshed.ReportLine)) → RunsThrough start log → Legal log.history → IfSome report (λ report. BringsInTurn start log start.history report own) → IfSome report (λ report. HadMemoryForOutputs report → AreBroughtInOrder start log report)
+  report_in_order : (report : Option (List refreshed.ReportLine)) → RunsThrough start log → Legal log.history → IfSome report (λ report. RefreshesInTurn start log start.history report own) → IfSome report (λ report. HadMemoryForOutputs report → AreRefreshedInOrder start log report)
   report_in_order None ran legal turn = tt
   report_in_order (Some report) ran legal turn = λ memory levels are.
       refreshed-in-order start log report own levels ran legal each turn are memory
 
-  store_distils : (workers : ℕ) (said : Result Transcript AllocError) (is : Distils start log start.history said own) → Follows log.history → (Legal start.history → Legal log.history) → (workers ≤ 1 → Legal start.history → log.failed ≡ None → IfSome is.report (λ report. HadMemoryForOutputs report → AreBroughtInOrder start log report)) → DistilsStore start log workers said own
+  store_distils : (workers : ℕ) (said : Result Transcript AllocError) (is : Distils start log start.history said own) → Follows log.history → (Legal start.history → Legal log.history) → (workers ≤ 1 → Legal start.history → log.failed ≡ None → IfSome is.report (λ report. HadMemoryForOutputs report → AreRefreshedInOrder start log report)) → DistilsStore start log workers said own
   store_distils workers said is follows legal order = record {
     did = is;
     current = report_current is.report follows is.refreshes;

@@ -26,7 +26,7 @@ use Rattle.btr_store.specs.declared.transcript.Transcript.{Transcript}
 use Rattle.btr_store.specs.Completes.{SaysBenign, HasRoomForRows}
 use Rattle.btr_store.specs.Load.{LoadsIf, SaysLoaded}
 use Rattle.btr_store.specs.Work.{OwnsEachOnce}
-use Rattle.btr_store.proofs.Benign.{Ran, FateRan, load_benign}
+use Rattle.btr_store.proofs.Benign.{Ran, OutcomeRan, load_benign}
 
 module _ (start : StoreState) (log : LogState) (runs : log.failed ≡ None) where
   pub committed_ran : (p : List Entry) (e : Entry) (result : Result Receipt StepFault) (own : List ℕ) (next : List Entry) → turns.Committed start log p e result own next → Ran result
@@ -64,13 +64,13 @@ module _ (start : StoreState) (log : LogState) (runs : log.failed ≡ None) wher
   create_ran low p id (Some stream) own next fault opens = found_ran low stream (spec_of low stream) fault opens.0
   create_ran low p id None own next fault opens = made_ran p id opens.0 own next fault opens.1 opens.2
 
-  outcome_ran : (low p mid : List Entry) (id : ℕ) (o : Option ℕ) (batches : List (List NumberedPoint)) (outcome : RowsOutcome) (created own : List ℕ) (next : List Entry) → CreatesIfNew start log low p id o outcome created next → OutcomeDid start log mid batches outcome own → FateRan outcome
+  outcome_ran : (low p mid : List Entry) (id : ℕ) (o : Option ℕ) (batches : List (List NumberedPoint)) (outcome : RowsOutcome) (created own : List ℕ) (next : List Entry) → CreatesIfNew start log low p id o outcome created next → OutcomeDid start log mid batches outcome own → OutcomeRan outcome
   outcome_ran low p mid id o batches Output created own next opens did = tt
   outcome_ran low p mid id o batches (NotCreated fault) created own next opens did = create_ran low p id o created next fault opens
   outcome_ran low p mid id o batches (Committed stream results latest) created own next opens did =
       batches_ran mid stream batches results own did.0 did.1
 
-  streams_ran : (low p mid : List Entry) (batch : ℕ) (rows : List StreamValue) (streams : List LoadedStream) (created own : List ℕ) (last : List Entry) → CreatesEach start log low p batch rows streams created last → StreamsDid start log mid streams own → AllByRecursion (λ s. FateRan s.outcome) streams
+  streams_ran : (low p mid : List Entry) (batch : ℕ) (rows : List StreamValue) (streams : List LoadedStream) (created own : List ℕ) (last : List Entry) → CreatesEach start log low p batch rows streams created last → StreamsDid start log mid streams own → AllByRecursion (λ s. OutcomeRan s.outcome) streams
   streams_ran low p mid batch [] [] created own last opens did = tt
   streams_ran low p mid batch [] (s ∷ streams) created own last opens did = absurd opens
   streams_ran low p mid batch (r ∷ rows) [] created own last opens did = absurd opens
@@ -79,7 +79,7 @@ module _ (start : StoreState) (log : LogState) (runs : log.failed ≡ None) wher
     streams_ran low opens.4 mid batch rows streams opens.3 did.1 last opens.7 did.3,
   )
 
-  pub loads_ran : (low : List Entry) (rows : RowListValue) (batch : ℕ) (loaded : LoadedValue) (own : List ℕ) → Loads start log low rows batch loaded own → AllByRecursion (λ s. FateRan s.outcome) loaded.streams
+  pub loads_ran : (low : List Entry) (rows : RowListValue) (batch : ℕ) (loaded : LoadedValue) (own : List ℕ) → Loads start log low rows batch loaded own → AllByRecursion (λ s. OutcomeRan s.outcome) loaded.streams
   loads_ran low rows batch loaded own loads =
       streams_ran low low loads.middle batch rows.streams loaded.streams loads.created loads.committed loads.middle loads.opens loads.commits
 

@@ -14,7 +14,7 @@ use Rattle.btr_work.specs.declared.report.Refreshed.{Refreshed}
 use Rattle.btr_work.specs.declared.report.Refreshed.TheVariants as results
 use Rattle.btr_work.specs.declared.report.ReportLine as refreshed
 use Rattle.btr_work.specs.Levels.{AreLevels}
-use Rattle.btr_work.specs.Report.{Refreshes, BringsInTurn}
+use Rattle.btr_work.specs.Report.{Refreshes, RefreshesInTurn}
 use Rattle.btr_work.specs.Laws.{IsCurrentIn}
 use Rattle.btr_work.specs.Alike.{IsAlike, IsUndisturbed, landed_levels}
 use Rattle.btr_work.specs.InOrder.{HadMemoryToLand, IsRefreshedInOrder}
@@ -76,7 +76,7 @@ pub record Distils (start : StoreState) (log : LogState) (low : List Entry) (sai
 pub record DistilsInTurn (start : StoreState) (log : LogState) (low : List Entry) (said : Result Transcript AllocError) (own : List ℕ)
     : Type 0 where
   pub did : Distils start log low said own
-  pub in_turn : IfSome did.report (λ report. BringsInTurn start log low report own)
+  pub in_turn : IfSome did.report (λ report. RefreshesInTurn start log low report own)
 
 -- ---- the work on a store that nobody else uses
 
@@ -99,8 +99,8 @@ abbrev pub HadMemoryForOutputs : List refreshed.ReportLine → Type 0
 HadMemoryForOutputs report = AllByRecursion (λ line. HadMemoryToLand line.result) report
 
 -- The history and the report are those of one worker on this device, who lands the outputs one after another, level by level.
-abbrev pub AreBroughtInOrder : StoreState → LogState → List refreshed.ReportLine → Type 0
-AreBroughtInOrder start log report =
+abbrev pub AreRefreshedInOrder : StoreState → LogState → List refreshed.ReportLine → Type 0
+AreRefreshedInOrder start log report =
     (levels : List (List ℕ)) → AreLevels start.history levels → IsRefreshedInOrder start log levels report
 
 -- Each output was brought up to date once by so many workers on a store that nobody else used, and this was said of them. `own` are the
@@ -116,6 +116,6 @@ pub record DistilsStore (start : StoreState) (log : LogState) (workers : ℕ) (s
   -- one worker lands the outputs one after another, each landing if the model accepts it and the blocks that are left suffice: if the
   -- history was legal, and memory and device did not fail, the history and the results are those
   pub in_order : workers ≤ 1 → Legal start.history → log.failed ≡ None
-      → IfSome did.report (λ report. HadMemoryForOutputs report → AreBroughtInOrder start log report)
+      → IfSome did.report (λ report. HadMemoryForOutputs report → AreRefreshedInOrder start log report)
   -- if there was room for all that may be landed, and the device did not fail, no line says that it was full or failed
   pub completes : HasRoomForOutputs start → log.failed ≡ None → SaysBenign said

@@ -8,7 +8,7 @@ use Rattle.btr_jobs.specs.States.{StoreState, LogState}
 use Rattle.btr_load.specs.Loads.{LoadedValue, Loads, LoadsInTurn}
 use Rattle.btr_load.specs.There.{AreDistinct, AreThere}
 use Rattle.btr_load.specs.Alike.{IsAlike, IsPlainOutcome}
-use Rattle.btr_load.specs.InOrder.{FateHadMemory, IsLoadedInOrder}
+use Rattle.btr_load.specs.InOrder.{OutcomeHadMemory, IsLoadedInOrder}
 use Rattle.btr_store.specs.declared.transcript.Transcript.{Transcript}
 use Rattle.btr_store.specs.Completes.{SaysBenign, HasRoomForRows}
 use Rattle.btr_store.specs.LoadLines.{SaysLoad}
@@ -45,7 +45,7 @@ ArePlain loaded = AllByRecursion (λ s. IsPlainOutcome s.outcome) loaded.streams
 
 -- The memory sufficed for each create and each batch.
 abbrev pub HadMemoryForAll : LoadedValue → Type 0
-HadMemoryForAll loaded = AllByRecursion (λ s. FateHadMemory s.outcome) loaded.streams
+HadMemoryForAll loaded = AllByRecursion (λ s. OutcomeHadMemory s.outcome) loaded.streams
 
 -- Rows were loaded by so many workers into a store that nobody else used, and this was said of them. `own` are the numbers of what was
 -- added.

@@ -26,8 +26,8 @@ use Rattle.btr_top.proofs.PlainStatuses.{benign_input}
 use Rattle.btr_top.proofs.StoreCompletes.{opened, began, no_failure, plain_work}
 
 module _ {D : Type 0} (disk : Ghosts D) (workers : ℕ) (old new : D) (sound : HeldIsSound) (one : OneHistoryIsHeld) (can : CanDistil disk old) (told : disk.is_observable) (device_works : Rose (disk.faults old) (disk.faults new) → ⊥) where
-  benign_brought : (transcript : Transcript) → DoesRightly disk (λ start log own. DistilsStore start log workers (Ok transcript) own) old new → IsBenign transcript.status
-  benign_brought transcript does =
+  benign_refreshed : (transcript : Transcript) → DoesRightly disk (λ start log own. DistilsStore start log workers (Ok transcript) own) old new → IsBenign transcript.status
+  benign_refreshed transcript does =
       let What : StoreState → LogState → List ℕ → Type 0 = λ start log own. DistilsStore start log workers (Ok transcript) own in
       let same = began disk old new can.history can.blocks can.tail can.holds sound one told device_works What does in
       let room : HasRoomForOutputs does.first = subst (λ (s : StoreState). HasRoomForOutputs s) (sym same) can.room in
@@ -36,7 +36,7 @@ module _ {D : Type 0} (disk : Ghosts D) (workers : ℕ) (old new : D) (sound : H
   pub benign_distil : (e : Ending) → DistilCause disk workers old new e → IsPlainStatus (status_of e)
   benign_distil e why =
       plain_work disk old new can.history can.blocks can.tail can.holds sound one told device_works
-      (λ said start log own. DistilsStore start log workers said own) benign_brought e why
+      (λ said start log own. DistilsStore start log workers said own) benign_refreshed e why
 
 module _ {D : Type 0} (disk : Ghosts D) (number streams points : ℕ) (old new : D) (sound : HeldIsSound) (one : OneHistoryIsHeld) (can : CanSample disk number streams points old) (told : disk.is_observable) (device_works : Rose (disk.faults old) (disk.faults new) → ⊥) where
   benign_sampled : (transcript : Transcript) → DoesRightly disk (λ start log own. SamplesStore number streams points start log (Ok transcript) own) old new → IsBenign transcript.status

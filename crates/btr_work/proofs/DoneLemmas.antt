@@ -29,7 +29,7 @@ use Rattle.btr_work.specs.declared.report.Refreshed.{Refreshed}
 use Rattle.btr_work.specs.declared.report.Refreshed.TheVariants.{Refused}
 use Rattle.btr_work.specs.declared.report.ReportLine.{ReportLine}
 use Rattle.btr_work.specs.Levels.{levels_of, by_levels, outputs}
-use Rattle.btr_work.specs.Report.{IsRefreshed, RefreshesEach, RefreshesLevels, Refreshes, BringsInTurn}
+use Rattle.btr_work.specs.Report.{IsRefreshed, RefreshesEach, RefreshesLevels, Refreshes, RefreshesInTurn}
 use Rattle.btr_work.specs.ReportLaws.{done_lasts, done_lowers}
 use Rattle.btr_work.specs.Refreshing.{IsDone, outputs_in, jobs_in, groups_in, blank_line, IsPrepared, noted, noted_all, result_at, filled}
 use Rattle.btr_work.proofs.MemberLemmas.{IsIn, IsInAny, Distinct, Graded, groups-graded, graded-above, inside-some, levels-length}
@@ -257,7 +257,7 @@ turn-from start result low (was ∷ before) (now ∷ after) late own turn told =
     )
 
 -- Work that was prepared and done by one worker.
-pub done-turn : (start : StoreState) (low seen : List Entry) (work : Work) (after : List Level) (late : LogState) (own : List ℕ) → StartsWith seen low → StartsWith late.history seen → IsPrepared seen work → DidInTurn (DidInTurn IsDone) start late seen (jobs_in work.levels.items) (jobs_in after) own → BringsInTurn start late low (map (filled (noted_all work.results.items (jobs_in after))) work.lines.items) own
+pub done-turn : (start : StoreState) (low seen : List Entry) (work : Work) (after : List Level) (late : LogState) (own : List ℕ) → StartsWith seen low → StartsWith late.history seen → IsPrepared seen work → DidInTurn (DidInTurn IsDone) start late seen (jobs_in work.levels.items) (jobs_in after) own → RefreshesInTurn start late low (map (filled (noted_all work.results.items (jobs_in after))) work.lines.items) own
 unfolding done-refreshes
 done-turn start low seen work after late own starts before prepared turn =
     let result = result_at (noted_all work.results.items (jobs_in after)) in
@@ -288,8 +288,8 @@ module _ {D : Type 0} {disk : Ghosts D} (hall : Hall D disk) where
     pub all-refreshed : Does hall mid new (LevelsDone (AllDid IsDone) before after) → Does hall old new (λ start log low own. Refreshes start log low report own)
     all-refreshed done = refreshed-by (AllDid IsDone) Refreshes done-refreshes old mid new work before after report at looks prepared same long done is
 
-    pub turn-refreshed : Does hall mid new (LevelsDone (DidInTurn IsDone) before after) → Does hall old new (λ start log low own. BringsInTurn start log low report own)
-    turn-refreshed done = refreshed-by (DidInTurn IsDone) BringsInTurn done-turn old mid new work before after report at looks prepared same long done is
+    pub turn-refreshed : Does hall mid new (LevelsDone (DidInTurn IsDone) before after) → Does hall old new (λ start log low own. RefreshesInTurn start log low report own)
+    turn-refreshed done = refreshed-by (DidInTurn IsDone) RefreshesInTurn done-turn old mid new work before after report at looks prepared same long done is
 
   -- Nothing was added.
   pub none-refreshed : (old new : Session D disk) → Looks hall old new → Does hall old new (λ start log low own. (n : ℕ) → times n own ≡ 0)

@@ -34,7 +34,7 @@ use Rattle.btr_work.specs.declared.report.Refreshed.TheVariants as refreshed
 use Rattle.btr_work.specs.declared.report.ReportLine.{ReportLine}
 use Rattle.btr_work.specs.Levels.{levels_of, by_levels, outputs, AreGroups}
 use Rattle.btr_work.specs.Report.{IsPlanLanded, IsRefreshed, RefreshesLevels}
-use Rattle.btr_work.specs.InOrder.{contents_landed, contents_brought, refreshed_by, result_landed, result_brought, contents_each, SaysEach, HadMemoryToLand, BroughtInOrder}
+use Rattle.btr_work.specs.InOrder.{store_landed, store_refreshed, refreshed_by, result_landed, result_refreshed, store_each, SaysEach, HadMemoryToLand, RefreshedInOrder}
 use Rattle.btr_work.proofs.MemberLemmas.{IsIn, IsInAny, groups-graded, graded-above, groups-unique, level-output, output-in}
 use Rattle.btr_work.proofs.QuietLemmas.{SameInputs, same_refl}
 use Rattle.btr_work.proofs.OwnLemmas.{only, same_some, AreAll, all-first, all-rest}
@@ -134,8 +134,8 @@ turn-exact log low p next own starts turned all =
 module _ (start : StoreState) (log : LogState) (ran : RunsThrough start log) (legal : Legal log.history) (c : PlainStore) (low : List Entry) (holds : Holds start c low) (output : ℕ) (spec : Spec) (is_spec : spec_of low output ≡ Some spec) (whole : StartsWith log.history low) where
   -- The result is what becomes of the output, and the plain store has then what happened.
   record Ends (r : Refreshed) : Type 0 where
-    pub told : r ≡ result_brought c output (spec_of c.history output)
-    pub leaves : Holds start (contents_brought c output (spec_of c.history output)) log.history
+    pub told : r ≡ result_refreshed c output (spec_of c.history output)
+    pub leaves : Holds start (store_refreshed c output (spec_of c.history output)) log.history
 
   spec-here : spec_of c.history output ≡ Some spec
   spec-here = ap (λ h. spec_of h output) holds.same ∙ is_spec
@@ -151,9 +151,9 @@ module _ (start : StoreState) (log : LogState) (ran : RunsThrough start log) (le
       record {
         told =
             ap refreshed.Current (is.latest ∙ ap (λ h. latest h output) (sym holds.same))
-            ∙ sym (ap (result_brought c output) spec-here ∙ ap (result_landed c output spec) none);
+            ∙ sym (ap (result_refreshed c output) spec-here ∙ ap (result_landed c output spec) none);
         leaves =
-            subst (λ d. Holds start d log.history) (sym (ap (contents_brought c output) spec-here ∙ ap (contents_landed c spec) none))
+            subst (λ d. Holds start d log.history) (sym (ap (store_refreshed c output) spec-here ∙ ap (store_landed c spec) none))
             (subst (Holds start c) (sym same) holds);
       }
 
@@ -172,16 +172,16 @@ module _ (start : StoreState) (log : LogState) (ran : RunsThrough start log) (le
     legal-here : Legal c.history
     legal-here = subst Legal (sym holds.same) legal-low
 
-    told-plan : result_brought c output (spec_of c.history output) ≡ refreshed_by (take_result c e)
+    told-plan : result_refreshed c output (spec_of c.history output) ≡ refreshed_by (take_result c e)
     told-plan =
-        ap (result_brought c output) spec-here
+        ap (result_refreshed c output) spec-here
         ∙ ap (result_landed c output spec) (planned-is c.history output spec plan legal-here spec-here plan-here)
         ∙ ap (λ x. refreshed_by (take_result c x)) (entry-is c.history output spec plan legal-here spec-here plan-here)
 
-    left-plan : contents_brought c output (spec_of c.history output) ≡ store_after c e
+    left-plan : store_refreshed c output (spec_of c.history output) ≡ store_after c e
     left-plan =
-        ap (contents_brought c output) spec-here
-        ∙ ap (contents_landed c spec) (planned-is c.history output spec plan legal-here spec-here plan-here)
+        ap (store_refreshed c output) spec-here
+        ∙ ap (store_landed c spec) (planned-is c.history output spec plan legal-here spec-here plan-here)
         ∙ ap (store_after c) (entry-is c.history output spec plan legal-here spec-here plan-here)
 
     ends-by : (r : Refreshed) (o : TakeResult) → take_result c e ≡ o → r ≡ refreshed_by o → Holds start (store_after c e) log.history → Ends r
@@ -257,7 +257,7 @@ module _ (start : StoreState) (log : LogState) (ran : RunsThrough start log) (le
 
 -- ---- all outputs
 
-outputs-exact : (start : StoreState) (result : ℕ → Refreshed) (c : PlainStore) (low : List Entry) (outs : List ℕ) (late : LogState) (own : List ℕ) → RunsThrough start late → Legal late.history → Holds start c low → ((o : ℕ) → IsIn o outs → (spec : Spec) × (spec_of low o ≡ Some spec)) → ((o : ℕ) → IsIn o outs → HadMemoryToLand (result o)) → RefreshesLevels start low result (map (λ o. o ∷ []) outs) late own → AreAll low late.history own → SaysEach c result outs × Holds start (contents_each c outs) late.history
+outputs-exact : (start : StoreState) (result : ℕ → Refreshed) (c : PlainStore) (low : List Entry) (outs : List ℕ) (late : LogState) (own : List ℕ) → RunsThrough start late → Legal late.history → Holds start c low → ((o : ℕ) → IsIn o outs → (spec : Spec) × (spec_of low o ≡ Some spec)) → ((o : ℕ) → IsIn o outs → HadMemoryToLand (result o)) → RefreshesLevels start low result (map (λ o. o ∷ []) outs) late own → AreAll low late.history own → SaysEach c result outs × Holds start (store_each c outs) late.history
 outputs-exact start result c low [] late own ran legal holds are memory refreshes all =
     let turned : Turned late low low own = record {
       seen = refreshes.0;
@@ -278,7 +278,7 @@ outputs-exact start result c low (output ∷ outs) late own ran legal holds are 
     omega (arith, some, sum, none) in
     let spec = are output (inl refl) in
     let ends = refreshed-ends start middle (middle_runs start late middle refreshes.1 ran) legal_middle c low holds output spec.0 spec.1 refreshes.2 one.0 mine (result output) (memory output (inl refl)) one.2 in
-    let rest = outputs-exact start result (contents_brought c output (spec_of c.history output)) middle.history outs late refreshes.4 ran legal ends.leaves
+    let rest = outputs-exact start result (store_refreshed c output (spec_of c.history output)) middle.history outs late refreshes.4 ran legal ends.leaves
     (λ o in_outs. let s = are o (inr in_outs) in (s.0, spec-stays middle.history low o s.0 refreshes.2 s.1)) (λ o in_outs. memory o (inr in_outs)) refreshes.6
     (all-rest start result low (output ∷ []) levels late own refreshes all) in
     ((ends.told, rest.0), rest.1)
@@ -302,7 +302,7 @@ in-levels x (level ∷ levels) is =
       | inr later ↦ inr (in-levels x levels later)
     ]
 
-pub refreshed-in-order : BroughtInOrder
+pub refreshed-in-order : RefreshedInOrder
 refreshed-in-order start log report own levels ran legal mine turn are memory =
     let refreshes = turn.refreshes in
     let seen = refreshes.seen in
@@ -320,7 +320,7 @@ refreshed-in-order start log report own levels ran legal mine turn are memory =
     let exact = outputs-exact start refreshes.result (first_store start) seen (by_levels refreshes.levels) log own ran legal
     (subst (Holds start (first_store start)) (sym seen_is) (first_holds start)) specs had turn.in_turn every in
     record {
-      history = sym exact.1.same ∙ ap (λ ls. (contents_each (first_store start) (by_levels ls)).history) same;
+      history = sym exact.1.same ∙ ap (λ ls. (store_each (first_store start) (by_levels ls)).history) same;
       result = refreshes.result;
       says = subst (λ ls. SaysEach (first_store start) refreshes.result (by_levels ls)) same exact.0;
       lines = refreshes.lines ∙ ap (λ h. map line (outputs h)) seen_is;

@@ -5,5 +5,5 @@ pub mod OwnLemmas
 pub mod CurrentLemmas
 pub mod AlikeLemmas
 pub mod InOrderLemmas
-pub mod BringLemmas
+pub mod RefreshLemmas
 mod DoneLemmas

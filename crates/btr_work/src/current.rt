@@ -6,7 +6,7 @@ ghost use Rattle.btr_gate.specs.Numbers.{times};
 ghost use Rattle.btr_hall.specs.Trace.{history_of};
 ghost use Rattle.btr_hall.specs.Session.{Looks, opening_of, seen_of};
 ghost use Rattle.btr_jobs.specs.Jobs.{IsAt, Does, AllDid, DidInTurn};
-ghost use Rattle.btr_work.specs.Report.{Refreshes, BringsInTurn};
+ghost use Rattle.btr_work.specs.Report.{Refreshes, RefreshesInTurn};
 ghost use Rattle.btr_work.specs.Refreshing.{IsDone, IsPrepared, jobs_in};
 
 use crate::filling::report_of;
@@ -44,7 +44,7 @@ pub fn bring_current<R: Threads + Wait + Sync, D: Disk + Send, P: Pace + Sync>(
     ensures refreshes { IfOk result (λ report. Does hall.now session.old session.new
         (λ start log low own. Refreshes start log low report own)) }
     ensures in_turn { workers ≤ 1 → IfOk result (λ report. Does hall.now session.old session.new
-        (λ start log low own. BringsInTurn start log low report own)) }
+        (λ start log low own. RefreshesInTurn start log low report own)) }
 {
     let mut work = prepare_seen(rt, alloc, hall, session)?;
     refresh_levels(rt, alloc, hall, session, workers, &mut work.levels, pace);

@@ -2,7 +2,7 @@
 ghost use Rattle.std.specs.Prelude.{◌≡◌, ℕ, length, IfOk, OnErr};
 ghost use Rattle.btr_gate.specs.Numbers.{times};
 ghost use Rattle.btr_jobs.specs.Jobs.{IsAt, Does, AllDid, DidInTurn};
-ghost use Rattle.btr_work.specs.Report.{Refreshes, BringsInTurn};
+ghost use Rattle.btr_work.specs.Report.{Refreshes, RefreshesInTurn};
 ghost use Rattle.btr_work.specs.Refreshing.{IsDone, jobs_in};
 
 use crate::current::prepare_seen;
@@ -31,7 +31,7 @@ pub fn bring_current_here<R: Wait, D: Disk>(
     ensures refreshes { IfOk result (λ report. Does hall.now session.old session.new
         (λ start log low own. Refreshes start log low report own)) }
     ensures in_turn { IfOk result (λ report. Does hall.now session.old session.new
-        (λ start log low own. BringsInTurn start log low report own)) }
+        (λ start log low own. RefreshesInTurn start log low report own)) }
 {
     let mut work = prepare_seen(rt, alloc, hall, session)?;
     refresh_levels_here(rt, alloc, hall, session, &mut work.levels);
@@ -72,11 +72,11 @@ fn refresh_level_here<R: Wait, D: Disk>(
     ensures in_turn { Does hall.now session.old session.new
         (λ start log low own. DidInTurn IsDone start log low level.old.jobs.items level.new.jobs.items own) }
 {
-    bring_each(rt, alloc, hall, session, &mut level.jobs);
+    refresh_each(rt, alloc, hall, session, &mut level.jobs);
 }
 
 /// Does jobs one after another.
-fn bring_each<R: Wait, D: Disk>(
+fn refresh_each<R: Wait, D: Disk>(
     rt: &R,
     alloc: Global,
     hall: &Hall<D>,

@@ -1,7 +1,7 @@
 //! The laws of reports. Each is a function with an empty body, and its contract is the law.
 ghost use Rattle.btr_work.specs.Laws.{RefreshedIsCurrent};
 ghost use Rattle.btr_work.specs.Alike.{RefreshedIsAlike};
-ghost use Rattle.btr_work.specs.InOrder.{BroughtInOrder};
+ghost use Rattle.btr_work.specs.InOrder.{RefreshedInOrder};
 
 /// If nobody else added anything since the call began, each output whose result is not a refusal has read the latest versions of its
 /// inputs in the end, and the version of its result is its latest one. No output is refused because another version came first.
@@ -20,5 +20,5 @@ pub fn refreshed_is_alike()
 /// those. This is so if nobody else added anything since the hall began, the history is legal, the store was not stopped, the device did
 /// not fail, and there was enough memory.
 pub fn refreshed_in_order()
-    ensures { BroughtInOrder }
+    ensures { RefreshedInOrder }
 {}

@@ -1,4 +1,4 @@
-use Rattle.btr_work.proofs.BringLemmas.{landed-refreshed, refused-refreshed, lands-stopped, refuses-stopped}
+use Rattle.btr_work.proofs.RefreshLemmas.{landed-refreshed, refused-refreshed, lands-stopped, refuses-stopped}
 use Rattle.btr_work.proofs.refreshing.land.Goals as goal
 
 pub returns-in-Ok-clause-refreshed : goal.returns-in-Ok-clause-refreshed

@@ -2,7 +2,7 @@ use Rattle.std.proofs.Common.{subst}
 use Rattle.btr_hall.specs.Trace.{history_of}
 use Rattle.btr_hall.specs.Session.{seen_of}
 use Rattle.btr_plan.specs.Next.{IsNext}
-use Rattle.btr_work.proofs.BringLemmas.{current-refreshed, look-refreshed, want-refreshed, knows_after}
+use Rattle.btr_work.proofs.RefreshLemmas.{current-refreshed, look-refreshed, want-refreshed, knows_after}
 use Rattle.btr_work.proofs.refreshing.refresh_output.Goals as goal
 
 pub returns-in-Ok-UpToDate-clause-refreshed : goal.returns-in-Ok-UpToDate-clause-refreshed

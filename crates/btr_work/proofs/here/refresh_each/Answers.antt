@@ -7,7 +7,7 @@ use Rattle.btr_work.specs.declared.refreshing.OutputJob.{OutputJob}
 use Rattle.btr_work.specs.declared.report.Refreshed.TheVariants.{Landed}
 use Rattle.btr_work.specs.Refreshing.{IsDone}
 use Rattle.btr_work.specs.ReportLaws.{done_lowers}
-use Rattle.btr_work.proofs.here.bring_each.Goals as goal
+use Rattle.btr_work.proofs.here.refresh_each.Goals as goal
 
 -- An item that is there does not depend on what is taken if there is none.
 get_or-same : (jobs : List OutputJob) (i : ℕ) (d e : OutputJob) → i < length jobs → get_or jobs i d ≡ get_or jobs i e

@@ -2,7 +2,7 @@
 use Rattle.std.proofs.Common.{◌≡◌, length, take, drop}
 use Rattle.btr_jobs.specs.Jobs.{IsAt, Does, DidInTurn}
 use Rattle.btr_work.specs.Refreshing.{IsDone}
-use Rattle.btr_work.proofs.here.bring_each.Given as goal
+use Rattle.btr_work.proofs.here.refresh_each.Given as goal
 
 -- the jobs up to here are done, and the others are what they were
 abbrev pub invariant-loop-job : goal.invariant-loop-job

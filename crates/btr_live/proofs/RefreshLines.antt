@@ -24,7 +24,7 @@ use Rattle.btr_work.specs.declared.report.Refreshed.TheVariants as refreshed
 use Rattle.btr_work.specs.Report.{IsPlanLanded, IsRefreshed, IsOfStopped, KnowsStopped}
 use Rattle.btr_live.specs.Meaning.{Commits, Current, Refuses}
 use Rattle.btr_live.specs.Lanes.{reply_of_landing, Offers}
-use Rattle.btr_live.specs.Serving.{Serves, RefreshAsks, reply_of_brought, was_told, ServesIn}
+use Rattle.btr_live.specs.Serving.{Serves, RefreshAsks, reply_of_refreshed, was_told, ServesIn}
 use Rattle.btr_live.proofs.OutputLines.{refresh-plan, refresh-up_to_date}
 
 module _ (start : StoreState) (log : LogState) where
@@ -66,11 +66,11 @@ module _ (start : StoreState) (log : LogState) where
     never_so fault none = λ told. absurd (none told)
 
     -- What became of the output is replied.
-    by_brought : (result : Refreshed) → StartsWith log.history low → (saw_failure ≡ true → IsOfStopped result) → IsRefreshed start log low stream result own → Serves start log saw_failure low (RefreshAsks stream) (reply_of_brought result) own
-    by_brought (refreshed.Landed version) begins stopped is =
+    by_refreshed : (result : Refreshed) → StartsWith log.history low → (saw_failure ≡ true → IsOfStopped result) → IsRefreshed start log low stream result own → Serves start log saw_failure low (RefreshAsks stream) (reply_of_refreshed result) own
+    by_refreshed (refreshed.Landed version) begins stopped is =
         subst (λ v. Serves start log saw_failure low (RefreshAsks stream) (replies.Done v) own) (sym is.1)
         (plan_serves (Ok is.0) (λ told. absurd (stopped told)) is.2)
-    by_brought (refreshed.Current version) begins stopped is = record {
+    by_refreshed (refreshed.Current version) begins stopped is = record {
       admitted = is.at;
       after = is.after;
       begins = is.seen;
@@ -82,7 +82,7 @@ module _ (start : StoreState) (log : LogState) where
         ends = is.seen;
       };
     }
-    by_brought (refreshed.Refused faults.Want) begins stopped is = record {
+    by_refreshed (refreshed.Refused faults.Want) begins stopped is = record {
       admitted = low;
       after = starts_refl low;
       begins = begins;
@@ -90,23 +90,23 @@ module _ (start : StoreState) (log : LogState) where
       asks = inr refl;
       replies = record { next = low; answers = (refl, record { own = is; next = refl }); ends = begins };
     }
-    by_brought (refreshed.Refused (faults.Stopped entries)) begins stopped is = plan_serves (Err (faults.Stopped entries)) (λ told. (entries, refl)) is
-    by_brought (refreshed.Refused (faults.Superseded version)) begins stopped is =
+    by_refreshed (refreshed.Refused (faults.Stopped entries)) begins stopped is = plan_serves (Err (faults.Stopped entries)) (λ told. (entries, refl)) is
+    by_refreshed (refreshed.Refused (faults.Superseded version)) begins stopped is =
         plan_serves (Err (faults.Superseded version)) (never_so (faults.Superseded version) stopped) is
-    by_brought (refreshed.Refused faults.VersionLimit) begins stopped is = plan_serves (Err faults.VersionLimit) (never_so faults.VersionLimit stopped) is
-    by_brought (refreshed.Refused (faults.Crowded at)) begins stopped is = plan_serves (Err (faults.Crowded at)) (never_so (faults.Crowded at) stopped) is
-    by_brought (refreshed.Refused (faults.TooManyPoints count)) begins stopped is =
+    by_refreshed (refreshed.Refused faults.VersionLimit) begins stopped is = plan_serves (Err faults.VersionLimit) (never_so faults.VersionLimit stopped) is
+    by_refreshed (refreshed.Refused (faults.Crowded at)) begins stopped is = plan_serves (Err (faults.Crowded at)) (never_so (faults.Crowded at) stopped) is
+    by_refreshed (refreshed.Refused (faults.TooManyPoints count)) begins stopped is =
         plan_serves (Err (faults.TooManyPoints count)) (never_so (faults.TooManyPoints count) stopped) is
-    by_brought (refreshed.Refused (faults.DeviceFull need left)) begins stopped is =
+    by_refreshed (refreshed.Refused (faults.DeviceFull need left)) begins stopped is =
         plan_serves (Err (faults.DeviceFull need left)) (never_so (faults.DeviceFull need left) stopped) is
-    by_brought (refreshed.Refused faults.DeviceFault) begins stopped is = plan_serves (Err faults.DeviceFault) (never_so faults.DeviceFault stopped) is
+    by_refreshed (refreshed.Refused faults.DeviceFault) begins stopped is = plan_serves (Err faults.DeviceFault) (never_so faults.DeviceFault stopped) is
 
 -- An output that was brought up to date in a session is what a line asks for, and has its reply.
-pub refreshed_serves : {D : Type 0} {disk : Ghosts D} (hall : Hall D disk) (old new : Session D disk) (stream : ℕ) (result : Refreshed) → Does hall old new (λ start log low own. IsRefreshed start log low stream result own) → (KnowsStopped hall old → IsOfStopped result) → ServesIn hall old new (RefreshAsks stream) (reply_of_brought result)
+pub refreshed_serves : {D : Type 0} {disk : Ghosts D} (hall : Hall D disk) (old new : Session D disk) (stream : ℕ) (result : Refreshed) → Does hall old new (λ start log low own. IsRefreshed start log low stream result own) → (KnowsStopped hall old → IsOfStopped result) → ServesIn hall old new (RefreshAsks stream) (reply_of_refreshed result)
 refreshed_serves hall old new stream result does stopped = (
   does.0,
   does.1,
   λ h of.
-      by_brought (start_of h hall) (log_of h new) (was_told hall old) (log_of h old).history stream does.0 result
+      by_refreshed (start_of h hall) (log_of h new) (was_told hall old) (log_of h old).history stream does.0 result
       (history_goes_on h new old does.1.seen) (λ told. stopped (h, of, told)) (does.2 h of),
 )
