@@ -180,14 +180,14 @@ module _ (start : StoreState) (log : LogState) (ran : RunsThrough start log) whe
 
 -- ---- all streams
 
-fates_exact : (start : StoreState) (late : LogState) (low : List Entry) (d : PlainStore) (batch : ℕ) (rows : List StreamValue) (outcomes : List RowsOutcome) (streams : List LoadedStream) (own : List ℕ) → RunsThrough start late → AreFrom batch rows outcomes streams → StreamsInTurn start late low streams own → Holds start d low → length late.history ≤ length low + total each (batch_entries streams) → AllByRecursion (λ s. OutcomeHadMemory s.outcome) streams → (map (λ s. s.outcome) streams ≡ last_outcomes d batch rows outcomes) × Holds start (with_rows d batch rows outcomes) late.history
-fates_exact start late low d batch [] [] [] own ran from turn holds most memory =
+outcomes_exact : (start : StoreState) (late : LogState) (low : List Entry) (d : PlainStore) (batch : ℕ) (rows : List StreamValue) (outcomes : List RowsOutcome) (streams : List LoadedStream) (own : List ℕ) → RunsThrough start late → AreFrom batch rows outcomes streams → StreamsInTurn start late low streams own → Holds start d low → length late.history ≤ length low + total each (batch_entries streams) → AllByRecursion (λ s. OutcomeHadMemory s.outcome) streams → (map (λ s. s.outcome) streams ≡ last_outcomes d batch rows outcomes) × Holds start (with_rows d batch rows outcomes) late.history
+outcomes_exact start late low d batch [] [] [] own ran from turn holds most memory =
     (refl, subst (Holds start d) (sym (starts_whole late.history low turn.0 (omega (arith, most)))) holds)
-fates_exact start late low d batch [] [] (s ∷ streams) own ran from turn holds most memory = absurd from
-fates_exact start late low d batch [] (outcome ∷ outcomes) streams own ran from turn holds most memory = absurd from
-fates_exact start late low d batch (r ∷ rows) [] streams own ran from turn holds most memory = absurd from
-fates_exact start late low d batch (r ∷ rows) (outcome ∷ outcomes) [] own ran from turn holds most memory = absurd from
-fates_exact start late low d batch (r ∷ rows) (outcome ∷ outcomes) (s ∷ streams) own ran from turn holds most memory =
+outcomes_exact start late low d batch [] [] (s ∷ streams) own ran from turn holds most memory = absurd from
+outcomes_exact start late low d batch [] (outcome ∷ outcomes) streams own ran from turn holds most memory = absurd from
+outcomes_exact start late low d batch (r ∷ rows) [] streams own ran from turn holds most memory = absurd from
+outcomes_exact start late low d batch (r ∷ rows) (outcome ∷ outcomes) [] own ran from turn holds most memory = absurd from
+outcomes_exact start late low d batch (r ∷ rows) (outcome ∷ outcomes) (s ∷ streams) own ran from turn holds most memory =
     let middle = turn.0 in
     let same : batches_of s.batch s.rows.points ≡ batches_of batch r.points = λ i. batches_of (from.1 i) (from.0 i).points in
     let did = subst (λ b. OutcomeDid start middle low b s.outcome turn.3) same turn.5 in
@@ -196,7 +196,7 @@ fates_exact start late low d batch (r ∷ rows) (outcome ∷ outcomes) (s ∷ st
     let both = total_append each (outcome_entries (batches_of s.batch s.rows.points) s.outcome) (batch_entries streams) in
     let count : total each (outcome_entries (batches_of s.batch s.rows.points) s.outcome) ≡ total each (outcome_entries (batches_of batch r.points) s.outcome) = ap (λ b. total each (outcome_entries b s.outcome)) same in
     let here = outcome_exact start middle (middle_runs start late middle turn.1 ran) d low batch r outcome s.outcome turn.3 from.2 did holds turn.2 (omega (arith, rest, both, count, most)) memory.0 in
-    let more = fates_exact start late middle.history (with_batches d batch r outcome) batch rows outcomes streams turn.4 ran from.3 turn.6 here.1 (omega (arith, first, both, count, most)) memory.1 in
+    let more = outcomes_exact start late middle.history (with_batches d batch r outcome) batch rows outcomes streams turn.4 ran from.3 turn.6 here.1 (omega (arith, first, both, count, most)) memory.1 in
     ((λ i. here.0 i ∷ more.0 i), more.1)
 
 -- ---- the creates
@@ -307,5 +307,5 @@ loads_in_order start log rows batch told numbers ran mine turn memory =
     let grown : length log.history ≡ length low + length since = ap (length {A = Entry}) begins.1 ∙ length-append low since in
     let count = opened.count in
     let long = each_long since in
-    let exact = fates_exact start log loads.middle (with_streams low first rows.streams) batch rows.streams (first_outcomes low first rows.streams) streams loads.committed ran opened.from turn.in_turn opened.holds (omega (arith, sum, both, grown, count, long)) memory in
+    let exact = outcomes_exact start log loads.middle (with_streams low first rows.streams) batch rows.streams (first_outcomes low first rows.streams) streams loads.committed ran opened.from turn.in_turn opened.holds (omega (arith, sum, both, grown, count, long)) memory in
     record { history = sym exact.1.same; outcomes = exact.0 }
