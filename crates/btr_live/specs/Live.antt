@@ -50,7 +50,8 @@ RunsAreOneHistory =
 -- refused none because another version came first.
 abbrev pub LastIsCurrent : Type 0
 LastIsCurrent =
-    (batch : ℕ) (start : StoreState) (log : LogState) (script : List ScriptLine) (report : LiveReport) (own : List ℕ) (last : List ReportLine)
+    (batch : ℕ) (start : StoreState) (log : LogState) (script : List ScriptLine) (report : LiveReport) (own : List ℕ)
+    (last : List ReportLine)
     → RunsLive batch true start log start.history script report own → AreAllSince start.history log own
     → Follows log.history → log.failed ≡ None → report.last ≡ Some (Ok last)
     → AllByRecursion (λ line. IsCurrentIn log.history line.output line.result) last

@@ -17,8 +17,9 @@ use Rattle.btr_load.specs.Work.{BatchDid, BatchesDid, OutcomeWorks, CommitsStrea
 
 -- ---- for ever
 
-pub batch_lasts : (start : StoreState) (late early : LogState) (low : List Entry) (e : Entry) (result : Result Receipt StepFault) (own : List ℕ)
-    (next : List Entry) → GoesOn start late early → BatchDid start early low e result own next → BatchDid start late low e result own next
+pub batch_lasts : (start : StoreState) (late early : LogState) (low : List Entry) (e : Entry) (result : Result Receipt StepFault)
+    (own : List ℕ) (next : List Entry) → GoesOn start late early → BatchDid start early low e result own next
+        → BatchDid start late low e result own next
 batch_lasts start late early low e result own next on (inl turn) = inl (committed_lasts start late early low e result own next on turn)
 batch_lasts start late early low e result own next on (inr none) = inr none
 
@@ -37,8 +38,9 @@ batches_last start late early low stream (batch ∷ batches) (result ∷ results
   batches_last start late early did.2 stream batches results did.1 last on did.5,
 )
 
-outcome_lasts : (start : StoreState) (late early : LogState) (low : List Entry) (batches : List (List NumberedPoint)) (was now : RowsOutcome) (own : List ℕ)
-    → GoesOn start late early → OutcomeWorks start early low batches was now own → OutcomeWorks start late low batches was now own
+outcome_lasts : (start : StoreState) (late early : LogState) (low : List Entry) (batches : List (List NumberedPoint)) (was now : RowsOutcome)
+    (own : List ℕ) → GoesOn start late early → OutcomeWorks start early low batches was now own
+        → OutcomeWorks start late low batches was now own
 outcome_lasts start late early low batches Output now own on did = did
 outcome_lasts start late early low batches (NotCreated fault) now own on did = did
 outcome_lasts start late early low batches (Committed stream blank version) now own on did =
@@ -49,14 +51,15 @@ pub works_lasts : (start : StoreState) (late early : LogState) (low : List Entry
 works_lasts start late early low was now own on did = record {
   rows = did.rows;
   batch = did.batch;
-  outcome = λ ready. outcome_lasts start late early low (batches_of was.batch was.rows.points) was.outcome now.outcome own on (did.outcome ready);
+  outcome = λ ready.
+      outcome_lasts start late early low (batches_of was.batch was.rows.points) was.outcome now.outcome own on (did.outcome ready);
 }
 
 -- ---- after less had been seen
 
 -- A batch without a turn had seen no more than what was seen before it.
-pub batch_lowers : (start : StoreState) (log : LogState) (low less : List Entry) (e : Entry) (result : Result Receipt StepFault) (own : List ℕ)
-    (next : List Entry) → StartsWith low less → BatchDid start log low e result own next
+pub batch_lowers : (start : StoreState) (log : LogState) (low less : List Entry) (e : Entry) (result : Result Receipt StepFault)
+    (own : List ℕ) (next : List Entry) → StartsWith low less → BatchDid start log low e result own next
     → (then : List Entry) × StartsWith next then × BatchDid start log less e result own then
 batch_lowers start log low less e result own next starts (inl turn) =
     (next, starts_refl next, inl (committed_lowers start log low less e result own next starts turn))

@@ -64,7 +64,8 @@ module _ {D : Type 0} (disk : Ghosts D) where
 abbrev pub LoadCause : {S D : Type 0} → SourceGhosts S → Ghosts D → ℕ → ℕ → S → S → D → D → Ending → Type 0
 LoadCause source disk workers batch given rest old new e =
     CommandCause source
-    (λ input was now end. AreDistinct (list_of (rows_of input)).streams × RowsCause disk workers batch (list_of (rows_of input)) was now end)
+    (λ input was now end. AreDistinct (list_of (rows_of input)).streams
+    × RowsCause disk workers batch (list_of (rows_of input)) was now end)
     given rest old new e
 
 -- The device holds a store with room for the rows of the input, and the input is within the limit.
