@@ -19,7 +19,7 @@ use Rattle.btr_load.specs.Work.{BatchDid, BatchesDid, OutcomeWorks, CommitsStrea
 
 pub batch_lasts : (start : StoreState) (late early : LogState) (low : List Entry) (e : Entry) (result : Result Receipt StepFault)
     (own : List ℕ) (next : List Entry) → GoesOn start late early → BatchDid start early low e result own next
-        → BatchDid start late low e result own next
+    → BatchDid start late low e result own next
 batch_lasts start late early low e result own next on (inl turn) = inl (committed_lasts start late early low e result own next on turn)
 batch_lasts start late early low e result own next on (inr none) = inr none
 
@@ -40,7 +40,7 @@ batches_last start late early low stream (batch ∷ batches) (result ∷ results
 
 outcome_lasts : (start : StoreState) (late early : LogState) (low : List Entry) (batches : List (List NumberedPoint)) (was now : RowsOutcome)
     (own : List ℕ) → GoesOn start late early → OutcomeWorks start early low batches was now own
-        → OutcomeWorks start late low batches was now own
+    → OutcomeWorks start late low batches was now own
 outcome_lasts start late early low batches Output now own on did = did
 outcome_lasts start late early low batches (NotCreated fault) now own on did = did
 outcome_lasts start late early low batches (Committed stream blank version) now own on did =
@@ -79,7 +79,8 @@ batches_lower start log low less stream (batch ∷ batches) (result ∷ results)
     (more.0, (did.0, did.1, one.0, did.3, one.2, more.1))
 
 outcome_lowers : (start : StoreState) (log : LogState) (low less : List Entry) (batches : List (List NumberedPoint)) (was now : RowsOutcome)
-    (own : List ℕ) → StartsWith low less → OutcomeWorks start log low batches was now own → OutcomeWorks start log less batches was now own
+    (own : List ℕ) → StartsWith low less → OutcomeWorks start log low batches was now own
+    → OutcomeWorks start log less batches was now own
 outcome_lowers start log low less batches Output now own starts did = did
 outcome_lowers start log low less batches (NotCreated fault) now own starts did = did
 outcome_lowers start log low less batches (Committed stream blank version) now own starts did =
