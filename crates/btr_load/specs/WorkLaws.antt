@@ -38,8 +38,8 @@ batches_last start late early low stream (batch ∷ batches) (result ∷ results
   batches_last start late early did.2 stream batches results did.1 last on did.5,
 )
 
-outcome_lasts : (start : StoreState) (late early : LogState) (low : List Entry) (batches : List (List NumberedPoint)) (was now : RowsOutcome)
-    (own : List ℕ) → GoesOn start late early → OutcomeWorks start early low batches was now own
+outcome_lasts : (start : StoreState) (late early : LogState) (low : List Entry) (batches : List (List NumberedPoint))
+    (was now : RowsOutcome) (own : List ℕ) → GoesOn start late early → OutcomeWorks start early low batches was now own
     → OutcomeWorks start late low batches was now own
 outcome_lasts start late early low batches Output now own on did = did
 outcome_lasts start late early low batches (NotCreated fault) now own on did = did
