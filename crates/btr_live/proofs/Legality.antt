@@ -27,7 +27,8 @@ use Rattle.btr_live.specs.Feeds.{Waiting, feed_of}
 use Rattle.btr_live.specs.Meaning.{Meaning, Commits, Asks, Holds, Current, Refuses, on_stream, delete, on_second, land, refresh, if_plain}
 use Rattle.btr_live.specs.Meaning.{when_due, unless_fault, feed, flush, meaning}
 use Rattle.btr_live.specs.Replies.{Means}
-use Rattle.btr_live.specs.Script.{Store, State, after_asked, after_commit, IsNotDone, RepliesTo, RunsScript}
+use Rattle.btr_live.specs.Script.{State, after_asked, after_commit, IsNotDone, RepliesTo, RunsScript}
+use Rattle.btr_jobs.specs.States.{StoreState}
 
 -- ---- what lines commit
 
@@ -134,12 +135,12 @@ computed_means batch s line m means =
 -- ---- the history after a line
 
 -- A commit that the model accepts keeps the history legal.
-legal_after_commit : (s : Store) (e : Entry) (why : Option Rejection) → rejection s.history e ≡ why → IsComputed s.history e → Legal s.history → Legal (after_commit s e why).history
+legal_after_commit : (s : StoreState) (e : Entry) (why : Option Rejection) → rejection s.history e ≡ why → IsComputed s.history e → Legal s.history → Legal (after_commit s e why).history
 legal_after_commit s e None same computed legal = legal-push s.history e legal (record { accepted = same; computed = computed })
 legal_after_commit s e (Some why) same computed legal = legal
 
 -- What the model does keeps the history legal.
-legal_after : (s : Store) (m : Meaning) → IsComputedIn s.history m → Legal s.history → Legal (after_asked s m).history
+legal_after : (s : StoreState) (m : Meaning) → IsComputedIn s.history m → Legal s.history → Legal (after_asked s m).history
 legal_after s (Commits e) computed legal = legal_after_commit s e (rejection s.history e) refl computed legal
 legal_after s (Asks query) computed legal = legal
 legal_after s (Holds count) computed legal = legal
@@ -147,16 +148,16 @@ legal_after s (Current version) computed legal = legal
 legal_after s (Refuses reason) computed legal = legal
 
 -- A store with the same history.
-along : (s t : Store) → t ≡ s → Legal s.history → Legal t.history
-along s t e legal = subst (λ (x : Store). Legal x.history) (sym e) legal
+along : (s t : StoreState) → t ≡ s → Legal s.history → Legal t.history
+along s t e legal = subst (λ (x : StoreState). Legal x.history) (sym e) legal
 
 -- A commit that was not done keeps the history.
-legal_not_done : (s t : Store) (m : Meaning) (reply : LineReply) → IsNotDone s m reply t → Legal s.history → Legal t.history
+legal_not_done : (s t : StoreState) (m : Meaning) (reply : LineReply) → IsNotDone s m reply t → Legal s.history → Legal t.history
 legal_not_done s t (Commits e) reply h legal =
     ⊎_elim
     (λ full. along s t full.store legal)
     (λ h. ⊎_elim
-    (λ fault. subst (λ (x : Store). Legal x.history) (sym fault.store) legal)
+    (λ fault. subst (λ (x : StoreState). Legal x.history) (sym fault.store) legal)
     (λ stopped. along s t stopped.store legal)
     h)
     h
@@ -166,10 +167,10 @@ legal_not_done s t (Current version) reply h legal = absurd h
 legal_not_done s t (Refuses reason) reply h legal = absurd h
 
 -- The history stays legal, whatever is replied.
-legal_reply : (s t : Store) (m : Meaning) (reply : LineReply) → IsComputedIn s.history m → RepliesTo s m reply t → Legal s.history → Legal t.history
+legal_reply : (s t : StoreState) (m : Meaning) (reply : LineReply) → IsComputedIn s.history m → RepliesTo s m reply t → Legal s.history → Legal t.history
 legal_reply s t m reply computed replied legal =
     ⊎_elim
-    (λ model. subst (λ (x : Store). Legal x.history) (sym model.store) (legal_after s m computed legal))
+    (λ model. subst (λ (x : StoreState). Legal x.history) (sym model.store) (legal_after s m computed legal))
     (λ h. ⊎_elim (λ h. legal_not_done s t m reply h legal) (λ lacks. along s t lacks.store legal) h)
     replied
 

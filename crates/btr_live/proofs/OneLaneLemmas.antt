@@ -38,7 +38,7 @@ use Rattle.btr_live.specs.LaneLaws.{lines_last}
 use Rattle.btr_live.specs.OneHistory.{of_lane, lanes_of, lane_lines}
 use Rattle.btr_live.specs.Live.{LastRound, RunsLive}
 use Rattle.btr_live.specs.Script.{State, begun_state, RepliesToLine, RunsScript}
-use Rattle.btr_live.specs.OneLane.{AreInLane, store_at, FitsLeft, OneLaneIsTheModel}
+use Rattle.btr_live.specs.OneLane.{AreInLane, FitsLeft, OneLaneIsTheModel}
 use Rattle.btr_live.proofs.NumberLemmas.{given_rest, in_one}
 use Rattle.btr_live.proofs.TurnEntries.{Adds, adds_none, adds_above, committed_adds, landed_adds, next_current, IsStepOf, as_step}
 use Rattle.btr_live.proofs.StoreSteps.{IsDone, IsLast, all_numbers, room, store_of, Stepped, stepped, at_most}
@@ -337,7 +337,7 @@ abbrev state_with : StoreState → ℕ → Bool → State
 state_with start left stopped = record { store = record { history = start.history; left = left; stopped = stopped }; waiting = none_waiting }
 
 -- A lane begins with the store of its run.
-begun_same : (start : StoreState) → start.stopped ≡ false → state_with start (room start start.history) false ≡ begun_state (store_at start)
+begun_same : (start : StoreState) → start.stopped ≡ false → state_with start (room start start.history) false ≡ begun_state start
 begun_same start runs =
     let same : room start start.history ≡ start.left = omega arith in
     ap₂ (λ left stopped. state_with start left stopped) same (sym runs)

@@ -21,8 +21,9 @@ use Rattle.btr_text.specs.Reasons.{reason_of_rejection}
 use Rattle.btr_engine.specs.Body.{need_of}
 use Rattle.btr_live.specs.Meaning.{Meaning, Commits, Current, Refuses, on_stream, land, refresh, meaning}
 use Rattle.btr_live.specs.Replies.{reply_of_commit}
-use Rattle.btr_live.specs.Script.{Store, after_commit, IsNotDone, RepliesTo}
+use Rattle.btr_live.specs.Script.{after_commit, IsNotDone, RepliesTo}
 use Rattle.btr_live.specs.ScriptLaws.{RefreshesAreCurrent}
+use Rattle.btr_jobs.specs.States.{StoreState}
 
 -- ---- the same versions
 
@@ -83,7 +84,7 @@ module _ (h : List Entry) (stream : ℕ) (spec : Spec) where
 -- ---- a refresh that is done
 
 -- The version is that of the output, which stands for the latest versions that its inputs had before.
-abbrev IsRefreshed : Store → Store → ℕ → Spec → ℕ → Type 0
+abbrev IsRefreshed : StoreState → StoreState → ℕ → Spec → ℕ → Type 0
 IsRefreshed s t stream spec version =
     (version ≡ latest t.history stream) × (reads t.history stream spec version ≡ latest_reads s.history spec)
 
@@ -96,7 +97,7 @@ same_version : (a b : ℕ) → Done a ≡ Done b → a ≡ b
 same_version a b is = cc
 
 -- A line that is refused has no version.
-refused_so : (s t : Store) (r : Reason) (version : ℕ) → RepliesTo s (Refuses r) (Done version) t → ⊥
+refused_so : (s t : StoreState) (r : Reason) (version : ℕ) → RepliesTo s (Refuses r) (Done version) t → ⊥
 refused_so s t r version replied =
     ⊎_elim
     (λ model. not_refused version r model.replied)
@@ -104,29 +105,29 @@ refused_so s t r version replied =
     replied
 
 -- An output that was up to date stays so.
-current_so : (s t : Store) (stream : ℕ) (spec : Spec) (version : ℕ) → reads s.history stream spec (latest s.history stream) ≡ latest_reads s.history spec → RepliesTo s (Current (latest s.history stream)) (Done version) t → IsRefreshed s t stream spec version
+current_so : (s t : StoreState) (stream : ℕ) (spec : Spec) (version : ℕ) → reads s.history stream spec (latest s.history stream) ≡ latest_reads s.history spec → RepliesTo s (Current (latest s.history stream)) (Done version) t → IsRefreshed s t stream spec version
 current_so s t stream spec version same replied =
     ⊎_elim
     (λ model.
     let is : version ≡ latest s.history stream = same_version version (latest s.history stream) model.replied in
-    subst (λ (x : Store). IsRefreshed s x stream spec version) (sym model.store)
+    subst (λ (x : StoreState). IsRefreshed s x stream spec version) (sym model.store)
     (is, ap (λ (v : ℕ). reads s.history stream spec v) is ∙ same))
     (λ h. ⊎_elim (λ not. absurd not) (λ lacks. absurd (not_refused version reasons.Memory lacks.replied)) h)
     replied
 
 -- An output whose next version was accepted is up to date.
-accepted_so : (s t : Store) (stream : ℕ) (spec : Spec) (version : ℕ) (why : Option Rejection) → Done version ≡ reply_of_commit s.history (next_commit s.history stream spec) why → t ≡ after_commit s (next_commit s.history stream spec) why → IsRefreshed s t stream spec version
+accepted_so : (s t : StoreState) (stream : ℕ) (spec : Spec) (version : ℕ) (why : Option Rejection) → Done version ≡ reply_of_commit s.history (next_commit s.history stream spec) why → t ≡ after_commit s (next_commit s.history stream spec) why → IsRefreshed s t stream spec version
 accepted_so s t stream spec version None replied store =
     let h : List Entry = s.history in
     let e : Entry = next_commit h stream spec in
     let is : version ≡ latest h stream + 1 = same_version version (latest h stream + 1) replied in
     let more : version ≡ suc (latest h stream) = omega (arith, is) in
-    subst (λ (x : Store). IsRefreshed s x stream spec version) (sym store)
+    subst (λ (x : StoreState). IsRefreshed s x stream spec version) (sym store)
     (more ∙ sym (latest_next h stream spec), ap (λ (v : ℕ). reads (h ++ e ∷ []) stream spec v) more ∙ reads_next h stream spec)
 accepted_so s t stream spec version (Some why) replied store = absurd (not_refused version (reason_of_rejection why) replied)
 
 -- A commit that was not done has no version.
-not_done : (s t : Store) (e : Entry) (version : ℕ) → IsNotDone s (Commits e) (Done version) t → ⊥
+not_done : (s t : StoreState) (e : Entry) (version : ℕ) → IsNotDone s (Commits e) (Done version) t → ⊥
 not_done s t e version h =
     ⊎_elim
     (λ full. not_refused version (reasons.Full (need_of e) s.left) full.replied)
@@ -134,7 +135,7 @@ not_done s t e version h =
     h
 
 -- The commit of the next version, if it is done.
-committed_so : (s t : Store) (stream : ℕ) (spec : Spec) (version : ℕ) → RepliesTo s (Commits (next_commit s.history stream spec)) (Done version) t → IsRefreshed s t stream spec version
+committed_so : (s t : StoreState) (stream : ℕ) (spec : Spec) (version : ℕ) → RepliesTo s (Commits (next_commit s.history stream spec)) (Done version) t → IsRefreshed s t stream spec version
 committed_so s t stream spec version replied =
     ⊎_elim
     (λ model. accepted_so s t stream spec version (rejection s.history (next_commit s.history stream spec)) model.replied model.store)
@@ -145,7 +146,7 @@ committed_so s t stream spec version replied =
     replied
 
 -- A refresh of an output, if it is done.
-done_so : (s t : Store) (stream : ℕ) (spec : Spec) (version : ℕ) → RepliesTo s (refresh s.history stream (Some spec)) (Done version) t → IsRefreshed s t stream spec version
+done_so : (s t : StoreState) (stream : ℕ) (spec : Spec) (version : ℕ) → RepliesTo s (refresh s.history stream (Some spec)) (Done version) t → IsRefreshed s t stream spec version
 done_so s t stream spec version replied =
     let h : List Entry = s.history in
     let old : Reads = has_read h stream spec in

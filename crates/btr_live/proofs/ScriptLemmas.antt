@@ -14,18 +14,19 @@ use Rattle.btr_engine.specs.Body.{need_of}
 use Rattle.btr_live.specs.Feeds.{Waiting, fed}
 use Rattle.btr_live.specs.Meaning.{Meaning, Commits, Asks, Holds, Current, Refuses, meaning}
 use Rattle.btr_live.specs.Replies.{model_reply, waiting_after, Means}
-use Rattle.btr_live.specs.Script.{Store, State, after_asked, after_commit, IsModel, IsNotDone, RepliesTo, RepliesToLine, RunsScript}
+use Rattle.btr_live.specs.Script.{State, after_asked, after_commit, IsModel, IsNotDone, RepliesTo, RepliesToLine, RunsScript}
 use Rattle.btr_live.specs.Script.{need_of_meaning, after_model, after_line}
+use Rattle.btr_jobs.specs.States.{StoreState}
 
 -- ---- stopped stores
 
 -- A commit does not stop a store.
-same_after_commit : (s : Store) (e : Entry) (why : Option Rejection) → (after_commit s e why).stopped ≡ s.stopped
+same_after_commit : (s : StoreState) (e : Entry) (why : Option Rejection) → (after_commit s e why).stopped ≡ s.stopped
 same_after_commit s e None = λ i. s.stopped
 same_after_commit s e (Some why) = λ i. s.stopped
 
 -- Nothing that the model does stops a store.
-same_after : (s : Store) (m : Meaning) → (after_asked s m).stopped ≡ s.stopped
+same_after : (s : StoreState) (m : Meaning) → (after_asked s m).stopped ≡ s.stopped
 same_after s (Commits e) = same_after_commit s e (rejection s.history e)
 same_after s (Asks query) = λ i. s.stopped
 same_after s (Holds count) = λ i. s.stopped
@@ -33,11 +34,11 @@ same_after s (Current version) = λ i. s.stopped
 same_after s (Refuses reason) = λ i. s.stopped
 
 -- A store that is the same runs too.
-along : (s t : Store) → t ≡ s → t.stopped ≡ false → s.stopped ≡ false
-along s t e runs = ap (λ (x : Store). x.stopped) (sym e) ∙ runs
+along : (s t : StoreState) → t ≡ s → t.stopped ≡ false → s.stopped ≡ false
+along s t e runs = ap (λ (x : StoreState). x.stopped) (sym e) ∙ runs
 
 -- A store that runs after a commit that was not done ran before it.
-not_done_before : (s t : Store) (m : Meaning) (reply : LineReply) → IsNotDone s m reply t → t.stopped ≡ false → s.stopped ≡ false
+not_done_before : (s t : StoreState) (m : Meaning) (reply : LineReply) → IsNotDone s m reply t → t.stopped ≡ false → s.stopped ≡ false
 not_done_before s t (Commits e) reply h runs =
     ⊎_elim (λ full. full.not_stopped) (λ h. ⊎_elim (λ fault. fault.not_stopped) (λ stopped. along s t stopped.store runs) h) h
 not_done_before s t (Asks query) reply h runs = absurd h
@@ -46,10 +47,10 @@ not_done_before s t (Current version) reply h runs = absurd h
 not_done_before s t (Refuses reason) reply h runs = absurd h
 
 -- A store that runs after a reply ran before it.
-pub ran_before : (s t : Store) (m : Meaning) (reply : LineReply) → RepliesTo s m reply t → t.stopped ≡ false → s.stopped ≡ false
+pub ran_before : (s t : StoreState) (m : Meaning) (reply : LineReply) → RepliesTo s m reply t → t.stopped ≡ false → s.stopped ≡ false
 ran_before s t m reply replied runs =
     ⊎_elim
-    (λ model. sym (ap (λ (x : Store). x.stopped) model.store ∙ same_after s m) ∙ runs)
+    (λ model. sym (ap (λ (x : StoreState). x.stopped) model.store ∙ same_after s m) ∙ runs)
     (λ h. ⊎_elim (λ h. not_done_before s t m reply h runs) (λ lacks. along s t lacks.store runs) h)
     replied
 
@@ -64,12 +65,12 @@ ran_all batch s t (line ∷ lines) (reply ∷ replies) script runs =
 -- ---- what a line needs
 
 -- No more blocks are gone after a commit than its entry needs.
-left_after_commit : (s : Store) (e : Entry) (why : Option Rejection) → s.left ≤ (after_commit s e why).left + need_of e
+left_after_commit : (s : StoreState) (e : Entry) (why : Option Rejection) → s.left ≤ (after_commit s e why).left + need_of e
 left_after_commit s e None = omega arith
 left_after_commit s e (Some why) = omega arith
 
 -- No more blocks are gone after what is asked for than it needs.
-pub left_after : (s : Store) (m : Meaning) → s.left ≤ (after_asked s m).left + need_of_meaning m
+pub left_after : (s : StoreState) (m : Meaning) → s.left ≤ (after_asked s m).left + need_of_meaning m
 left_after s (Commits e) = left_after_commit s e (rejection s.history e)
 left_after s (Asks query) = omega arith
 left_after s (Holds count) = omega arith
@@ -85,11 +86,11 @@ need_of_done batch s line m means =
     means
 
 -- A store that is stopped does not run.
-apart : {P : Type 0} (s t : Store) → t ≡ s → s.stopped ≡ true → t.stopped ≡ false → P
-apart s t same stopped runs = let is = ap (λ (x : Store). x.stopped) same in absurd (cc)
+apart : {P : Type 0} (s t : StoreState) → t ≡ s → s.stopped ≡ true → t.stopped ≡ false → P
+apart s t same stopped runs = let is = ap (λ (x : StoreState). x.stopped) same in absurd (cc)
 
 -- If there is room and the store runs after it, what is asked for is done.
-pub none_not_done : (s t : Store) (m : Meaning) (reply : LineReply) → need_of_meaning m ≤ s.left → t.stopped ≡ false → IsNotDone s m reply t → ⊥
+pub none_not_done : (s t : StoreState) (m : Meaning) (reply : LineReply) → need_of_meaning m ≤ s.left → t.stopped ≡ false → IsNotDone s m reply t → ⊥
 none_not_done s t (Commits e) reply room runs h =
     ⊎_elim
     (λ full. omega (arith, full.short))
@@ -106,13 +107,13 @@ none_not_done s t (Refuses reason) reply room runs h = h
 -- ---- lines that are done
 
 -- A store with these points.
-abbrev with_waiting : Store → Waiting → State
+abbrev with_waiting : StoreState → Waiting → State
 with_waiting s w = record { store = s; waiting = w }
 
 -- States of the same stores and points are the same.
-same_state : (a b : Store) (v w : Waiting) → a ≡ b → v ≡ w → with_waiting a v ≡ with_waiting b w
+same_state : (a b : StoreState) (v w : Waiting) → a ≡ b → v ≡ w → with_waiting a v ≡ with_waiting b w
 same_state a b v w stores waits =
-    ap (λ (x : Store). with_waiting x v) stores ∙ ap (λ (x : Waiting). with_waiting b x) waits
+    ap (λ (x : StoreState). with_waiting x v) stores ∙ ap (λ (x : Waiting). with_waiting b x) waits
 
 -- A line that is done as the model does it leaves the model's state.
 after_meaning : (batch : ℕ) (s t : State) (line : Option Line) (m : Meaning) (reply : LineReply) → m ≡ meaning batch s.store.history s.waiting line → IsModel s.store m reply t.store → t.waiting ≡ waiting_after s.waiting (fed s.store.history s.waiting line) m reply → t ≡ after_line batch s line
@@ -123,7 +124,7 @@ after_meaning batch s t line m reply means model waiting =
     ∙ ap (λ x. after_model s f x) means
 
 -- The reply to what had no memory to begin says so.
-memory : (s t : Store) (reply : LineReply) → RepliesTo s (Refuses reasons.Memory) reply t → reply ≡ No reasons.Memory
+memory : (s t : StoreState) (reply : LineReply) → RepliesTo s (Refuses reasons.Memory) reply t → reply ≡ No reasons.Memory
 memory s t reply replied =
     ⊎_elim (λ model. model.replied) (λ h. ⊎_elim (λ not. absurd not) (λ lacks. lacks.replied) h) replied
 

@@ -24,7 +24,7 @@ use Rattle.btr_jobs.specs.Turns.{IsAdded, IsFailed, IsIdle, IsFull, Committed}
 use Rattle.btr_live.specs.Meaning.{Meaning, Commits, Asks, Holds, Current, Refuses}
 use Rattle.btr_live.specs.Replies.{reply_of_answer, reply_of_commit}
 use Rattle.btr_live.specs.Lanes.{reply_of_step, is_failure, tells_failure}
-use Rattle.btr_live.specs.Script.{Store, store_with_entry, after_commit, IsModel, IsDeviceFault, RepliesTo}
+use Rattle.btr_live.specs.Script.{store_with_entry, after_commit, IsModel, IsDeviceFault, RepliesTo}
 use Rattle.btr_live.specs.OneLane.{FitsLeft}
 use Rattle.btr_live.proofs.ToldLemmas.{rejection_tells}
 use Rattle.btr_live.proofs.TurnEntries.{device_apart}
@@ -80,11 +80,11 @@ abbrev pub room : StoreState → List Entry → ℕ
 room start h = (start.left + needs_of start.history) - needs_of h
 
 -- A store with these entries.
-abbrev store_with : List Entry → ℕ → Bool → Store
+abbrev store_with : List Entry → ℕ → Bool → StoreState
 store_with h left stopped = record { history = h; left = left; stopped = stopped }
 
 -- The store of a history.
-abbrev pub store_of : StoreState → List Entry → Bool → Store
+abbrev pub store_of : StoreState → List Entry → Bool → StoreState
 store_of start h stopped = store_with h (room start h) stopped
 
 module _ (start : StoreState) (log : LogState) (fits : FitsLeft start log) (runs : start.stopped ≡ false) where

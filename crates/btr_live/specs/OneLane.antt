@@ -9,21 +9,17 @@ use Rattle.btr_hall.specs.Commit.{needs_of}
 use Rattle.btr_jobs.specs.States.{StoreState, LogState}
 use Rattle.btr_work.specs.Laws.{AreAllSince}
 use Rattle.btr_live.specs.declared.live.LiveReport.{LiveReport}
-use Rattle.btr_live.specs.Script.{Store, State, begun_state, RunsScript}
+use Rattle.btr_live.specs.Script.{State, begun_state, RunsScript}
 use Rattle.btr_live.specs.Live.{RunsLive}
 
 -- All lines of a script are in this lane.
 abbrev pub AreInLane : ℕ → List ScriptLine → Type 0
 AreInLane lane script = AllByRecursion (λ line. line.lane ≡ lane) script
 
--- The store with which a run began.
-abbrev pub store_at : StoreState → Store
-store_at start = record { history = start.history; left = start.left; stopped = start.stopped }
-
 -- The replies are those of the model, one line after another. The store is then that of the log: it is stopped if the device failed.
 pub record RunsAlone (batch : ℕ) (start : StoreState) (log : LogState) (script : List ScriptLine) (replies : List LineReply) : Type 0 where
   pub last : State
-  pub runs : RunsScript batch (begun_state (store_at start)) script replies last
+  pub runs : RunsScript batch (begun_state start) script replies last
   pub history : last.store.history ≡ log.history
   pub stopped : last.store.stopped ≡ is_some log.failed
 

@@ -16,29 +16,24 @@ use Rattle.btr_base.specs.declared.point.Point.{Point}
 use Rattle.btr_live.specs.Feeds.{Waiting, none_waiting, fed}
 use Rattle.btr_live.specs.Meaning.{Meaning, Commits, Asks, Holds, Current, Refuses, meaning}
 use Rattle.btr_live.specs.Replies.{model_reply, waiting_after, Means}
+use Rattle.btr_jobs.specs.States.{StoreState}
 
 -- ---- a store
 
--- The entries of a store, the blocks that are left, and whether it was stopped by a failure of its device.
-pub record Store : Type 0 where
-  pub history : List Entry
-  pub left : ℕ
-  pub stopped : Bool
-
 -- The store with one entry more.
-abbrev pub store_with_entry : Store → Entry → Store
+abbrev pub store_with_entry : StoreState → Entry → StoreState
 store_with_entry s e = record { history = s.history ++ e ∷ []; left = s.left - need_of e; stopped = s.stopped }
 
 -- The store that takes no more entries.
-abbrev pub stopped_store : Store → Store
+abbrev pub stopped_store : StoreState → StoreState
 stopped_store s = record { history = s.history; left = s.left; stopped = true }
 
-abbrev pub after_commit : Store → Entry → Option Rejection → Store
+abbrev pub after_commit : StoreState → Entry → Option Rejection → StoreState
 after_commit s e None = store_with_entry s e
 after_commit s e (Some why) = s
 
 -- The store after what was asked for, by the model.
-abbrev pub after_asked : Store → Meaning → Store
+abbrev pub after_asked : StoreState → Meaning → StoreState
 after_asked s (Commits e) = after_commit s e (rejection s.history e)
 after_asked s (Asks query) = s
 after_asked s (Holds count) = s
@@ -48,7 +43,7 @@ after_asked s (Refuses reason) = s
 -- ---- the reply to what is asked for
 
 -- The store can do it: it is not stopped, and an entry that the model accepts fits.
-abbrev pub Allows : Store → Meaning → Type 0
+abbrev pub Allows : StoreState → Meaning → Type 0
 Allows s (Commits e) = (s.stopped ≡ false) × (rejection s.history e ≡ None → need_of e ≤ s.left)
 Allows s (Asks query) = Unit {0}
 Allows s (Holds count) = Unit {0}
@@ -56,13 +51,13 @@ Allows s (Current version) = Unit {0}
 Allows s (Refuses reason) = Unit {0}
 
 -- The reply is the model's, and so is the store after it.
-pub record IsModel (s : Store) (m : Meaning) (reply : LineReply) (t : Store) : Type 0 where
+pub record IsModel (s : StoreState) (m : Meaning) (reply : LineReply) (t : StoreState) : Type 0 where
   pub allowed : Allows s m
   pub replied : reply ≡ model_reply s.history m
   pub store : t ≡ after_asked s m
 
 -- The model accepts the entry, but there are too few blocks for it.
-pub record LacksRoom (s : Store) (e : Entry) (reply : LineReply) (t : Store) : Type 0 where
+pub record LacksRoom (s : StoreState) (e : Entry) (reply : LineReply) (t : StoreState) : Type 0 where
   pub not_stopped : s.stopped ≡ false
   pub allowed : rejection s.history e ≡ None
   pub short : s.left < need_of e
@@ -70,7 +65,7 @@ pub record LacksRoom (s : Store) (e : Entry) (reply : LineReply) (t : Store) : T
   pub store : t ≡ s
 
 -- The model accepts the entry, but the device failed in its commit, which stops the store.
-pub record IsDeviceFault (s : Store) (e : Entry) (reply : LineReply) (t : Store) : Type 0 where
+pub record IsDeviceFault (s : StoreState) (e : Entry) (reply : LineReply) (t : StoreState) : Type 0 where
   pub not_stopped : s.stopped ≡ false
   pub allowed : rejection s.history e ≡ None
   pub fits : need_of e ≤ s.left
@@ -78,13 +73,13 @@ pub record IsDeviceFault (s : Store) (e : Entry) (reply : LineReply) (t : Store)
   pub store : t ≡ stopped_store s
 
 -- The store was stopped before.
-pub record WasStopped (s : Store) (reply : LineReply) (t : Store) : Type 0 where
+pub record WasStopped (s : StoreState) (reply : LineReply) (t : StoreState) : Type 0 where
   pub stopped : s.stopped ≡ true
   pub replied : reply ≡ No (reasons.Stopped (length s.history))
   pub store : t ≡ s
 
 -- Memory may run out in it: in an answer, or in a commit that nothing refuses which is tested before memory is taken.
-abbrev pub NeedsMemory : Store → Meaning → Type 0
+abbrev pub NeedsMemory : StoreState → Meaning → Type 0
 NeedsMemory s (Commits e) = (s.stopped ≡ false) × MayLackMemory (rejection s.history e)
 NeedsMemory s (Asks query) = Unit {0}
 NeedsMemory s (Holds count) = ⊥
@@ -92,13 +87,13 @@ NeedsMemory s (Current version) = ⊥
 NeedsMemory s (Refuses reason) = ⊥
 
 -- Memory ran out.
-pub record IsOutOfMemory (s : Store) (m : Meaning) (reply : LineReply) (t : Store) : Type 0 where
+pub record IsOutOfMemory (s : StoreState) (m : Meaning) (reply : LineReply) (t : StoreState) : Type 0 where
   pub needs : NeedsMemory s m
   pub replied : reply ≡ No reasons.Memory
   pub store : t ≡ s
 
 -- The entry was not committed, for a reason that the model does not have.
-abbrev pub IsNotDone : Store → Meaning → LineReply → Store → Type 0
+abbrev pub IsNotDone : StoreState → Meaning → LineReply → StoreState → Type 0
 IsNotDone s (Commits e) reply t = LacksRoom s e reply t ⊎ IsDeviceFault s e reply t ⊎ WasStopped s reply t
 IsNotDone s (Asks query) reply t = ⊥
 IsNotDone s (Holds count) reply t = ⊥
@@ -106,18 +101,18 @@ IsNotDone s (Current version) reply t = ⊥
 IsNotDone s (Refuses reason) reply t = ⊥
 
 -- The reply to what is asked for, and the store after it: by the model, or with the reason why it was not done.
-abbrev pub RepliesTo : Store → Meaning → LineReply → Store → Type 0
+abbrev pub RepliesTo : StoreState → Meaning → LineReply → StoreState → Type 0
 RepliesTo s m reply t = IsModel s m reply t ⊎ IsNotDone s m reply t ⊎ IsOutOfMemory s m reply t
 
 -- ---- the reply to one line
 
 -- A store, and the points that wait for its streams.
 pub record State : Type 0 where
-  pub store : Store
+  pub store : StoreState
   pub waiting : Waiting
 
 -- The state of a store when a run begins.
-abbrev pub begun_state : Store → State
+abbrev pub begun_state : StoreState → State
 begun_state s = record { store = s; waiting = none_waiting }
 
 -- The reply to a line of which this is done, and the state after it.

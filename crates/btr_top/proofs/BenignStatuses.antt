@@ -36,7 +36,7 @@ use Rattle.btr_live.specs.Meaning.{Meaning, Commits, Asks, Holds, Current, Refus
 use Rattle.btr_live.specs.Meaning.{insert_points, when_due, unless_fault, feed, flush, meaning, question}
 use Rattle.btr_engine.specs.Body.{need_of}
 use Rattle.btr_live.specs.Replies.{reply_of_answer, reply_of_commit, model_reply, Means}
-use Rattle.btr_live.specs.Script.{Store, State, IsNotDone, RepliesTo, RepliesToLine, RunsScript, need_of_meaning, after_line, script_needs}
+use Rattle.btr_live.specs.Script.{State, IsNotDone, RepliesTo, RepliesToLine, RunsScript, need_of_meaning, after_line, script_needs}
 use Rattle.btr_live.specs.Serving.{IsAnswerOrNoMemory}
 use Rattle.btr_store.specs.Completes.{IsBenign}
 use Rattle.btr_store.specs.Status.{status_rank, code_of, greater}
@@ -44,6 +44,7 @@ use Rattle.btr_store.specs.Replies.{greatest_of_replies, status_of_reply, status
 use Rattle.btr_top.specs.Ask.{AnswersEach}
 use Rattle.btr_top.specs.Run.{IsPlainStatus}
 use Rattle.btr_live.proofs.ScriptLemmas.{ran_all, left_after, need_of_done, none_not_done, line_is}
+use Rattle.btr_jobs.specs.States.{StoreState}
 
 pub benign_code : (s : Status) → IsBenign s → IsPlainStatus (code_of s)
 benign_code s benign =
@@ -178,7 +179,7 @@ apart b is is_not = absurd (cc)
 pub along : (reply other : LineReply) → reply ≡ other → IsBenign (status_of_reply other) → IsBenign (status_of_reply reply)
 along reply other e benign = subst (λ r. IsBenign (status_of_reply r)) (sym e) benign
 
-benign_reply : (s t : Store) (m : Meaning) (reply : LineReply) → RepliesTo s m reply t → IsBenign (status_of_reply (model_reply s.history m)) → need_of_meaning m ≤ s.left → t.stopped ≡ false → IsBenign (status_of_reply reply)
+benign_reply : (s t : StoreState) (m : Meaning) (reply : LineReply) → RepliesTo s m reply t → IsBenign (status_of_reply (model_reply s.history m)) → need_of_meaning m ≤ s.left → t.stopped ≡ false → IsBenign (status_of_reply reply)
 benign_reply s t m reply replied benign room runs =
     ⊎_elim
     (λ model. along reply (model_reply s.history m) model.replied benign)
@@ -211,13 +212,13 @@ within_benign s benign =
 within_reply : (reply other : LineReply) → reply ≡ other → Within (status_of_reply other) → Within (status_of_reply reply)
 within_reply reply other e within = subst (λ r. Within (status_of_reply r)) (sym e) within
 
-within_not_done : (s t : Store) (m : Meaning) (reply : LineReply) → t.stopped ≡ false → IsNotDone s m reply t → Within (status_of_reply reply)
+within_not_done : (s t : StoreState) (m : Meaning) (reply : LineReply) → t.stopped ≡ false → IsNotDone s m reply t → Within (status_of_reply reply)
 within_not_done s t (Commits e) reply runs h =
     ⊎_elim
     (λ full. within_reply reply (No (reasons.Full (need_of e) s.left)) full.replied refl)
     (λ h. ⊎_elim
-    (λ fault. absurd (apart t.stopped (ap (λ (x : Store). x.stopped) fault.store) runs))
-    (λ stopped. absurd (apart t.stopped (ap (λ (x : Store). x.stopped) stopped.store ∙ stopped.stopped) runs))
+    (λ fault. absurd (apart t.stopped (ap (λ (x : StoreState). x.stopped) fault.store) runs))
+    (λ stopped. absurd (apart t.stopped (ap (λ (x : StoreState). x.stopped) stopped.store ∙ stopped.stopped) runs))
     h)
     h
 within_not_done s t (Asks query) reply runs h = absurd h
@@ -225,7 +226,7 @@ within_not_done s t (Holds count) reply runs h = absurd h
 within_not_done s t (Current version) reply runs h = absurd h
 within_not_done s t (Refuses reason) reply runs h = absurd h
 
-within_one : (s t : Store) (m : Meaning) (reply : LineReply) → RepliesTo s m reply t → IsBenign (status_of_reply (model_reply s.history m)) → t.stopped ≡ false → Within (status_of_reply reply)
+within_one : (s t : StoreState) (m : Meaning) (reply : LineReply) → RepliesTo s m reply t → IsBenign (status_of_reply (model_reply s.history m)) → t.stopped ≡ false → Within (status_of_reply reply)
 within_one s t m reply replied benign runs =
     ⊎_elim
     (λ model. within_reply reply (model_reply s.history m) model.replied (within_benign (status_of_reply (model_reply s.history m)) benign))

@@ -14,7 +14,6 @@ use Rattle.btr_text.specs.declared.script.ScriptLine.{ScriptLine}
 use Rattle.btr_text.specs.declared.reply.LineReply.{LineReply}
 use Rattle.btr_live.specs.Lanes.{LaneState, begun, RunsLines}
 use Rattle.btr_live.specs.OneHistory.{of_lane, lanes_of, lane_lines}
-use Rattle.btr_live.specs.OneLane.{store_at}
 use Rattle.btr_store.specs.Completes.{IsBenign}
 use Rattle.btr_store.specs.declared.status.Status.{Status}
 use Rattle.btr_store.specs.Status.{greater}
@@ -99,7 +98,7 @@ module _ (batch rounds : ℕ) (script : List ScriptLine) (start : StoreState) (l
   pub no_party : PartiesServe []
   no_party = record { services = []; numbers = λ n. refl; are = tt; no_line = λ k. refl; landings = λ r o. omega arith; not_last = λ o. refl }
 
-  module _ (room : HasRoomForHistories batch rounds (store_at start) script) (all : List LineReply) (each : length all ≡ length script) (mine : List (List ℕ)) (lasts : ℕ → LaneState) (lanes : (k : ℕ) → RunsLines batch start log (begun low) (lane_lines k script) (of_lane k (lanes_of script) all) (slice_index_or mine k []) (lasts k)) (beside lastly : List ℕ) (Calm : Type 0) (parties : PartiesServe beside) (last : RoundServes batch rounds script start log running sound follows low 0 (λ o. 1) Calm lastly) (once : (n : ℕ) → total (times n) mine + times n beside + times n lastly ≡ given (length low) (length log.history) n) where
+  module _ (room : HasRoomForHistories batch rounds start script) (all : List LineReply) (each : length all ≡ length script) (mine : List (List ℕ)) (lasts : ℕ → LaneState) (lanes : (k : ℕ) → RunsLines batch start log (begun low) (lane_lines k script) (of_lane k (lanes_of script) all) (slice_index_or mine k []) (lasts k)) (beside lastly : List ℕ) (Calm : Type 0) (parties : PartiesServe beside) (last : RoundServes batch rounds script start log running sound follows low 0 (λ o. 1) Calm lastly) (once : (n : ℕ) → total (times n) mine + times n beside + times n lastly ≡ given (length low) (length log.history) n) where
     lane : (k : ℕ) → LinesServe batch rounds script start log running sound follows low low [] (places_of k script) (of_lane k (lanes_of script) all) (slice_index_or mine k [])
     lane k = lines_serve batch rounds script start log running sound follows low k (begun low) [] (places_of k script) (lane_lines k script) (of_lane k (lanes_of script) all) (slice_index_or mine k []) (lasts k) (starts_refl low) (at_places script k) (waits_none script low k) (lanes k)
 

@@ -19,7 +19,7 @@ use Rattle.btr_work.specs.declared.report.ReportLine as refreshed
 use Rattle.btr_live.specs.declared.live.LiveReport.{LiveReport}
 use Rattle.btr_live.specs.Live as runs
 use Rattle.btr_live.specs.Script.{begun_state}
-use Rattle.btr_live.specs.OneLane.{AreInLane, RunsAlone, store_at}
+use Rattle.btr_live.specs.OneLane.{AreInLane, RunsAlone}
 use Rattle.btr_store.specs.declared.status.Status.{Status}
 use Rattle.btr_store.specs.declared.status.Status.TheVariants.{Done}
 use Rattle.btr_store.specs.declared.transcript.Transcript.{Transcript}
@@ -107,11 +107,11 @@ module _ {S D : Type 0} (source : SourceGhosts S) (disk : Ghosts D) (batch : ℕ
     sound_end = no_failure disk old new can.1.history can.1.blocks can.1.tail can.1.holds sound one told device_works What does
 
     -- The room of the store, as the run found it.
-    room_here : HasRoomForScript batch materialize (store_at does.first) lines
+    room_here : HasRoomForScript batch materialize does.first lines
     room_here =
         let same : does.first ≡ store = began disk old new can.1.history can.1.blocks can.1.tail can.1.holds sound one told device_works What does in
-        subst (λ (s : StoreState). HasRoomForScript batch materialize (store_at s) lines) (sym same)
-        (subst (λ (ls : List ScriptLine). HasRoomForScript batch materialize (store_at store) ls) (sym all) can.1.room)
+        subst (λ (s : StoreState). HasRoomForScript batch materialize s lines) (sym same)
+        (subst (λ (ls : List ScriptLine). HasRoomForScript batch materialize store ls) (sym all) can.1.room)
 
     abbrev Ran : Bool → LiveReport → Type 0
     Ran rounds report = runs.RunsLive batch rounds does.first does.log does.first.history lines report does.own
@@ -119,13 +119,13 @@ module _ {S D : Type 0} (source : SourceGhosts S) (disk : Ghosts D) (batch : ℕ
     abbrev AreCalm : LiveReport → Type 0
     AreCalm report = IsBenign (status_of_replies report.replies.items) × LastCalm report.last
 
-    benign_alone : (report : LiveReport) → materialize ≡ false → HasRoomInLane batch (store_at does.first) lines → Ran materialize report → ((lane : ℕ) → AreInLane lane lines → RunsAlone batch does.first does.log lines report.replies.items) → AreCalm report
+    benign_alone : (report : LiveReport) → materialize ≡ false → HasRoomInLane batch does.first lines → Ran materialize report → ((lane : ℕ) → AreInLane lane lines → RunsAlone batch does.first does.log lines report.replies.items) → AreCalm report
     benign_alone report none room ran in_lane =
         let alone = in_lane room.lane room.one in
         let running : alone.last.store.stopped ≡ false = alone.stopped ∙ ap (λ (o : Option Entry). is_some o) sound_end in
         let plain : Ran false report = subst (λ (m : Bool). Ran m report) none ran in
         let no_rounds : report.last ≡ None = no_last batch does.first does.log lines report does.own plain in (
-          benign_script batch (begun_state (store_at does.first)) alone.last lines report.replies.items alone.runs room.room running,
+          benign_script batch (begun_state does.first) alone.last lines report.replies.items alone.runs room.room running,
           subst (λ (l : LastResult). LastCalm l) (sym no_rounds) tt,
         )
 

@@ -18,7 +18,6 @@ use Rattle.btr_live.specs.declared.live.LiveReport.{LiveReport}
 use Rattle.btr_live.specs.Lanes.{begun, RunsLines}
 use Rattle.btr_live.specs.LaneLaws.{lines_last}
 use Rattle.btr_live.specs.OneHistory.{of_lane, lanes_of, lane_lines}
-use Rattle.btr_live.specs.OneLane.{store_at}
 use Rattle.btr_live.specs.Rounds.{MakesRounds}
 use Rattle.btr_live.specs.Live.{LastRound, RunsLive}
 use Rattle.btr_store.specs.Completes.{IsBenign}
@@ -62,7 +61,7 @@ module _ (batch : ℕ) (script : List ScriptLine) (start : StoreState) (log : Lo
       let is = party_serves batch (length script + 1) script start log running sound follows begins (length script) (omega arith) middle beside on one_party made in
       record { own = is.0; parties = is.1; sum = is.2 }
 
-  module _ (materialize : Bool) (report : LiveReport) (own : List ℕ) (ran : RunsLive batch materialize start log low script report own) (each_once : AreAllSince low log own) (room : HasRoomForHistories batch (rounds_of materialize script) (store_at start) script) where
+  module _ (materialize : Bool) (report : LiveReport) (own : List ℕ) (ran : RunsLive batch materialize start log low script report own) (each_once : AreAllSince low log own) (room : HasRoomForHistories batch (rounds_of materialize script) start script) where
     lane : (k : ℕ) → RunsLines batch start log (begun low) (lane_lines k script) (of_lane k (lanes_of script) report.replies.items) (slice_index_or ran.mine k []) (ran.lanes.lasts k)
     lane k = lines_last start log ran.middle ran.goes_on batch (begun low) (lane_lines k script) (of_lane k (lanes_of script) report.replies.items) (slice_index_or ran.mine k []) (ran.lanes.lasts k) (ran.lanes.lanes k)
 

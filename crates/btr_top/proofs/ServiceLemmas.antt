@@ -17,7 +17,6 @@ use Rattle.btr_jobs.specs.Turns.{IsFull}
 use Rattle.btr_load.proofs.TotalLemmas.{total_append}
 use Rattle.btr_load.proofs.FitLemmas.{needs_total}
 use Rattle.btr_text.specs.declared.script.ScriptLine.{ScriptLine}
-use Rattle.btr_live.specs.OneLane.{store_at}
 use Rattle.btr_top.specs.Room.{Purpose, has_line, has_landing, IsFor, Service, IsServed, ServesScript, HasRoomForHistories}
 
 -- ---- sums over services
@@ -190,7 +189,7 @@ module _ (batch rounds : ℕ) (script : List ScriptLine) (low : List Entry) wher
         }
 
     -- So it does not find the device full.
-    pub never_full : (start : StoreState) (p : List Entry) (e : Entry) (purpose : Purpose) (need left : ℕ) → low ≡ start.history → HasRoomForHistories batch rounds (store_at start) script → IsNext p e purpose → IsFull start p e need left → ⊥
+    pub never_full : (start : StoreState) (p : List Entry) (e : Entry) (purpose : Purpose) (need left : ℕ) → low ≡ start.history → HasRoomForHistories batch rounds start script → IsNext p e purpose → IsFull start p e need left → ⊥
     never_full start p e purpose need left begins room is full =
         let serves : ServesScript batch rounds script start.history (p ++ e ∷ []) = subst (λ (l : List Entry). ServesScript batch rounds script l (p ++ e ∷ [])) begins (serves_next p e purpose is) in
         let fits : needs_of (p ++ e ∷ []) ≤ start.left + needs_of start.history = room (p ++ e ∷ []) serves in

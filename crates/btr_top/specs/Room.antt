@@ -18,14 +18,15 @@ use Rattle.btr_text.specs.declared.script.Line.TheVariants as lines
 use Rattle.btr_text.specs.declared.script.ScriptLine.{ScriptLine}
 use Rattle.btr_live.specs.Feeds.{none_waiting}
 use Rattle.btr_live.specs.Meaning.{Commits, meaning}
-use Rattle.btr_live.specs.Script.{Store, begun_state, script_needs}
+use Rattle.btr_live.specs.Script.{begun_state, script_needs}
 use Rattle.btr_live.specs.OneLane.{AreInLane}
 use Rattle.btr_store.specs.Completes.{IsPlannedSince}
+use Rattle.btr_jobs.specs.States.{StoreState}
 
 -- ---- one lane
 
 -- All lines are of one lane, and what they need one after another is left.
-pub record HasRoomInLane (batch : ℕ) (store : Store) (script : List ScriptLine) : Type 0 where
+pub record HasRoomInLane (batch : ℕ) (store : StoreState) (script : List ScriptLine) : Type 0 where
   pub lane : ℕ
   pub one : AreInLane lane script
   pub room : script_needs batch (begun_state store) script ≤ store.left
@@ -144,7 +145,7 @@ pub record ServesScript (batch rounds : ℕ) (script : List ScriptLine) (low h :
   pub landings_once : (round output : ℕ) → total (λ s. has_landing round output s.purpose) services ≤ 1
 
 -- Whatever such a history is, its blocks are left.
-abbrev pub HasRoomForHistories : ℕ → ℕ → Store → List ScriptLine → Type 0
+abbrev pub HasRoomForHistories : ℕ → ℕ → StoreState → List ScriptLine → Type 0
 HasRoomForHistories batch rounds store script =
     (h : List Entry) → ServesScript batch rounds script store.history h → blocks.needs_of h ≤ store.left + blocks.needs_of store.history
 
@@ -154,7 +155,7 @@ rounds_of materialize script = if materialize then length script + 1 else 0
 
 -- All lines are of one lane, there are no rounds, and what the lines need one after another is left; or any history that serves the
 -- script has room.
-abbrev pub HasRoomForScript : ℕ → Bool → Store → List ScriptLine → Type 0
+abbrev pub HasRoomForScript : ℕ → Bool → StoreState → List ScriptLine → Type 0
 HasRoomForScript batch materialize store script =
     ((materialize ≡ false) × HasRoomInLane batch store script) ⊎ HasRoomForHistories batch (rounds_of materialize script) store script
 
@@ -181,5 +182,5 @@ IsNoRefresh line = Unit {0}
 -- A script without rounds has room if no line brings an output up to date and the most that all lines need is left.
 abbrev pub ScriptFits : Type 0
 ScriptFits =
-    (batch : ℕ) (store : Store) (script : List ScriptLine) → AllByRecursion (λ line. IsNoRefresh line.line) script
+    (batch : ℕ) (store : StoreState) (script : List ScriptLine) → AllByRecursion (λ line. IsNoRefresh line.line) script
     → total (λ line. most_blocks line.line) script ≤ store.left → HasRoomForHistories batch 0 store script
