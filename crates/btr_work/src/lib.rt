@@ -19,9 +19,9 @@ mod prepare;
 // laws of reports
 mod laws;
 
-pub use bringing::refresh_output;
 pub use current::bring_current;
 pub use here::bring_current_here;
 pub use laws::{refreshed_in_order, refreshed_is_alike, refreshed_is_current};
 pub use leveling::levels;
+pub use refreshing::refresh_output;
 pub use report::{Refreshed, Report, ReportLine};
