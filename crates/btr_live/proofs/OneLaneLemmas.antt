@@ -33,7 +33,7 @@ use Rattle.btr_live.specs.Feeds.{none_waiting, fed}
 use Rattle.btr_live.specs.Meaning.{Meaning, Commits, Asks, Holds, Current, Refuses}
 use Rattle.btr_live.specs.Replies.{waiting_after, Means}
 use Rattle.btr_live.specs.Lanes.{reply_of_step, Offers, Answers, LaneState, tells_failure, RunsLine, RunsLines}
-use Rattle.btr_live.specs.Lanes.{begun_state as lane_begun}
+use Rattle.btr_live.specs.Lanes.{begun as lane_begun}
 use Rattle.btr_live.specs.LaneLaws.{lines_last}
 use Rattle.btr_live.specs.OneHistory.{of_lane, lanes_of, lane_lines}
 use Rattle.btr_live.specs.Live.{LastRound, RunsLive}
