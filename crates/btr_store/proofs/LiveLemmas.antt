@@ -24,7 +24,7 @@ use Rattle.btr_store.specs.Streams.{Stays}
 use Rattle.btr_store.specs.Work.{AddsAllowed}
 use Rattle.btr_store.proofs.Allowing.{allows_nothing}
 use Rattle.btr_store.proofs.DistilLemmas.{goes_stays}
-use Rattle.btr_top.specs.Live as live
+use Rattle.btr_store.specs.Live as live
 use Rattle.btr_store.specs.Live.{SaysLive, SaysScript, RunsIf, IsLastCurrent, LivesStore}
 use Rattle.btr_store.specs.LiveLines.{RunsFrom, Lives}
 use Rattle.btr_store.proofs.LiveAllowing.{live_allowed}
@@ -85,12 +85,12 @@ module _ (history_law : RunsAreOneHistory) (lane_law : OneLaneIsTheModel) (last_
       all not_stopped follows fits are
 
   -- A last round that has a report was wanted.
-  last_if : (m : Bool) (report : LiveReport) (last : live.LastRound) → report.last ≡ last → RunsLive batch m start log start.history script report own → log.failed ≡ None → IsLastCurrent log.history last
+  last_if : (m : Bool) (report : LiveReport) (last : live.LastResult) → report.last ≡ last → RunsLive batch m start log start.history script report own → log.failed ≡ None → IsLastCurrent log.history last
   last_if m report None is runs sound = tt
   last_if m report (Some (Err error)) is runs sound = tt
   last_if true report (Some (Ok lines)) is runs sound = last_law batch start log script report own lines runs all follows sound is
   last_if false report (Some (Ok lines)) is runs sound =
-      absurd (subst (λ (l : live.LastRound). LastRound start log runs.middle.history false l runs.lastly) is runs.last)
+      absurd (subst (λ (l : live.LastResult). LastRound start log runs.middle.history false l runs.lastly) is runs.last)
 
   current_if : (report : Option LiveReport) → RunsFrom batch materialize start log start.history script report own → log.failed ≡ None → IfSome report (λ r. IsLastCurrent log.history r.last)
   current_if None runs sound = tt

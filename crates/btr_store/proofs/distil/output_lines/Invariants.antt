@@ -2,9 +2,9 @@
 use Rattle.std.proofs.Common.{List, map, take}
 use Rattle.btr_hist.specs.declared.entry.Entry.{Entry}
 use Rattle.btr_engine.specs.Snapshot.{IsSnapshotOf}
-use Rattle.btr_bulk.specs.Transcript.{SaysLines}
-use Rattle.btr_bulk.specs.Distil.{output_line}
-use Rattle.btr_bulk.proofs.distil.output_lines.Given as goal
+use Rattle.btr_store.specs.Transcript.{SaysLines}
+use Rattle.btr_store.specs.Distil.{output_line}
+use Rattle.btr_store.proofs.distil.output_lines.Given as goal
 
 -- the outputs up to here have their lines
 abbrev pub invariant-loop-line : goal.invariant-loop-line

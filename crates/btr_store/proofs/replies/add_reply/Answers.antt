@@ -4,7 +4,7 @@ use Rattle.std.proofs.Common.{◌∙◌, ap}
 use Rattle.btr_text.specs.Text.{text}
 use Rattle.btr_store.specs.declared.status.Status.{Status}
 use Rattle.btr_store.specs.Status.{greater}
-use Rattle.btr_top.proofs.LineLists.{on_ok}
+use Rattle.btr_store.proofs.TranscriptLemmas.{on_ok}
 use Rattle.btr_store.proofs.ReplyLemmas.{transcript-push}
 use Rattle.btr_store.proofs.replies.add_reply.Goals as goal
 
