@@ -161,8 +161,8 @@ module _ (batch rounds : ℕ) (script : List ScriptLine) (start : StoreState) (l
           let second = last.no_line k in
           omega (arith, sum, first, second)
 
-      lane_lines : (k j : ℕ) → lines_had k (lane_services j) ≤ times k (places_of j script)
-      lane_lines k j = let l = (lane j).lines k in omega (arith, l)
+      lane_places : (k j : ℕ) → lines_had k (lane_services j) ≤ times k (places_of j script)
+      lane_places k j = let l = (lane j).lines k in omega (arith, l)
 
       rest_landings : (r o : ℕ) → landings_had r o rest ≤ 1
       rest_landings r o =
@@ -197,7 +197,7 @@ module _ (batch rounds : ℕ) (script : List ScriptLine) (start : StoreState) (l
           let no_tail = rest_no_line k in
           let lanes_sum = all_sum_to f (length p) lane_services count in
           let most = sum_more (λ j. total f (up_to (length p) (lane_services j))) (λ j. times k (places_of j script)) (has_line k purpose) count i inside (few k)
-          (λ j. let a = up_to_least f (length p) (lane_services j) in let b = lane_lines k j in omega (arith, a, b)) in
+          (λ j. let a = up_to_least f (length p) (lane_services j) in let b = lane_places k j in omega (arith, a, b)) in
           let bound = lanes_once k in
           omega (arith, whole, tail, no_tail, lanes_sum, most, bound))
           (λ r o.
@@ -218,7 +218,7 @@ module _ (batch rounds : ℕ) (script : List ScriptLine) (start : StoreState) (l
           let whole = total_append f (all_of lane_services count) rest in
           let no_tail = rest_no_line k in
           let lanes_sum = all_sum f lane_services count in
-          let most = sum_more (λ j. total f (lane_services j)) (λ j. times k (places_of j script)) 0 count 0 (omega arith) (let l = lane_lines k 0 in omega (arith, l)) (lane_lines k) in
+          let most = sum_more (λ j. total f (lane_services j)) (λ j. times k (places_of j script)) 0 count 0 (omega arith) (let l = lane_places k 0 in omega (arith, l)) (lane_places k) in
           let bound = lanes_once k in
           omega (arith, part, whole, no_tail, lanes_sum, most, bound))
           (λ r o.

@@ -2,10 +2,9 @@
 use Rattle.std.specs.Prelude.{ℕ, Bool, List}
 use Rattle.btr_io.specs.declared.source.Source.{Ghosts as SourceGhosts}
 use Rattle.btr_disk.specs.declared.disk.Disk.{Ghosts}
-use Rattle.btr_log.specs.Extents.{left}
 use Rattle.btr_text.specs.Input.{script_of}
 use Rattle.btr_text.specs.declared.script.ScriptLine.{ScriptLine}
-use Rattle.btr_report.specs.declared.line.ReportLine.TheVariants as lines
+use Rattle.btr_store.specs.Live.{LivesStore}
 use Rattle.btr_top.specs.declared.ending.Ending.{Ending}
 use Rattle.btr_top.specs.Command.{HoldsStoreWith, IsWithinLimit, CommandCause}
 use Rattle.btr_top.specs.Room.{HasRoomForScript}
