@@ -56,6 +56,15 @@ expect 'values' "$(load_new 64)" "1: row 1: no value/row 3: no value/row 4: no v
 
 # ---- streams, batches and full devices
 
+# Of 16 blocks 11 are left for entries: three creates need 6, a batch of one point needs 2, and one of 600 points needs 4.
+{
+    printf '%s,1,1\n' "$u"
+    seq 0 599 | awk -v id="$v" '{ print id "," 10 * $1 "," $1 }'
+    printf '%s,3,3\n' "$w"
+} >rows
+expect 'one worker loads what fits, in the order of the input' "$(load_new 16 --workers 1)" \
+    "8: $u 1 1/$v rows 2 601: no full 4 3/$v 0 0/$w 1 1/loaded 2 refused 600/"
+
 fresh device 64
 printf 'create %s\ndistiller %s sum 0 0 %s\n' "$u" "$w" "$u" >lines
 play device live <lines
