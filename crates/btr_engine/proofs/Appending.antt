@@ -22,14 +22,15 @@ use Rattle.btr_engine.specs.declared.board.Receipt.{Receipt}
 use Rattle.btr_engine.specs.declared.step.Pending.{Pending}
 use Rattle.btr_engine.specs.declared.step.StepFault.{StepFault}
 use Rattle.btr_engine.specs.declared.step.StepFault.TheVariants.{DeviceFull, DeviceFault}
-use Rattle.btr_engine.specs.Body.{body_of, need_of, bodies}
+use Rattle.btr_engine.specs.Body.{body_of, IsBodyOf, need_of}
+use Rattle.btr_engine.proofs.BodyLemmas.{need-IsBodyOf}
 use Rattle.btr_engine.specs.Holds.{HoldsHistoryTo}
 use Rattle.btr_engine.specs.Engine.{device, board_of, blocks_of, tail_of, room_of, is_stopped, IsEngineOf, IsAtRest}
 use Rattle.btr_engine.specs.Stage.{IsReceipt}
-use Rattle.btr_engine.specs.Step.{IsBeforeOrAfter, IsStepped, StepCause}
+use Rattle.btr_engine.specs.Step.{IsBeforeOrAfter, IsStepped, StepCause, HasResult}
 use Rattle.btr_engine.specs.Pending.{IsMade, IsPending}
 use Rattle.btr_engine.proofs.HoldsLemmas.{holds_with, before_or_after}
-use Rattle.btr_engine.proofs.Stepping.{same_engine, no_moment, brings, needs}
+use Rattle.btr_engine.proofs.Stepping.{same_engine, no_moment, brings, needs_two}
 
 -- The result of an append.
 abbrev pub Answer : Type 0
@@ -58,14 +59,18 @@ module _ {D : Type 0} {disk : Ghosts D} (h : List Entry) (old : Engine D disk) (
   abbrev pub AnswersFull : Answer → Type 0
   AnswersFull answer = IsFalse (is_stopped old) → append.IsTooLong old.log run → answer ≡ full
 
-  needed : need (append.body_in_run run) ≡ need_of e
-  needed = needs (length h + 1) e run is.bytes
+  -- The body of the run is the entry's.
+  its_body : IsBodyOf h e (append.body_in_run run)
+  its_body = record { spelled = is.spelled; bytes = brings (length h + 1) e run is.bytes }
+
+  needed : need (append.body_in_run run) ≡ need_of h e
+  needed = need-IsBodyOf h e (append.body_in_run run) its_body
 
   -- An append with another result had room.
-  pub fits_unless_full : (answer : Answer) → IsFalse (is_stopped old) → AnswersFull answer → (answer ≡ full → ⊥) → need_of e ≤ room_of old
+  pub fits_unless_full : (answer : Answer) → IsFalse (is_stopped old) → AnswersFull answer → (answer ≡ full → ⊥) → need_of h e ≤ room_of old
   fits_unless_full answer runs answers_full other =
-      let size : need (append.body_in_run run) ≡ need_of e = needed in
-      ⊎_elim (λ short. absurd (other (answers_full runs (omega arith)))) (λ le. le) (cases_lt (room_of old) (need_of e))
+      let size : need (append.body_in_run run) ≡ need_of h e = needed in
+      ⊎_elim (λ short. absurd (other (answers_full runs (omega arith)))) (λ le. le) (cases_lt (room_of old) (need_of h e))
 
   -- ---- an append that fails
 
@@ -84,25 +89,21 @@ module _ {D : Type 0} {disk : Ghosts D} (h : List Entry) (old : Engine D disk) (
 
   -- ---- each moment of an append
 
-  -- The body of the run is the entry's.
-  its_body : append.body_in_run run ≡ body_of (length h + 1) e
-  its_body = brings (length h + 1) e run is.bytes
-
   -- A block is left after it for the next gate.
-  inside : need_of e ≤ room_of old → tail_of old + need_of e < blocks_of old
+  inside : need_of h e ≤ room_of old → tail_of old + need_of h e < blocks_of old
   inside fits =
       let below : tail_of old < blocks_of old = old.log.tail_inside in
       omega arith
 
-  pub moments : (after : Log D disk) → need_of e ≤ room_of old → IsAtRest h old → log.LogLeaves old.log after (append.IsMoment (disk.contents (device old)) (tail_of old) (bodies h) (append.body_in_run run)) → log.LogLeaves old.log after (IsBeforeOrAfter (disk.size (device old)) h e)
+  pub moments : (after : Log D disk) → need_of h e ≤ room_of old → (rest : IsAtRest h old) → log.LogLeaves old.log after (append.IsMoment (disk.contents (device old)) (tail_of old) rest.holds.bodies (append.body_in_run run)) → log.LogLeaves old.log after (IsBeforeOrAfter (disk.size (device old)) h e)
   moments after fits rest leaves =
       let contents = disk.contents (device old) in
-      weakens disk.calls disk.images_since (device old) (log.log_device after) (append.IsMoment contents (tail_of old) (bodies h) (append.body_in_run run)) (IsBeforeOrAfter (disk.size (device old)) h e)
-      (before_or_after (disk.size (device old)) contents (blocks_of old) (tail_of old) h rest.holds e is.spelled is.allowed (inside fits) (append.body_in_run run) its_body)
+      weakens disk.calls disk.images_since (device old) (log.log_device after) (append.IsMoment contents (tail_of old) rest.holds.bodies (append.body_in_run run)) (IsBeforeOrAfter (disk.size (device old)) h e)
+      (before_or_after (disk.size (device old)) contents (blocks_of old) (tail_of old) h rest.holds e (append.body_in_run run) its_body is.allowed (inside fits))
       leaves
 
   -- An append that fails made no call of the device, or the device failed.
-  pub moments_of_fault : (after : Log D disk) (fault : AppendFault) → IsFalse (is_stopped old) → AnswersFull (Err fault) → append.AppendCause old.log after run fault → ((c : Image) → disk.images_since (device old) (disk.calls (device old)) c → disk.images_now (device old) c) → IsAtRest h old → log.LogLeaves old.log after (append.IsMoment (disk.contents (device old)) (tail_of old) (bodies h) (append.body_in_run run)) → log.LogLeaves old.log after (IsBeforeOrAfter (disk.size (device old)) h e)
+  pub moments_of_fault : (after : Log D disk) (fault : AppendFault) → IsFalse (is_stopped old) → AnswersFull (Err fault) → append.AppendCause old.log after run fault → ((c : Image) → disk.images_since (device old) (disk.calls (device old)) c → disk.images_now (device old) c) → (rest : IsAtRest h old) → log.LogLeaves old.log after (append.IsMoment (disk.contents (device old)) (tail_of old) rest.holds.bodies (append.body_in_run run)) → log.LogLeaves old.log after (IsBeforeOrAfter (disk.size (device old)) h e)
   moments_of_fault after (Full n room) runs answers_full cause only_now rest leaves =
       subst (λ l. log.LogLeaves old.log l (IsBeforeOrAfter (disk.size (device old)) h e)) (sym cause.4) (no_moment h old e only_now rest)
   moments_of_fault after Fault runs answers_full cause only_now rest leaves =
@@ -113,10 +114,10 @@ module _ {D : Type 0} {disk : Ghosts D} (h : List Entry) (old : Engine D disk) (
   -- ---- an append that succeeds
 
   module _ (new : Engine D disk) (of : IsEngineOf (h ++ e ∷ []) new) (appended : append.IsAppended old.log new.log run) where
-    tail_after : tail_of new ≡ tail_of old + need_of e
+    tail_after : tail_of new ≡ tail_of old + need_of h e
     tail_after = appended.tail ∙ ap (λ n. tail_of old + n) needed
 
-    pub stepped : (receipt : Receipt) → need_of e ≤ room_of old → IsReceipt h e receipt → IsStepped h old new e receipt
+    pub stepped : (receipt : Receipt) → need_of h e ≤ room_of old → IsReceipt h e receipt → IsStepped h old new e receipt
     stepped receipt fits is_receipt = record {
       could = record { runs = appended.ran; allowed = is.allowed; fits = fits };
       of = of;
@@ -126,23 +127,36 @@ module _ {D : Type 0} {disk : Ghosts D} (h : List Entry) (old : Engine D disk) (
       is_receipt = is_receipt;
     }
 
-    pub at_rest : need_of e ≤ room_of old → log.KeepsBounds old.log new.log → IsAtRest h old → Published (disk.contents (device old)) (4096 * (tail_of old + 1)) run (4096 * tail_of old) gate_block (disk.contents (device new)) → log.IsLogAtRest new.log (bodies h ++ append.body_in_run run ∷ []) → IsAtRest (h ++ e ∷ []) new
+    pub at_rest : need_of h e ≤ room_of old → log.KeepsBounds old.log new.log → (rest : IsAtRest h old) → Published (disk.contents (device old)) (4096 * (tail_of old + 1)) run (4096 * tail_of old) gate_block (disk.contents (device new)) → log.IsLogAtRest new.log (rest.holds.bodies ++ append.body_in_run run ∷ []) → IsAtRest (h ++ e ∷ []) new
     at_rest fits kept rest written log_rests =
         let size = disk.size (device old) in
         let now = disk.contents (device new) in
         let below : (k : ℕ) → k < 4096 * tail_of old → now k ≡ disk.contents (device old) k = λ k lt. written.elsewhere k (λ le. absurd (omega arith)) (λ le. absurd (omega arith)) in
-        let its_log = AtRest-IsLog now (disk.images_now (device new)) (tail_of new) (bodies h ++ append.body_in_run run ∷ []) log_rests in
-        let holds : HoldsHistoryTo size now (blocks_of old) (tail_of old + need_of e) (h ++ e ∷ []) = holds_with size (disk.contents (device old)) (blocks_of old) (tail_of old) h rest.holds e is.spelled is.allowed (inside fits) now below (subst (λ b. IsLog now first_gate (bodies h ++ b ∷ [])) its_body its_log) in
-        let sized = subst (λ n. HoldsHistoryTo n now (blocks_of old) (tail_of old + need_of e) (h ++ e ∷ [])) (sym kept.device_kept.same_size) holds in
-        let blocked = subst (λ n. HoldsHistoryTo (disk.size (device new)) now n (tail_of old + need_of e) (h ++ e ∷ [])) (sym kept.blocks) sized in
+        let its_log = AtRest-IsLog now (disk.images_now (device new)) (tail_of new) (rest.holds.bodies ++ append.body_in_run run ∷ []) log_rests in
+        let holds : HoldsHistoryTo size now (blocks_of old) (tail_of old + need_of h e) (h ++ e ∷ []) = holds_with size (disk.contents (device old)) (blocks_of old) (tail_of old) h rest.holds e (append.body_in_run run) its_body is.allowed (inside fits) now below its_log in
+        let sized = subst (λ n. HoldsHistoryTo n now (blocks_of old) (tail_of old + need_of h e) (h ++ e ∷ [])) (sym kept.device_kept.same_size) holds in
+        let blocked = subst (λ n. HoldsHistoryTo (disk.size (device new)) now n (tail_of old + need_of h e) (h ++ e ∷ [])) (sym kept.blocks) sized in
         let tailed = subst (λ n. HoldsHistoryTo (disk.size (device new)) now (blocks_of new) n (h ++ e ∷ [])) (sym tail_after) blocked in
         record { of = of; holds = tailed; only = log_rests.only }
+
+-- What an append that failed did to the engine, whatever its history is.
+pub effect_of_fault : {D : Type 0} {disk : Ghosts D} (old new : Engine D disk) (run : List ℕ) (fault : AppendFault) (answer : StepFault) → append.AppendCause old.log new.log run fault → board_of new ≡ board_of old → new.opened_with ≡ old.opened_with → new.synced ≡ old.synced → ((n left : ℕ) → fault ≡ Full n left → answer ≡ DeviceFull n left) → (fault ≡ Fault → answer ≡ DeviceFault) → IsFalse (is_stopped old) → HasResult old new (Err answer)
+effect_of_fault old new run (Full n room) answer cause same began synced is_full is_fault runs =
+    let short : room < n = omega (arith, cause.1, cause.2, cause.3) in
+    subst (λ a. HasResult old new (Err a)) (sym (is_full n room refl)) (runs, cause.3, short, same_engine new old cause.4 same began synced)
+effect_of_fault old new run Fault answer cause same began synced is_full is_fault runs =
+    subst (λ a. HasResult old new (Err a)) (sym (is_fault refl)) (
+      runs,
+      record { called = cause.1.called; at_most = cause.1.at_most; rose = cause.1.rose; stopped = cause.1.stopped; board = same; tail = cause.1.tail },
+    )
+effect_of_fault old new run (AlreadyStopped n) answer cause same began synced is_full is_fault runs =
+    let stopped = cause.0 in absurd (cc)
 
 -- The numbers of the engine with the new log and the new board.
 module _ {D : Type 0} {disk : Ghosts D} (old : Engine D disk) (e : Entry) (run : List ℕ) (number : ℕ) (bytes : run ≡ body_of number e ++ zeros 4096) (after : Log D disk) (appended : append.IsAppended old.log after run) where
   pub ends_after : 2 * log.extents_of after + 4 ≤ log.log_tail after
   ends_after =
-      omega (arith, appended.tail, needs number e run bytes, appended.extents, old.ends)
+      omega (arith, appended.tail, needs_two number e run bytes, appended.extents, old.ends)
 
   pub began_after : old.opened_with ≤ log.extents_of after
   began_after = omega (arith, appended.extents, old.began)

@@ -1,4 +1,4 @@
--- Lemmas on the bodies of entries: their lengths, that they are bodies, one more after others, and which entry a body is of.
+-- Lemmas on the bodies of entries: their lengths, that they are bodies, one more after others, and which history bodies lead to.
 use Rattle.std.specs.Prelude.{◌≡◌, ℕ, ◌+◌, ◌*◌, ◌<◌, ◌≤◌, ◌^◌, List, [], ◌∷◌, ◌++◌, length, take}
 use Rattle.std.proofs.Common.{suc, refl, sym, ◌∙◌, ap, subst, arith, length-append}
 use Rattle.std.proofs.lemmas.List.{take_at}
@@ -8,10 +8,12 @@ use Rattle.btr_log.specs.declared.head.Head.{Head}
 use Rattle.btr_log.specs.Head.{content_blocks, head_bytes, IsHead, entry_head}
 use Rattle.btr_log.proofs.HeadLemmas.{length-head_bytes, head_bytes-one, IsHead-entry_head}
 use Rattle.btr_log.specs.Extents.{IsBody, need}
+use Rattle.btr_base.specs.Commit.{Change}
 use Rattle.btr_hist.specs.declared.entry.Entry.{Entry}
+use Rattle.btr_hist.specs.declared.entry.Entry.TheVariants.{Create, Define, Commit, Distillate}
 use Rattle.btr_entry.specs.Grammar.{spelling, IsSpelled}
 use Rattle.btr_entry.proofs.SpellingLemmas.{length-spelling, same_entry}
-use Rattle.btr_engine.specs.Body.{padding, body_of, need_of, bodies_from, bodies}
+use Rattle.btr_engine.specs.Body.{padding, body_of, IsBodyOf, LeadTo, commits_before, node_blocks, nodes_of, need_of}
 
 -- ---- the length of a body, and that it is a body
 
@@ -38,21 +40,37 @@ IsBody-body_of number e some few is = record {
   whole = length-body_of number e;
 }
 
-pub need-body_of : (number : ℕ) (e : Entry) → need (body_of number e) ≡ need_of e
+-- The blocks of a body and of the gate after it.
+pub need-body_of : (number : ℕ) (e : Entry) → need (body_of number e) ≡ content_blocks (length (spelling e)) + 1
 need-body_of number e = omega (arith, length-body_of number e)
+
+-- No extent has node blocks.
+no_nodes : (past : List Change) (e : Entry) → nodes_of past e ≡ 0
+unfolding node_blocks
+no_nodes past (Create id) = refl
+no_nodes past (Define id spec) = refl
+no_nodes past (Commit stream cut added) = refl
+no_nodes past (Distillate stream cut added reads) = refl
+
+-- The body of an entry has the blocks that the entry needs.
+pub need-IsBodyOf : (before : List Entry) (e : Entry) (body : List ℕ) → IsBodyOf before e body → need body ≡ need_of before e
+need-IsBodyOf before e body is =
+    let same : need body ≡ need (body_of (length before + 1) e) = ap need is.bytes in
+    omega (arith, same, need-body_of (length before + 1) e, no_nodes (commits_before before e) e)
+
+-- A body and the gate after it are at least two blocks.
+pub least-IsBodyOf : (before : List Entry) (e : Entry) (body : List ℕ) → IsBodyOf before e body → 2 ≤ need body
+least-IsBodyOf before e body is =
+    let same : need body ≡ need (body_of (length before + 1) e) = ap need is.bytes in
+    omega (arith, same, need-body_of (length before + 1) e)
 
 -- ---- one more after others
 
-bodies_from-push : (number : ℕ) (h : List Entry) (e : Entry) → bodies_from number (h ++ e ∷ []) ≡ bodies_from number h ++ body_of (length h + number) e ∷ []
-bodies_from-push number [] e =
-    let place : number ≡ length {A = Entry} [] + number = omega arith in
-    ap (λ n. body_of n e ∷ []) place
-bodies_from-push number (f ∷ h) e =
-    let place : length h + suc number ≡ length (f ∷ h) + number = omega arith in
-    ap (λ (l : List (List ℕ)). body_of number f ∷ l) (subst (λ n. bodies_from (suc number) (h ++ e ∷ []) ≡ bodies_from (suc number) h ++ body_of n e ∷ []) place (bodies_from-push (suc number) h e))
-
-pub bodies-push : (h : List Entry) (e : Entry) → bodies (h ++ e ∷ []) ≡ bodies h ++ body_of (length h + 1) e ∷ []
-bodies-push h e = bodies_from-push 1 h e
+pub LeadTo-push : (before : List Entry) (bodies : List (List ℕ)) (h : List Entry) (e : Entry) (body : List ℕ) → LeadTo before bodies h → IsBodyOf h e body → LeadTo before (bodies ++ body ∷ []) (h ++ e ∷ [])
+LeadTo-push before [] h e body leads is =
+    (e, subst (λ k. IsBodyOf k e body) (sym leads) is, ap (λ k. k ++ e ∷ []) leads)
+LeadTo-push before (first ∷ bodies) h e body leads is =
+    (leads.0, leads.1, LeadTo-push (before ++ leads.0 ∷ []) bodies h e body leads.2 is)
 
 -- ---- the entry of a body
 
@@ -83,3 +101,24 @@ body_of-spelling number e f some few is is_too same =
 pub body_of-one : (number : ℕ) (e f : Entry) → 1 ≤ number → number < 2 ^ 64 → IsSpelled e → IsSpelled f → body_of number e ≡ body_of number f → e ≡ f
 body_of-one number e f some few is is_too same =
     same_entry e f is is_too (body_of-spelling number e f some few is is_too same)
+
+-- A body is that of one entry at most.
+pub IsBodyOf-one : (before : List Entry) (e f : Entry) (body : List ℕ) → length before + 1 < 2 ^ 64 → IsBodyOf before e body → IsBodyOf before f body → e ≡ f
+IsBodyOf-one before e f body few is other =
+    body_of-one (length before + 1) e f (omega arith) few is.spelled other.spelled (sym is.bytes ∙ other.bytes)
+
+-- The bodies of a history are as many as its entries.
+pub LeadTo-length : (before : List Entry) (bodies : List (List ℕ)) (h : List Entry) → LeadTo before bodies h → length h ≡ length before + length bodies
+LeadTo-length before [] h leads =
+    let same : length before ≡ length h = ap (length {A = Entry}) leads in
+    omega (arith, same)
+LeadTo-length before (body ∷ bodies) h leads =
+    omega (arith, LeadTo-length (before ++ leads.0 ∷ []) bodies h leads.2, length-append before (leads.0 ∷ []))
+
+-- The same bodies lead to one history.
+pub LeadTo-one : (before : List Entry) (bodies : List (List ℕ)) (h k : List Entry) → length before + length bodies < 2 ^ 64 → LeadTo before bodies h → LeadTo before bodies k → h ≡ k
+LeadTo-one before [] h k few first second = sym first ∙ second
+LeadTo-one before (body ∷ bodies) h k few first second =
+    let same : first.0 ≡ second.0 = IsBodyOf-one before first.0 second.0 body (omega (arith, few)) first.1 second.1 in
+    let other : LeadTo (before ++ first.0 ∷ []) bodies k = subst (λ e. LeadTo (before ++ e ∷ []) bodies k) (sym same) second.2 in
+    LeadTo-one (before ++ first.0 ∷ []) bodies h k (omega (arith, few, length-append before (first.0 ∷ []))) first.2 other

@@ -1,7 +1,6 @@
 -- Which history is held: by images that agree, and after one entry more.
 use Rattle.std.specs.Prelude.{◌≡◌, ℕ, ◌+◌, ◌-◌, ◌*◌, ◌<◌, ◌≤◌, List, [], ◌∷◌, ◌++◌, length, None}
 use Rattle.std.proofs.Common.{sym, ◌∙◌, ap, subst, inl, inr, ⊎_elim, arith}
-use Rattle.btr_base.proofs.ListLemmas.{each-append}
 use Rattle.btr_disk.specs.Bytes.{Image, Same}
 use Rattle.btr_disk.specs.Gate.{IsClosed}
 use Rattle.btr_disk.proofs.ByteLemmas.{Has-along}
@@ -15,9 +14,8 @@ use Rattle.btr_super.specs.Choose.{HasSuper, IsChosen}
 use Rattle.btr_hist.specs.declared.entry.Entry.{Entry}
 use Rattle.btr_hist.specs.Legal.{rejection}
 use Rattle.btr_hist.proofs.HistoryLemmas.{follows-push}
-use Rattle.btr_entry.specs.Grammar.{IsSpelled}
-use Rattle.btr_engine.specs.Body.{body_of, need_of, bodies}
-use Rattle.btr_engine.proofs.BodyLemmas.{bodies-push, need-body_of}
+use Rattle.btr_engine.specs.Body.{IsBodyOf, need_of}
+use Rattle.btr_engine.proofs.BodyLemmas.{LeadTo-push, need-IsBodyOf}
 use Rattle.btr_engine.specs.Holds.{HoldsHistoryTo}
 use Rattle.btr_engine.specs.Step.{IsBeforeOrAfter}
 
@@ -63,19 +61,20 @@ tails-push first second gate (f ∷ list) body tail other x y =
 
 module _ (size : ℕ) (old : Image) (blocks tail : ℕ) (h : List Entry) (at : HoldsHistoryTo size old blocks tail h) where
   behind_prefix : 4 ≤ tail
-  behind_prefix = Extents-le old first_gate (bodies h) tail at.extents
+  behind_prefix = Extents-le old first_gate at.bodies tail at.extents
 
   -- If all below the tail is the same and the log has the same entries, the image holds the same history.
-  holds_as_before : (new : Image) → ((k : ℕ) → k < 4096 * tail → new k ≡ old k) → IsLog new first_gate (bodies h) → HoldsHistoryTo size new blocks tail h
+  holds_as_before : (new : Image) → ((k : ℕ) → k < 4096 * tail → new k ≡ old k) → IsLog new first_gate at.bodies → HoldsHistoryTo size new blocks tail h
   holds_as_before new below log =
-      let same : log.0 ≡ tail = tails-one new old first_gate (bodies h) log.0 tail log.1 at.extents in
+      let same : log.0 ≡ tail = tails-one new old first_gate at.bodies log.0 tail log.1 at.extents in
       let prefix : 4 ≤ tail = behind_prefix in
       record {
         super = at.super;
         chosen = IsChosen-along size old new at.super (λ k lt. below k (omega arith)) at.chosen;
         same_blocks = at.same_blocks;
-        spelled = at.spelled;
-        extents = subst (Extents new first_gate (bodies h)) same log.1;
+        bodies = at.bodies;
+        extents = subst (Extents new first_gate at.bodies) same log.1;
+        leads = at.leads;
         closed = subst (IsClosed new) same log.2;
         inside = at.inside;
         follows = at.follows;
@@ -84,34 +83,34 @@ module _ (size : ℕ) (old : Image) (blocks tail : ℕ) (h : List Entry) (at : H
   -- An image with the same bytes holds the same history.
   pub holds_still : (new : Image) → Same old new → HoldsHistoryTo size new blocks tail h
   holds_still new same =
-      holds_as_before new (λ k lt. same k) (IsLog-Same old new first_gate (bodies h) same (tail, at.extents, at.closed))
+      holds_as_before new (λ k lt. same k) (IsLog-Same old new first_gate at.bodies same (tail, at.extents, at.closed))
 
-  module _ (e : Entry) (spelled : IsSpelled e) (allowed : rejection h e ≡ None) (fits : tail + need_of e < blocks) where
+  module _ (e : Entry) (body : List ℕ) (is : IsBodyOf h e body) (allowed : rejection h e ≡ None) (fits : tail + need_of h e < blocks) where
     -- If all below the tail is the same and the log has this entry too, the image holds the history with it.
-    pub holds_with : (new : Image) → ((k : ℕ) → k < 4096 * tail → new k ≡ old k) → IsLog new first_gate (bodies h ++ body_of (length h + 1) e ∷ []) → HoldsHistoryTo size new blocks (tail + need_of e) (h ++ e ∷ [])
+    pub holds_with : (new : Image) → ((k : ℕ) → k < 4096 * tail → new k ≡ old k) → IsLog new first_gate (at.bodies ++ body ∷ []) → HoldsHistoryTo size new blocks (tail + need_of h e) (h ++ e ∷ [])
     holds_with new below log =
-        let body = body_of (length h + 1) e in
-        let end : log.0 ≡ tail + need_of e = tails-push old new first_gate (bodies h) body tail log.0 at.extents log.1 ∙ ap (λ n. tail + n) (need-body_of (length h + 1) e) in
+        let end : log.0 ≡ tail + need_of h e = tails-push old new first_gate at.bodies body tail log.0 at.extents log.1 ∙ ap (λ n. tail + n) (need-IsBodyOf h e body is) in
         let prefix : 4 ≤ tail = behind_prefix in
         record {
           super = at.super;
           chosen = IsChosen-along size old new at.super (λ k lt. below k (omega arith)) at.chosen;
           same_blocks = at.same_blocks;
-          spelled = each-append IsSpelled h (e ∷ []) at.spelled (spelled, tt);
-          extents = subst (λ list. Extents new first_gate list (tail + need_of e)) (sym (bodies-push h e)) (subst (Extents new first_gate (bodies h ++ body ∷ [])) end log.1);
+          bodies = at.bodies ++ body ∷ [];
+          extents = subst (Extents new first_gate (at.bodies ++ body ∷ [])) end log.1;
+          leads = LeadTo-push [] at.bodies h e body at.leads is;
           closed = subst (IsClosed new) end log.2;
           inside = fits;
           follows = follows-push h e at.follows allowed;
         }
 
     -- An image at a moment of an append holds one of the two.
-    pub before_or_after : (body : List ℕ) → body ≡ body_of (length h + 1) e → (image : Image) → IsMoment old tail (bodies h) body image → IsBeforeOrAfter size h e image
-    before_or_after body is image moment =
+    pub before_or_after : (image : Image) → IsMoment old tail at.bodies body image → IsBeforeOrAfter size h e image
+    before_or_after image moment =
         ⊎_elim
         (λ log. inl (record { blocks = blocks; tail = tail; holds = holds_as_before image moment.below log }))
         (λ log. inr (record {
           blocks = blocks;
-          tail = tail + need_of e;
-          holds = holds_with image moment.below (subst (λ b. IsLog image first_gate (bodies h ++ b ∷ [])) is log);
+          tail = tail + need_of h e;
+          holds = holds_with image moment.below log;
         }))
         moment.log

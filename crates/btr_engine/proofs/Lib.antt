@@ -1,4 +1,5 @@
 pub mod BodyLemmas
+pub mod NeedLemmas
 pub mod EngineLemmas
 mod ExtentBytes
 mod Streams

@@ -2,7 +2,7 @@
 use Rattle.std.specs.Prelude.{◌≡◌, ℕ, ◌+◌, ◌*◌, ◌<◌, ◌≤◌, ◌^◌, List, ◌++◌, length, Result, Ok, Err, IsFalse, IfErr, IsErr}
 use Rattle.std.specs.Result.{IsErrAnd}
 use Rattle.std.specs.Coded.{le_prop}
-use Rattle.std.proofs.Common.{refl, sym, ◌∙◌, ap, subst, inl}
+use Rattle.std.proofs.Common.{refl, sym, ◌∙◌, ap, subst, inl, arith}
 use Rattle.std.proofs.Math.Nat.{ℕ_set}
 use mathlib.Core.HLevel.{is_prop→PathP}
 use Rattle.btr_disk.specs.declared.disk.Disk.{Ghosts}
@@ -22,7 +22,7 @@ use Rattle.btr_engine.specs.declared.step.Pending.{Pending}
 use Rattle.btr_engine.specs.declared.step.StepFault.{StepFault}
 use Rattle.btr_engine.specs.declared.board.PushFault.{PushFault}
 use Rattle.btr_engine.specs.declared.board.PushFault.TheVariants.{Rejected, Want}
-use Rattle.btr_engine.specs.Body.{body_of, need_of, bodies}
+use Rattle.btr_engine.specs.Body.{body_of}
 use Rattle.btr_engine.proofs.BodyLemmas.{IsBody-body_of, need-body_of}
 use Rattle.btr_engine.specs.Engine.{device, is_stopped, IsAtRest, EngineLeaves}
 use Rattle.btr_engine.specs.Stage.{PushCause}
@@ -37,8 +37,11 @@ module _ (number : ℕ) (e : Entry) (run : List ℕ) (is : run ≡ body_of numbe
   pub brings : append.body_in_run run ≡ body_of number e
   brings = ap append.body_in_run is ∙ body_in_run-append (body_of number e)
 
-  pub needs : need (append.body_in_run run) ≡ need_of e
-  needs = ap need brings ∙ need-body_of number e
+  -- It has two blocks or more, with the gate after it.
+  pub needs_two : 2 ≤ need (append.body_in_run run)
+  needs_two =
+      let same : need (append.body_in_run run) ≡ need (body_of number e) = ap need brings in
+      omega (arith, same, need-body_of number e)
 
   pub is_append_run : 1 ≤ number → number < 2 ^ 64 → IsSpelled e → append.IsAppendRun run
   is_append_run some few spelled =
@@ -61,7 +64,7 @@ module _ {D : Type 0} {disk : Ghosts D} where
   }
 
   -- The device has the log of the bodies, at rest.
-  pub log_at_rest : (h : List Entry) (engine : Engine D disk) → IsAtRest h engine → log.IsLogAtRest engine.log (bodies h)
+  pub log_at_rest : (h : List Entry) (engine : Engine D disk) (rest : IsAtRest h engine) → log.IsLogAtRest engine.log rest.holds.bodies
   log_at_rest h engine rest =
       record { extents = rest.holds.extents; closed = rest.holds.closed; only = rest.only }
 

@@ -15,9 +15,13 @@ use Rattle.btr_engine.specs.Board.{Kept, IsBoardOf}
 use Rattle.btr_engine.specs.Holds.{HoldsHistoryTo, HoldsHistory}
 
 module _ {D : Type 0} {disk : Ghosts D} where
+  -- The log.
+  abbrev pub log_of : Engine D disk → Log D disk
+  log_of e = e.log
+
   -- The device.
   abbrev pub device : Engine D disk → D
-  device e = log.log_device e.log
+  device e = log.log_device (log_of e)
 
   -- The board.
   abbrev pub board_of : Engine D disk → Kept
@@ -33,11 +37,11 @@ module _ {D : Type 0} {disk : Ghosts D} where
 
   -- The blocks of the store, from block 0 on.
   abbrev pub blocks_of : Engine D disk → ℕ
-  blocks_of e = log.log_blocks e.log
+  blocks_of e = log.log_blocks (log_of e)
 
   -- The block of the gate after the last extent.
   abbrev pub tail_of : Engine D disk → ℕ
-  tail_of e = log.log_tail e.log
+  tail_of e = log.log_tail (log_of e)
 
   -- The blocks after that gate.
   abbrev pub room_of : Engine D disk → ℕ
@@ -45,7 +49,7 @@ module _ {D : Type 0} {disk : Ghosts D} where
 
   -- Whether the device failed in a step.
   abbrev pub is_stopped : Engine D disk → Bool
-  is_stopped e = log.is_log_stopped e.log
+  is_stopped e = log.is_log_stopped (log_of e)
 
   -- The device as the sync left it with which the engine was opened.
   abbrev pub synced_of : Engine D disk → D
@@ -102,7 +106,7 @@ module _ {D : Type 0} {disk : Ghosts D} where
 
   -- The engine has this log and this board, and was opened by this sync, with as many entries as it has.
   pub record IsMadeOf (l : Log D disk) (b : Kept) (synced : D) (e : Engine D disk) : Type 0 where
-    pub same_log : e.log ≡ l
+    pub same_log : log_of e ≡ l
     pub same_board : board_of e ≡ b
     pub same_synced : synced_of e ≡ synced
     pub same_entries : entries_at_open e ≡ entries_of e

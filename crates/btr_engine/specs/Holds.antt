@@ -1,6 +1,5 @@
 -- Which history a device holds: what its bytes have to be.
-use Rattle.std.specs.Prelude.{◌≡◌, ℕ, ◌<◌, List}
-use Rattle.std.specs.List.{AllByRecursion}
+use Rattle.std.specs.Prelude.{◌≡◌, ℕ, ◌<◌, List, []}
 use Rattle.btr_disk.specs.Bytes.{Image}
 use Rattle.btr_disk.specs.Gate.{IsClosed}
 use Rattle.btr_log.specs.Extents.{Extents, first_gate}
@@ -8,19 +7,19 @@ use Rattle.btr_super.specs.declared.superblock.Super.{Super}
 use Rattle.btr_super.specs.Choose.{IsChosen}
 use Rattle.btr_hist.specs.declared.entry.Entry.{Entry}
 use Rattle.btr_hist.specs.Legal.{Follows}
-use Rattle.btr_entry.specs.Grammar.{IsSpelled}
-use Rattle.btr_engine.specs.Body.{bodies}
+use Rattle.btr_engine.specs.Body.{LeadTo}
 
 -- A device of `size` blocks with these bytes holds a store of `blocks` blocks with this history. A superblock is chosen that
--- gives this number of blocks. From block 4 on the extents after open gates hold the history's entries, in order, with their
--- numbers from 1 on. The gate after the last extent, at the tail, is closed. Each entry is accepted after those before it. Whether
--- a distillate has the cut and the points that the definition gives is not tested by an opening, and not said here.
+-- gives this number of blocks. From block 4 on extents with these bodies follow open gates, and the bodies lead to the history: each
+-- is that of the next entry. The gate after the last extent, at the tail, is closed. Each entry is accepted after those before it.
+-- Whether a distillate has the cut and the points that the definition gives is not tested by an opening, and not said here.
 pub record HoldsHistoryTo (size : ℕ) (image : Image) (blocks tail : ℕ) (h : List Entry) : Type 0 where
   pub super : Super
   pub chosen : IsChosen size image super
   pub same_blocks : super.blocks ≡ blocks
-  pub spelled : AllByRecursion IsSpelled h
-  pub extents : Extents image first_gate (bodies h) tail
+  pub bodies : List (List ℕ)
+  pub extents : Extents image first_gate bodies tail
+  pub leads : LeadTo [] bodies h
   pub closed : IsClosed image tail
   pub inside : tail < blocks
   pub follows : Follows h

@@ -13,11 +13,12 @@ use Rattle.btr_engine.specs.Board.{IsBoardOf}
 use Rattle.btr_engine.specs.Body.{body_of}
 use Rattle.btr_engine.specs.Stage.{IsReceipt}
 
--- The extent is the entry's, with this number, and the board has this number of entries.
+-- The extent is the entry's, with this number. The board has this number of entries, and the receipt says it.
 pub record IsMade (number : ℕ) (e : Entry) (p : Pending) : Type 0 where
   pub spelled : IsSpelled e
   pub bytes : p.extent.items ≡ body_of number e ++ zeros 4096
   pub counted : p.staged.next.entries ≡ number
+  pub numbered : p.staged.receipt.number ≡ number
 
 -- The entry may follow this history. The board is of the history with it, and the receipt is the entry's.
 pub record IsPending (h : List Entry) (e : Entry) (p : Pending) : Type 0 where

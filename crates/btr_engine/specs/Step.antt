@@ -39,14 +39,14 @@ module _ {D : Type 0} {disk : Ghosts D} where
   pub record CanStep (h : List Entry) (engine : Engine D disk) (e : Entry) : Type 0 where
     pub runs : is_stopped engine ≡ false
     pub allowed : rejection h e ≡ None
-    pub fits : need_of e ≤ room_of engine
+    pub fits : need_of h e ≤ room_of engine
 
   -- The engine, which was of this history, is of the history with this entry at its end. It is not stopped, and the
   -- device counted the calls of a step.
   pub record IsStepped (h : List Entry) (old new : Engine D disk) (e : Entry) (receipt : Receipt) : Type 0 where
     pub could : CanStep h old e
     pub of : IsEngineOf (h ++ e ∷ []) new
-    pub tail : tail_of new ≡ tail_of old + need_of e
+    pub tail : tail_of new ≡ tail_of old + need_of h e
     pub runs : is_stopped new ≡ false
     pub called : CountedTimes calls_of_step (disk.calls (device old)) (disk.calls (device new))
     pub is_receipt : IsReceipt h e receipt
@@ -65,6 +65,28 @@ module _ {D : Type 0} {disk : Ghosts D} where
     pub returned : result ≡ Err (Stopped (entries_of old))
     pub same : new ≡ old
 
+  -- An engine that ran has one entry more, whose number the receipt says. It still runs, and the device counted the calls of a step.
+  pub record AddsOne (old new : Engine D disk) (receipt : Receipt) : Type 0 where
+    pub ran : is_stopped old ≡ false
+    pub runs : is_stopped new ≡ false
+    pub entries : entries_of new ≡ entries_of old + 1
+    pub number : receipt.number ≡ entries_of new
+    pub called : CountedTimes calls_of_step (disk.calls (device old)) (disk.calls (device new))
+
+  -- What a step with this result did to the engine, also if the engine is of no history.
+  abbrev pub HasResult : Engine D disk → Engine D disk → Result Receipt StepFault → Type 0
+  HasResult old new (Ok receipt) = AddsOne old new receipt
+  HasResult old new (Err (Stopped entries)) = (is_stopped old ≡ true) × (entries ≡ entries_of old) × (new ≡ old)
+  HasResult old new (Err (Rejected why)) = (is_stopped old ≡ false) × (new ≡ old)
+  HasResult old new (Err Want) = (is_stopped old ≡ false) × (new ≡ old)
+  HasResult old new (Err (DeviceFull need left)) = (is_stopped old ≡ false) × (left ≡ room_of old) × (left < need) × (new ≡ old)
+  HasResult old new (Err DeviceFault) = (is_stopped old ≡ false) × StopsByFault old new
+
+  -- What a step did to the engine, also if the engine is of no history: a stopped one only says that it is stopped.
+  pub record HasEffect (old new : Engine D disk) (result : Result Receipt StepFault) : Type 0 where
+    pub stopped : IsTrue (is_stopped old) → StaysStopped old new result
+    pub has_result : HasResult old new result
+
   -- Why a step refuses an entry if the engine is of this history, and what the engine is then.
   abbrev pub StepCause : List Entry → Engine D disk → Engine D disk → Entry → StepFault → Type 0
   StepCause h old new e (Stopped entries) =
@@ -75,12 +97,12 @@ module _ {D : Type 0} {disk : Ghosts D} where
       IsFalse (is_stopped old) × MayLackMemory (rejection h e) × (new ≡ old)
   StepCause h old new e (DeviceFull need left) =
       IsFalse (is_stopped old) × (rejection h e ≡ None)
-      × (need ≡ need_of e) × (left ≡ room_of old) × (left < need) × (new ≡ old)
+      × (need ≡ need_of h e) × (left ≡ room_of old) × (left < need) × (new ≡ old)
   StepCause h old new e DeviceFault = CanStep h old e × StopsByFault old new
 
   -- The second engine is the first one after a step with this entry, which returned this.
   pub record IsStep (old new : Engine D disk) (e : Entry) (result : Result Receipt StepFault) : Type 0 where
-    pub stopped : IsTrue (is_stopped old) → StaysStopped old new result
+    pub effect : HasEffect old new result
     pub cause : (h : List Entry) → IsEngineOf h old → IfErr result (StepCause h old new e)
     pub stepped : (h : List Entry) → IsEngineOf h old → IfOk result (IsStepped h old new e)
     pub kept : KeepsOpening old new

@@ -1,10 +1,10 @@
 //! The step: it adds one entry, which is durable before the step returns.
-ghost use Rattle.std.specs.Prelude.{◌≡◌, ℕ, ◌+◌, List, [], ◌∷◌, ◌++◌, false, IfErr, IfOk, OnOk, IsTrue, length};
+ghost use Rattle.std.specs.Prelude.{◌≡◌, ℕ, ◌+◌, List, [], ◌∷◌, ◌++◌, false, Err, IfErr, IfOk, OnOk, length};
 ghost use Rattle.btr_log.specs.declared.append.AppendFault.TheVariants.{Full, Fault, Stopped as AlreadyStopped};
 ghost use Rattle.btr_hist.specs.declared.entry.Entry.{Entry as EntrySpec};
 ghost use Rattle.btr_engine.specs.declared.step.StepFault.TheVariants.{Stopped, DeviceFull, DeviceFault};
 ghost use Rattle.btr_engine.specs.Engine.{device, entries_of, is_stopped, IsEngineOf, IsAtRest, IsDurable, EngineLeaves, KeepsOpening};
-ghost use Rattle.btr_engine.specs.Step.{history_after, in_flight_after, IsBeforeOrAfter, IsStepped, StaysStopped, StepCause};
+ghost use Rattle.btr_engine.specs.Step.{history_after, in_flight_after, IsBeforeOrAfter, HasEffect, HasResult, IsStepped, StepCause};
 ghost use Rattle.btr_engine.specs.Pending.{IsMade, IsPending};
 
 use crate::board::{PushFault, Receipt, Staged};
@@ -56,7 +56,7 @@ impl<D: Disk> Engine<D> {
     /// before it. It takes all memory before the first call. It costs the bytes of the entry, the nodes of its stream's tree
     /// that it touches, and time logarithmic in the streams, versions and ids.
     pub fn step(&mut self, alloc: Global, entry: &Entry) -> Result<Receipt, StepFault>
-        ensures stopped { IsTrue (is_stopped self.old) → StaysStopped self.old self.new result }
+        ensures effect { HasEffect self.old self.new result }
         ensures cause { (h : List EntrySpec) → IsEngineOf h self.old → IfErr result (StepCause h self.old self.new entry.now) }
         ensures stepped { (h : List EntrySpec) → IsEngineOf h self.old → IfOk result (IsStepped h self.old self.new entry.now) }
         ensures kept { KeepsOpening self.old self.new }
@@ -88,6 +88,7 @@ impl<D: Disk> Engine<D> {
         ensures made { IfOk result (IsMade (entries_of self.now + 1) entry.now) }
         ensures pending { (h : List EntrySpec) → IsEngineOf h self.now → IfOk result (IsPending h entry.now) }
         ensures cause { (h : List EntrySpec) → IsEngineOf h self.now → IfErr result (StepCause h self.now self.now entry.now) }
+        ensures refused { IfErr result (λ fault. HasResult self.now self.now (Err fault)) }
     {
         let staged = self.board.stage(alloc, entry)?;
         let extent = encode_extent(alloc, entry, staged.receipt.number)?;

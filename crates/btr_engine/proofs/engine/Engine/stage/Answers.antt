@@ -9,6 +9,7 @@ returns-clause-made g c = record {
   spelled = c.in_ok-extent.ensures.spelled;
   bytes = c.in_ok-extent.ensures.bytes ∙ ap (λ n. body_of n c.args.entry.now ++ zeros 4096) c.in_ok-staged.ensures.number;
   counted = c.in_ok-staged.ensures.counted;
+  numbered = c.in_ok-staged.ensures.number;
 }
 
 pub returns-clause-pending : goal.returns-clause-pending

@@ -1,15 +1,21 @@
-use Rattle.std.specs.Prelude.{◌≡◌, ◌+◌, ◌≤◌, List, [], ◌∷◌, ◌++◌, length, Ok, IsFalse}
+use Rattle.std.specs.Prelude.{◌≡◌, ◌+◌, ◌≤◌, true, List, [], ◌∷◌, ◌++◌, length, Result, Ok, Err, IsErr, IsFalse}
+use Rattle.std.specs.Result.{IsErrAnd}
+use Rattle.btr_disk.specs.declared.disk.Disk.{Ghosts}
 use Rattle.std.proofs.Common.{refl, sym, ◌∙◌, ap, subst, arith, length-append}
 use Rattle.btr_log.specs.Log as log
 use Rattle.btr_hist.specs.declared.entry.Entry.{Entry}
+use Rattle.btr_engine.specs.declared.engine.Engine.{Engine}
+use Rattle.btr_engine.specs.declared.board.Receipt.{Receipt}
+use Rattle.btr_engine.specs.declared.step.StepFault.{StepFault}
+use Rattle.btr_engine.specs.declared.step.StepFault.TheVariants.{Stopped}
 use Rattle.btr_engine.specs.Board.{Kept, IsBoardOf}
 use Rattle.btr_engine.specs.Body.{need_of}
 use Rattle.btr_engine.specs.Engine.{device, entries_of, is_stopped, room_of, IsEngineOf, IsAtRest}
 use Rattle.btr_engine.specs.Stage.{IsReceipt}
-use Rattle.btr_engine.specs.Step.{IsBeforeOrAfter}
+use Rattle.btr_engine.specs.Step.{IsBeforeOrAfter, HasResult, HasEffect}
 use Rattle.btr_engine.proofs.EngineLemmas.{durable_as}
 use Rattle.btr_engine.proofs.Stepping.{is_append_run, log_at_rest, no_moment}
-use Rattle.btr_engine.proofs.Appending.{IsExtentOf, extent_of_pending, fits_unless_full, refused, moments, moments_of_fault, stepped, at_rest, ends_after, began_after}
+use Rattle.btr_engine.proofs.Appending.{IsExtentOf, extent_of_pending, fits_unless_full, refused, effect_of_fault, moments, moments_of_fault, stepped, at_rest, ends_after, began_after}
 use Rattle.btr_engine.proofs.Durable.{opening_kept, durable_taken, durable_of_fault}
 use Rattle.btr_engine.proofs.engine.Engine.step.Given.{Over}
 use Rattle.btr_engine.proofs.engine.Engine.step.Goals.{After-stage, After-deref, In-Err, In_default, After-accept}
@@ -35,7 +41,7 @@ left_by_fault g c is_observable h rest =
     c.in-Err.ensures.full c.in-Err.ensures.cause (g.met.D.Disk.only_now is_observable old.log.disk) rest (c.in-Err.ensures.moments is_observable _ (log_at_rest h old rest))
 
 -- the append succeeded: there was room
-fits : (g : Over) (c : In_default g) (h : List Entry) → IsEngineOf h c.args.self.now → need_of c.args.entry.now ≤ room_of c.args.self.now
+fits : (g : Over) (c : In_default g) (h : List Entry) → IsEngineOf h c.args.self.now → need_of h c.args.entry.now ≤ room_of c.args.self.now
 fits g c h of =
     fits_unless_full h c.args.self.now c.args.entry.now c.deref.result.now (its_extent g (goal.at.In_default g c).After-deref h of) (Ok tt) (ran g (goal.at.In_default g c).After-stage)
     c.in_default.ensures.full (λ no. absurd (cc))
@@ -49,6 +55,42 @@ left_by_append g c is_observable h rest =
 of_next : (g : Over) (c : After-accept g) (h : List Entry) → IsEngineOf h c.args.self.now → IsBoardOf (h ++ c.args.entry.now ∷ []) c.accept.new.self
 of_next g c h of =
     subst (IsBoardOf (h ++ c.args.entry.now ∷ [])) (sym c.accept.ensures.next) (c.in_ok-pending.ensures.pending h of).of
+
+-- ---- the effect, of whatever history
+
+-- A stopped engine adds nothing.
+stopped_runs : {D : Type 0} {disk : Ghosts D} (old new : Engine D disk) (result : Result Receipt StepFault) → IsFalse (is_stopped old) → HasResult old new result → HasEffect old new result
+stopped_runs old new result runs has = record { stopped = λ stopped. absurd (cc); has_result = has }
+
+-- The fault of the staging is handed on.
+handed_on : {D : Type 0} {disk : Ghosts D} (old : Engine D disk) (result : Result Receipt StepFault) (fault : StepFault) → IsErr result × IsErrAnd result (λ f. f ≡ fault) → HasResult old old (Err fault) → HasResult old old result
+handed_on old (Ok receipt) fault is has = absurd (cc)
+handed_on old (Err f) fault is has = subst (λ x. HasResult old old (Err x)) (sym is.1) has
+
+pub returns-then-stopped-clause-effect : goal.returns-then-stopped-clause-effect
+returns-then-stopped-clause-effect g c =
+    let stopped : is_stopped c.args.self.now ≡ true = sym c.stopped.ensures.stopped ∙ c.if-stopped.true in
+    record { stopped = λ _. record { returned = ap (λ n. Err (Stopped n)) c.entries.ensures; same = refl }; has_result = (stopped, c.entries.ensures, refl) }
+
+pub returns-in_err-pending-clause-effect : goal.returns-in_err-pending-clause-effect
+returns-in_err-pending-clause-effect g c =
+    stopped_runs c.args.self.now c.args.self.now _ (ran g (goal.at.returns-in_err-pending-clause-effect g c).After-stage)
+    (handed_on c.args.self.now c.from_residual.result c.in_err-pending.field-0.0 c.from_residual.ensures (c.in_err-pending.ensures.refused))
+
+pub returns-in-Err-clause-effect : goal.returns-in-Err-clause-effect
+returns-in-Err-clause-effect g c =
+    let old = c.args.self.now in
+    let runs = ran g (goal.at.returns-in-Err-clause-effect g c).After-stage in
+    stopped_runs old _ _ runs (effect_of_fault old _ c.deref.result.now c.in-Err.fault c.step_fault.result c.in-Err.ensures.cause refl refl refl c.step_fault.ensures.full c.step_fault.ensures.failed runs)
+
+pub returns-clause-effect : goal.returns-clause-effect
+returns-clause-effect g c =
+    let old = c.args.self.now in
+    let made = c.in_ok-pending.ensures.made in
+    let runs = ran g (goal.at.returns-clause-effect g c).After-stage in
+    let entries : c.accept.new.self.entries ≡ entries_of old + 1 = ap (λ (b : Kept). b.entries) c.accept.ensures.next ∙ made.counted in
+    let number : c.accept.result.number ≡ entries_of old + 1 = ap (λ (r : Receipt). r.number) c.accept.ensures.receipt ∙ made.numbered in
+    stopped_runs old _ _ runs (record { ran = runs; runs = c.in_default.ensures.appended.runs; entries = entries; number = number ∙ sym entries; called = c.in_default.ensures.appended.calls })
 
 -- ---- without a call of the device
 
