@@ -13,6 +13,7 @@ use Rattle.btr_engine.specs.declared.engine.Engine.{Engine}
 use Rattle.btr_engine.specs.declared.board.Receipt.{Receipt}
 use Rattle.btr_engine.specs.declared.step.StepFault.{StepFault}
 use Rattle.btr_engine.specs.declared.step.StepFault.TheVariants.{Stopped, Rejected, Want, DeviceFull, DeviceFault}
+use Rattle.btr_engine.specs.Body.{needs_after}
 use Rattle.btr_engine.specs.Stage.{IsReceipt}
 use Rattle.btr_engine.specs.Engine.{entries_of, is_stopped, room_of, IsEngineOf}
 use Rattle.btr_engine.specs.Step.{IsStep, IsStepped}
@@ -27,7 +28,7 @@ use Rattle.btr_hall.specs.declared.session.Session.{Session}
 use Rattle.btr_hall.specs.Trace.{IsTraceOf, engine_after, entries_in, has_halt, stopped_in, history_of}
 use Rattle.btr_hall.specs.Store.{IsStoreOf}
 use Rattle.btr_hall.specs.Session.{IsAlone, HasOneTurn, opening_of, seen_of, mine_of, engine_of}
-use Rattle.btr_hall.specs.Commit.{shown, needs_of, has_failed, number_by, item_by, Adds, CommitReplies, Commits}
+use Rattle.btr_hall.specs.Commit.{shown, has_failed, number_by, item_by, Adds, CommitReplies, Commits}
 use Rattle.btr_hall.proofs.TraceLemmas.{engine_append, halt_append, engine_of_list, stopped_of_list, length_of_list, room_of_list, item_engine, item_halt, list_push}
 
 -- A snapshot that shows a value.
@@ -68,14 +69,11 @@ module _ {D : Type 0} {disk : Ghosts D} where
       let more = option_to_list (item_by result e t.engine) in
       let is = list_is s t l e result added adds in
       let step = step_here s t l x e result added of adds in
-      let h = history_of of.some.0 l in
-      let at = engine_of_list of.some.0 x l of.some.1 of.trace in
       record {
-        some = of.some;
         opening = of.opening ∙ ap (λ o. o.value) (sym adds.opening);
         trace = subst (IsTraceOf x) (sym is) (list_push x t.engine l e result of.trace step);
         engine =
-            sym (item_engine h (engine_after x l) t.engine e result at step)
+            sym (item_engine (engine_after x l) t.engine e result step)
             ∙ sym (engine_append x l more)
             ∙ sym (ap (engine_after x) is);
         halted =
@@ -91,16 +89,16 @@ module _ {D : Type 0} {disk : Ghosts D} where
   -- A list without a halt has an item for each entry.
   pub runs_length : (h : List Entry) (x : Engine D disk) (l : List (Item D disk)) → IsEngineOf h x → IsTraceOf x l → is_stopped (engine_after x l) ≡ false → length l ≡ length (history_of h l)
   runs_length h x l of trace runs =
-      let all = length_of_list h x l of trace in
+      let all = length_of_list x l trace in
       let entries = (engine_of_list h x l of trace).entries in
-      let none = no_halt (is_stopped x) (has_halt l) (sym (stopped_of_list h x l of trace) ∙ runs) in
+      let none = no_halt (is_stopped x) (has_halt l) (sym (stopped_of_list x l trace) ∙ runs) in
       omega (arith, all, entries, none)
     where
       no_halt : (a b : Bool) → (a || b) ≡ false → one b ≡ 0
       no_halt true b is = absurd (cc)
       no_halt false b is = ap one is
 
-  pub replies_of : (h : List Entry) (x y : Engine D disk) (l : List (Item D disk)) (e : Entry) (result : Result Receipt StepFault) → IsEngineOf h x → IsTraceOf x l → IsStep (engine_after x l) y e result → CommitReplies x l (history_of h l) e result
+  pub replies_of : (h : List Entry) (x y : Engine D disk) (l : List (Item D disk)) (e : Entry) (result : Result Receipt StepFault) → IsEngineOf h x → IsTraceOf x l → IsStep (engine_after x l) y e result → CommitReplies x h l (history_of h l) e result
   replies_of h x y l e (Ok receipt) of trace step =
       let at = engine_of_list h x l of trace in
       let stepped : IsStepped (history_of h l) (engine_after x l) y e receipt = step.stepped (history_of h l) at in
@@ -109,23 +107,23 @@ module _ {D : Type 0} {disk : Ghosts D} where
       (stepped.could.allowed, stepped.is_receipt, number ∙ receipt_number (history_of h l) e ∙ sym (ap (λ n. n + 1) long))
   replies_of h x y l e (Err (Stopped n)) of trace step =
       let cause = step.cause (history_of h l) (engine_of_list h x l of trace) in
-      (sym (stopped_of_list h x l of trace) ∙ cause.0, cause.1)
+      (sym (stopped_of_list x l trace) ∙ cause.0, cause.1)
   replies_of h x y l e (Err (Rejected why)) of trace step = (step.cause (history_of h l) (engine_of_list h x l of trace)).1
   replies_of h x y l e (Err Want) of trace step = (step.cause (history_of h l) (engine_of_list h x l of trace)).1
   replies_of h x y l e (Err (DeviceFull need room)) of trace step =
       let cause = step.cause (history_of h l) (engine_of_list h x l of trace) in
       let all = room_of_list h x l of trace in
       let left : room ≡ room_of (engine_after x l) = cause.3 in
-      (cause.1, cause.2, ap (λ n. n + needs_of (entries_in l)) left ∙ all, cause.4)
+      (cause.1, cause.2, ap (λ n. n + needs_after h (entries_in l)) left ∙ all, cause.4)
   replies_of h x y l e (Err DeviceFault) of trace step =
       (step.cause (history_of h l) (engine_of_list h x l of trace)).0.allowed
 
   -- A stopped engine says so, with the number of its entries.
   pub says_stopped : (h : List Entry) (x y : Engine D disk) (l : List (Item D disk)) (e : Entry) (result : Result Receipt StepFault) → IsEngineOf h x → IsTraceOf x l → IsStep (engine_after x l) y e result → stopped_in x l ≡ true → result ≡ Err (Stopped (length (history_of h l)))
   says_stopped h x y l e result of trace step stopped =
-      let here = stopped_of_list h x l of trace ∙ stopped in
+      let here = stopped_of_list x l trace ∙ stopped in
       let entries = (engine_of_list h x l of trace).entries in
-      (step.stopped here).returned ∙ ap (λ n. Err (Stopped n)) entries
+      (step.effect.stopped here).returned ∙ ap (λ n. Err (Stopped n)) entries
 
   -- ---- the turn
 
@@ -144,10 +142,9 @@ module _ {D : Type 0} {disk : Ghosts D} where
 
     engine_here : engine_of hall new ≡ t.engine
     engine_here =
-        let at = engine_of_list of.some.0 (opening_of hall) before of.some.1 of.trace in
         ap (engine_after (opening_of hall)) seen_here
         ∙ engine_append (opening_of hall) before (option_to_list (item_by result e t.engine))
-        ∙ item_engine (history_of of.some.0 before) (engine_after (opening_of hall) before) t.engine e result at (step_here s t before (opening_of hall) e result added of adds)
+        ∙ item_engine (engine_after (opening_of hall) before) t.engine e result (step_here s t before (opening_of hall) e result added of adds)
 
     pub new_step : IsStep (engine_after (opening_of hall) before) (engine_of hall new) e result
     new_step =

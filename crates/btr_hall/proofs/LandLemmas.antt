@@ -1,14 +1,16 @@
 -- Lemmas on the turn of a plan: what its result says of the history.
 use Rattle.std.specs.Prelude.{◌≡◌, ◌⊎◌, ℕ, ◌+◌, ◌<◌, ◌≤◌, Bool, true, false, List, [], ◌∷◌, ◌++◌, length}
 use Rattle.std.specs.Prelude.{Option, Some, None, option_to_list, Result, Ok, Err, nat_le, if◌then◌else◌}
-use Rattle.std.proofs.Common.{refl, sym, ap, ◌∙◌, subst, inl, inr}
+use Rattle.std.proofs.Common.{refl, sym, ap, ◌∙◌, subst, inl, inr, ⊎_elim}
 use Rattle.std.specs.Option.{unwrap_or}
 use Rattle.std.proofs.lemmas.Bool.{leb-true}
 use Rattle.std.proofs.lemmas.List.{append-nil, append_assoc}
 use Rattle.btr_disk.specs.declared.disk.Disk.{Ghosts}
 use Rattle.btr_hist.specs.declared.entry.Entry.{Entry}
 use Rattle.btr_hist.specs.History.{ids, latest}
-use Rattle.btr_hist.specs.Legal.{Follows}
+use Rattle.btr_hist.specs.declared.rejection.Rejection.{Rejection}
+use Rattle.btr_hist.specs.declared.rejection.Rejection.TheVariants as rejections
+use Rattle.btr_hist.specs.Legal.{rejection, Follows}
 use Rattle.btr_hist.specs.Machine.Reply.{Superseded}
 use Rattle.btr_hist.proofs.HistoryLemmas.{follows-prefix, unknown}
 use Rattle.btr_distil.specs.Plan.{PlanValue, entry_of}
@@ -21,7 +23,7 @@ use Rattle.btr_engine.specs.declared.step.StepFault.{StepFault}
 use Rattle.btr_engine.specs.declared.step.StepFault.TheVariants as steps
 use Rattle.btr_engine.specs.Board.{latest_of}
 use Rattle.btr_engine.specs.Engine.{is_stopped, IsEngineOf}
-use Rattle.btr_engine.specs.Step.{IsStep, IsStepped}
+use Rattle.btr_engine.specs.Step.{IsStep, IsStepped, HasResult}
 use Rattle.btr_gate.specs.Prefixes.{StartsWith}
 use Rattle.btr_gate.specs.Views.{with_entry, with_number}
 use Rattle.btr_hall.specs.declared.item.Item.{Item}
@@ -36,28 +38,33 @@ use Rattle.btr_hall.specs.Session.{IsAlone, HasOneTurn, opening_of, seen_of, min
 use Rattle.btr_hall.specs.Commit.{Adds, item_by}
 use Rattle.btr_hall.specs.Commit as commit
 use Rattle.btr_hall.specs.Landing.{step_fault, step_result, LandingReplies, Lands}
-use Rattle.btr_hall.specs.Superseded.{IsNotSuperseded, IsSupersededBy, StoreLands, MayLand}
+use Rattle.btr_hall.specs.Superseded.{IsNotSuperseded, IsSupersededBy, StoreLands, said_rejection, said_result}
 use Rattle.btr_hall.proofs.TraceLemmas.{entries_append, engine_of_list, stopped_of_list, list_push}
 use Rattle.btr_hall.proofs.CommitLemmas.{store_after, replies_of, says_stopped, new_step, new_seen, new_mine}
 
--- The plan was superseded.
-abbrev is_passed : Result Receipt LandFault → Bool
-is_passed (Err (faults.Superseded version)) = true
-is_passed result = false
+-- A rejection is named, or it is said that memory ran out.
+named_or_want : (why : Rejection) → (step_fault (said_rejection why) ≡ steps.Rejected why) ⊎ (said_rejection why ≡ faults.Want)
+named_or_want rejections.VersionLimit = inl refl
+named_or_want (rejections.Crowded start) = inl refl
+named_or_want (rejections.TooManyPoints count) = inl refl
+named_or_want rejections.NoStream = inr refl
+named_or_want rejections.StreamExists = inr refl
+named_or_want rejections.StreamLimit = inr refl
+named_or_want rejections.NotWritable = inr refl
+named_or_want rejections.BadSpec = inr refl
+named_or_want (rejections.OutOfDomain time) = inr refl
+named_or_want rejections.Empty = inr refl
+named_or_want (rejections.TooMany count) = inr refl
 
--- Only a stopped engine is said to be stopped.
-stopped_back : (result : Result Receipt LandFault) (n : ℕ) → step_result result ≡ Err (steps.Stopped n) → result ≡ Err (faults.Stopped n)
-stopped_back (Ok receipt) n is = absurd (cc)
-stopped_back (Err (faults.Stopped entries)) n is =
-    let same : entries ≡ n = cc in
-    ap (λ m. Err (faults.Stopped m)) same
-stopped_back (Err (faults.Superseded version)) n is = absurd (cc)
-stopped_back (Err faults.VersionLimit) n is = absurd (cc)
-stopped_back (Err (faults.Crowded start)) n is = absurd (cc)
-stopped_back (Err (faults.TooManyPoints count)) n is = absurd (cc)
-stopped_back (Err faults.Want) n is = absurd (cc)
-stopped_back (Err (faults.DeviceFull need left)) n is = absurd (cc)
-stopped_back (Err faults.DeviceFault) n is = absurd (cc)
+-- What is said of a result has the same number.
+said_number : (result : Result Receipt StepFault) (n : ℕ) → commit.number_by (step_result (said_result result)) n ≡ commit.number_by result n
+said_number (Ok receipt) n = refl
+said_number (Err (steps.Stopped entries)) n = refl
+said_number (Err (steps.Rejected why)) n =
+    ⊎_elim (λ named. ap (λ f. commit.number_by (Err f) n) named) (λ want. ap (λ f. commit.number_by (Err (step_fault f)) n) want) (named_or_want why)
+said_number (Err steps.Want) n = refl
+said_number (Err (steps.DeviceFull need left)) n = refl
+said_number (Err steps.DeviceFault) n = refl
 
 not_both : (b : Bool) → b ≡ true → b ≡ false → ⊥
 not_both b a c = cc
@@ -87,18 +94,6 @@ module _ {D : Type 0} {disk : Ghosts D} where
       let front = follows-prefix (history_of h k) longer.0 (subst Follows longer.1 all) in
       subst (λ m. IsPlanOf m p) (sym longer.1) (plan-stays (history_of h k) longer.0 p front is)
 
-  -- ---- why its step may be refused
-
-  pub may_land : (h : List Entry) (s t : Store D disk) (p : PlanValue) (result : Result Receipt StepFault) (fault : StepFault) → IsEngineOf h s.engine → IsPlanOf h p → IsNotSuperseded s p → IsStep s.engine t.engine (entry_of p) result → result ≡ Err fault → MayLand fault
-  may_land h s t p result (steps.Rejected why) of is current step failed =
-      let here : IsStep s.engine t.engine (entry_of p) (Err (steps.Rejected why)) = subst (IsStep s.engine t.engine (entry_of p)) failed step in
-      let cause = here.cause h of in
-      plan-may_reject h p why of.follows is (plan-current h p is (current cause.0 h of)) cause.1
-  may_land h s t p result (steps.Stopped entries) of is current step failed = tt
-  may_land h s t p result steps.Want of is current step failed = tt
-  may_land h s t p result (steps.DeviceFull need left) of is current step failed = tt
-  may_land h s t p result steps.DeviceFault of is current step failed = tt
-
   -- ---- the two ways of a landing
 
   -- The plan was superseded.
@@ -111,21 +106,44 @@ module _ {D : Type 0} {disk : Ghosts D} where
 
   -- The engine did the step.
   record Stepped (s t : Store D disk) (p : PlanValue) (added : Option (Item D disk)) (result : Result Receipt LandFault) : Type 0 where
-    adds : Adds s t (entry_of p) (step_result result) added
+    step : Result Receipt StepFault
+    adds : Adds s t (entry_of p) step added
     current : IsNotSuperseded s p
-    other : is_passed result ≡ false
+    is : result ≡ said_result step
 
   two_ways : (s t : Store D disk) (p : PlanValue) (added : Option (Item D disk)) (result : Result Receipt LandFault) → StoreLands s t p added result → Passed s t p added result ⊎ Stepped s t p added result
   two_ways s t p added (Err (faults.Superseded version)) lands =
       inl (record { version = version; is = refl; same = lands.0; none = lands.1; by = lands.2 })
-  two_ways s t p added (Ok receipt) lands = inr (record { adds = lands.0; current = lands.1; other = refl })
-  two_ways s t p added (Err (faults.Stopped entries)) lands = inr (record { adds = lands.0; current = lands.1; other = refl })
-  two_ways s t p added (Err faults.VersionLimit) lands = inr (record { adds = lands.0; current = lands.1; other = refl })
-  two_ways s t p added (Err (faults.Crowded start)) lands = inr (record { adds = lands.0; current = lands.1; other = refl })
-  two_ways s t p added (Err (faults.TooManyPoints count)) lands = inr (record { adds = lands.0; current = lands.1; other = refl })
-  two_ways s t p added (Err faults.Want) lands = inr (record { adds = lands.0; current = lands.1; other = refl })
-  two_ways s t p added (Err (faults.DeviceFull need left)) lands = inr (record { adds = lands.0; current = lands.1; other = refl })
-  two_ways s t p added (Err faults.DeviceFault) lands = inr (record { adds = lands.0; current = lands.1; other = refl })
+  two_ways s t p added (Ok receipt) lands = inr (record { step = lands.0; adds = lands.1; current = lands.2; is = lands.3 })
+  two_ways s t p added (Err (faults.Stopped entries)) lands = inr (record { step = lands.0; adds = lands.1; current = lands.2; is = lands.3 })
+  two_ways s t p added (Err faults.VersionLimit) lands = inr (record { step = lands.0; adds = lands.1; current = lands.2; is = lands.3 })
+  two_ways s t p added (Err (faults.Crowded start)) lands = inr (record { step = lands.0; adds = lands.1; current = lands.2; is = lands.3 })
+  two_ways s t p added (Err (faults.TooManyPoints count)) lands = inr (record { step = lands.0; adds = lands.1; current = lands.2; is = lands.3 })
+  two_ways s t p added (Err faults.Want) lands = inr (record { step = lands.0; adds = lands.1; current = lands.2; is = lands.3 })
+  two_ways s t p added (Err (faults.DeviceFull need left)) lands = inr (record { step = lands.0; adds = lands.1; current = lands.2; is = lands.3 })
+  two_ways s t p added (Err faults.DeviceFault) lands = inr (record { step = lands.0; adds = lands.1; current = lands.2; is = lands.3 })
+
+  lands_rejected : (s t : Store D disk) (p : PlanValue) (added : Option (Item D disk)) (why : Rejection) → Adds s t (entry_of p) (Err (steps.Rejected why)) added → IsNotSuperseded s p → StoreLands s t p added (Err (said_rejection why))
+  lands_rejected s t p added rejections.VersionLimit adds current = (Err (steps.Rejected rejections.VersionLimit), adds, current, refl)
+  lands_rejected s t p added (rejections.Crowded start) adds current = (Err (steps.Rejected (rejections.Crowded start)), adds, current, refl)
+  lands_rejected s t p added (rejections.TooManyPoints count) adds current = (Err (steps.Rejected (rejections.TooManyPoints count)), adds, current, refl)
+  lands_rejected s t p added rejections.NoStream adds current = (Err (steps.Rejected rejections.NoStream), adds, current, refl)
+  lands_rejected s t p added rejections.StreamExists adds current = (Err (steps.Rejected rejections.StreamExists), adds, current, refl)
+  lands_rejected s t p added rejections.StreamLimit adds current = (Err (steps.Rejected rejections.StreamLimit), adds, current, refl)
+  lands_rejected s t p added rejections.NotWritable adds current = (Err (steps.Rejected rejections.NotWritable), adds, current, refl)
+  lands_rejected s t p added rejections.BadSpec adds current = (Err (steps.Rejected rejections.BadSpec), adds, current, refl)
+  lands_rejected s t p added (rejections.OutOfDomain time) adds current = (Err (steps.Rejected (rejections.OutOfDomain time)), adds, current, refl)
+  lands_rejected s t p added rejections.Empty adds current = (Err (steps.Rejected rejections.Empty), adds, current, refl)
+  lands_rejected s t p added (rejections.TooMany count) adds current = (Err (steps.Rejected (rejections.TooMany count)), adds, current, refl)
+
+  -- A step of the entry of a plan that is not superseded is a landing, of which its result is said.
+  pub step_lands : (s t : Store D disk) (p : PlanValue) (added : Option (Item D disk)) (step : Result Receipt StepFault) → Adds s t (entry_of p) step added → IsNotSuperseded s p → StoreLands s t p added (said_result step)
+  step_lands s t p added (Ok receipt) adds current = (Ok receipt, adds, current, refl)
+  step_lands s t p added (Err (steps.Stopped entries)) adds current = (Err (steps.Stopped entries), adds, current, refl)
+  step_lands s t p added (Err (steps.Rejected why)) adds current = lands_rejected s t p added why adds current
+  step_lands s t p added (Err steps.Want) adds current = (Err steps.Want, adds, current, refl)
+  step_lands s t p added (Err (steps.DeviceFull need left)) adds current = (Err (steps.DeviceFull need left), adds, current, refl)
+  step_lands s t p added (Err steps.DeviceFault) adds current = (Err steps.DeviceFault, adds, current, refl)
 
   -- The store after a landing.
   pub store_landed : (s t : Store D disk) (l : List (Item D disk)) (x : Engine D disk) (p : PlanValue) (added : Option (Item D disk)) (result : Result Receipt LandFault) → IsStoreOf s l x → StoreLands s t p added result → IsStoreOf t (with_entry l added) x
@@ -133,7 +151,7 @@ module _ {D : Type 0} {disk : Ghosts D} where
       elim (two_ways s t p added result lands) [
         | inl passed ↦
             subst (λ o. IsStoreOf t (with_entry l o) x) (sym passed.none) (subst (λ u. IsStoreOf u l x) (sym passed.same) of)
-        | inr stepped ↦ store_after s t l x (entry_of p) (step_result result) added of stepped.adds
+        | inr stepped ↦ store_after s t l x (entry_of p) stepped.step added of stepped.adds
       ]
 
   -- ---- what the result says
@@ -142,28 +160,54 @@ module _ {D : Type 0} {disk : Ghosts D} where
   is_current : (h : List Entry) (s : Store D disk) (p : PlanValue) → IsEngineOf h s.engine → IsPlanOf h p → IsNotSuperseded s p → is_stopped s.engine ≡ false → IsCurrent h p
   is_current h s p of is current runs = plan-current h p is (current runs h of)
 
-  module _ (x y : Engine D disk) (s : Store D disk) (before : List (Item D disk)) (h : List Entry) (p : PlanValue) (of : IsEngineOf h s.engine) (is : IsPlanOf h p) (current : IsNotSuperseded s p) where
-    step_replies : (result : Result Receipt LandFault) → IsStep s.engine y (entry_of p) (step_result result) → commit.CommitReplies x before h (entry_of p) (step_result result) → is_passed result ≡ false → LandingReplies x before h p result
-    step_replies (Ok receipt) step says other =
+  module _ (x y : Engine D disk) (first : List Entry) (s : Store D disk) (before : List (Item D disk)) (h : List Entry) (p : PlanValue) (of : IsEngineOf h s.engine) (is : IsPlanOf h p) (current : IsNotSuperseded s p) where
+    rejected_replies : (why : Rejection) → IsCurrent h p → MayReject why → rejection h (entry_of p) ≡ Some why → LandingReplies x first before h p (Err (said_rejection why))
+    rejected_replies rejections.VersionLimit now may says = (now, (reply-limit h p of.follows is now says).0)
+    rejected_replies (rejections.Crowded start) now may says = (now, says, plan-not_crowded h p start is now says)
+    rejected_replies (rejections.TooManyPoints count) now may says = (now, says, plan-not_many h p count is now says)
+    rejected_replies rejections.NoStream now may says = absurd may
+    rejected_replies rejections.StreamExists now may says = absurd may
+    rejected_replies rejections.StreamLimit now may says = absurd may
+    rejected_replies rejections.NotWritable now may says = absurd may
+    rejected_replies rejections.BadSpec now may says = absurd may
+    rejected_replies (rejections.OutOfDomain time) now may says = absurd may
+    rejected_replies rejections.Empty now may says = absurd may
+    rejected_replies (rejections.TooMany count) now may says = absurd may
+
+    step_replies : (result : Result Receipt StepFault) → IsStep s.engine y (entry_of p) result → commit.CommitReplies x first before h (entry_of p) result → LandingReplies x first before h p (said_result result)
+    step_replies (Ok receipt) step says =
         let stepped : IsStepped h s.engine y (entry_of p) receipt = step.stepped h of in
         let reply = reply-accepted h p of.follows is (is_current h s p of is current stepped.could.runs) says.0 in
         (reply.0, reply.1, says.1, says.2)
-    step_replies (Err (faults.Stopped entries)) step says other = says
-    step_replies (Err faults.VersionLimit) step says other =
+    step_replies (Err (steps.Stopped entries)) step says = says
+    step_replies (Err (steps.Rejected why)) step says =
         let now = is_current h s p of is current (step.cause h of).0 in
-        (now, (reply-limit h p of.follows is now says).0)
-    step_replies (Err (faults.Crowded start)) step says other =
-        let now = is_current h s p of is current (step.cause h of).0 in
-        (now, says, plan-not_crowded h p start is now says)
-    step_replies (Err (faults.TooManyPoints count)) step says other =
-        let now = is_current h s p of is current (step.cause h of).0 in
-        (now, says, plan-not_many h p count is now says)
-    step_replies (Err faults.Want) step says other = (is_current h s p of is current (step.cause h of).0, says)
-    step_replies (Err (faults.DeviceFull need left)) step says other =
+        rejected_replies why now (plan-may_reject h p why of.follows is now says) says
+    step_replies (Err steps.Want) step says = (is_current h s p of is current (step.cause h of).0, says)
+    step_replies (Err (steps.DeviceFull need left)) step says =
         (is_current h s p of is current (step.cause h of).0, says.0, says.1, says.2, says.3)
-    step_replies (Err faults.DeviceFault) step says other =
+    step_replies (Err steps.DeviceFault) step says =
         (is_current h s p of is current (step.cause h of).0.runs, says)
-    step_replies (Err (faults.Superseded version)) step says other = absurd (cc)
+
+  -- ---- what is said of a result adds and does the same
+
+  said_item : (result : Result Receipt StepFault) (e : Entry) (y : Engine D disk) → item_by (step_result (said_result result)) e y ≡ item_by result e y
+  said_item (Ok receipt) e y = refl
+  said_item (Err (steps.Stopped entries)) e y = refl
+  said_item (Err (steps.Rejected why)) e y =
+      ⊎_elim (λ named. ap (λ f. item_by (Err f) e y) named) (λ want. ap (λ f. item_by (Err (step_fault f)) e y) want) (named_or_want why)
+  said_item (Err steps.Want) e y = refl
+  said_item (Err (steps.DeviceFull need left)) e y = refl
+  said_item (Err steps.DeviceFault) e y = refl
+
+  said_effect : (a b : Engine D disk) (result : Result Receipt StepFault) → HasResult a b result → HasResult a b (step_result (said_result result))
+  said_effect a b (Ok receipt) has = has
+  said_effect a b (Err (steps.Stopped entries)) has = has
+  said_effect a b (Err (steps.Rejected why)) has =
+      ⊎_elim (λ named. subst (λ f. HasResult a b (Err f)) (sym named) has) (λ want. subst (λ f. HasResult a b (Err (step_fault f))) (sym want) has) (named_or_want why)
+  said_effect a b (Err steps.Want) has = has
+  said_effect a b (Err (steps.DeviceFull need left)) has = has
+  said_effect a b (Err steps.DeviceFault) has = has
 
   -- ---- the turn
 
@@ -181,8 +225,12 @@ module _ {D : Type 0} {disk : Ghosts D} where
           trace = subst (IsTraceOf x) (sym still) of.trace;
           seen = still ∙ sym (append-nil before) ∙ sym (ap (λ r. before ++ option_to_list (item_by {disk = disk} r (entry_of p) (engine_of hall new))) nothing);
           mine = mine ∙ ap (with_number (mine_of old) before) passed.none ∙ sym (append-nil (mine_of old)) ∙ sym (ap (λ r. mine_of old ++ option_to_list (commit.number_by r (length (seen_of new)))) nothing);
+          effect =
+              let at : engine_of hall new ≡ engine_after x before = ap (engine_after x) still in
+              let runs : is_stopped (engine_after x before) ≡ false = sym (ap (λ e. is_stopped e) of.engine) ∙ passed.by.0 in
+              subst (λ r. HasResult (engine_after x before) (engine_of hall new) r) (sym nothing) (runs, at);
           stopped = λ stopped h with_h.
-              let here = ap (λ e. is_stopped e) of.engine ∙ stopped_of_list h x before with_h of.trace ∙ stopped in
+              let here = ap (λ e. is_stopped e) of.engine ∙ stopped_of_list x before of.trace ∙ stopped in
               absurd (not_both (is_stopped s.engine) here passed.by.0);
           replies = λ h with_h.
               let all = history_of h before in
@@ -190,7 +238,7 @@ module _ {D : Type 0} {disk : Ghosts D} where
               let version : latest all p.stream ≡ passed.version = passed.by.2 all at in
               let above : p.base < latest all p.stream = subst (λ n. p.base < n) (sym version) passed.by.1 in
               let reply = reply-superseded all p (plans h with_h) above in
-              subst (LandingReplies x before all p) (sym passed.is) (reply.0 ∙ ap Superseded version, passed.by.1, sym version);
+              subst (LandingReplies x h before all p) (sym passed.is) (reply.0 ∙ ap Superseded version, passed.by.1, sym version);
         }
 
     lands_stepped : Stepped s t p added result → Lands hall old new p result
@@ -198,23 +246,29 @@ module _ {D : Type 0} {disk : Ghosts D} where
         let x = opening_of hall in
         let e = entry_of p in
         let adds = stepped.adds in
-        let step = new_step hall old new s t before e (step_result result) added of adds seen in
-        let is = new_seen hall old new s t before e (step_result result) added of adds seen in
+        let did = stepped.step in
+        let step = new_step hall old new s t before e did added of adds seen in
+        let y = engine_of hall new in
+        let item : item_by did e y ≡ item_by (step_result result) e y = sym (said_item did e y) ∙ sym (ap (λ r. item_by (step_result r) e y) stepped.is) in
+        let number : commit.number_by did (length (seen_of new)) ≡ commit.number_by (step_result result) (length (seen_of new)) =
+        sym (said_number did (length (seen_of new))) ∙ sym (ap (λ r. commit.number_by (step_result r) (length (seen_of new))) stepped.is) in
+        let is = new_seen hall old new s t before e did added of adds seen in
         record {
           turn = turn;
           before = before;
           grows = grows;
           alone = alone;
-          trace = subst (IsTraceOf x) (sym is) (list_push x (engine_of hall new) before e (step_result result) of.trace step);
-          seen = is;
-          mine = new_mine hall old new s t before e (step_result result) added of adds seen mine;
+          trace = subst (IsTraceOf x) (sym is) (list_push x y before e did of.trace step);
+          seen = is ∙ ap (λ o. before ++ option_to_list o) item;
+          mine = new_mine hall old new s t before e did added of adds seen mine ∙ ap (λ o. mine_of old ++ option_to_list o) number;
+          effect = subst (λ r. HasResult (engine_after x before) y (step_result r)) (sym stepped.is) (said_effect (engine_after x before) y did step.effect.has_result);
           stopped = λ stopped h with_h.
-              stopped_back result (length (history_of h before)) (says_stopped h x (engine_of hall new) before e (step_result result) with_h of.trace step stopped);
+              stepped.is ∙ ap said_result (says_stopped h x y before e did with_h of.trace step stopped);
           replies = λ h with_h.
               let all = history_of h before in
               let at : IsEngineOf all s.engine = subst (IsEngineOf all) (sym of.engine) (engine_of_list h x before with_h of.trace) in
-              let says = replies_of h x (engine_of hall new) before e (step_result result) with_h of.trace step in
-              step_replies x t.engine s before all p at (plans h with_h) stepped.current result adds.step says stepped.other;
+              let says = replies_of h x y before e did with_h of.trace step in
+              subst (LandingReplies x h before all p) (sym stepped.is) (step_replies x t.engine h s before all p at (plans h with_h) stepped.current did adds.step says);
         }
 
     pub lands_of : StoreLands s t p added result → Lands hall old new p result

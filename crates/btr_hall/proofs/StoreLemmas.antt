@@ -29,12 +29,11 @@ module _ {D : Type 0} {disk : Ghosts D} where
   abbrev pub first_list : Engine D disk → List (Item D disk)
   first_list x = replicate (entries_of x) Earlier
 
-  pub store_first : (x : Engine D disk) (opening : Snapshot (Engine D disk)) → (h : List Entry) × IsEngineOf h x → opening.value ≡ x → IsStoreOf (record { engine = x; opening = opening; halted = false }) (first_list x) x
-  store_first x opening some is =
+  pub store_first : (x : Engine D disk) (opening : Snapshot (Engine D disk)) → opening.value ≡ x → IsStoreOf (record { engine = x; opening = opening; halted = false }) (first_list x) x
+  store_first x opening is =
       let n = entries_of x in
       let list : first_list x ≡ first_list x ++ [] = sym (append-nil (first_list x)) in
       record {
-        some = some;
         opening = sym is;
         trace = record { steps = []; is = list; trace = tt };
         engine = sym (ap (engine_after x) list ∙ engine_earlier n x []);

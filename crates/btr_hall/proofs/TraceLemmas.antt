@@ -11,16 +11,16 @@ use Rattle.btr_engine.specs.declared.board.Receipt.{Receipt}
 use Rattle.btr_engine.specs.declared.step.StepFault.{StepFault}
 use Rattle.btr_engine.specs.declared.step.StepFault.TheVariants.{Stopped, Rejected, Want, DeviceFull, DeviceFault}
 use Rattle.btr_engine.specs.Board.{IsBoardOf}
-use Rattle.btr_engine.specs.Body.{need_of}
+use Rattle.btr_engine.specs.Body.{need_of, needs_after}
 use Rattle.btr_engine.specs.Engine.{device, entries_of, blocks_of, tail_of, room_of, is_stopped, IsEngineOf, IsAtRest, IsDurable, KeepsOpening}
-use Rattle.btr_engine.specs.Step.{CanStep, IsStep, IsStepped, StopsByFault}
+use Rattle.btr_engine.specs.Step.{CanStep, IsStep, IsStepped, AddsOne, StopsByFault}
 use Rattle.btr_gate.specs.Numbers.{one}
 use Rattle.btr_gate.specs.Prefixes.{StartsWith}
 use Rattle.btr_hall.specs.declared.item.Item.{Item}
 use Rattle.btr_hall.specs.declared.item.Item.TheVariants.{Earlier, Added, Halted}
 use Rattle.btr_hall.specs.Trace.{IsTrace, IsTraceOf, engine_after, entries_in, has_halt, in_flight_in, stopped_in, history_of}
 use Rattle.btr_hall.specs.StoreLaws.{stopped_accepts, stopped_fails, ends_stopped, trace_length, engine_earlier, halt_earlier}
-use Rattle.btr_hall.specs.Commit.{needs_of, has_failed, item_by}
+use Rattle.btr_hall.specs.Commit.{has_failed, item_by}
 
 room_less : (blocks tail need : ℕ) → need ≤ left blocks tail → left blocks (tail + need) + need ≡ left blocks tail
 room_less blocks tail need low = omega arith
@@ -107,30 +107,28 @@ module _ {D : Type 0} {disk : Ghosts D} where
 
   -- ---- whether it is stopped
 
-  trace_stopped : (h : List Entry) (x : Engine D disk) (l : List (Item D disk)) → IsEngineOf h x → IsTrace x l → is_stopped (engine_after x l) ≡ (is_stopped x || has_halt l)
-  trace_stopped h x [] of trace =
+  trace_stopped : (x : Engine D disk) (l : List (Item D disk)) → IsTrace x l → is_stopped (engine_after x l) ≡ (is_stopped x || has_halt l)
+  trace_stopped x [] trace =
       elim (is_stopped x) as (λ b. b ≡ (b || false)) [ true ↦ refl | false ↦ refl ]
-  trace_stopped h x (Earlier ∷ l) of trace = absurd trace
-  trace_stopped h x (Added entry engine ∷ l) of trace =
-      let stepped : IsStepped h x engine.value entry.value trace.0.0 = trace.0.1.stepped h of in
-      let next = trace_stopped (h ++ entry.value ∷ []) engine.value l stepped.of trace.1 in
-      next ∙ ap (λ b. b || has_halt l) (stepped.runs ∙ sym stepped.could.runs)
-  trace_stopped h x (Halted entry engine ∷ l) of trace =
-      let fault : CanStep h x entry.value × StopsByFault x engine.value = trace.0.cause h of in
-      let next = trace_stopped h engine.value l (subst (IsBoardOf h) (sym fault.1.board) of) trace.1 in
-      next ∙ ap (λ b. b || has_halt l) fault.1.stopped ∙ sym (ap (λ b. b || true) fault.0.runs)
+  trace_stopped x (Earlier ∷ l) trace = absurd trace
+  trace_stopped x (Added entry engine ∷ l) trace =
+      let adds : AddsOne x engine.value trace.0.0 = trace.0.1.effect.has_result in
+      trace_stopped engine.value l trace.1 ∙ ap (λ b. b || has_halt l) (adds.runs ∙ sym adds.ran)
+  trace_stopped x (Halted entry engine ∷ l) trace =
+      let fault : (is_stopped x ≡ false) × StopsByFault x engine.value = trace.0.effect.has_result in
+      trace_stopped engine.value l trace.1 ∙ ap (λ b. b || has_halt l) fault.1.stopped ∙ sym (ap (λ b. b || true) fault.0)
 
   -- The engine at the end is stopped exactly if the first one was, or the device has failed since.
-  pub stopped_of_list : (h : List Entry) (x : Engine D disk) (l : List (Item D disk)) → IsEngineOf h x → IsTraceOf x l → is_stopped (engine_after x l) ≡ stopped_in x l
-  stopped_of_list h x l of trace =
-      ap (λ (e : Engine D disk). is_stopped e) (engine_is x l trace) ∙ trace_stopped h x trace.steps of trace.trace ∙ ap (λ b. is_stopped x || b) (sym (halt_is x l trace))
+  pub stopped_of_list : (x : Engine D disk) (l : List (Item D disk)) → IsTraceOf x l → is_stopped (engine_after x l) ≡ stopped_in x l
+  stopped_of_list x l trace =
+      ap (λ (e : Engine D disk). is_stopped e) (engine_is x l trace) ∙ trace_stopped x trace.steps trace.trace ∙ ap (λ b. is_stopped x || b) (sym (halt_is x l trace))
 
   -- ---- how long the list is
 
   -- The list has an item for each entry, and one for a halt.
-  pub length_of_list : (h : List Entry) (x : Engine D disk) (l : List (Item D disk)) → IsEngineOf h x → IsTraceOf x l → length l ≡ entries_of (engine_after x l) + one (has_halt l)
-  length_of_list h x l of trace =
-      let all = trace_length h x trace.steps of trace.trace in
+  pub length_of_list : (x : Engine D disk) (l : List (Item D disk)) → IsTraceOf x l → length l ≡ entries_of (engine_after x l) + one (has_halt l)
+  length_of_list x l trace =
+      let all = trace_length x trace.steps trace.trace in
       let same : entries_of (engine_after x l) ≡ entries_of (engine_after x trace.steps) = ap (λ (e : Engine D disk). entries_of e) (engine_is x l trace) in
       let halt : one (has_halt l) ≡ one (has_halt trace.steps) = ap one (halt_is x l trace) in
       omega (arith, all, same, halt, length_is x l trace)
@@ -171,15 +169,15 @@ module _ {D : Type 0} {disk : Ghosts D} where
 
   -- ---- how much room is left
 
-  trace_room : (h : List Entry) (x : Engine D disk) (l : List (Item D disk)) → IsEngineOf h x → IsTrace x l → room_of (engine_after x l) + needs_of (entries_in l) ≡ room_of x
+  trace_room : (h : List Entry) (x : Engine D disk) (l : List (Item D disk)) → IsEngineOf h x → IsTrace x l → room_of (engine_after x l) + needs_after h (entries_in l) ≡ room_of x
   trace_room h x [] of trace = omega arith
   trace_room h x (Earlier ∷ l) of trace = absurd trace
   trace_room h x (Added entry engine ∷ l) of trace =
       let stepped : IsStepped h x engine.value entry.value trace.0.0 = trace.0.1.stepped h of in
       let next = trace_room (h ++ entry.value ∷ []) engine.value l stepped.of trace.1 in
       let blocks = trace.0.1.kept.blocks in
-      let room : room_of engine.value ≡ left (blocks_of x) (tail_of x + need_of entry.value) = ap (λ b. left b (tail_of engine.value)) blocks ∙ ap (left (blocks_of x)) stepped.tail in
-      let less = room_less (blocks_of x) (tail_of x) (need_of entry.value) stepped.could.fits in
+      let room : room_of engine.value ≡ left (blocks_of x) (tail_of x + need_of h entry.value) = ap (λ b. left b (tail_of engine.value)) blocks ∙ ap (left (blocks_of x)) stepped.tail in
+      let less = room_less (blocks_of x) (tail_of x) (need_of h entry.value) stepped.could.fits in
       omega (arith, next, room, less)
   trace_room h x (Halted entry engine ∷ l) of trace =
       let fault : CanStep h x entry.value × StopsByFault x engine.value = trace.0.cause h of in
@@ -188,10 +186,10 @@ module _ {D : Type 0} {disk : Ghosts D} where
       next ∙ room
 
   -- The room at the end is that at the beginning, less what the entries need.
-  pub room_of_list : (h : List Entry) (x : Engine D disk) (l : List (Item D disk)) → IsEngineOf h x → IsTraceOf x l → room_of (engine_after x l) + needs_of (entries_in l) ≡ room_of x
+  pub room_of_list : (h : List Entry) (x : Engine D disk) (l : List (Item D disk)) → IsEngineOf h x → IsTraceOf x l → room_of (engine_after x l) + needs_after h (entries_in l) ≡ room_of x
   room_of_list h x l of trace =
       let room : room_of (engine_after x l) ≡ room_of (engine_after x trace.steps) = ap (λ (e : Engine D disk). room_of e) (engine_is x l trace) in
-      let needs : needs_of (entries_in l) ≡ needs_of (entries_in trace.steps) = ap needs_of (entries_is x l trace) in
+      let needs : needs_after h (entries_in l) ≡ needs_after h (entries_in trace.steps) = ap (needs_after h) (entries_is x l trace) in
       omega (arith, trace_room h x trace.steps of trace.trace, room, needs)
 
   -- ---- what a crash may leave
@@ -249,13 +247,13 @@ module _ {D : Type 0} {disk : Ghosts D} where
   item_trace x y e (Err (DeviceFull need room)) step = tt
 
   -- The item leads to the engine after the step. A step that adds none changes nothing.
-  pub item_engine : (h : List Entry) (x y : Engine D disk) (e : Entry) (result : Result Receipt StepFault) → IsEngineOf h x → IsStep x y e result → engine_after x (option_to_list (item_by result e y)) ≡ y
-  item_engine h x y e (Ok receipt) of step = refl
-  item_engine h x y e (Err DeviceFault) of step = refl
-  item_engine h x y e (Err (Stopped entries)) of step = sym (step.cause h of).2
-  item_engine h x y e (Err (Rejected why)) of step = sym (step.cause h of).2
-  item_engine h x y e (Err Want) of step = sym (step.cause h of).2
-  item_engine h x y e (Err (DeviceFull need room)) of step = sym (step.cause h of).5
+  pub item_engine : (x y : Engine D disk) (e : Entry) (result : Result Receipt StepFault) → IsStep x y e result → engine_after x (option_to_list (item_by result e y)) ≡ y
+  item_engine x y e (Ok receipt) step = refl
+  item_engine x y e (Err DeviceFault) step = refl
+  item_engine x y e (Err (Stopped entries)) step = sym step.effect.has_result.2
+  item_engine x y e (Err (Rejected why)) step = sym step.effect.has_result.1
+  item_engine x y e (Err Want) step = sym step.effect.has_result.1
+  item_engine x y e (Err (DeviceFull need room)) step = sym step.effect.has_result.3
 
   pub item_halt : (y : Engine D disk) (e : Entry) (result : Result Receipt StepFault) → has_halt (option_to_list (item_by {disk = disk} result e y)) ≡ has_failed result
   item_halt y e (Ok receipt) = refl

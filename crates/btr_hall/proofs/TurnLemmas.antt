@@ -86,4 +86,4 @@ module _ {D : Type 0} {disk : Ghosts D} where
   stopped_says h x l with_h trace =
       let end = engine_of_list h x l with_h trace in
       ap (λ n. if is_stopped (engine_after x l) then Some n else None) end.entries
-      ∙ ap (λ (b : Bool). if b then Some (length (history_of h l)) else None) (stopped_of_list h x l with_h trace)
+      ∙ ap (λ (b : Bool). if b then Some (length (history_of h l)) else None) (stopped_of_list x l trace)

@@ -10,7 +10,7 @@ use Rattle.btr_engine.specs.declared.engine.Engine.{Engine}
 use Rattle.btr_engine.specs.declared.board.Receipt.{Receipt}
 use Rattle.btr_engine.specs.declared.step.StepFault.{StepFault}
 use Rattle.btr_engine.specs.declared.step.StepFault.TheVariants.{Stopped, Rejected, Want, DeviceFull, DeviceFault}
-use Rattle.btr_engine.specs.Body.{need_of}
+use Rattle.btr_engine.specs.Body.{need_of, needs_after}
 use Rattle.btr_engine.specs.Engine.{room_of, IsEngineOf}
 use Rattle.btr_engine.specs.Stage.{MayLackMemory, IsReceipt}
 use Rattle.btr_engine.specs.Step.{IsStep}
@@ -33,11 +33,6 @@ is_distillate (entries.Create id) = false
 is_distillate (entries.Define id spec) = false
 is_distillate (entries.Commit stream cut added) = false
 is_distillate (entries.Distillate stream cut added reads) = true
-
--- The blocks that entries need.
-abbrev pub needs_of : List Entry → ℕ
-needs_of [] = 0
-needs_of (e ∷ h) = need_of e + needs_of h
 
 -- The device failed in the step.
 abbrev pub has_failed : Result Receipt StepFault → Bool
@@ -66,15 +61,15 @@ module _ {D : Type 0} {disk : Ghosts D} where
     pub halted : new.halted ≡ (old.halted || has_failed result)
     pub item : added ≡ item_by result e new.engine
 
-  -- What the result of an entry says of the history h, to which the list `before` leads from the engine `x`.
-  abbrev pub CommitReplies : Engine D disk → List (Item D disk) → List Entry → Entry → Result Receipt StepFault → Type 0
-  CommitReplies x before h e (Ok receipt) = (rejection h e ≡ None) × IsReceipt h e receipt × (receipt.number ≡ length before + 1)
-  CommitReplies x before h e (Err (Stopped entries)) = (stopped_in x before ≡ true) × (entries ≡ length h)
-  CommitReplies x before h e (Err (Rejected why)) = rejection h e ≡ Some why
-  CommitReplies x before h e (Err Want) = MayLackMemory (rejection h e)
-  CommitReplies x before h e (Err (DeviceFull need left)) =
-      (rejection h e ≡ None) × (need ≡ need_of e) × (left + needs_of (entries_in before) ≡ room_of x) × (left < need)
-  CommitReplies x before h e (Err DeviceFault) = rejection h e ≡ None
+  -- What the result of an entry says of the history h, to which the list `before` leads from the engine `x`, which is of `first`.
+  abbrev pub CommitReplies : Engine D disk → List Entry → List (Item D disk) → List Entry → Entry → Result Receipt StepFault → Type 0
+  CommitReplies x first before h e (Ok receipt) = (rejection h e ≡ None) × IsReceipt h e receipt × (receipt.number ≡ length before + 1)
+  CommitReplies x first before h e (Err (Stopped entries)) = (stopped_in x before ≡ true) × (entries ≡ length h)
+  CommitReplies x first before h e (Err (Rejected why)) = rejection h e ≡ Some why
+  CommitReplies x first before h e (Err Want) = MayLackMemory (rejection h e)
+  CommitReplies x first before h e (Err (DeviceFull need left)) =
+      (rejection h e ≡ None) × (need ≡ need_of h e) × (left + needs_after first (entries_in before) ≡ room_of x) × (left < need)
+  CommitReplies x first before h e (Err DeviceFault) = rejection h e ≡ None
 
   -- The turn of an entry, which is the only one. `before` is the list when it began, which begins with all that the session had seen. The
   -- engine at its end does the step. The session has then seen this list, and the item that the step added, whose number is its own.
@@ -89,4 +84,4 @@ module _ {D : Type 0} {disk : Ghosts D} where
     pub mine : mine_of new ≡ mine_of old ++ option_to_list (number_by result (length (seen_of new)))
     pub stopped : stopped_in (opening_of hall) before ≡ true
         → (h : List Entry) → IsEngineOf h (opening_of hall) → result ≡ Err (Stopped (length (history_of h before)))
-    pub replies : (h : List Entry) → IsEngineOf h (opening_of hall) → CommitReplies (opening_of hall) before (history_of h before) e result
+    pub replies : (h : List Entry) → IsEngineOf h (opening_of hall) → CommitReplies (opening_of hall) h before (history_of h before) e result

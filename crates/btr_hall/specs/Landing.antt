@@ -14,9 +14,10 @@ use Rattle.btr_engine.specs.declared.engine.Engine.{Engine}
 use Rattle.btr_engine.specs.declared.board.Receipt.{Receipt}
 use Rattle.btr_engine.specs.declared.step.StepFault.{StepFault}
 use Rattle.btr_engine.specs.declared.step.StepFault.TheVariants as steps
-use Rattle.btr_engine.specs.Body.{need_of}
+use Rattle.btr_engine.specs.Body.{need_of, needs_after}
 use Rattle.btr_engine.specs.Engine.{room_of, IsEngineOf}
 use Rattle.btr_engine.specs.Stage.{MayLackMemory, IsReceipt}
+use Rattle.btr_engine.specs.Step.{HasResult}
 use Rattle.btr_gate.specs.Prefixes.{StartsWith}
 use Rattle.btr_hall.specs.declared.item.Item.{Item}
 use Rattle.btr_hall.specs.declared.land.LandFault.{LandFault}
@@ -25,7 +26,7 @@ use Rattle.btr_hall.specs.declared.session.Hall.{Hall}
 use Rattle.btr_hall.specs.declared.session.Session.{Session}
 use Rattle.btr_hall.specs.Trace.{IsTraceOf, engine_after, entries_in, stopped_in, history_of}
 use Rattle.btr_hall.specs.Session.{IsAlone, HasOneTurn, opening_of, seen_of, mine_of, engine_of}
-use Rattle.btr_hall.specs.Commit.{needs_of, item_by, number_by}
+use Rattle.btr_hall.specs.Commit.{item_by, number_by}
 
 -- The fault of the step of a landing. There was no step if the plan was superseded.
 abbrev pub step_fault : LandFault → StepFault
@@ -44,29 +45,29 @@ step_result (Ok receipt) = Ok receipt
 step_result (Err fault) = Err (step_fault fault)
 
 module _ {D : Type 0} {disk : Ghosts D} where
-  -- What the result of a landing says of the history h, to which the list `before` leads from the engine `x`: the model's reply,
-  -- or why the device or the memory refused.
-  abbrev pub LandingReplies : Engine D disk → List (Item D disk) → List Entry → PlanValue → Result Receipt LandFault → Type 0
-  LandingReplies x before h p (Ok receipt) =
+  -- What the result of a landing says of the history h, to which the list `before` leads from the engine `x`, which is of `first`: the
+  -- model's reply, or why the device or the memory refused.
+  abbrev pub LandingReplies : Engine D disk → List Entry → List (Item D disk) → List Entry → PlanValue → Result Receipt LandFault → Type 0
+  LandingReplies x first before h p (Ok receipt) =
       (reply_to h p ≡ Accepted (machine.receipt h (entry_of p))) × (landed_after h p ≡ h ++ entry_of p ∷ [])
       × IsReceipt h (entry_of p) receipt × (receipt.number ≡ length before + 1)
-  LandingReplies x before h p (Err (faults.Stopped entries)) = (stopped_in x before ≡ true) × (entries ≡ length h)
-  LandingReplies x before h p (Err (faults.Superseded version)) =
+  LandingReplies x first before h p (Err (faults.Stopped entries)) = (stopped_in x before ≡ true) × (entries ≡ length h)
+  LandingReplies x first before h p (Err (faults.Superseded version)) =
       (reply_to h p ≡ Superseded version) × (p.base < version) × (version ≡ latest h p.stream)
-  LandingReplies x before h p (Err faults.VersionLimit) = IsCurrent h p × (reply_to h p ≡ Rejected rejections.VersionLimit)
-  LandingReplies x before h p (Err (faults.Crowded start)) =
+  LandingReplies x first before h p (Err faults.VersionLimit) = IsCurrent h p × (reply_to h p ≡ Rejected rejections.VersionLimit)
+  LandingReplies x first before h p (Err (faults.Crowded start)) =
       IsCurrent h p × (rejection h (entry_of p) ≡ Some (rejections.Crowded start)) × (Legal h → ⊥)
-  LandingReplies x before h p (Err (faults.TooManyPoints count)) =
+  LandingReplies x first before h p (Err (faults.TooManyPoints count)) =
       IsCurrent h p × (rejection h (entry_of p) ≡ Some (rejections.TooManyPoints count)) × (Legal h → ⊥)
-  LandingReplies x before h p (Err faults.Want) = IsCurrent h p × MayLackMemory (rejection h (entry_of p))
-  LandingReplies x before h p (Err (faults.DeviceFull need left)) =
-      IsCurrent h p × (rejection h (entry_of p) ≡ None) × (need ≡ need_of (entry_of p))
-      × (left + needs_of (entries_in before) ≡ room_of x) × (left < need)
-  LandingReplies x before h p (Err faults.DeviceFault) = IsCurrent h p × (rejection h (entry_of p) ≡ None)
+  LandingReplies x first before h p (Err faults.Want) = IsCurrent h p × MayLackMemory (rejection h (entry_of p))
+  LandingReplies x first before h p (Err (faults.DeviceFull need left)) =
+      IsCurrent h p × (rejection h (entry_of p) ≡ None) × (need ≡ need_of h (entry_of p))
+      × (left + needs_after first (entries_in before) ≡ room_of x) × (left < need)
+  LandingReplies x first before h p (Err faults.DeviceFault) = IsCurrent h p × (rejection h (entry_of p) ≡ None)
 
   -- The turn of a plan, which is the only one. `before` is the list when it began, which begins with all that the session had seen. The
   -- session has then seen this list, and the item that the turn added, whose number is its own. What an engine promises of a step holds
-  -- of this item, since the list is a trace.
+  -- of this item, since the list is a trace. The engine is as after a step with this result, also if it is of no history.
   pub record Lands (hall : Hall D disk) (old new : Session D disk) (p : PlanValue) (result : Result Receipt LandFault) : Type 0 where
     pub turn : HasOneTurn old new
     pub before : List (Item D disk)
@@ -75,6 +76,7 @@ module _ {D : Type 0} {disk : Ghosts D} where
     pub trace : IsTraceOf (opening_of hall) (seen_of new)
     pub seen : seen_of new ≡ before ++ option_to_list (item_by (step_result result) (entry_of p) (engine_of hall new))
     pub mine : mine_of new ≡ mine_of old ++ option_to_list (number_by (step_result result) (length (seen_of new)))
+    pub effect : HasResult (engine_after (opening_of hall) before) (engine_of hall new) (step_result result)
     pub stopped : stopped_in (opening_of hall) before ≡ true
         → (h : List Entry) → IsEngineOf h (opening_of hall) → result ≡ Err (faults.Stopped (length (history_of h before)))
-    pub replies : (h : List Entry) → IsEngineOf h (opening_of hall) → LandingReplies (opening_of hall) before (history_of h before) p result
+    pub replies : (h : List Entry) → IsEngineOf h (opening_of hall) → LandingReplies (opening_of hall) h before (history_of h before) p result

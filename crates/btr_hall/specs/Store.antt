@@ -1,17 +1,14 @@
 -- Of which list the engine that a gate carries is.
 use Rattle.std.specs.Prelude.{◌≡◌, List}
 use Rattle.btr_disk.specs.declared.disk.Disk.{Ghosts}
-use Rattle.btr_hist.specs.declared.entry.Entry.{Entry}
 use Rattle.btr_engine.specs.declared.engine.Engine.{Engine}
-use Rattle.btr_engine.specs.Engine.{IsEngineOf}
 use Rattle.btr_hall.specs.declared.item.Item.{Item}
 use Rattle.btr_hall.specs.declared.store.Store.{Store}
 use Rattle.btr_hall.specs.Trace.{engine_after, has_halt, IsTraceOf}
 
 module _ {D : Type 0} {disk : Ghosts D} where
-  -- The store is at the end of this list, in a hall that began with this engine, which was of some history.
+  -- The store is at the end of this list, in a hall that began with this engine.
   pub record IsStoreOf (s : Store D disk) (l : List (Item D disk)) (x : Engine D disk) : Type 0 where
-    pub some : (h : List Entry) × IsEngineOf h x
     pub opening : x ≡ s.opening.value
     pub trace : IsTraceOf x l
     pub engine : s.engine ≡ engine_after x l

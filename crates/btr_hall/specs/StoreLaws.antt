@@ -7,8 +7,8 @@ use Rattle.btr_hist.specs.declared.entry.Entry.{Entry}
 use Rattle.btr_engine.specs.declared.engine.Engine.{Engine}
 use Rattle.btr_engine.specs.declared.board.Receipt.{Receipt}
 use Rattle.btr_engine.specs.declared.step.StepFault.TheVariants.{DeviceFault}
-use Rattle.btr_engine.specs.Engine.{entries_of, is_stopped, IsEngineOf}
-use Rattle.btr_engine.specs.Step.{IsStep, IsStepped, CanStep, StopsByFault}
+use Rattle.btr_engine.specs.Engine.{entries_of, is_stopped}
+use Rattle.btr_engine.specs.Step.{IsStep, AddsOne, StopsByFault}
 use Rattle.btr_gate.specs.Numbers.{one}
 use Rattle.btr_hall.specs.declared.item.Item.{Item}
 use Rattle.btr_hall.specs.declared.item.Item.TheVariants.{Earlier, Added, Halted}
@@ -24,12 +24,12 @@ module _ {D : Type 0} {disk : Ghosts D} where
   -- A stopped engine accepts nothing, and its device does not fail.
   pub stopped_accepts : (x y : Engine D disk) (e : Entry) (receipt : Receipt) → is_stopped x ≡ true → IsStep x y e (Ok receipt) → ⊥
   stopped_accepts x y e receipt stopped step =
-      let is = (step.stopped stopped).returned in
+      let is = (step.effect.stopped stopped).returned in
       cc
 
   pub stopped_fails : (x y : Engine D disk) (e : Entry) → is_stopped x ≡ true → IsStep x y e (Err DeviceFault) → ⊥
   stopped_fails x y e stopped step =
-      let is = (step.stopped stopped).returned in
+      let is = (step.effect.stopped stopped).returned in
       cc
 
   -- After a halt there is no item.
@@ -40,18 +40,16 @@ module _ {D : Type 0} {disk : Ghosts D} where
   ends_stopped x (Halted entry engine ∷ l) stopped trace = absurd (stopped_fails x engine.value entry.value stopped trace.0)
 
   -- Each item is an entry that was added, or the halt.
-  pub trace_length : (h : List Entry) (x : Engine D disk) (l : List (Item D disk)) → IsEngineOf h x → IsTrace x l
+  pub trace_length : (x : Engine D disk) (l : List (Item D disk)) → IsTrace x l
       → entries_of (engine_after x l) + one (has_halt l) ≡ entries_of x + length l
-  trace_length h x [] of trace = omega arith
-  trace_length h x (Earlier ∷ l) of trace = absurd trace
-  trace_length h x (Added entry engine ∷ l) of trace =
-      let stepped : IsStepped h x engine.value entry.value trace.0.0 = trace.0.1.stepped h of in
-      let next = trace_length (h ++ entry.value ∷ []) engine.value l stepped.of trace.1 in
-      let before = of.entries in
-      let after = stepped.of.entries in
-      omega (arith, next, before, after, length-append h (entry.value ∷ []))
-  trace_length h x (Halted entry engine ∷ l) of trace =
-      let fault : CanStep h x entry.value × StopsByFault x engine.value = trace.0.cause h of in
+  trace_length x [] trace = omega arith
+  trace_length x (Earlier ∷ l) trace = absurd trace
+  trace_length x (Added entry engine ∷ l) trace =
+      let adds : AddsOne x engine.value trace.0.0 = trace.0.1.effect.has_result in
+      let next = trace_length engine.value l trace.1 in
+      omega (arith, next, adds.entries)
+  trace_length x (Halted entry engine ∷ l) trace =
+      let fault : (is_stopped x ≡ false) × StopsByFault x engine.value = trace.0.effect.has_result in
       let none = ends_stopped engine.value l fault.1.stopped trace.1 in
       let same : entries_of engine.value ≡ entries_of x = ap (λ b. b.entries) fault.1.board in
       let after : entries_of (engine_after engine.value l) ≡ entries_of engine.value =
@@ -80,7 +78,7 @@ module _ {D : Type 0} {disk : Ghosts D} where
       ∙ ap (λ k. k + length trace.steps) (length-replicate n Earlier) in
       let same : entries_of s.engine ≡ entries_of (engine_after x trace.steps) = ap (λ e. entries_of e) (of.engine ∙ engine) in
       let halted : one s.halted ≡ one (has_halt trace.steps) = ap one (of.halted ∙ halt) in
-      omega (arith, trace_length of.some.0 x trace.steps of.some.1 trace.trace, all, same, halted)
+      omega (arith, trace_length x trace.steps trace.trace, all, same, halted)
 
   -- An engine has fewer entries than its device can have blocks.
   few_entries : (e : Engine D disk) → entries_of e < 2 ^ 32

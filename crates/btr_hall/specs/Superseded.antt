@@ -1,30 +1,42 @@
--- What the private functions promise that land a plan: whether it is superseded, and which faults its step may have.
+-- What the private functions promise that land a plan: whether it is superseded, and what is said of the result of its step.
 use Rattle.std.specs.Prelude.{◌≡◌, ℕ, ◌<◌, ◌≤◌, Bool, true, false, List, Option, Some, None, Result, Ok, Err}
 use Rattle.btr_disk.specs.declared.disk.Disk.{Ghosts}
 use Rattle.btr_hist.specs.declared.entry.Entry.{Entry}
 use Rattle.btr_hist.specs.History.{latest}
+use Rattle.btr_hist.specs.declared.rejection.Rejection.{Rejection}
+use Rattle.btr_hist.specs.declared.rejection.Rejection.TheVariants as rejections
 use Rattle.btr_distil.specs.Plan.{PlanValue, entry_of}
-use Rattle.btr_plan.specs.Plan.{MayReject}
 use Rattle.btr_engine.specs.declared.board.Receipt.{Receipt}
 use Rattle.btr_engine.specs.declared.step.StepFault.{StepFault}
-use Rattle.btr_engine.specs.declared.step.StepFault.TheVariants.{Rejected}
+use Rattle.btr_engine.specs.declared.step.StepFault.TheVariants as steps
 use Rattle.btr_engine.specs.Engine.{is_stopped, IsEngineOf}
 use Rattle.btr_hall.specs.declared.item.Item.{Item}
 use Rattle.btr_hall.specs.declared.land.LandFault.{LandFault}
+use Rattle.btr_hall.specs.declared.land.LandFault.TheVariants as faults
 use Rattle.btr_hall.specs.declared.land.LandFault.TheVariants.{Superseded}
 use Rattle.btr_hall.specs.declared.store.Store.{Store}
 use Rattle.btr_hall.specs.Commit.{Adds}
-use Rattle.btr_hall.specs.Landing.{step_result}
 
--- The plan was superseded.
-abbrev pub is_superseded : LandFault → Bool
-is_superseded (Superseded version) = true
-is_superseded fault = false
+-- What is said of a rejection: its name, if the plan of a history can meet it. Of the others, which never come if there is a history, it
+-- is said that memory ran out.
+abbrev pub said_rejection : Rejection → LandFault
+said_rejection rejections.VersionLimit = faults.VersionLimit
+said_rejection (rejections.Crowded start) = faults.Crowded start
+said_rejection (rejections.TooManyPoints count) = faults.TooManyPoints count
+said_rejection why = faults.Want
 
--- The step of a current plan may have this fault.
-abbrev pub MayLand : StepFault → Type 0
-MayLand (Rejected why) = MayReject why
-MayLand fault = Unit {0}
+-- What is said of the fault of a step.
+abbrev pub said_fault : StepFault → LandFault
+said_fault (steps.Stopped entries) = faults.Stopped entries
+said_fault (steps.Rejected why) = said_rejection why
+said_fault steps.Want = faults.Want
+said_fault (steps.DeviceFull need left) = faults.DeviceFull need left
+said_fault steps.DeviceFault = faults.DeviceFault
+
+-- What is said of the result of a step.
+abbrev pub said_result : Result Receipt StepFault → Result Receipt LandFault
+said_result (Ok receipt) = Ok receipt
+said_result (Err fault) = Err (said_fault fault)
 
 module _ {D : Type 0} {disk : Ghosts D} where
   -- The output has no version above the one that the plan follows, unless the engine is stopped.
@@ -39,8 +51,9 @@ module _ {D : Type 0} {disk : Ghosts D} where
       (is_stopped s.engine ≡ false) × (p.base < version)
       × ((h : List Entry) → IsEngineOf h s.engine → latest h p.stream ≡ version)
 
-  -- The plan was superseded, and nothing changed. Or the engine did the step of its entry.
+  -- The plan was superseded, and nothing changed. Or the engine did the step of its entry, of whose result this is said.
   abbrev pub StoreLands : Store D disk → Store D disk → PlanValue → Option (Item D disk) → Result Receipt LandFault → Type 0
   StoreLands old new p added (Err (Superseded version)) =
       (new ≡ old) × (added ≡ None) × IsSupersededBy old p (Some version)
-  StoreLands old new p added result = Adds old new (entry_of p) (step_result result) added × IsNotSuperseded old p
+  StoreLands old new p added result =
+      (step : Result Receipt StepFault) × Adds old new (entry_of p) step added × IsNotSuperseded old p × (result ≡ said_result step)

@@ -1,13 +1,12 @@
 //! The turn of a plan.
-ghost use Rattle.std.specs.Prelude.{◌≡◌, List, false};
+ghost use Rattle.std.specs.Prelude.{◌≡◌, List};
 ghost use Rattle.btr_hist.specs.declared.entry.Entry.{Entry as EntrySpec};
-ghost use Rattle.btr_engine.specs.declared.step.StepFault.TheVariants.{Rejected};
 ghost use Rattle.btr_engine.specs.Engine.{IsEngineOf};
 ghost use Rattle.btr_hall.specs.Trace.{history_of};
 ghost use Rattle.btr_hall.specs.Session.{IsSessionOf, IsSame, opening_of, seen_of};
-ghost use Rattle.btr_plan.specs.Plan.{IsPlanOf, MayReject};
-ghost use Rattle.btr_hall.specs.Landing.{Lands, step_fault};
-ghost use Rattle.btr_hall.specs.Superseded.{StoreLands, IsSupersededBy, MayLand, is_superseded};
+ghost use Rattle.btr_plan.specs.Plan.{IsPlanOf};
+ghost use Rattle.btr_hall.specs.Landing.{Lands};
+ghost use Rattle.btr_hall.specs.Superseded.{StoreLands, IsSupersededBy, said_fault, said_rejection};
 
 use crate::item::Item;
 use crate::session::{Hall, Session};
@@ -85,7 +84,6 @@ impl<D: Disk> Store<D> {
         alloc: Global,
         plan: &Plan,
     ) -> (Result<Receipt, LandFault>, Option<Item<D>>)
-        requires planned { (h : List EntrySpec) × IsEngineOf h self.old.engine × IsPlanOf h plan.now }
         ensures { StoreLands self.old self.new plan.now result.1 result.0 }
     {
         if let Some(version) = self.superseded(plan) {
@@ -115,11 +113,9 @@ impl<D: Disk> Store<D> {
     }
 }
 
-/// Why a plan that follows the latest version of its output was not landed.
+/// What is said of the fault of the step of a plan that follows the latest version of its output.
 fn land_fault(fault: StepFault) -> LandFault
-    requires { MayLand fault }
-    ensures fault { step_fault result ≡ fault }
-    ensures current { is_superseded result ≡ false }
+    ensures { result ≡ said_fault fault }
 {
     match fault {
         StepFault::Stopped { entries } => LandFault::Stopped { entries },
@@ -130,16 +126,14 @@ fn land_fault(fault: StepFault) -> LandFault
     }
 }
 
-/// Why the entry of such a plan may not follow.
+/// What is said of a rejection of the entry of such a plan. No plan of a history can meet the others: then it is memory that ran out.
 fn land_rejection(why: Rejection) -> LandFault
-    requires { MayReject why }
-    ensures fault { step_fault result ≡ Rejected why }
-    ensures current { is_superseded result ≡ false }
+    ensures { result ≡ said_rejection why }
 {
     match why {
         Rejection::VersionLimit => LandFault::VersionLimit,
         Rejection::Crowded { start } => LandFault::Crowded { start },
         Rejection::TooManyPoints { count } => LandFault::TooManyPoints { count },
-        _ => unreachable!(),
+        _ => LandFault::Want,
     }
 }

@@ -44,7 +44,6 @@ impl<D: Disk> Hall<D> {
         alloc: Global,
         engine: Engine<D>,
     ) -> Result<(Hall<D>, Session<D>), (Engine<D>, AllocError)>
-        requires some { (h : List EntrySpec) × IsEngineOf h engine }
         ensures begins { IfOk result (λ r. Begins engine r.0 r.1) }
         ensures refused { IfErr result (λ r. r.0 ≡ engine) }
     {

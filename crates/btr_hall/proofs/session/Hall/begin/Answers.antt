@@ -4,7 +4,7 @@ use Rattle.btr_hall.proofs.session.Hall.begin.Goals as goal
 
 pub begin-requires-clause-of : goal.begin-requires-clause-of
 begin-requires-clause-of g c =
-    (first_list c.args.engine, c.args.engine, store_first c.args.engine c.of.result c.requires.some c.of.ensures)
+    (first_list c.args.engine, c.args.engine, store_first c.args.engine c.of.result c.of.ensures)
 
 pub returns-in-Ok-clause-begins : goal.returns-in-Ok-clause-begins
 returns-in-Ok-clause-begins g c =

@@ -7,22 +7,6 @@ use Rattle.btr_hall.proofs.LandLemmas.{plan_later, store_landed, lands_of}
 use Rattle.btr_hall.proofs.TurnLemmas.{state_in, state_out, turn_engine, mine_after_turn}
 use Rattle.btr_hall.proofs.session.Session.land.Goals as goal
 
-pub land-result-requires : goal.land-result-requires
-land-result-requires g c =
-    let x = opening_of c.args.hall.now in
-    let w = view c.enter-turn.new.pass in
-    let s = c.enter-turn.result.state in
-    let takes = c.enter-turn.ensures.takes in
-    let of = state_in s (turn_list w) (view c.args.self.now.pass).setting x c.requires.session.set takes.state in
-    let h = of.some.0 in
-    record {
-      planned = (
-        history_of h (turn_list w),
-        turn_engine h s (turn_list w) x of of.some.1,
-        plan_later h x (turn_list w) (seen_of c.args.self.now) c.args.plan.now of.some.1 of.trace takes.begins (c.requires.planned h of.some.1),
-      );
-    }
-
 pub leave-requires-clause-of : goal.leave-requires-clause-of
 leave-requires-clause-of g c =
     let x = opening_of c.args.hall.now in
