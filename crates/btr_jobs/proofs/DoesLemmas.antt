@@ -15,7 +15,7 @@ use Rattle.btr_hall.specs.declared.session.Session.{Session}
 use Rattle.btr_hall.specs.Trace.{IsTraceOf}
 use Rattle.btr_hall.specs.Session.{IsSessionOf, IsAlone, Begins, Splits, Meets, opening_of, seen_of, mine_of}
 use Rattle.btr_hall.proofs.SessionLemmas.{split_paths, meet_paths, alone_alike}
-use Rattle.btr_jobs.specs.States.{StoreState, LogState, GoesOn, log_of, start_of}
+use Rattle.btr_jobs.specs.States.{StoreState, LogState, GoesOn, log_seen, start_of}
 use Rattle.btr_jobs.specs.Jobs.{IsAt, Goes, Does}
 use Rattle.btr_jobs.proofs.StateLemmas.{goes_on, history_goes_on, log_at}
 
@@ -87,12 +87,12 @@ module _ {D : Type 0} {disk : Ghosts D} where
 
   -- Nothing was done.
   pub does_none : (hall : Hall D disk) (s : Session D disk) (What : StoreState → LogState → List Entry → List ℕ → Type 0) → ((start : StoreState) (log : LogState) → What start log log.history []) → Does hall s s What
-  does_none hall s What what = ([], goes_none s, λ h of. what (start_of h hall) (log_of h s))
+  does_none hall s What what = ([], goes_none s, λ h of. what (start_of h hall) (log_seen h s))
 
   -- What was done says another thing, which it implies.
   pub does_implied : (hall : Hall D disk) (old new : Session D disk) (What More : StoreState → LogState → List Entry → List ℕ → Type 0) → ((start : StoreState) (log : LogState) (low : List Entry) (own : List ℕ) → What start log low own → More start log low own) → Does hall old new What → Does hall old new More
   does_implied hall old new What More implies does =
-      (does.0, does.1, λ h of. implies (start_of h hall) (log_of h new) (log_of h old).history does.0 (does.2 h of))
+      (does.0, does.1, λ h of. implies (start_of h hall) (log_seen h new) (log_seen h old).history does.0 (does.2 h of))
 
   -- One piece of work after another: `early` is the log between them, and its history is what the second one had seen.
   pub does_then : (hall : Hall D disk) (old mid new : Session D disk) (First Second Both : StoreState → LogState → List Entry → List ℕ → Type 0) → IsAt hall new → ((start : StoreState) (late early : LogState) (low : List Entry) (a b : List ℕ) → GoesOn start late early → StartsWith early.history low → First start early low a → Second start late early.history b → Both start late low (a ++ b)) → Does hall old mid First → Does hall mid new Second → Does hall old new Both
@@ -100,7 +100,7 @@ module _ {D : Type 0} {disk : Ghosts D} where
     first.0 ++ second.0,
     goes_then old mid new first.0 second.0 first.1 second.1,
     λ h of.
-        both (start_of h hall) (log_of h new) (log_of h mid) (log_of h old).history first.0 second.0
+        both (start_of h hall) (log_seen h new) (log_seen h mid) (log_seen h old).history first.0 second.0
         (goes_on h hall new mid of at second.1.seen)
         (history_goes_on h mid old first.1.seen)
         (first.2 h of) (second.2 h of),
@@ -162,12 +162,12 @@ module _ {D : Type 0} {disk : Ghosts D} where
       goes_both first.0 second.0 first.1 second.1,
       λ h of.
           let start = start_of h hall in
-          let low = (log_of h old).history in
-          let kept_low : (log_of h kept).history ≡ low = ap (λ l. (log_at {disk = disk} h l).history) splits.seen in
-          let other_low : (log_of h other).history ≡ low = ap (λ l. (log_at {disk = disk} h l).history) splits.other_seen in
-          both start (log_of h new) (log_of h left) (log_of h right) low first.0 second.0
+          let low = (log_seen h old).history in
+          let kept_low : (log_seen h kept).history ≡ low = ap (λ l. (log_at {disk = disk} h l).history) splits.seen in
+          let other_low : (log_seen h other).history ≡ low = ap (λ l. (log_at {disk = disk} h l).history) splits.other_seen in
+          both start (log_seen h new) (log_seen h left) (log_seen h right) low first.0 second.0
           (goes_on h hall new left of at meets.this)
           (goes_on h hall new right of at meets.that)
-          (subst (λ k. First start (log_of h left) k first.0) kept_low (first.2 h of))
-          (subst (λ k. Second start (log_of h right) k second.0) other_low (second.2 h of)),
+          (subst (λ k. First start (log_seen h left) k first.0) kept_low (first.2 h of))
+          (subst (λ k. Second start (log_seen h right) k second.0) other_low (second.2 h of)),
     )

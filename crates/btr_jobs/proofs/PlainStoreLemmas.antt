@@ -9,20 +9,19 @@ use Rattle.btr_hist.specs.Legal.{rejection}
 use Rattle.btr_engine.specs.declared.board.Receipt.{Receipt}
 use Rattle.btr_engine.specs.declared.step.StepFault.{StepFault}
 use Rattle.btr_engine.specs.declared.step.StepFault.TheVariants as steps
-use Rattle.btr_engine.specs.Body.{need_of}
+use Rattle.btr_engine.specs.Body.{need_of, needs_of}
+use Rattle.btr_engine.proofs.NeedLemmas.{needs-append, needs-push}
 use Rattle.btr_gate.specs.Prefixes.{StartsWith}
-use Rattle.btr_hall.specs.Commit.{needs_of}
 use Rattle.btr_jobs.specs.States.{StoreState, LogState, GoesOn}
 use Rattle.btr_jobs.specs.Turns.{IsStopped, IsFull, Committed}
 use Rattle.btr_jobs.specs.PlainStore.{PlainStore, receipt_of, take_result_by, store_by, take_result, store_after, result_of, first_store, RunsThrough}
 use Rattle.btr_jobs.specs.PlainStore.TakeResult.{Taken, Rejected, Full}
-use Rattle.btr_jobs.proofs.TurnLemmas.{needs_append}
 
 -- A history that another one begins with needs no more.
 pub needs_prefix : (h p : List Entry) → StartsWith h p → needs_of p ≤ needs_of h
 needs_prefix h p starts =
     let all : needs_of h ≡ needs_of (p ++ starts.0) = ap needs_of starts.1 in
-    let both = needs_append p starts.0 in
+    let both = needs-append p starts.0 in
     omega (arith, all, both)
 
 -- What ran through to the end of a state of the log did so up to its middle.
@@ -43,15 +42,15 @@ middle_runs start late middle on ran = record {
 -- ---- what becomes of an entry
 
 module _ (c : PlainStore) (e : Entry) where
-  pub outcome_taken : rejection c.history e ≡ None → need_of e ≤ c.left → take_result c e ≡ Taken (receipt_of c.history e)
+  pub outcome_taken : rejection c.history e ≡ None → need_of c.history e ≤ c.left → take_result c e ≡ Taken (receipt_of c.history e)
   outcome_taken allowed fits =
       ap (take_result_by c e) allowed
-      ∙ ap (λ t. if t then Full (need_of e) c.left else Taken (receipt_of c.history e)) (le-ltb c.left (need_of e) fits)
+      ∙ ap (λ t. if t then Full (need_of c.history e) c.left else Taken (receipt_of c.history e)) (le-ltb c.left (need_of c.history e) fits)
 
-  pub outcome_full : rejection c.history e ≡ None → c.left < need_of e → take_result c e ≡ Full (need_of e) c.left
+  pub outcome_full : rejection c.history e ≡ None → c.left < need_of c.history e → take_result c e ≡ Full (need_of c.history e) c.left
   outcome_full allowed short =
       ap (take_result_by c e) allowed
-      ∙ ap (λ t. if t then Full (need_of e) c.left else Taken (receipt_of c.history e)) (lt-ltb c.left (need_of e) short)
+      ∙ ap (λ t. if t then Full (need_of c.history e) c.left else Taken (receipt_of c.history e)) (lt-ltb c.left (need_of c.history e) short)
 
   pub outcome_rejected : (why : Rejection) → rejection c.history e ≡ Some why → take_result c e ≡ Rejected why
   outcome_rejected why is = ap (take_result_by c e) is
@@ -68,35 +67,39 @@ module _ (start : StoreState) where
   first_holds = record { same = refl; left = refl }
 
   module _ (c : PlainStore) (p : List Entry) (e : Entry) (holds : Holds c p) where
-    -- There was room for an entry that was added.
-    pub added_fits : needs_of (p ++ e ∷ []) ≤ start.left + needs_of start.history → need_of e ≤ c.left
-    added_fits fits =
-        let both = needs_append p (e ∷ []) in
-        let left = holds.left in
-        omega (arith, both, left, fits)
+    -- The entry needs the same after both.
+    same_need : need_of c.history e ≡ need_of p e
+    same_need = ap (λ h. need_of h e) holds.same
 
-    pub holds_added : (next : List Entry) → take_result c e ≡ Taken (receipt_of c.history e) → need_of e ≤ c.left → next ≡ p ++ e ∷ [] → Holds (store_after c e) next
+    -- There was room for an entry that was added.
+    pub added_fits : needs_of (p ++ e ∷ []) ≤ start.left + needs_of start.history → need_of c.history e ≤ c.left
+    added_fits fits =
+        let both = needs-push p e in
+        let left = holds.left in
+        omega (arith, both, left, fits, same_need)
+
+    pub holds_added : (next : List Entry) → take_result c e ≡ Taken (receipt_of c.history e) → need_of c.history e ≤ c.left → next ≡ p ++ e ∷ [] → Holds (store_after c e) next
     holds_added next is fits grown =
-        let both = needs_append p (e ∷ []) in
+        let both = needs-push p e in
         let left = holds.left in
         let all : needs_of next ≡ needs_of (p ++ e ∷ []) = ap needs_of grown in
         subst (λ d. Holds d next) (sym (ap (store_by c e) is))
-        (record { same = ap (λ h. h ++ e ∷ []) holds.same ∙ sym grown; left = omega (arith, both, left, all, fits) })
+        (record { same = ap (λ h. h ++ e ∷ []) holds.same ∙ sym grown; left = omega (arith, both, left, all, fits, same_need) })
 
-    pub holds_full : (next : List Entry) → take_result c e ≡ Full (need_of e) c.left → next ≡ p → Holds (store_after c e) next
+    pub holds_full : (next : List Entry) → take_result c e ≡ Full (need_of c.history e) c.left → next ≡ p → Holds (store_after c e) next
     holds_full next is same = subst (λ d. Holds d next) (sym (ap (store_by c e) is)) (subst (Holds c) (sym same) holds)
 
     pub holds_rejected : (next : List Entry) (why : Rejection) → take_result c e ≡ Rejected why → next ≡ p → Holds (store_after c e) next
     holds_rejected next why is same = subst (λ d. Holds d next) (sym (ap (store_by c e) is)) (subst (Holds c) (sym same) holds)
 
     -- What a turn says is left.
-    pub full_left : (need left : ℕ) → IsFull start p e need left → (need ≡ need_of e) × (left ≡ c.left) × (c.left < need_of e)
+    pub full_left : (need left : ℕ) → IsFull start p e need left → (need ≡ need_of c.history e) × (left ≡ c.left) × (c.left < need_of c.history e)
     full_left need left full =
         let here = holds.left in
         let room = full.left in
         let needed = full.need in
         let short = full.short in
-        (needed, omega (arith, here, room), omega (arith, here, room, needed, short))
+        (needed ∙ sym same_need, omega (arith, here, room), omega (arith, here, room, needed, short, same_need))
 
 module _ (start : StoreState) (log : LogState) (ran : RunsThrough start log) where
   pub never_stopped : (p : List Entry) (count : ℕ) → IsStopped start log p count → ⊥

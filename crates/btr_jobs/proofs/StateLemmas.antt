@@ -21,7 +21,7 @@ use Rattle.btr_hall.specs.Session.{opening_of, seen_of}
 use Rattle.btr_hall.specs.StoreLaws.{ends_stopped}
 use Rattle.btr_hall.proofs.LandLemmas.{history_starts}
 use Rattle.btr_hall.proofs.TraceLemmas.{engine_of_list, length_of_list}
-use Rattle.btr_jobs.specs.States.{LogState, GoesOn, failed_in, start_with, log_of, start_of}
+use Rattle.btr_jobs.specs.States.{LogState, GoesOn, failed_in, start_with, log_seen, start_of}
 use Rattle.btr_jobs.specs.Jobs.{IsAt, Goes}
 
 either : (a b : Bool) (P : Type 0) → (a ≡ true → P) → (b ≡ true → P) → (a || b) ≡ true → P
@@ -117,27 +117,27 @@ module _ {D : Type 0} {disk : Ghosts D} where
           log_earlier h (length later) later whole ∙ sym (log_earlier h (length earlier) earlier front)
 
   -- What a session has seen goes on from what it, or another one of the hall, had seen, if that begins it.
-  pub goes_on : (h : List Entry) (hall : Hall D disk) (new old : Session D disk) → IsEngineOf h (opening_of hall) → IsAt hall new → StartsWith (seen_of new) (seen_of old) → GoesOn (start_of h hall) (log_of h new) (log_of h old)
+  pub goes_on : (h : List Entry) (hall : Hall D disk) (new old : Session D disk) → IsEngineOf h (opening_of hall) → IsAt hall new → StartsWith (seen_of new) (seen_of old) → GoesOn (start_of h hall) (log_seen h new) (log_seen h old)
   goes_on h hall new old of at starts = list_goes_on h (opening_of hall) (seen_of new) (seen_of old) of at.trace starts
 
   -- The history that a session has seen begins with the one that it had seen.
-  pub history_goes_on : (h : List Entry) (new old : Session D disk) → StartsWith (seen_of new) (seen_of old) → StartsWith (log_of h new).history (log_of h old).history
+  pub history_goes_on : (h : List Entry) (new old : Session D disk) → StartsWith (seen_of new) (seen_of old) → StartsWith (log_seen h new).history (log_seen h old).history
   history_goes_on h new old starts = history_starts h (seen_of new) (seen_of old) starts
 
   -- A session has seen an item for each entry, and one more if the device failed.
-  pub log_length : (h : List Entry) (hall : Hall D disk) (s : Session D disk) → IsEngineOf h (opening_of hall) → IsAt hall s → length (seen_of s) ≡ length (log_of h s).history + one (is_some (log_of h s).failed)
+  pub log_length : (h : List Entry) (hall : Hall D disk) (s : Session D disk) → IsEngineOf h (opening_of hall) → IsAt hall s → length (seen_of s) ≡ length (log_seen h s).history + one (is_some (log_seen h s).failed)
   log_length h hall s of at =
-      let all = length_of_list h (opening_of hall) (seen_of s) of at.trace in
+      let all = length_of_list (opening_of hall) (seen_of s) at.trace in
       let entries = (engine_of_list h (opening_of hall) (seen_of s) of at.trace).entries in
       let failed : one (is_some (failed_in (seen_of s))) ≡ one (has_halt (seen_of s)) = ap one (failed_halt (seen_of s)) in
       omega (arith, all, entries, failed)
 
   -- If a session added anything, the store was not stopped when the hall began, and the session had not seen the device fail.
-  pub not_ended : (h : List Entry) (hall : Hall D disk) (old new : Session D disk) (own : List ℕ) → IsEngineOf h (opening_of hall) → IsAt hall old → IsAt hall new → Goes old new own → (n : ℕ) → 1 ≤ times n own → ((start_of h hall).stopped || is_some (log_of h old).failed) ≡ false
+  pub not_ended : (h : List Entry) (hall : Hall D disk) (old new : Session D disk) (own : List ℕ) → IsEngineOf h (opening_of hall) → IsAt hall old → IsAt hall new → Goes old new own → (n : ℕ) → 1 ≤ times n own → ((start_of h hall).stopped || is_some (log_seen h old).failed) ≡ false
   not_ended h hall old new own of before after goes n some =
-      false_from_ne_true ((start_of h hall).stopped || is_some (log_of h old).failed) (λ ended.
+      false_from_ne_true ((start_of h hall).stopped || is_some (log_seen h old).failed) (λ ended.
       let same = (goes_on h hall new old of after goes.seen).ends ended in
-      let entries : length (log_of h new).history ≡ length (log_of h old).history = ap (λ (c : LogState). length c.history) same in
-      let failed : one (is_some (log_of h new).failed) ≡ one (is_some (log_of h old).failed) = ap (λ (c : LogState). one (is_some c.failed)) same in
+      let entries : length (log_seen h new).history ≡ length (log_seen h old).history = ap (λ (c : LogState). length c.history) same in
+      let failed : one (is_some (log_seen h new).failed) ≡ one (is_some (log_seen h old).failed) = ap (λ (c : LogState). one (is_some c.failed)) same in
       let fresh = goes.fresh n some in
       omega (arith, entries, failed, fresh.0, fresh.1, log_length h hall old of before, log_length h hall new of after))

@@ -11,7 +11,8 @@ use Rattle.btr_engine.specs.declared.engine.Engine.{Engine}
 use Rattle.btr_engine.specs.declared.board.Receipt.{Receipt}
 use Rattle.btr_engine.specs.declared.step.StepFault.{StepFault}
 use Rattle.btr_engine.specs.declared.step.StepFault.TheVariants as steps
-use Rattle.btr_engine.specs.Body.{need_of}
+use Rattle.btr_engine.specs.Body.{need_of, needs_after}
+use Rattle.btr_engine.proofs.NeedLemmas.{needs-append}
 use Rattle.btr_engine.specs.Engine.{is_stopped, room_of, IsEngineOf}
 use Rattle.btr_gate.specs.Numbers.{one, times, Climbs}
 use Rattle.btr_gate.specs.Prefixes.{StartsWith}
@@ -26,13 +27,13 @@ use Rattle.btr_hall.specs.declared.session.Hall.{Hall}
 use Rattle.btr_hall.specs.declared.session.Session.{Session}
 use Rattle.btr_hall.specs.Trace.{IsTraceOf, entries_in, has_halt, stopped_in, history_of}
 use Rattle.btr_hall.specs.Session.{IsSessionOf, IsSame, IsAlone, Looks, opening_of, seen_of, mine_of, engine_of}
-use Rattle.btr_hall.specs.Commit.{shown, needs_of, number_by, item_by, Commits}
+use Rattle.btr_hall.specs.Commit.{shown, number_by, item_by, Commits}
 use Rattle.btr_hall.specs.Commit as commit
 use Rattle.btr_hall.specs.Landing.{step_result, Lands}
 use Rattle.btr_hall.specs.Landing as landing
 use Rattle.btr_hall.proofs.TraceLemmas.{entries_append, halt_append, engine_of_list, length_of_list, list_push}
 use Rattle.btr_hall.proofs.LandLemmas.{history_starts}
-use Rattle.btr_jobs.specs.States.{failed_in, start_with, log_of, start_of}
+use Rattle.btr_jobs.specs.States.{failed_in, start_with, log_seen, start_of}
 use Rattle.btr_jobs.specs.Turns.{IsAdded, IsFailed, IsIdle, IsStopped, IsFull, Committed, CommittedAfter, Landed, LandedAfter}
 use Rattle.btr_jobs.specs.Jobs.{IsAt, Goes, Does}
 use Rattle.btr_jobs.proofs.StateLemmas.{log_at, failed_halt, failed_append, history_goes_on}
@@ -43,11 +44,6 @@ runs_before false true never = absurd (never refl)
 runs_before true false never = refl
 runs_before false false never = refl
 
--- The blocks that entries need, one list after another.
-pub needs_append : (h k : List Entry) → needs_of (h ++ k) ≡ needs_of h + needs_of k
-needs_append [] k = omega arith
-needs_append (e ∷ h) k = let rest = needs_append h k in omega (arith, rest)
-
 module _ {D : Type 0} {disk : Ghosts D} where
   -- ---- the list of a turn: `before` is the list when it began, `after` the list that it left
 
@@ -55,7 +51,7 @@ module _ {D : Type 0} {disk : Ghosts D} where
     -- The length of the list.
     long : length after ≡ length (history_of h after) + one (has_halt after)
     long =
-        let all = length_of_list h x after of trace in
+        let all = length_of_list x after trace in
         let entries = (engine_of_list h x after of trace).entries in
         omega (arith, all, entries)
 
@@ -110,9 +106,9 @@ module _ {D : Type 0} {disk : Ghosts D} where
           entries = is;
         }
 
-    full_by : (e : Entry) (need left : ℕ) → need ≡ need_of e → left + needs_of (entries_in before) ≡ room_of x → left < need → IsFull (start_with h x) (history_of h before) e need left
+    full_by : (e : Entry) (need left : ℕ) → need ≡ need_of (history_of h before) e → left + needs_after h (entries_in before) ≡ room_of x → left < need → IsFull (start_with h x) (history_of h before) e need left
     full_by e need left is room short =
-        let both = needs_append h (entries_in before) in
+        let both = needs-append h (entries_in before) in
         record { need = is; left = omega (arith, both, room); short = short }
 
     -- ---- what the result says
@@ -121,7 +117,7 @@ module _ {D : Type 0} {disk : Ghosts D} where
     abbrev pub numbers : Result Receipt StepFault → List ℕ
     numbers result = option_to_list (number_by result (length after))
 
-    committed_by : (e : Entry) (y : Engine D disk) (result : Result Receipt StepFault) → after ≡ before ++ option_to_list (item_by result e y) → (stopped_in x before ≡ true → result ≡ Err (steps.Stopped (length (history_of h before)))) → commit.CommitReplies x before (history_of h before) e result → (next : List Entry) × Committed (start_with h x) (log_at h after) (history_of h before) e result (numbers result) next × StartsWith (history_of h after) next
+    committed_by : (e : Entry) (y : Engine D disk) (result : Result Receipt StepFault) → after ≡ before ++ option_to_list (item_by result e y) → (stopped_in x before ≡ true → result ≡ Err (steps.Stopped (length (history_of h before)))) → commit.CommitReplies x h before (history_of h before) e result → (next : List Entry) × Committed (start_with h x) (log_at h after) (history_of h before) e result (numbers result) next × StartsWith (history_of h after) next
     committed_by e y (Ok receipt) seen stopped says =
         let added = added_by e y seen (runs_before (is_stopped x) (has_halt before) (λ is. let not = stopped is in cc)) in
         (history_of h before ++ e ∷ [], (says.0, says.1, added), added.follows)
@@ -137,7 +133,7 @@ module _ {D : Type 0} {disk : Ghosts D} where
         let failed = failed_by e y seen (runs_before (is_stopped x) (has_halt before) (λ is. let not = stopped is in cc)) in
         (history_of h before, (says, failed), history_starts h after before (Halted (shown e) (shown y) ∷ [], seen))
 
-    landed_by : (plan : PlanValue) (y : Engine D disk) (result : Result Receipt LandFault) → after ≡ before ++ option_to_list (item_by (step_result result) (entry_of plan) y) → (stopped_in x before ≡ true → result ≡ Err (faults.Stopped (length (history_of h before)))) → landing.LandingReplies x before (history_of h before) plan result → (next : List Entry) × Landed (start_with h x) (log_at h after) (history_of h before) plan result (numbers (step_result result)) next × StartsWith (history_of h after) next
+    landed_by : (plan : PlanValue) (y : Engine D disk) (result : Result Receipt LandFault) → after ≡ before ++ option_to_list (item_by (step_result result) (entry_of plan) y) → (stopped_in x before ≡ true → result ≡ Err (faults.Stopped (length (history_of h before)))) → landing.LandingReplies x h before (history_of h before) plan result → (next : List Entry) × Landed (start_with h x) (log_at h after) (history_of h before) plan result (numbers (step_result result)) next × StartsWith (history_of h after) next
     landed_by plan y (Ok receipt) seen stopped says =
         let added = added_by (entry_of plan) y seen (runs_before (is_stopped x) (has_halt before) (λ is. let not = stopped is in cc)) in
         (history_of h before ++ entry_of plan ∷ [], (says.0, says.2, added), added.follows)
@@ -201,7 +197,7 @@ module _ {D : Type 0} {disk : Ghosts D} where
         goes_by old new commits.before _ same ends commits.grows commits.mine
         (step_climbs commits.before (seen_of new) e (engine_of hall new) result commits.seen)
 
-    says : (h : List Entry) → IsEngineOf h (opening_of hall) → (next : List Entry) × Committed (start_of h hall) (log_of h new) (history_of h commits.before) e result (option_to_list (number_by result (length (seen_of new)))) next × StartsWith (log_of h new).history next
+    says : (h : List Entry) → IsEngineOf h (opening_of hall) → (next : List Entry) × Committed (start_of h hall) (log_seen h new) (history_of h commits.before) e result (option_to_list (number_by result (length (seen_of new)))) next × StartsWith (log_seen h new).history next
     says h of =
         committed_by h (opening_of hall) commits.before (seen_of new) of trace_after e (engine_of hall new) result commits.seen (λ stopped. commits.stopped stopped h of) (commits.replies h of)
 
@@ -225,7 +221,7 @@ module _ {D : Type 0} {disk : Ghosts D} where
       option_to_list (number_by result (length (seen_of new))),
       goes,
       λ h of.
-          subst (λ l. (next : List Entry) × Committed (start_of h hall) (log_of h new) (history_of h l) e result (option_to_list (number_by result (length (seen_of new)))) next × StartsWith (log_of h new).history next) (commits.alone alone) (says h of),
+          subst (λ l. (next : List Entry) × Committed (start_of h hall) (log_seen h new) (history_of h l) e result (option_to_list (number_by result (length (seen_of new)))) next × StartsWith (log_seen h new).history next) (commits.alone alone) (says h of),
     )
 
   -- ---- the turn of a plan
@@ -239,7 +235,7 @@ module _ {D : Type 0} {disk : Ghosts D} where
         goes_by old new lands.before _ same plan_ends lands.grows lands.mine
         (step_climbs lands.before (seen_of new) (entry_of plan) (engine_of hall new) (step_result result) lands.seen)
 
-    plan_says : (h : List Entry) → IsEngineOf h (opening_of hall) → (next : List Entry) × Landed (start_of h hall) (log_of h new) (history_of h lands.before) plan result (option_to_list (number_by (step_result result) (length (seen_of new)))) next × StartsWith (log_of h new).history next
+    plan_says : (h : List Entry) → IsEngineOf h (opening_of hall) → (next : List Entry) × Landed (start_of h hall) (log_seen h new) (history_of h lands.before) plan result (option_to_list (number_by (step_result result) (length (seen_of new)))) next × StartsWith (log_seen h new).history next
     plan_says h of =
         landed_by h (opening_of hall) lands.before (seen_of new) of lands.trace plan (engine_of hall new) result lands.seen (λ stopped. lands.stopped stopped h of) (lands.replies h of)
 
@@ -263,7 +259,7 @@ module _ {D : Type 0} {disk : Ghosts D} where
       option_to_list (number_by (step_result result) (length (seen_of new))),
       plan_goes,
       λ h of.
-          subst (λ l. (next : List Entry) × Landed (start_of h hall) (log_of h new) (history_of h l) plan result (option_to_list (number_by (step_result result) (length (seen_of new)))) next × StartsWith (log_of h new).history next) (lands.alone alone) (plan_says h of),
+          subst (λ l. (next : List Entry) × Landed (start_of h hall) (log_seen h new) (history_of h l) plan result (option_to_list (number_by (step_result result) (length (seen_of new)))) next × StartsWith (log_seen h new).history next) (lands.alone alone) (plan_says h of),
     )
 
   -- ---- a turn that adds nothing

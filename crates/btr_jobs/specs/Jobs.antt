@@ -11,7 +11,7 @@ use Rattle.btr_hall.specs.declared.session.Session.{Session}
 use Rattle.btr_hall.specs.Trace.{IsTraceOf}
 use Rattle.btr_hall.specs.Session as session
 use Rattle.btr_hall.specs.Session.{IsSessionOf, opening_of, seen_of, mine_of, share_of}
-use Rattle.btr_jobs.specs.States.{StoreState, LogState, GoesOn, log_of, start_of}
+use Rattle.btr_jobs.specs.States.{StoreState, LogState, GoesOn, log_seen, start_of}
 
 -- What a kind of job does: after this state of the log of a hall that began so, a job that had seen this history went from its first state
 -- to its second, and these are the numbers of what it added.
@@ -56,4 +56,4 @@ module _ {D : Type 0} {disk : Ghosts D} where
   -- A session went on, and with the numbers that it added this is true of each history with which the hall may have begun.
   abbrev pub Does : Hall D disk → Session D disk → Session D disk → (StoreState → LogState → List Entry → List ℕ → Type 0) → Type 0
   Does hall old new What = (own : List ℕ) × Goes old new own
-      × ((h : List Entry) → IsEngineOf h (opening_of hall) → What (start_of h hall) (log_of h new) (log_of h old).history own)
+      × ((h : List Entry) → IsEngineOf h (opening_of hall) → What (start_of h hall) (log_seen h new) (log_seen h old).history own)

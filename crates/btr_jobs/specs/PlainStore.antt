@@ -7,8 +7,7 @@ use Rattle.btr_hist.specs.Machine as machine
 use Rattle.btr_engine.specs.declared.board.Receipt.{Receipt}
 use Rattle.btr_engine.specs.declared.step.StepFault.{StepFault}
 use Rattle.btr_engine.specs.declared.step.StepFault.TheVariants as steps
-use Rattle.btr_engine.specs.Body.{need_of}
-use Rattle.btr_hall.specs.Commit.{needs_of}
+use Rattle.btr_engine.specs.Body.{need_of, needs_of}
 use Rattle.btr_jobs.specs.States.{StoreState, LogState}
 
 -- What the store has: a history, and the blocks that are left.
@@ -33,11 +32,12 @@ receipt_of h e = record {
 -- What becomes of an entry, by the model's rejection of it.
 abbrev pub take_result_by : PlainStore → Entry → Option Rejection → TakeResult
 take_result_by c e (Some why) = Rejected why
-take_result_by c e None = if nat_lt c.left (need_of e) then Full (need_of e) c.left else Taken (receipt_of c.history e)
+take_result_by c e None =
+    if nat_lt c.left (need_of c.history e) then Full (need_of c.history e) c.left else Taken (receipt_of c.history e)
 
 -- What the store has after an entry of which this became.
 abbrev pub store_by : PlainStore → Entry → TakeResult → PlainStore
-store_by c e (Taken receipt) = record { history = c.history ++ e ∷ []; left = c.left - need_of e }
+store_by c e (Taken receipt) = record { history = c.history ++ e ∷ []; left = c.left - need_of c.history e }
 store_by c e (Rejected why) = c
 store_by c e (Full need left) = c
 

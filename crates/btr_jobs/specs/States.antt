@@ -43,8 +43,8 @@ module _ {D : Type 0} {disk : Ghosts D} where
   start_with h x = record { history = h; left = room_of x; stopped = is_stopped x }
 
   -- What a session has seen happen, if the hall began with this history.
-  abbrev pub log_of : List Entry → Session D disk → LogState
-  log_of h s = record { history = history_of h (seen_of s); failed = failed_in (seen_of s) }
+  abbrev pub log_seen : List Entry → Session D disk → LogState
+  log_seen h s = record { history = history_of h (seen_of s); failed = failed_in (seen_of s) }
 
   -- The store with which a hall began, if it was of this history.
   abbrev pub start_of : List Entry → Hall D disk → StoreState

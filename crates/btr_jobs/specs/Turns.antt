@@ -12,12 +12,11 @@ use Rattle.btr_plan.specs.Plan.{IsCurrent, reply_to}
 use Rattle.btr_engine.specs.declared.board.Receipt.{Receipt}
 use Rattle.btr_engine.specs.declared.step.StepFault.{StepFault}
 use Rattle.btr_engine.specs.declared.step.StepFault.TheVariants as steps
-use Rattle.btr_engine.specs.Body.{need_of}
+use Rattle.btr_engine.specs.Body.{need_of, needs_of}
 use Rattle.btr_engine.specs.Stage.{MayLackMemory, IsReceipt}
 use Rattle.btr_gate.specs.Prefixes.{StartsWith}
 use Rattle.btr_hall.specs.declared.land.LandFault.{LandFault}
 use Rattle.btr_hall.specs.declared.land.LandFault.TheVariants as faults
-use Rattle.btr_hall.specs.Commit.{needs_of}
 use Rattle.btr_jobs.specs.States.{StoreState, LogState}
 
 -- ---- what a turn adds: `p` is the history when it began, then come the numbers of what it added and the history after it
@@ -50,7 +49,7 @@ pub record IsStopped (start : StoreState) (log : LogState) (p : List Entry) (cou
 
 -- The entry needs more blocks than are left. What is left and what the history needs are together what they were at the start.
 pub record IsFull (start : StoreState) (p : List Entry) (e : Entry) (needed room : ℕ) : Type 0 where
-  pub need : needed ≡ need_of e
+  pub need : needed ≡ need_of p e
   pub left : room + needs_of p ≡ start.left + needs_of start.history
   pub short : room < needed
 

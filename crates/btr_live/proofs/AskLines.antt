@@ -11,7 +11,7 @@ use Rattle.btr_gate.proofs.PrefixLemmas.{starts_refl}
 use Rattle.btr_hall.specs.declared.session.Hall.{Hall}
 use Rattle.btr_hall.specs.declared.session.Session.{Session}
 use Rattle.btr_hall.specs.Session.{Looks}
-use Rattle.btr_jobs.specs.States.{StoreState, LogState, log_of}
+use Rattle.btr_jobs.specs.States.{StoreState, LogState, log_seen}
 use Rattle.btr_jobs.specs.Jobs.{IsAt}
 use Rattle.btr_jobs.proofs.DoesLemmas.{goes_none}
 use Rattle.btr_live.specs.Meaning.{Meaning, Commits, Asks, Holds, Current, Refuses, on_stream, meaning}
@@ -49,7 +49,7 @@ module _ {D : Type 0} {disk : Ghosts D} (hall : Hall D disk) where
         goes_none new,
         λ h of.
             let said = answers h of in
-            let seen = (log_of h new).history in record {
+            let seen = (log_seen h new).history in record {
               admitted = seen;
               after = starts_refl seen;
               begins = starts_refl seen;

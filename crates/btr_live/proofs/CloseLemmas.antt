@@ -18,7 +18,7 @@ use Rattle.btr_hall.specs.Trace.{entries_in, has_halt}
 use Rattle.btr_hall.specs.Session as session
 use Rattle.btr_hall.specs.Session.{Begins, HasEachOnce, IsAlone, opening_of, seen_of, mine_of}
 use Rattle.btr_hall.proofs.TraceLemmas.{length_of_list, engine_of_list}
-use Rattle.btr_jobs.specs.States.{StoreState, LogState, failed_in, log_of, start_of}
+use Rattle.btr_jobs.specs.States.{StoreState, LogState, failed_in, log_seen, start_of}
 use Rattle.btr_jobs.specs.Jobs.{IsAt, Goes, Does}
 use Rattle.btr_jobs.proofs.StateLemmas.{failed_halt}
 use Rattle.btr_jobs.proofs.DoesLemmas.{stays_alone}
@@ -38,7 +38,7 @@ module _ {D : Type 0} {disk : Ghosts D} where
   no_steps (step ∷ steps) is = absurd (omega (arith, is))
 
   -- The first session of a hall has seen the history with which the hall began.
-  pub begins_history : (x : Engine D disk) (hall : Hall D disk) (s : Session D disk) (h : List Entry) → Begins x hall s → (log_of h s).history ≡ h
+  pub begins_history : (x : Engine D disk) (hall : Hall D disk) (s : Session D disk) (h : List Entry) → Begins x hall s → (log_seen h s).history ≡ h
   begins_history x hall s h begins =
       let n = entries_of x in
       let steps = begins.trace.steps in
@@ -47,7 +47,7 @@ module _ {D : Type 0} {disk : Ghosts D} where
       ap (λ l. h ++ entries_in l) seen ∙ ap (λ l. h ++ l) (earlier_entries disk n) ∙ append-nil h
 
   -- The numbers of the last session are those of all that was added since its hall began.
-  pub all_since : (x : Engine D disk) (hall : Hall D disk) (old new : Session D disk) (h : List Entry) (own : List ℕ) → Begins x hall old → IsEngineOf h (opening_of hall) → IsAt hall new → Goes old new own → HasEachOnce new → AreAllSince h (log_of h new) own
+  pub all_since : (x : Engine D disk) (hall : Hall D disk) (old new : Session D disk) (h : List Entry) (own : List ℕ) → Begins x hall old → IsEngineOf h (opening_of hall) → IsAt hall new → Goes old new own → HasEachOnce new → AreAllSince h (log_seen h new) own
   all_since x hall old new h own begins of at goes once = λ n.
       let mine = goes.mine n in
       let none : times n (mine_of old) ≡ times n [] = ap (times n) begins.mine in
@@ -55,17 +55,17 @@ module _ {D : Type 0} {disk : Ghosts D} where
       let long = length_of_list h (opening_of hall) (seen_of new) of at.trace in
       let entries = (engine_of_list h (opening_of hall) (seen_of new) of at.trace).entries in
       let failed : one (is_some (failed_in (seen_of new))) ≡ one (has_halt (seen_of new)) = ap one (failed_halt (seen_of new)) in
-      let last : length (seen_of new) ≡ length (log_of h new).history + one (is_some (log_of h new).failed) = omega (arith, long, entries, failed) in
+      let last : length (seen_of new) ≡ length (log_seen h new).history + one (is_some (log_seen h new).failed) = omega (arith, long, entries, failed) in
       let all : times n own ≡ times n (mine_of new) = omega (arith, mine, none) in
       all ∙ once.once n
       ∙ ap (λ low. given low (length (seen_of new)) n) first
       ∙ ap (λ high. given (length h) high n) last
 
   -- A script that ran in the first session of a hall, which then has the number of each entry, made one history.
-  pub closed_history : (batch : ℕ) (materialize : Bool) (script : List ScriptLine) (report : LiveReport) (x : Engine D disk) (hall : Hall D disk) (old new : Session D disk) (h : List Entry) → Begins x hall old → IsEngineOf h (opening_of hall) → IsAt hall new → HasEachOnce new → Does hall old new (λ start log low own. RunsLive batch materialize start log low script report own) → OneHistory batch (start_of h hall) (log_of h new) script report.replies.items
+  pub closed_history : (batch : ℕ) (materialize : Bool) (script : List ScriptLine) (report : LiveReport) (x : Engine D disk) (hall : Hall D disk) (old new : Session D disk) (h : List Entry) → Begins x hall old → IsEngineOf h (opening_of hall) → IsAt hall new → HasEachOnce new → Does hall old new (λ start log low own. RunsLive batch materialize start log low script report own) → OneHistory batch (start_of h hall) (log_seen h new) script report.replies.items
   closed_history batch materialize script report x hall old new h begins of at once does =
-      one_history batch materialize (start_of h hall) (log_of h new) script report does.0
-      (subst (λ low. RunsLive batch materialize (start_of h hall) (log_of h new) low script report does.0) (begins_history x hall old h begins) (does.2 h of))
+      one_history batch materialize (start_of h hall) (log_seen h new) script report does.0
+      (subst (λ low. RunsLive batch materialize (start_of h hall) (log_seen h new) low script report does.0) (begins_history x hall old h begins) (does.2 h of))
       (all_since x hall old new h does.0 begins of at does.1 once)
 
   -- A session that was alone is alone after a run, and after a run that did not begin.

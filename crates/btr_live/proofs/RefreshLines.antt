@@ -15,7 +15,7 @@ use Rattle.btr_hall.specs.declared.land.LandFault.{LandFault}
 use Rattle.btr_hall.specs.declared.land.LandFault.TheVariants as faults
 use Rattle.btr_hall.specs.declared.session.Hall.{Hall}
 use Rattle.btr_hall.specs.declared.session.Session.{Session}
-use Rattle.btr_jobs.specs.States.{StoreState, LogState, start_of, log_of}
+use Rattle.btr_jobs.specs.States.{StoreState, LogState, start_of, log_seen}
 use Rattle.btr_jobs.specs.Turns.{Landed, LandedAfter}
 use Rattle.btr_jobs.specs.Jobs.{Does}
 use Rattle.btr_jobs.proofs.StateLemmas.{history_goes_on}
@@ -107,6 +107,6 @@ refreshed_serves hall old new stream result does stopped = (
   does.0,
   does.1,
   λ h of.
-      by_refreshed (start_of h hall) (log_of h new) (was_told hall old) (log_of h old).history stream does.0 result
+      by_refreshed (start_of h hall) (log_seen h new) (was_told hall old) (log_seen h old).history stream does.0 result
       (history_goes_on h new old does.1.seen) (λ told. stopped (h, of, told)) (does.2 h of),
 )

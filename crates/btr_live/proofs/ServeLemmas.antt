@@ -23,7 +23,7 @@ use Rattle.btr_hall.specs.Trace.{history_of}
 use Rattle.btr_hall.specs.Session.{IsSame, Looks, opening_of, seen_of}
 use Rattle.btr_hall.specs.Commit.{Commits, is_distillate}
 use Rattle.btr_hall.specs.Landing.{Lands}
-use Rattle.btr_jobs.specs.States.{StoreState, LogState, log_of, start_of}
+use Rattle.btr_jobs.specs.States.{StoreState, LogState, log_seen, start_of}
 use Rattle.btr_jobs.specs.Turns.{Committed, CommittedAfter, LandedAfter}
 use Rattle.btr_jobs.specs.Jobs.{IsAt}
 use Rattle.btr_jobs.proofs.DoesLemmas.{goes_none, does_then}
@@ -47,14 +47,14 @@ module _ {D : Type 0} {disk : Ghosts D} (hall : Hall D disk) where
   -- ---- replies
 
   -- A reply that takes no turn.
-  pub here_replies : (s : Session D disk) (m : Meaning) (reply : LineReply) → ((h : List Entry) → IsEngineOf h (opening_of hall) → Answers (start_of h hall) (log_of h s) (was_told hall s) (log_of h s).history m reply [] (log_of h s).history) → RepliesIn hall s s m reply
+  pub here_replies : (s : Session D disk) (m : Meaning) (reply : LineReply) → ((h : List Entry) → IsEngineOf h (opening_of hall) → Answers (start_of h hall) (log_seen h s) (was_told hall s) (log_seen h s).history m reply [] (log_seen h s).history) → RepliesIn hall s s m reply
   here_replies s m reply answers = (
     [],
     goes_none s,
     λ h of. record {
-      next = (log_of h s).history;
+      next = (log_seen h s).history;
       answers = answers h of;
-      ends = starts_refl (log_of h s).history;
+      ends = starts_refl (log_seen h s).history;
     },
   )
 
@@ -76,21 +76,21 @@ module _ {D : Type 0} {disk : Ghosts D} (hall : Hall D disk) where
         does.1,
         λ h of.
             let said = does.2 h of in
-            record { next = said.0; answers = offers (start_of h hall) (log_of h new) (was_told hall old) (log_of h old).history e result does.0 said.0 user said.1 (λ saw_failure. (length (history_of h commits.before), ap reply_of_step (commits.stopped (stopped_longer (opening_of hall) commits.before (seen_of old) commits.grows saw_failure) h of))); ends = said.2 },
+            record { next = said.0; answers = offers (start_of h hall) (log_seen h new) (was_told hall old) (log_seen h old).history e result does.0 said.0 user said.1 (λ saw_failure. (length (history_of h commits.before), ap reply_of_step (commits.stopped (stopped_longer (opening_of hall) commits.before (seen_of old) commits.grows saw_failure) h of))); ends = said.2 },
       )
 
   -- An entry of a user was refused after a look.
-  pub look_commits : (old new : Session D disk) (e : Entry) (result : Result Receipt StepFault) → is_distillate e ≡ false → Looks hall old new → ((h : List Entry) → IsEngineOf h (opening_of hall) → Committed (start_of h hall) (log_of h new) (log_of h new).history e result [] (log_of h new).history) → ((h : List Entry) → IsEngineOf h (opening_of hall) → was_told hall new ≡ true → (count : ℕ) × (reply_of_step result ≡ No (reasons.Stopped count))) → RepliesIn hall old new (CommitsEntry e) (reply_of_step result)
+  pub look_commits : (old new : Session D disk) (e : Entry) (result : Result Receipt StepFault) → is_distillate e ≡ false → Looks hall old new → ((h : List Entry) → IsEngineOf h (opening_of hall) → Committed (start_of h hall) (log_seen h new) (log_seen h new).history e result [] (log_seen h new).history) → ((h : List Entry) → IsEngineOf h (opening_of hall) → was_told hall new ≡ true → (count : ℕ) × (reply_of_step result ≡ No (reasons.Stopped count))) → RepliesIn hall old new (CommitsEntry e) (reply_of_step result)
   look_commits old new e result user looks says again =
       let does = look_turn hall old new looks (λ _. Unit {0}) (λ h of. tt) in (
         does.0,
         does.1,
         λ h of.
-            let seen = (log_of h new).history in
+            let seen = (log_seen h new).history in
             let none : [] ≡ does.0 = sym (does.2 h of).0 in record {
               next = seen;
-              answers = offers (start_of h hall) (log_of h new) (was_told hall old) (log_of h old).history e result does.0 seen user
-                  (seen, history_goes_on h new old looks.grows, starts_refl seen, subst (λ own. Committed (start_of h hall) (log_of h new) seen e result own seen) none (says h of))
+              answers = offers (start_of h hall) (log_seen h new) (was_told hall old) (log_seen h old).history e result does.0 seen user
+                  (seen, history_goes_on h new old looks.grows, starts_refl seen, subst (λ own. Committed (start_of h hall) (log_seen h new) seen e result own seen) none (says h of))
                   (λ saw_failure. again h of (stopped_longer (opening_of hall) (seen_of new) (seen_of old) looks.grows saw_failure));
               ends = starts_refl seen;
             },
@@ -104,8 +104,8 @@ module _ {D : Type 0} {disk : Ghosts D} (hall : Hall D disk) where
     does.0,
     does.1,
     λ h of. record {
-      admitted = (log_of h old).history;
-      after = starts_refl (log_of h old).history;
+      admitted = (log_seen h old).history;
+      after = starts_refl (log_seen h old).history;
       begins = history_goes_on h new old does.1.seen;
       asked = m;
       asks = asks h of;

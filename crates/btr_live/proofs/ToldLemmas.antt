@@ -26,7 +26,7 @@ use Rattle.btr_hall.specs.declared.session.Session.{Session}
 use Rattle.btr_hall.specs.Trace.{has_halt, stopped_in}
 use Rattle.btr_hall.specs.Session.{opening_of, seen_of}
 use Rattle.btr_hall.proofs.TraceLemmas.{halt_append}
-use Rattle.btr_jobs.specs.States.{StoreState, LogState, log_of, start_of}
+use Rattle.btr_jobs.specs.States.{StoreState, LogState, log_seen, start_of}
 use Rattle.btr_jobs.specs.Turns.{Committed, CommittedAfter, Landed, LandedAfter}
 use Rattle.btr_jobs.proofs.StateLemmas.{failed_halt}
 use Rattle.btr_live.specs.Meaning.{Meaning, Commits, Asks, Holds, Current, Refuses}
@@ -145,5 +145,5 @@ module _ {D : Type 0} {disk : Ghosts D} where
       ∙ or_more (is_stopped x) (has_halt k) (has_halt starts.0) is
 
   -- A session has seen that the store is stopped exactly if its log says so.
-  pub told_failed : (h : List Entry) (hall : Hall D disk) (s : Session D disk) → was_told hall s ≡ has_failed (start_of h hall) (log_of h s)
+  pub told_failed : (h : List Entry) (hall : Hall D disk) (s : Session D disk) → was_told hall s ≡ has_failed (start_of h hall) (log_seen h s)
   told_failed h hall s = ap (λ b. is_stopped (opening_of hall) || b) (sym (failed_halt (seen_of s)))

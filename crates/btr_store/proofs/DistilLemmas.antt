@@ -13,7 +13,7 @@ use Rattle.btr_hall.specs.declared.session.Hall.{Hall}
 use Rattle.btr_hall.specs.declared.session.Session.{Session}
 use Rattle.btr_hall.specs.Trace.{history_of}
 use Rattle.btr_hall.specs.Session.{IsAlone, opening_of, seen_of}
-use Rattle.btr_jobs.specs.States.{StoreState, LogState, GoesOn, start_of, log_of}
+use Rattle.btr_jobs.specs.States.{StoreState, LogState, GoesOn, start_of, log_seen}
 use Rattle.btr_jobs.specs.Jobs.{Goes, Does}
 use Rattle.btr_jobs.specs.PlainStore.{RunsThrough}
 use Rattle.btr_jobs.proofs.StateLemmas.{log_at}
@@ -63,7 +63,7 @@ module _ {D : Type 0} {disk : Ghosts D} where
     does.0,
     goes_stays old mid new does.0 does.1 stays,
     λ h of.
-        subst (λ l. Distils (start_of h hall) (log_at h l) (log_of h old).history said does.0) (sym stays.seen)
+        subst (λ l. Distils (start_of h hall) (log_at h l) (log_seen h old).history said does.0) (sym stays.seen)
         (record {
           report = Some report;
           refreshes = does.2 h of;
@@ -77,7 +77,7 @@ module _ {D : Type 0} {disk : Ghosts D} where
     does.0,
     goes_stays old mid new does.0 does.1 stays,
     λ h of.
-        subst (λ l. DistilsInTurn (start_of h hall) (log_at h l) (log_of h old).history said does.0) (sym stays.seen)
+        subst (λ l. DistilsInTurn (start_of h hall) (log_at h l) (log_seen h old).history said does.0) (sym stays.seen)
         (record {
           did = record {
             report = Some report;

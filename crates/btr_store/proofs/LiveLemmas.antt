@@ -10,7 +10,7 @@ use Rattle.btr_text.specs.declared.script.ScriptLine.{ScriptLine}
 use Rattle.btr_hall.specs.declared.session.Hall.{Hall}
 use Rattle.btr_hall.specs.declared.session.Session.{Session}
 use Rattle.btr_hall.specs.Session.{opening_of}
-use Rattle.btr_jobs.specs.States.{StoreState, LogState, start_of, log_of}
+use Rattle.btr_jobs.specs.States.{StoreState, LogState, start_of, log_seen}
 use Rattle.btr_jobs.specs.Jobs.{Does}
 use Rattle.btr_jobs.proofs.StateLemmas.{log_at}
 use Rattle.btr_jobs.proofs.DoesLemmas.{goes_none}
@@ -33,16 +33,16 @@ use Rattle.btr_store.proofs.LiveAllowing.{live_allowed}
 
 module _ {D : Type 0} {disk : Ghosts D} (batch : ℕ) (materialize : Bool) (script : List ScriptLine) (hall : Hall D disk) where
   -- What was said of a report was said of the store at the end.
-  pub lives_said : (old mid new : Session D disk) (report : LiveReport) (said : Result Transcript AllocError) → Does hall old mid (λ start log low own. RunsLive batch materialize start log low script report own) → Stays mid new → ((h : List Entry) → IsEngineOf h (opening_of hall) → IfOk said (SaysLive (log_of h mid) report)) → Does hall old new (λ start log low own. Lives batch materialize script start log low said own)
+  pub lives_said : (old mid new : Session D disk) (report : LiveReport) (said : Result Transcript AllocError) → Does hall old mid (λ start log low own. RunsLive batch materialize start log low script report own) → Stays mid new → ((h : List Entry) → IsEngineOf h (opening_of hall) → IfOk said (SaysLive (log_seen h mid) report)) → Does hall old new (λ start log low own. Lives batch materialize script start log low said own)
   lives_said old mid new report said does stays says = (
     does.0,
     goes_stays old mid new does.0 does.1 stays,
     λ h of.
-        subst (λ l. Lives batch materialize script (start_of h hall) (log_at h l) (log_of h old).history said does.0) (sym stays.seen)
+        subst (λ l. Lives batch materialize script (start_of h hall) (log_at h l) (log_seen h old).history said does.0) (sym stays.seen)
         (record {
           report = Some report;
           runs = does.2 h of;
-          says = says_report said (log_of h mid) (says h of);
+          says = says_report said (log_seen h mid) (says h of);
         }),
   )
     where

@@ -12,7 +12,7 @@ use Rattle.btr_hall.specs.declared.session.Hall.{Hall}
 use Rattle.btr_hall.specs.declared.session.Session.{Session}
 use Rattle.btr_hall.specs.Trace.{history_of}
 use Rattle.btr_hall.specs.Session.{opening_of, seen_of}
-use Rattle.btr_jobs.specs.States.{StoreState, LogState, GoesOn, start_of, log_of}
+use Rattle.btr_jobs.specs.States.{StoreState, LogState, GoesOn, start_of, log_seen}
 use Rattle.btr_jobs.specs.TurnLaws.{goes_refl, goes_trans}
 use Rattle.btr_jobs.specs.Jobs.{IsAt, Does}
 use Rattle.btr_jobs.proofs.StateLemmas.{log_at}
@@ -247,7 +247,7 @@ module _ (number streams points : ℕ) where
       goes_stays old mid new does.0 does.1 stays,
       λ h of.
           let is = does.2 h of in
-          subst (λ l. Fills number streams points (start_of h hall) (log_at h l) (log_of h old).history said does.0) (sym stays.seen)
+          subst (λ l. Fills number streams points (start_of h hall) (log_at h l) (log_seen h old).history said does.0) (sym stays.seen)
           (record {
             loaded = Some filled.loaded;
             outputs = filled.outputs.items;

@@ -19,7 +19,7 @@ use Rattle.btr_hall.specs.declared.session.Session.{Session}
 use Rattle.btr_hall.specs.Trace.{IsTraceOf, entries_in, history_of}
 use Rattle.btr_hall.specs.Session.{opening_of, seen_of}
 use Rattle.btr_jobs.specs.Jobs.{Goes, Does}
-use Rattle.btr_jobs.specs.States.{StoreState, LogState, start_of, log_of}
+use Rattle.btr_jobs.specs.States.{StoreState, LogState, start_of, log_seen}
 use Rattle.btr_jobs.specs.PlainStore.{RunsThrough}
 use Rattle.btr_jobs.proofs.StateLemmas.{log_at}
 use Rattle.btr_jobs.proofs.PlainStoreLemmas.{needs_prefix}
@@ -61,12 +61,12 @@ held_before {D} disk old first opened h rest told =
 -- ---- the work
 
 -- Work whose entries are allowed, in the only session of a hall of a store that was opened.
-pub does_rightly : {D : Type 0} (disk : Ghosts D) (What : StoreState → LogState → List Entry → List ℕ → Type 0) (old new : D) (hall : Hall D disk) (begun last : Session D disk) → ((start : StoreState) (log : LogState) (own : List ℕ) → What start log start.history own → AddsAllowed log own) → BeginsOn disk old hall begun → Does hall begun last What → ((opened : IsOpened disk old (opening_of hall)) (own : List ℕ) → Goes begun last own → Works disk (start_of opened.some.0 hall) (log_of opened.some.0 last) own old new) → DoesRightly disk (λ start log own. What start log start.history own) old new
+pub does_rightly : {D : Type 0} (disk : Ghosts D) (What : StoreState → LogState → List Entry → List ℕ → Type 0) (old new : D) (hall : Hall D disk) (begun last : Session D disk) → ((start : StoreState) (log : LogState) (own : List ℕ) → What start log start.history own → AddsAllowed log own) → BeginsOn disk old hall begun → Does hall begun last What → ((opened : IsOpened disk old (opening_of hall)) (own : List ℕ) → Goes begun last own → Works disk (start_of opened.some.0 hall) (log_seen opened.some.0 last) own old new) → DoesRightly disk (λ start log own. What start log start.history own) old new
 does_rightly disk What old new hall begun last allows on does closes =
     let h : List Entry = on.opened.some.0 in
     let own : List ℕ = does.0 in
     let start : StoreState = start_of h hall in
-    let log : LogState = log_of h last in
+    let log : LogState = log_seen h last in
     let works : Works disk start log own old new = closes on.opened own does.1 in
     let what : What start log h own =
     subst (λ low. What start log low own) (begun_history h (opening_of hall) (seen_of begun) on.begins.trace on.begins.seen) (does.2 h on.opened.some.1) in

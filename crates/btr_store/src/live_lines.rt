@@ -5,7 +5,7 @@ ghost use Rattle.btr_engine.specs.Engine.{is_stopped, IsEngineOf};
 ghost use Rattle.btr_engine.specs.Snapshot.{IsSnapshotOf};
 ghost use Rattle.btr_hall.specs.Trace.{history_of};
 ghost use Rattle.btr_hall.specs.Session.{IsAlone, opening_of, seen_of};
-ghost use Rattle.btr_jobs.specs.States.{log_of};
+ghost use Rattle.btr_jobs.specs.States.{log_seen};
 ghost use Rattle.btr_jobs.specs.Jobs.{IsAt};
 ghost use Rattle.btr_store.specs.Status.{greater};
 ghost use Rattle.btr_store.specs.Streams.{AreStreams, Stays};
@@ -44,7 +44,7 @@ pub(crate) fn say_live<R: Wait, D: Disk>(
     requires alone { IsAlone session.old }
     ensures at { IsAt hall.now session.new }
     ensures stays { Stays session.old session.new }
-    ensures says { (h : List EntrySpec) → IsEngineOf h (opening_of hall.now) → IfOk result (SaysLive (log_of h session.old) report.now) }
+    ensures says { (h : List EntrySpec) → IsEngineOf h (opening_of hall.now) → IfOk result (SaysLive (log_seen h session.old) report.now) }
 {
     let said = say_replies(alloc, &report.replies)?;
     let lines = say_last(rt, alloc, hall, session, &report.last)?;
@@ -166,7 +166,7 @@ fn device_status<R: Wait, D: Disk>(rt: &R, hall: &Hall<D>, session: &mut Session
     requires alone { IsAlone session.old }
     ensures at { IsAt hall.now session.new }
     ensures stays { Stays session.old session.new }
-    ensures status { (h : List EntrySpec) → IsEngineOf h (opening_of hall.now) → result ≡ log_status (log_of h session.old) }
+    ensures status { (h : List EntrySpec) → IsEngineOf h (opening_of hall.now) → result ≡ log_status (log_seen h session.old) }
 {
     match session.stopped(rt, hall) {
         Some(_) => Status::DeviceFault,

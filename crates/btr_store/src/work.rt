@@ -6,7 +6,7 @@ ghost use Rattle.btr_open.specs.declared.opening.OpenCause.TheVariants.{Want};
 ghost use Rattle.btr_open.specs.Opening.{IsNotOpened, IsOpened, KeepsDisk};
 ghost use Rattle.btr_hall.specs.declared.session.Session.{Session as SessionSpec};
 ghost use Rattle.btr_hall.specs.Session.{Begins, IsAlone, opening_of};
-ghost use Rattle.btr_jobs.specs.States.{log_of, start_of};
+ghost use Rattle.btr_jobs.specs.States.{log_seen, start_of};
 ghost use Rattle.btr_jobs.specs.Jobs.{Goes, IsAt};
 ghost use Rattle.btr_store.specs.Work.{Works};
 ghost use Rattle.btr_store.specs.Closing.{BeginsOn};
@@ -69,7 +69,7 @@ pub fn close_hall<D: Disk>(hall: Hall<D>, session: Session<D>) -> D
     requires alone { IsAlone session }
     ensures works { (old : D) (opened : IsOpened ⟦<D as Disk>⟧ old (opening_of hall)) (begun : SessionSpec D ⟦<D as Disk>⟧) (own : List ℕ)
         → Begins (opening_of hall) hall begun → Goes begun session own
-        → Works ⟦<D as Disk>⟧ (start_of opened.some.0 hall) (log_of opened.some.0 session) own old result }
+        → Works ⟦<D as Disk>⟧ (start_of opened.some.0 hall) (log_seen opened.some.0 session) own old result }
 {
     let engine = hall.close(session);
     engine.into_disk()

@@ -217,7 +217,7 @@ module _ (start : StoreState) (log : LogState) (ran : RunsThrough start log) (le
     landed-ends (Err (faults.DeviceFull need left)) own next memory landed end =
         let room = full_left start c low e holds need left landed.2 in
         let full = outcome_full c e (ap (λ h. rejection h e) holds.same ∙ landed.1) room.2 in
-        ends-by (refreshed.Refused (faults.DeviceFull need left)) (Full (need_of e) c.left) full
+        ends-by (refreshed.Refused (faults.DeviceFull need left)) (Full (need_of c.history e) c.left) full
         (λ i. refreshed.Refused (faults.DeviceFull (room.0 i) (room.1 i)))
         (holds_full start c low e holds log.history full (end ∙ landed.3.next))
     landed-ends (Err faults.DeviceFault) own next memory landed end =

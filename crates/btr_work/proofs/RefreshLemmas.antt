@@ -19,7 +19,7 @@ use Rattle.btr_hall.specs.Trace.{history_of, has_halt, stopped_in}
 use Rattle.btr_hall.proofs.TraceLemmas.{halt_append}
 use Rattle.btr_hall.specs.Session.{IsSame, Looks, opening_of, seen_of}
 use Rattle.btr_hall.specs.Landing.{Lands}
-use Rattle.btr_jobs.specs.States.{StoreState, LogState, log_of, start_of}
+use Rattle.btr_jobs.specs.States.{StoreState, LogState, log_seen, start_of}
 use Rattle.btr_jobs.specs.Jobs.{IsAt, Does}
 use Rattle.btr_jobs.proofs.StateLemmas.{history_goes_on}
 use Rattle.btr_jobs.proofs.DoesLemmas.{does_then}
@@ -66,8 +66,8 @@ module _ {D : Type 0} {disk : Ghosts D} (hall : Hall D disk) (output : ℕ) wher
           turn.0,
           turn.1,
           λ h of. record {
-            at = (log_of h old).history;
-            after = starts_refl (log_of h old).history;
+            at = (log_seen h old).history;
+            after = starts_refl (log_seen h old).history;
             seen = history_goes_on h new old turn.1.seen;
             plan = plan;
             planned = planned h of;
@@ -86,7 +86,7 @@ module _ {D : Type 0} {disk : Ghosts D} (hall : Hall D disk) (output : ℕ) wher
     pub refused-refreshed : (plan : PlanValue) (fault : LandFault) → IsSame old new → Lands hall old new plan (Err fault) → IsPlannedAt hall old output plan → Does hall old new (λ start log low own. IsRefreshed start log low output (refreshed.Refused fault) own)
     refused-refreshed plan fault same lands planned =
         let turn = landed-turn plan (Err fault) same lands planned in
-        (turn.0, turn.1, λ h of. refused-by (start_of h hall) (log_of h new) (log_of h old).history output fault turn.0 (turn.2 h of))
+        (turn.0, turn.1, λ h of. refused-by (start_of h hall) (log_seen h new) (log_seen h old).history output fault turn.0 (turn.2 h of))
 
     -- There was no memory.
     pub want-refreshed : Looks hall old new → Does hall old new (λ start log low own. IsRefreshed start log low output (refreshed.Refused faults.Want) own)
@@ -101,9 +101,9 @@ module _ {D : Type 0} {disk : Ghosts D} (hall : Hall D disk) (output : ℕ) wher
           turn.0,
           turn.1,
           λ h of. record {
-            at = (log_of h new).history;
+            at = (log_seen h new).history;
             after = (turn.2 h of).1;
-            seen = starts_refl (log_of h new).history;
+            seen = starts_refl (log_seen h new).history;
             current = (turn.2 h of).2;
             none = (turn.2 h of).0;
           },

@@ -6,7 +6,7 @@ use Rattle.btr_hist.specs.declared.rejection.Rejection.TheVariants.{NotWritable}
 use Rattle.btr_engine.specs.declared.step.StepFault.TheVariants.{Stopped, Rejected, Want}
 use Rattle.btr_hall.proofs.TraceLemmas.{engine_of_list}
 use Rattle.btr_hall.specs.Session.{opening_of, seen_of, engine_of}
-use Rattle.btr_jobs.specs.States.{log_of}
+use Rattle.btr_jobs.specs.States.{log_seen}
 use Rattle.btr_jobs.proofs.StateLemmas.{history_goes_on}
 use Rattle.btr_jobs.proofs.TurnLemmas.{look_at}
 use Rattle.btr_live.specs.Serving.{was_told}
@@ -52,10 +52,10 @@ returns-in-Some-spec-clause-replies g c = λ range.
     let found = c.requires.found h of in
     let starts = history_goes_on h new old c.stopped.ensures.looks.grows in
     let there = (found.1).0 in
-    let output = output_is (log_of h old).history stream _ ((found.1).1 ∙ c.in-Some-spec.is) in (
-      delete-output (log_of h new).history found.0 stream range
-          (stream_of-longer (log_of h new).history (log_of h old).history found.0 stream starts there)
-          (is_output-longer (log_of h new).history (log_of h old).history found.0 stream starts there ∙ output),
+    let output = output_is (log_seen h old).history stream _ ((found.1).1 ∙ c.in-Some-spec.is) in (
+      delete-output (log_seen h new).history found.0 stream range
+          (stream_of-longer (log_seen h new).history (log_seen h old).history found.0 stream starts there)
+          (is_output-longer (log_seen h new).history (log_seen h old).history found.0 stream starts there ∙ output),
       record { own = refl; next = refl },
     ))
     (λ h of told. told_not _ (was_told hall new) (told_none (was_told hall new) _ (sym (c.stopped.ensures.entries h of) ∙ c.in-None.is)) told)
@@ -71,11 +71,11 @@ returns-in-None-spec-clause-replies g c = λ range.
     let found = c.requires.found h of in
     let starts = history_goes_on h new old c.stopped.ensures.looks.grows in
     let there = (found.1).0 in
-    let plain = plain_is (log_of h old).history stream ((found.1).1 ∙ c.in-None-spec.is) in (
-      delete-lacks {D = g.row.D.Denot} {disk = g.D.Disk} (log_of h new).history (engine_of hall new) found.0 stream range
+    let plain = plain_is (log_seen h old).history stream ((found.1).1 ∙ c.in-None-spec.is) in (
+      delete-lacks {D = g.row.D.Denot} {disk = g.D.Disk} (log_seen h new).history (engine_of hall new) found.0 stream range
           (engine_of_list h (opening_of hall) (seen_of new) of c.stopped.ensures.looks.trace)
-          (stream_of-longer (log_of h new).history (log_of h old).history found.0 stream starts there)
-          (is_output-longer (log_of h new).history (log_of h old).history found.0 stream starts there ∙ plain),
+          (stream_of-longer (log_seen h new).history (log_seen h old).history found.0 stream starts there)
+          (is_output-longer (log_seen h new).history (log_seen h old).history found.0 stream starts there ∙ plain),
       record { own = refl; next = refl },
     ))
     (λ h of told. told_not _ (was_told hall new) (told_none (was_told hall new) _ (sym (c.stopped.ensures.entries h of) ∙ c.in-None.is)) told)
