@@ -1,3 +1,4 @@
+mod OutlineLemmas
 mod BodyParts
 mod OpenCauses
 mod Synced

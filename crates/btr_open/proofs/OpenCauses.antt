@@ -1,13 +1,12 @@
 -- Why an opening fails: what the faults of a log and of a choice mean for a store.
-use Rattle.std.specs.Prelude.{◌≡◌, ℕ, ◌+◌, ◌*◌, ◌<◌, ◌≤◌, ◌↔◌, List, length, Some, Result, Err}
+use Rattle.std.specs.Prelude.{◌≡◌, ℕ, ◌+◌, ◌*◌, ◌<◌, ◌≤◌, ◌↔◌, List, length, Some, None, Result, Err}
 use Rattle.std.proofs.Common.{refl, sym, ◌∙◌, ap, subst, arith, inl, inr}
-use Rattle.std.specs.List.{AllByRecursion}
 use Rattle.btr_disk.specs.Bytes.{Image, Has}
 use Rattle.btr_disk.specs.Gate.{IsOpen}
 use Rattle.btr_log.specs.declared.head.Head.{Head}
 use Rattle.btr_log.specs.declared.found.ExtentFault.{ExtentFault}
 use Rattle.btr_log.specs.declared.found.ExtentFault.TheVariants as log
-use Rattle.btr_log.specs.Extents.{need, IsExtent, Extents, first_gate}
+use Rattle.btr_log.specs.Extents.{need}
 use Rattle.btr_log.specs.Found.{IsWholeExtent, IsDamagedExtent, FindCause}
 use Rattle.btr_log.proofs.FoundLemmas.{next-IsWholeExtent, IsExtent-found}
 use Rattle.btr_super.specs.declared.superblock.Super.{Super}
@@ -21,26 +20,28 @@ use Rattle.btr_hist.specs.Legal.{rejection, Follows}
 use Rattle.btr_entry.specs.Grammar.{IsSpelled}
 use Rattle.btr_open.specs.declared.opening.OpenCause.{OpenCause}
 use Rattle.btr_open.specs.declared.opening.OpenCause.TheVariants.{NotAStore, Damaged, Fault, Want}
-use Rattle.btr_engine.specs.Body.{body_of, bodies}
-use Rattle.btr_engine.proofs.BodyLemmas.{need-body_of}
-use Rattle.btr_open.specs.Damage.{IsNoEntryBody, IsDamagedEntry, IsDamagedLog, IsDamaged}
+use Rattle.btr_engine.specs.Body.{body_of}
+use Rattle.btr_open.specs.Outline.{MayFollow}
+use Rattle.btr_open.specs.Walk.{IsWalk, IsNoEntryBody, IsDamagedEntry, IsDamagedLog}
+use Rattle.btr_open.specs.Damage.{IsDamaged}
+use Rattle.btr_open.proofs.OutlineLemmas.{decide}
 use Rattle.btr_open.specs.Opening.{OpenCauseHolds}
 use Rattle.btr_engine.specs.Board.{Kept, IsBoardOf}
 use Rattle.btr_open.specs.Reading.{IsStoreOf, MayNotAdd}
 
 module _ (size : ℕ) (image : Image) (blocks gate : ℕ) (h : List Entry) where
   -- The next extent is damaged in this block.
-  pub damaged_next : (block : ℕ) → IsDamagedEntry image blocks gate h block → AllByRecursion IsSpelled h → Follows h → Extents image first_gate (bodies h) gate → IsStoreOf size image blocks → IsDamaged size image block
-  damaged_next block damage spelled follows extents store =
-      let log : IsDamagedLog image blocks block = record { entries = h; gate = gate; spelled = spelled; follows = follows; extents = extents; damage = damage } in
-      inr (store.0, store.1, subst (λ b. IsDamagedLog image b block) (sym store.2) log)
+  pub damaged_next : (block : ℕ) → IsDamagedEntry MayFollow image blocks gate h block → IsWalk MayFollow image gate h → IsStoreOf size image blocks → IsDamaged size image block
+  damaged_next block damage walk store =
+      let log : IsDamagedLog MayFollow image blocks block = record { entries = h; gate = gate; walk = walk; damage = damage } in
+      inr (store.0, store.1, subst (λ b. IsDamagedLog MayFollow image b block) (sym store.2) log)
 
   module _ (number : ℕ) (at : number ≡ length h + 1) (head : Head) (body : List ℕ) (next : ℕ) (whole : IsWholeExtent blocks gate head body next) (stands : IsOpen image gate × Has image (4096 * (gate + 1)) body) where
     inside : gate + need body < blocks
     inside = omega (arith, whole.inside, next-IsWholeExtent image blocks gate head body next whole)
 
     -- The next extent holds no entry.
-    no_entry_next : IsNoEntryBody number body → IsDamagedEntry image blocks gate h (gate + 1)
+    no_entry_next : IsNoEntryBody number body → IsDamagedEntry MayFollow image blocks gate h (gate + 1)
     no_entry_next none = inr (inl (record {
       head = head;
       body = body;
@@ -51,25 +52,26 @@ module _ (size : ℕ) (image : Image) (blocks gate : ℕ) (h : List Entry) where
     }))
 
     -- The next extent holds an entry that may not follow.
-    refused_next : (e : Entry) (why : Rejection) → IsSpelled e → body ≡ body_of number e → rejection h e ≡ Some why → IsDamagedEntry image blocks gate h (gate + 1)
-    refused_next e why spelled is refused =
-        let same : body ≡ body_of (length h + 1) e = is ∙ ap (λ n. body_of n e) at in
+    refused_next : Follows h → (e : Entry) (why : Rejection) → IsSpelled e → body ≡ body_of number e → rejection h e ≡ Some why → IsDamagedEntry MayFollow image blocks gate h (gate + 1)
+    refused_next follows e why spelled same refused =
         inr (inr (record {
           entry = e;
-          spelled = spelled;
+          body = body;
           head = head;
-          extent = subst (λ b. IsExtent image gate b head) same (IsExtent-found image blocks gate head body next whole stands);
-          inside = omega (arith, inside, ap need same, need-body_of (length h + 1) e);
-          why = why;
-          refused = refused;
+          extent = IsExtent-found image blocks gate head body next whole stands;
+          is = record { spelled = spelled; bytes = same ∙ ap (λ n. body_of n e) at };
+          inside = inside;
+          forbidden = λ may.
+              let none : rejection h e ≡ None = (decide h e follows).1.0 may in
+              absurd (cc);
           first = refl;
         }))
 
     -- The next extent holds no entry that may follow.
-    pub not_added_next : (board : Kept) → IsBoardOf h board → MayNotAdd board number body → IsDamagedEntry image blocks gate h (gate + 1)
+    pub not_added_next : (board : Kept) → IsBoardOf h board → MayNotAdd board number body → IsDamagedEntry MayFollow image blocks gate h (gate + 1)
     not_added_next board of is = elim is [
       | inl none ↦ no_entry_next none
-      | inr held ↦ let why = held.3 h of in refused_next held.0 why.0 held.1 held.2 why.1
+      | inr held ↦ let why = held.3 h of in refused_next of.follows held.0 why.0 held.1 held.2 why.1
     ]
 
 module _ (is_observable read : Type 0) (size : ℕ) (image : Image) (blocks gate before after : ℕ) (told : read → is_observable) (damages : read → (block : ℕ) → IsDamagedExtent image blocks gate block → IsDamaged size image block) where

@@ -16,7 +16,7 @@ use Rattle.btr_open.specs.Opening.{KeepsDisk, SyncsFirst, IsOpened, IsOpenedOn, 
 use Rattle.btr_open.specs.Reading.{IsStoreOf, LogCause, OnlyReads, IsReadEngine}
 use Rattle.btr_open.proofs.Synced.{unwritten_on, counts-trans, reads_on}
 use Rattle.btr_engine.proofs.EngineLemmas.{holds_in, durable_held}
-use Rattle.btr_open.proofs.Sound.{one_history}
+use Rattle.btr_open.proofs.Sound.{one_history, sound}
 use Rattle.btr_open.proofs.OpenCauses.{OpenCauseHolds-along}
 
 -- All that a crash left since the sync of the opening holds the engine's history.
@@ -59,27 +59,37 @@ module _ {D : Type 0} (disk : Ghosts D) (old mid : D) (found : Super) (counts_no
     unwritten = λ told. unwritten_on disk.calls disk.contents disk.images_now disk.images_since old mid new (kept.unwritten told) (back told) (reads.nothing told);
   }
 
+  -- The device held the history of an engine that was opened on it.
+  held_before : (e : Engine D disk) (h : List Entry) → KeepsDisk disk old (device e) → disk.is_observable → IsAtRest h e → HoldsHistory (disk.size old) (disk.contents old) h
+  held_before e h kept_on told rest =
+      let bytes : disk.contents (device e) ≡ disk.contents old = Same-is (disk.contents old) (disk.contents (device e)) (kept_on.unwritten told).same in
+      subst (λ i. HoldsHistory (disk.size old) i h) bytes (subst (λ n. HoldsHistory n (disk.contents (device e)) h) kept_on.counts.same_size (holds_in h e rest (disk.contents (device e)) (λ k. refl)))
+
   pub opened : (result : Result (Engine D disk) (OpenFault D)) (synced : D) → SyncsFirst disk old synced mid → IfOk result (IsReadEngine disk found.blocks mid synced) → IfOk result (IsOpened disk old)
   opened (Ok e) synced first read =
       let so_far : SyncsFirst disk old (synced_of e) (device e) = subst (λ s. SyncsFirst disk old s (device e)) (sym read.synced) (reads_on disk old synced mid (device e) first read.reads (λ told. counts_now told (device e))) in
+      let kept_on = keeps (device e) read.reads in
+      let h = read.some.0 in
+      let rest : disk.is_observable → IsAtRest h e = λ told. read.some.2 told (first.now told) (chosen_then told) in
+      let held : disk.is_observable → HoldsHistory (disk.size old) (disk.contents old) h = λ told. held_before e h kept_on told (rest told) in
       record {
-        kept = keeps (device e) read.reads;
+        kept = kept_on;
         synced = so_far;
         runs = read.runs;
         entries = read.entries;
-        some = (read.some.0, read.some.1, λ told. opened_on old read.some.0 e told read.entries (read.some.2 told (first.now told) (chosen_then told)) so_far);
+        stood = λ told k holds.
+            subst (λ l. IsOpenedOn disk l e) (one_history (disk.size old) (disk.contents old) h k (held told) holds) (opened_on old h e told read.entries (rest told) so_far);
+        sound = λ told. (
+          (sound (disk.size old) 0 (disk.contents old) h (held told)).0,
+          λ block. (sound (disk.size old) block (disk.contents old) h (held told)).1,
+        );
       }
   opened (Err f) synced first read = tt
 
   -- If the device held a history, the engine is of it.
   pub stood : (result : Result (Engine D disk) (OpenFault D)) → IfOk result (IsOpened disk old) → disk.is_observable → (h : List Entry) → HoldsHistory (disk.size old) (disk.contents old) h → IfOk result (IsOpenedOn disk h)
-  stood (Ok e) is told h first =
-      let on = is.some.2 told in
-      let size : disk.size (device e) ≡ disk.size old = is.kept.counts.same_size in
-      let bytes : disk.contents (device e) ≡ disk.contents old = Same-is (disk.contents old) (disk.contents (device e)) (is.kept.unwritten told).same in
-      let here : HoldsHistory (disk.size old) (disk.contents old) is.some.0 = subst (λ i. HoldsHistory (disk.size old) i is.some.0) bytes (subst (λ n. HoldsHistory n (disk.contents (device e)) is.some.0) size (holds_in is.some.0 e on.at_rest (disk.contents (device e)) (λ k. refl))) in
-      subst (λ k. IsOpenedOn disk k e) (one_history (disk.size old) (disk.contents old) is.some.0 h here first) on
-  stood (Err f) is told h first = tt
+  stood (Ok e) is told h holds = is.stood told h holds
+  stood (Err f) is told h holds = tt
 
   pub refused : (result : Result (Engine D disk) (OpenFault D)) → IfErr result (λ f. OnlyReads disk mid f.disk) → IfErr result (λ f. LogCause disk found.blocks mid f.disk f.cause) → IfErr result (IsNotOpened disk old)
   refused (Ok e) reads cause = tt

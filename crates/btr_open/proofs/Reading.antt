@@ -1,53 +1,30 @@
 -- The reading of a log: what holds so far, and after one extent more.
-use Rattle.std.specs.Prelude.{◌≡◌, ℕ, ◌+◌, ◌*◌, ◌<◌, ◌≤◌, List, [], ◌∷◌, ◌++◌, length}
-use Rattle.std.specs.List.{AllByRecursion}
-use Rattle.std.proofs.Common.{refl, sym, ◌∙◌, ap, subst, arith, length-append}
+use Rattle.std.specs.Prelude.{◌≡◌, ℕ, ◌+◌, ◌*◌, ◌<◌, ◌≤◌, List, [], ◌∷◌, ◌++◌}
+use Rattle.std.proofs.Common.{refl, sym, ◌∙◌, subst, arith, length-append}
 use Rattle.btr_disk.specs.declared.disk.Disk.{Ghosts}
-use Rattle.btr_disk.specs.Bytes.{Image, Has}
+use Rattle.btr_disk.specs.Bytes.{Image}
 use Rattle.btr_disk.proofs.ByteLemmas.{Same-is}
 use Rattle.btr_disk.proofs.MomentLemmas.{none_written, nothing_composes}
-use Rattle.btr_disk.specs.Gate.{IsOpen, IsClosed}
+use Rattle.btr_disk.specs.Gate.{IsClosed}
 use Rattle.btr_log.specs.declared.head.Head.{Head}
 use Rattle.btr_log.specs.declared.log.Log.{Log}
 use Rattle.btr_log.specs.Log.{log_device, log_blocks}
 use Rattle.btr_log.specs.Extents.{need, IsExtent, Extents, first_gate}
 use Rattle.btr_log.proofs.ExtentLemmas.{Extents-push}
-use Rattle.btr_log.specs.Found.{IsWholeExtent}
-use Rattle.btr_log.proofs.FoundLemmas.{next-IsWholeExtent, IsExtent-found}
 use Rattle.btr_hist.specs.declared.entry.Entry.{Entry}
-use Rattle.btr_hist.specs.Legal.{Follows}
-use Rattle.btr_hist.proofs.HistoryLemmas.{follows-none, follows-push}
-use Rattle.btr_entry.specs.Grammar.{IsSpelled}
 use Rattle.btr_open.specs.declared.opening.OpenCause.{OpenCause}
-use Rattle.btr_engine.specs.Body.{body_of, need_of, bodies}
-use Rattle.btr_engine.proofs.BodyLemmas.{need-body_of, bodies-push}
+use Rattle.btr_engine.specs.Body.{LeadTo}
+use Rattle.btr_engine.proofs.BodyLemmas.{least-IsBodyOf, LeadTo-push}
 use Rattle.btr_engine.specs.Board.{Kept, IsBoardOf}
 use Rattle.btr_open.specs.Reading.{IsStoreOf, IsReadTo, CauseBetween, LogCause, OnlyReads, ReadsLog, AddsEntry, IsReadLog}
+use Rattle.btr_open.proofs.OutlineLemmas.{follows-may}
 use Rattle.btr_open.proofs.OpenCauses.{OpenCauseHolds-along}
 use Rattle.btr_open.proofs.Synced.{counts-trans}
 
-module _ (blocks gate : ℕ) (head : Head) (body : List ℕ) (next : ℕ) (whole : IsWholeExtent blocks gate head body next) (number : ℕ) (e : Entry) (same : body ≡ body_of number e) where
-  pub gate_behind : next ≡ gate + need_of e
-  gate_behind =
-      let needs : need body ≡ need_of e = ap need same ∙ need-body_of number e in
-      omega (arith, next-IsWholeExtent (λ _. 0) blocks gate head body next whole, needs)
-
-  pub extent_of : (image : Image) → IsOpen image gate × Has image (4096 * (gate + 1)) body → IsExtent image gate (body_of number e) head
-  extent_of image stands =
-      subst (λ b. IsExtent image gate b head) same (IsExtent-found image blocks gate head body next whole stands)
-
--- One spelled entry more.
-pub spelled-push : (h : List Entry) (e : Entry) → AllByRecursion IsSpelled h → IsSpelled e → AllByRecursion IsSpelled (h ++ e ∷ [])
-spelled-push [] e all is = (is, tt)
-spelled-push (f ∷ h) e all is = (all.0, spelled-push h e all.1 is)
-
 -- One extent more after the others.
-pub extents-push : (image : Image) (gate next : ℕ) (h : List Entry) (e : Entry) (head : Head) → Extents image first_gate (bodies h) gate → IsExtent image gate (body_of (length h + 1) e) head → next ≡ gate + need_of e → Extents image first_gate (bodies (h ++ e ∷ [])) next
-extents-push image gate next h e head so_far extent at =
-    let body = body_of (length h + 1) e in
-    let place : gate + need body ≡ next = omega (arith, at, need-body_of (length h + 1) e) in
-    subst (Extents image first_gate (bodies (h ++ e ∷ []))) place
-    (subst (λ l. Extents image first_gate l (gate + need body)) (sym (bodies-push h e)) (Extents-push image first_gate (bodies h) gate body head so_far extent))
+extents-push : (image : Image) (gate next : ℕ) (bodies : List (List ℕ)) (body : List ℕ) (head : Head) → Extents image first_gate bodies gate → IsExtent image gate body head → next ≡ gate + need body → Extents image first_gate (bodies ++ body ∷ []) next
+extents-push image gate next bodies body head so_far extent at =
+    subst (Extents image first_gate (bodies ++ body ∷ [])) (sym at) (Extents-push image first_gate bodies gate body head so_far extent)
 
 module _ {D : Type 0} {disk : Ghosts D} where
   -- Calls that only read, followed by others that only read.
@@ -76,9 +53,9 @@ module _ {D : Type 0} {disk : Ghosts D} where
     pub counted : entries ≡ board.entries
     pub ends : 2 * entries + 4 ≤ gate
     pub inside : gate < log_blocks old
-    pub spelled : AllByRecursion IsSpelled h
-    pub follows : Follows h
-    pub extents : disk.is_observable → Extents (disk.contents (log_device old)) first_gate (bodies h) gate
+    pub bodies : List (List ℕ)
+    pub leads : LeadTo [] bodies h
+    pub extents : disk.is_observable → Extents (disk.contents (log_device old)) first_gate bodies gate
 
   -- The entries of some history were read.
   abbrev pub HasRead : Log D disk → Log D disk → Kept → ℕ → ℕ → Type 0
@@ -100,8 +77,8 @@ module _ {D : Type 0} {disk : Ghosts D} where
       counted = sym of.entries;
       ends = omega arith;
       inside = least;
-      spelled = tt;
-      follows = follows-none;
+      bodies = [];
+      leads = refl;
       extents = λ told. refl;
     },
   )
@@ -121,15 +98,14 @@ module _ {D : Type 0} {disk : Ghosts D} where
             of = of;
             reads = ReadsLog-trans old mid new so_far.reads reads;
             counted = omega (arith, of.entries, length-append h (e ∷ []), so_far.of.entries, so_far.counted);
-            ends = omega (arith, found.after, so_far.ends);
+            ends = omega (arith, found.after, least-IsBodyOf h e found.body found.is, so_far.ends);
             inside = omega (arith, found.inside, so_far.reads.kept.blocks);
-            spelled = spelled-push h e so_far.spelled found.spelled;
-            follows = follows-push h e so_far.follows found.allowed;
+            bodies = so_far.bodies ++ found.body ∷ [];
+            leads = LeadTo-push [] so_far.bodies h e found.body so_far.leads found.is;
             extents = λ told.
-                let image = disk.contents (log_device old) in
-                let stands = found.extent told in
-                let here : IsExtent image gate (body_of (length h + 1) e) stands.0 = subst (λ i. IsExtent i gate (body_of (length h + 1) e) stands.0) (same_so_far told) stands.1 in
-                extents-push image gate next h e stands.0 (so_far.extents told) here found.after;
+                let extent = found.extent told in
+                extents-push (disk.contents (log_device old)) gate next so_far.bodies found.body extent.0 (so_far.extents told)
+                (subst (λ i. IsExtent i gate found.body extent.0) (same_so_far told) extent.1) found.after;
           },
         )
 
@@ -143,8 +119,8 @@ module _ {D : Type 0} {disk : Ghosts D} where
         counted = so_far.counted;
         ends = so_far.ends;
         inside = so_far.inside;
-        spelled = so_far.spelled;
-        follows = so_far.follows;
+        bodies = so_far.bodies;
+        leads = so_far.leads;
         extents = so_far.extents;
         closed = λ told. subst (λ i. IsClosed i gate) (same_so_far told) (closed told);
       }),
@@ -160,9 +136,12 @@ module _ {D : Type 0} {disk : Ghosts D} where
         (disk.size d1) (disk.size d0) (disk.contents d1) (disk.contents d0) (disk.faults d0) (disk.faults d1) (disk.faults (log_device new)) (disk.faults (log_device new)) cause
         (λ r. (
           r.0,
-          so_far.spelled,
-          so_far.follows,
-          subst (λ i. Extents i first_gate (bodies h) gate) (sym (same_so_far r.0)) (so_far.extents r.0),
+          record {
+            bodies = so_far.bodies;
+            extents = subst (λ i. Extents i first_gate so_far.bodies gate) (sym (same_so_far r.0)) (so_far.extents r.0);
+            leads = so_far.leads;
+            may = follows-may h so_far.of.follows;
+          },
           subst (λ n. IsStoreOf n (disk.contents d1) (log_blocks mid)) (sym size)
               (subst (λ i. IsStoreOf (disk.size d0) i (log_blocks mid)) (sym (same_so_far r.0)) (subst (IsStoreOf (disk.size d0) (disk.contents d0)) (sym so_far.reads.kept.blocks) r.1)),
         ))

@@ -1,3 +1,7 @@
+-- what an opening knows of a history beside its points
+pub mod Outline
+-- a walk over the log of a device
+pub mod Walk
 -- what breaks the format of a store
 pub mod Damage
 -- what an opening does

@@ -11,9 +11,10 @@ use Rattle.btr_engine.specs.declared.engine.Engine.{Engine}
 use Rattle.btr_open.specs.declared.opening.OpenCause.{OpenCause}
 use Rattle.btr_open.specs.declared.opening.OpenCause.TheVariants.{NotAStore, Damaged, Fault, Want}
 use Rattle.btr_open.specs.declared.opening.OpenFault.{OpenFault}
-use Rattle.btr_open.specs.Damage.{IsDamaged}
+use Rattle.btr_open.specs.Damage.{IsDamaged, IsUndamaged}
 use Rattle.btr_engine.specs.Engine.{device, entries_of, is_stopped, synced_of, entries_at_open, calls_at_open}
-use Rattle.btr_engine.specs.Engine.{IsEngineOf, IsAtRest, IsHeldSince, IsDurable}
+use Rattle.btr_engine.specs.Engine.{IsAtRest, IsHeldSince, IsDurable}
+use Rattle.btr_engine.specs.Holds.{HoldsHistory}
 
 -- Why a device with these bytes is not opened, if `known` holds of them. `before` and `after` are its counts of faults.
 abbrev pub OpenCauseHolds : Type 0 → ℕ → Image → ℕ → ℕ → OpenCause → Type 0
@@ -44,13 +45,15 @@ module _ {D : Type 0} (disk : Ghosts D) where
     pub held : IsHeldSince h (calls_at_open engine) engine
     pub durable : IsDurable h (calls_at_open engine) (entries_at_open engine) engine []
 
-  -- The engine is of some history, and not stopped. If the device is observable, that is a history which it holds.
+  -- The engine is not stopped, and was opened with all its entries. If the device is observable and held a history, the engine is of
+  -- this history. An observable device without a store, or with a damaged block, is not opened.
   pub record IsOpened (old : D) (engine : Engine D disk) : Type 0 where
     pub kept : KeepsDisk old (device engine)
     pub synced : SyncsFirst old (synced_of engine) (device engine)
     pub runs : is_stopped engine ≡ false
     pub entries : entries_at_open engine ≡ entries_of engine
-    pub some : (h : List Entry) × IsEngineOf h engine × (disk.is_observable → IsOpenedOn h engine)
+    pub stood : disk.is_observable → (h : List Entry) → HoldsHistory (disk.size old) (disk.contents old) h → IsOpenedOn h engine
+    pub sound : disk.is_observable → IsUndamaged (disk.size old) (disk.contents old)
 
   -- The device is handed back, with the cause.
   pub record IsNotOpened (old : D) (fault : OpenFault D) : Type 0 where

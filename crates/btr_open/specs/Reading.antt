@@ -1,6 +1,5 @@
 -- What the functions promise that an opening is made of: what was read so far, and why nothing more is.
-use Rattle.std.specs.Prelude.{◌≡◌, ◌⊎◌, ℕ, ◌+◌, ◌*◌, ◌<◌, ◌≤◌, false, List, ◌∷◌, [], ◌++◌, length, None, Some}
-use Rattle.std.specs.List.{AllByRecursion}
+use Rattle.std.specs.Prelude.{◌≡◌, ◌⊎◌, ℕ, ◌+◌, ◌*◌, ◌<◌, ◌≤◌, false, List, ◌∷◌, [], ◌++◌, None, Some}
 use Rattle.btr_disk.specs.declared.disk.Disk.{Ghosts}
 use Rattle.btr_disk.specs.Bytes.{Image}
 use Rattle.btr_disk.specs.Gate.{IsClosed}
@@ -9,20 +8,21 @@ use Rattle.btr_disk.specs.Images.{Only}
 use Rattle.btr_disk.specs.Moments.{WroteNothing}
 use Rattle.btr_log.specs.declared.head.Head.{Head}
 use Rattle.btr_log.specs.declared.log.Log.{Log}
-use Rattle.btr_log.specs.Extents.{IsExtent, Extents, first_gate}
+use Rattle.btr_log.specs.Extents.{need, IsExtent, Extents, first_gate}
 use Rattle.btr_log.specs.Log as log
 use Rattle.btr_super.specs.declared.superblock.Super.{Super}
 use Rattle.btr_super.specs.Choose.{IsChosen}
 use Rattle.btr_hist.specs.declared.entry.Entry.{Entry}
 use Rattle.btr_hist.specs.declared.rejection.Rejection.{Rejection}
-use Rattle.btr_hist.specs.Legal.{rejection, Follows}
+use Rattle.btr_hist.specs.Legal.{rejection}
 use Rattle.btr_entry.specs.Grammar.{IsSpelled}
 use Rattle.btr_engine.specs.declared.engine.Engine.{Engine}
 use Rattle.btr_open.specs.declared.opening.OpenCause.{OpenCause}
-use Rattle.btr_engine.specs.Body.{body_of, need_of, bodies}
+use Rattle.btr_engine.specs.Body.{body_of, IsBodyOf, LeadTo}
 use Rattle.btr_engine.specs.Board.{Kept, IsBoardOf}
 use Rattle.btr_engine.specs.Engine.{device, entries_of, is_stopped, synced_of, entries_at_open, IsEngineOf, IsAtRest}
-use Rattle.btr_open.specs.Damage.{IsNoEntryBody}
+use Rattle.btr_open.specs.Outline.{MayFollow}
+use Rattle.btr_open.specs.Walk.{IsWalk, IsNoEntryBody}
 use Rattle.btr_open.specs.Opening.{OpenCauseHolds}
 
 -- A superblock with this number of blocks is chosen.
@@ -32,7 +32,7 @@ IsStoreOf size image blocks = (s : Super) × IsChosen size image s × (s.blocks 
 -- What is known of a device while its log is read: it is observable, and from the first gate to this one it has these entries.
 abbrev pub IsReadTo : Type 0 → ℕ → Image → ℕ → ℕ → List Entry → Type 0
 IsReadTo is_observable size image blocks gate h =
-    is_observable × AllByRecursion IsSpelled h × Follows h × Extents image first_gate (bodies h) gate × IsStoreOf size image blocks
+    is_observable × IsWalk MayFollow image gate h × IsStoreOf size image blocks
 
 -- The body with this number is that of an entry, which may follow, and with which the new board is.
 abbrev pub HasAdded : Kept → Kept → ℕ → List ℕ → Type 0
@@ -81,11 +81,12 @@ module _ {D : Type 0} {disk : Ghosts D} where
 
   -- The entry that was read at this gate: it may follow these entries, and the next gate is after it.
   pub record IsNextEntry (l : Log D disk) (gate : ℕ) (h : List Entry) (e : Entry) (next : ℕ) : Type 0 where
-    pub spelled : IsSpelled e
+    pub body : List ℕ
+    pub is : IsBodyOf h e body
     pub allowed : rejection h e ≡ None
-    pub after : next ≡ gate + need_of e
+    pub after : next ≡ gate + need body
     pub inside : next < log.log_blocks l
-    pub extent : disk.is_observable → (head : Head) × IsExtent (disk.contents (log.log_device l)) gate (body_of (length h + 1) e) head
+    pub extent : disk.is_observable → (head : Head) × IsExtent (disk.contents (log.log_device l)) gate body head
 
   -- For each history that the old board is of, the entry is the next one, and the new board is of the history with it.
   abbrev pub AddsEntry : Log D disk → ℕ → Kept → Kept → Entry → ℕ → Type 0
@@ -99,7 +100,7 @@ module _ {D : Type 0} {disk : Ghosts D} where
     pub counted : entries ≡ board.entries
     pub ends : 2 * entries + 4 ≤ tail
     pub inside : tail < log.log_blocks l
-    pub spelled : AllByRecursion IsSpelled history
-    pub follows : Follows history
-    pub extents : disk.is_observable → Extents (disk.contents (log.log_device l)) first_gate (bodies history) tail
+    pub bodies : List (List ℕ)
+    pub leads : LeadTo [] bodies history
+    pub extents : disk.is_observable → Extents (disk.contents (log.log_device l)) first_gate bodies tail
     pub closed : disk.is_observable → IsClosed (disk.contents (log.log_device l)) tail

@@ -3,7 +3,7 @@ ghost use Rattle.std.specs.Prelude.{◌≡◌, ◌≤◌, ◌↔◌, IfOk, IfSom
 ghost use Rattle.btr_log.specs.Extents.{IsBody};
 ghost use Rattle.btr_entry.specs.Grammar.{IsSpelled};
 ghost use Rattle.btr_engine.specs.Body.{body_of};
-ghost use Rattle.btr_open.specs.Damage.{IsNoEntryBody};
+ghost use Rattle.btr_open.specs.Walk.{IsNoEntryBody};
 
 use btr_entry::decode;
 use btr_hist::Entry;

@@ -1,5 +1,5 @@
 //! Theorems on the definitions. Each is the contract of a function with an empty body.
-ghost use Rattle.btr_open.specs.Laws.{OneHistoryIsHeld, HeldIsSound, EmptyStoreHoldsNothing};
+ghost use Rattle.btr_open.specs.Laws.{OneHistoryIsHeld, HeldIsSound, EmptyStoreHoldsNothing, OutlineAndPointsDecide};
 
 /// At most one history is held by a device, whatever its bytes are.
 pub fn one_history_is_held()
@@ -15,4 +15,9 @@ pub fn held_is_sound()
 /// An empty store, as `format` of btr_super makes it, holds the history without entries.
 pub fn empty_store_holds_nothing()
     ensures { EmptyStoreHoldsNothing }
+{}
+
+/// The outline of a history and the points of the version that an entry makes decide whether the entry may follow the history.
+pub fn outline_and_points_decide()
+    ensures { OutlineAndPointsDecide }
 {}

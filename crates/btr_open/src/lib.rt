@@ -12,5 +12,7 @@ mod opening;
 mod laws;
 
 pub use decoding::decode_extent;
-pub use laws::{empty_store_holds_nothing, held_is_sound, one_history_is_held};
+pub use laws::{
+    empty_store_holds_nothing, held_is_sound, one_history_is_held, outline_and_points_decide,
+};
 pub use opening::{OpenCause, OpenFault, open_store};

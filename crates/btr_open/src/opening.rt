@@ -52,9 +52,12 @@ pub struct OpenFault<D> {
 /// read returns: all that the engine answers from is durable.
 ///
 /// The opening chooses the superblock and reads the extents from block 4 on, up to the first closed gate. Each entry is tested
-/// against those before it. An entry that may not follow them damages the first block of its body. Of a distillate the stream,
-/// the reads and the number of points are tested, not that its cut and its points are those of the definition. The time is
-/// linear in the log, but for logarithms of the streams, versions and ids. The engine keeps no entries.
+/// against those before it: the id and the spec of a new stream; of a commit the stream, its times, its size, the number of
+/// versions, and the points of the new version; of a distillate also what it has read. It is not tested that the cut and the
+/// points of a distillate are those of the definition. An entry that may not follow damages the first block of its body. An
+/// observable device without a store, or with a damaged block, is not opened.
+///
+/// The time is linear in the log, but for logarithms of the streams, versions and ids. The engine keeps no entries.
 pub fn open_store<D: Disk>(alloc: Global, disk: D) -> Result<Engine<D>, OpenFault<D>>
     ensures opened { IfOk result (IsOpened ⟦<D as Disk>⟧ disk) }
     ensures stood { D.is_observable → (h : List EntrySpec) → HoldsHistory (D.size disk) (D.contents disk) h

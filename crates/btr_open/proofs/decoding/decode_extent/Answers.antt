@@ -5,7 +5,7 @@ use Rattle.std.proofs.lemmas.Result.{IfOk-weaker}
 use Rattle.std.proofs.lemmas.Option.{IfSome_then}
 use Rattle.btr_entry.specs.Grammar.{IsSpelled}
 use Rattle.btr_engine.specs.Body.{body_of}
-use Rattle.btr_open.specs.Damage.{IsNoEntryBody}
+use Rattle.btr_open.specs.Walk.{IsNoEntryBody}
 use Rattle.btr_open.proofs.BodyParts.{fields_of, zeros_of, body_of_found, content_of_body, IfNone_then}
 use Rattle.btr_open.proofs.decoding.decode_extent.Goals as goal
 

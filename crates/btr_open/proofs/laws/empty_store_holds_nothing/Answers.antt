@@ -1,4 +1,5 @@
 -- The superblock of an empty store is chosen, and its first gate is closed.
+use Rattle.std.specs.Prelude.{[]}
 use Rattle.std.proofs.Common.{refl, arith}
 use Rattle.btr_super.specs.Super.{first_super}
 use Rattle.btr_hist.proofs.HistoryLemmas.{follows-none}
@@ -9,8 +10,9 @@ returns c = λ size blocks image is. record {
   super = first_super blocks;
   chosen = is.chosen;
   same_blocks = refl;
-  spelled = tt;
+  bodies = [];
   extents = refl;
+  leads = refl;
   closed = is.no_entry;
   inside = omega (arith, is.chosen.stored.spelled.keeps.blocks_from);
   follows = follows-none;

@@ -1,5 +1,5 @@
 -- The entry was decoded from the body, and is the next one of the board, or may not follow.
-use Rattle.std.specs.Prelude.{◌≡◌, [], ◌∷◌, ◌++◌, Some}
+use Rattle.std.specs.Prelude.{◌≡◌, [], ◌∷◌, ◌++◌}
 use Rattle.std.specs.Option.{IfSome, IfNone}
 use Rattle.std.proofs.Common.{sym, subst, inl, inr}
 use Rattle.btr_hist.specs.Legal.{rejection}
@@ -7,7 +7,7 @@ use Rattle.btr_entry.specs.Grammar.{IsSpelled}
 use Rattle.btr_engine.specs.Body.{body_of}
 use Rattle.btr_engine.specs.Board.{IsBoardOf}
 use Rattle.btr_engine.specs.Stage.{PushCause}
-use Rattle.btr_open.specs.Damage.{IsNoEntryBody}
+use Rattle.btr_open.specs.Walk.{IsNoEntryBody}
 use Rattle.btr_open.proofs.opening.add_body.Goals as goal
 
 pub returns-in_default-clause-refused : goal.returns-in_default-clause-refused

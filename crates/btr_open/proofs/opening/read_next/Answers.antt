@@ -1,10 +1,10 @@
-use Rattle.std.specs.Prelude.{◌≡◌, ◌+◌, length}
+use Rattle.std.specs.Prelude.{◌+◌}
 use Rattle.std.proofs.Common.{◌∙◌, ap, subst, inl}
 use Rattle.btr_log.specs.Log.{log_device as disk_of}
 use Rattle.btr_log.specs.Log.{log_blocks}
 use Rattle.btr_log.specs.Found.{IsWhole, MatchesDevice}
+use Rattle.btr_log.proofs.FoundLemmas.{next-IsWholeExtent, IsExtent-found}
 use Rattle.btr_engine.specs.Body.{body_of}
-use Rattle.btr_open.proofs.Reading.{gate_behind, extent_of}
 use Rattle.btr_open.specs.Reading.{IsReadTo, HasAdded, MayNotAdd}
 use Rattle.btr_open.proofs.OpenCauses.{damaged_next, not_added_next, cause_along}
 use Rattle.btr_open.proofs.opening.read_next.Goals as goal
@@ -19,7 +19,7 @@ returns-in-Err-clause-cause g c h of =
     let blocks = log_blocks c.args.log.now in
     cause_along disk.is_observable (IsReadTo disk.is_observable size image blocks c.args.gate h) size image blocks c.args.gate (disk.faults d0) (disk.faults d1)
     (λ r. r.0)
-    (λ r block damage. damaged_next size image blocks c.args.gate h block (inl damage) r.1 r.2 r.3 r.4)
+    (λ r block damage. damaged_next size image blocks c.args.gate h block (inl damage) r.1 r.2)
     c.in-Err.fault c.cause_of.result c.cause_of.ensures.damaged c.cause_of.ensures.fault c.cause_of.ensures.want c.in-Err.ensures.cause
 
 pub returns-then-not-branch-clause-cause : goal.returns-then-not-branch-clause-cause
@@ -36,7 +36,7 @@ returns-then-not-branch-clause-cause g c h of r =
     (subst (IsWhole blocks c.args.gate) x.is c.in-Ok.ensures.whole)
     (subst (MatchesDevice image c.args.gate) x.is (c.in-Ok.ensures.matches r.0))
     c.args.board.now of refused)
-    r.1 r.2 r.3 r.4
+    r.1 r.2
 
 pub returns-clause-next : goal.returns-clause-next
 returns-clause-next g c =
@@ -49,15 +49,15 @@ returns-clause-next g c =
     let whole = subst (IsWhole blocks c.args.gate) x.is c.in-Ok.ensures.whole in (
       e,
       λ h of.
-          let next = added.3 h of in
-          let same : x.body.items ≡ body_of (length h + 1) e = added.2 ∙ ap (λ n. body_of n e) (c.requires.number ∙ ap (λ n. n + 1) of.entries) in (
+          let next = added.3 h of in (
             next.1,
             record {
-              spelled = added.1;
+              body = x.body.items;
+              is = record { spelled = added.1; bytes = added.2 ∙ ap (λ n. body_of n e) (c.requires.number ∙ ap (λ n. n + 1) of.entries) };
               allowed = next.0;
-              after = gate_behind blocks c.args.gate x.head x.body.items x.next whole (length h + 1) e same;
+              after = next-IsWholeExtent image blocks c.args.gate x.head x.body.items x.next whole;
               inside = whole.inside;
-              extent = λ told. (x.head, extent_of blocks c.args.gate x.head x.body.items x.next whole (length h + 1) e same image (subst (MatchesDevice image c.args.gate) x.is (c.in-Ok.ensures.matches told)));
+              extent = λ told. (x.head, IsExtent-found image blocks c.args.gate x.head x.body.items x.next whole (subst (MatchesDevice image c.args.gate) x.is (c.in-Ok.ensures.matches told)));
             },
           ),
     )
