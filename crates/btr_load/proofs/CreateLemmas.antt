@@ -21,7 +21,7 @@ use Rattle.btr_hall.specs.Trace.{entries_in, history_of}
 use Rattle.btr_hall.specs.Session.{IsSame, IsAlone, seen_of, engine_of}
 use Rattle.btr_hall.specs.Commit.{shown, item_by, Commits}
 use Rattle.btr_hall.proofs.TraceLemmas.{entries_append}
-use Rattle.btr_jobs.specs.States.{StoreState, LogState, GoesOn, log_of, start_of}
+use Rattle.btr_jobs.specs.States.{StoreState, LogState, GoesOn, log_seen, start_of}
 use Rattle.btr_jobs.specs.Turns as turns
 use Rattle.btr_jobs.specs.TurnLaws.{committed_still}
 use Rattle.btr_jobs.specs.Jobs.{Does}
@@ -68,8 +68,8 @@ module _ {D : Type 0} {disk : Ghosts D} where
             let now : history_of h (seen_of new) ≡ history_after result (history_of h (seen_of old)) e =
             ap (history_of h) commits.seen ∙ item_history h commits.before e (engine_of hall new) result
             ∙ ap (λ l. history_after result (history_of h l) e) (commits.alone alone) in
-            let then = next_is (start_of h hall) (log_of h new) (history_of h (seen_of old)) e result does.0 said.0 said.1 in
-            subst (turns.Committed (start_of h hall) (log_of h new) (history_of h (seen_of old)) e result does.0) (then ∙ sym now) said.1,
+            let then = next_is (start_of h hall) (log_seen h new) (history_of h (seen_of old)) e result does.0 said.0 said.1 in
+            subst (turns.Committed (start_of h hall) (log_seen h new) (history_of h (seen_of old)) e result does.0) (then ∙ sym now) said.1,
       )
 
 -- ---- one stream

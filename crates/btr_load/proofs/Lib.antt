@@ -8,5 +8,6 @@ pub mod ThereLemmas
 pub mod RowLemmas
 pub mod OfferLemmas
 pub mod AlikeLemmas
+pub mod NeedSums
 pub mod FitLemmas
 pub mod InOrderLemmas

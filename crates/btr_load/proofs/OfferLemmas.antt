@@ -116,7 +116,7 @@ rejection_alike mid p q stream batch p_mid q_mid known same =
 
 -- ---- a history that has no more commits of a stream
 
-nothing_left : {A : Type 0} (l : List A) → length l ≤ 0 → l ≡ []
+pub nothing_left : {A : Type 0} (l : List A) → length l ≤ 0 → l ≡ []
 nothing_left [] none = refl
 nothing_left (x ∷ l) none = absurd (omega arith)
 

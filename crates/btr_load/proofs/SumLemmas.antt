@@ -27,6 +27,10 @@ abbrev entry_if : Result Receipt StepFault → Entry → List Entry
 entry_if (Ok receipt) e = e ∷ []
 entry_if (Err fault) e = []
 
+-- The numbers of two lists together.
+pub numbers_sum : (g : ℕ → ℕ) (own a b : List ℕ) → ((n : ℕ) → times n own ≡ times n a + times n b) → total g own ≡ total g a + total g b
+numbers_sum g own a b sum = totals_alike g own (a ++ b) (λ n. sum n ∙ sym (times_append n a b)) ∙ total_append g a b
+
 module _ (f : Entry → ℕ) (start : StoreState) (log : LogState) where
   -- The sum over numbers.
   abbrev pub sum_at : List ℕ → ℕ
@@ -80,16 +84,10 @@ module _ (f : Entry → ℕ) (start : StoreState) (log : LogState) where
   outcome_sum low batches (NotCreated fault) own did = none_sum own did
   outcome_sum low batches (Committed stream results latest) own did = batches_sum low stream batches results own did.0 did.1
 
-  -- The numbers of two lists together.
-  both_sum : (own a b : List ℕ) → ((n : ℕ) → times n own ≡ times n a + times n b) → sum_at own ≡ sum_at a + sum_at b
-  both_sum own a b sum =
-      totals_alike (at_number f log.history) own (a ++ b) (λ n. sum n ∙ sym (times_append n a b))
-      ∙ total_append (at_number f log.history) a b
-
   streams_sum : (low : List Entry) (streams : List LoadedStream) (own : List ℕ) → StreamsDid start log low streams own → sum_at own ≡ total f (batch_entries streams)
   streams_sum low [] own did = totals_alike (at_number f log.history) own [] did
   streams_sum low (s ∷ streams) own did =
-      let all = both_sum own did.0 did.1 did.4 in
+      let all = numbers_sum (at_number f log.history) own did.0 did.1 did.4 in
       let one = outcome_sum low (batches_of s.batch s.rows.points) s.outcome did.0 did.2 in
       let more = streams_sum low streams did.1 did.3 in
       let both = total_append f (outcome_entries (batches_of s.batch s.rows.points) s.outcome) (batch_entries streams) in
@@ -122,7 +120,7 @@ module _ (f : Entry → ℕ) (start : StoreState) (log : LogState) where
 -- Sums over the numbers of a load are those over its entries.
 pub load_sum : (f : Entry → ℕ) (start : StoreState) (log : LogState) (low : List Entry) (rows : RowListValue) (batch : ℕ) (loaded : LoadedValue) (numbers : List ℕ) → Loads start log low rows batch loaded numbers → total (at_number f log.history) numbers ≡ total f (create_entries low loaded.streams ++ batch_entries loaded.streams)
 load_sum f start log low rows batch loaded numbers loads =
-    let all = both_sum f start log numbers loads.created loads.committed loads.own in
+    let all = numbers_sum (at_number f log.history) numbers loads.created loads.committed loads.own in
     let creates = opens_sum f start log low low batch rows.streams loaded.streams loads.created loads.middle loads.opens in
     let batches = streams_sum f start log loads.middle loaded.streams loads.committed loads.commits in
     let both = total_append f (create_entries low loaded.streams) (batch_entries loaded.streams) in

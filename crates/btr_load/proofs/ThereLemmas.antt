@@ -252,7 +252,7 @@ after_starts (Err fault) p e = starts_refl p
 
 module _ (start : StoreState) (log : LogState) (low : List Entry) (follows : Follows low) where
   -- The history after a create begins with the one before.
-  opens_grows : (p : List Entry) (id : ℕ) (o : Option ℕ) (outcome : RowsOutcome) (own : List ℕ) (next : List Entry) → CreatesIfNew start log low p id o outcome own next → StartsWith next p
+  pub opens_grows : (p : List Entry) (id : ℕ) (o : Option ℕ) (outcome : RowsOutcome) (own : List ℕ) (next : List Entry) → CreatesIfNew start log low p id o outcome own next → StartsWith next p
   opens_grows p id (Some stream) outcome own next opens = subst (λ l. StartsWith l p) (sym opens.1.next) (starts_refl p)
   opens_grows p id None outcome own next opens =
       subst (λ l. StartsWith l p) (sym (next_is start log p (entries.Create id) opens.0 own next opens.1)) (after_starts opens.0 p (entries.Create id))

@@ -87,7 +87,7 @@ given_nothing low high n none =
       | inr below ↦ given_below low high n below
     ]
 
-times_after : (n low count high : ℕ) → high ≡ low + count → times n (numbers_after low count) ≡ given low high n
+pub times_after : (n low count high : ℕ) → high ≡ low + count → times n (numbers_after low count) ≡ given low high n
 times_after n low zero high is = sym (given_nothing low high n (omega arith))
 times_after n low (suc count) high is =
     let rest = times_after n (low + 1) count high (omega arith) in

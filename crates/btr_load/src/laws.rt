@@ -23,8 +23,9 @@ pub fn loads_are_alike()
     ensures { LoadsAlike }
 {}
 
-/// If all blocks that the rows need were left when the hall began, and nobody else added anything, then no create and no batch is
-/// refused since the device is full.
+/// If the most blocks that the rows need were left when the hall began, no id stands twice, and nobody else added anything, then no
+/// create and no batch is refused since the device is full. The rows need what their creates need, and for each stream the most that
+/// the commits of some of its batches need, one after another.
 pub fn loads_fit()
     ensures { LoadsFit }
 {}
