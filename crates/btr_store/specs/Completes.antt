@@ -9,7 +9,7 @@ use Rattle.btr_plan.specs.Next.{IsNextPlan}
 use Rattle.btr_plan.specs.Plan.{IsCurrent}
 use Rattle.btr_rows.specs.Streams.{RowListValue}
 use Rattle.btr_gate.specs.Prefixes.{StartsWith}
-use Rattle.btr_hall.specs.Commit.{needs_of}
+use Rattle.btr_engine.specs.Body.{needs_of}
 use Rattle.btr_jobs.specs.States.{StoreState}
 use Rattle.btr_load.specs.Fits.{rows_need}
 use Rattle.btr_store.specs.declared.status.Status.{Status}

@@ -62,4 +62,4 @@ pub record LoadsStore (start : StoreState) (log : LogState) (rows : RowListValue
   pub in_order : workers ≤ 1 → log.failed ≡ None
       → IfSome did.loaded (λ loaded. HadMemoryForAll loaded → IsLoadedInOrder start log rows.streams batch loaded.streams)
   -- if there was room for the rows, and the device did not fail, no line says that it was full or failed
-  pub completes : HasRoomForRows start rows batch → log.failed ≡ None → SaysBenign said
+  pub completes : AreDistinct rows.streams → HasRoomForRows start rows batch → log.failed ≡ None → SaysBenign said

@@ -6,7 +6,7 @@ use Rattle.btr_hist.specs.declared.entry.Entry.TheVariants.{Define}
 use Rattle.btr_hist.specs.Legal.{Follows}
 use Rattle.btr_rows.specs.Streams.{StreamValue, RowListValue}
 use Rattle.btr_gate.specs.Prefixes.{StartsWith}
-use Rattle.btr_hall.specs.Commit.{needs_of}
+use Rattle.btr_engine.specs.Body.{needs_of}
 use Rattle.btr_jobs.specs.States.{StoreState}
 use Rattle.btr_load.specs.declared.stream.LoadedStream.{LoadedStream}
 use Rattle.btr_load.specs.Loads.{LoadedValue}

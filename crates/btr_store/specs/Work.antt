@@ -1,5 +1,6 @@
 -- What work at a hall of a store leaves on the device: at its end, after each entry, and after a crash at any moment.
-use Rattle.std.specs.Prelude.{◌≡◌, ◌⊎◌, ℕ, ◌+◌, ◌≤◌, true, false, List, [], ◌∷◌, ◌++◌, length, take, Option, Some, None, option_to_list}
+use Rattle.std.specs.Prelude.{◌≡◌, ◌⊎◌, ℕ, ◌+◌, ◌≤◌, true, false, List, [], ◌∷◌, ◌++◌, length, take, Option, Some, None, option_to_list, Result, IfOk}
+use Rattle.std.specs.declared.alloc.AllocError.{AllocError}
 use Rattle.std.specs.Option.{is_some}
 use Rattle.btr_disk.specs.declared.disk.Disk.{Ghosts}
 use Rattle.btr_disk.specs.Bytes.{Image}
@@ -14,8 +15,10 @@ use Rattle.btr_engine.specs.Holds.{HoldsHistory, HoldsHistoryTo}
 use Rattle.btr_engine.specs.Step.{IsBeforeOrAfter, calls_of_step}
 use Rattle.btr_gate.specs.Numbers.{one, times, given}
 use Rattle.btr_gate.specs.Prefixes.{StartsWith}
-use Rattle.btr_hall.specs.Commit.{needs_of}
+use Rattle.btr_engine.specs.Body.{needs_of}
 use Rattle.btr_jobs.specs.States.{StoreState, LogState}
+use Rattle.btr_store.specs.declared.status.Status.TheVariants.{DeviceFault}
+use Rattle.btr_store.specs.declared.transcript.Transcript.{Transcript}
 
 -- ---- entries and who added them
 
@@ -107,9 +110,8 @@ module _ {D : Type 0} (disk : Ghosts D) where
     pub now : (c : Image) → disk.images_now new c → HoldsLog (disk.size new) log c
 
   -- Work at a hall that began with `first` and went on to this state of the log, from the device `old` to the device `new`. Each entry may
-  -- follow those before it, also if the device is not observable. If the device failed in a step, its count of faults rose. If the first
-  -- history is legal, and each entry that was added is allowed, each version of each output is right at the end, also with the entry in
-  -- whose step the device failed.
+  -- follow those before it. If the device failed in a step, its count of faults rose. If the first history is legal, and each entry that
+  -- was added is allowed, each version of each output is right at the end, also with the entry in whose step the device failed.
   pub record Works (first : StoreState) (log : LogState) (own : List ℕ) (old new : D) : Type 0 where
     pub same_size : disk.size new ≡ disk.size old
     pub begins : StartsWith log.history first.history
@@ -138,3 +140,13 @@ module _ {D : Type 0} (disk : Ghosts D) where
     pub legal : Legal first.history → Legal log.history
     pub right : Legal first.history → Right log.history
     pub in_flight : Legal first.history → IsRightInFlight log
+
+  -- If the device can be observed and holds a history, this is so. Of other devices, as a real file, nothing is said.
+  abbrev pub IfHolds : D → Type 0 → Type 0
+  IfHolds d P = disk.is_observable → (h : List Entry) → HoldsHistory (disk.size d) (disk.contents d) h → P
+
+  -- What is so of work on each device, also on one that cannot be observed: the device has as many blocks, and if the status says that it
+  -- failed, its count of faults rose.
+  pub record IsPlainWork (old : D) (said : Result Transcript AllocError) (new : D) : Type 0 where
+    pub same_size : disk.size new ≡ disk.size old
+    pub faulted : IfOk said (λ t. t.status ≡ DeviceFault → Rose (disk.faults old) (disk.faults new))

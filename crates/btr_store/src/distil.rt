@@ -7,7 +7,7 @@ ghost use Rattle.btr_open.specs.Opening.{IsNotOpened};
 ghost use Rattle.btr_hall.specs.Trace.{history_of};
 ghost use Rattle.btr_hall.specs.Session.{IsAlone, opening_of, seen_of};
 ghost use Rattle.btr_jobs.specs.Jobs.{IsAt, Does};
-ghost use Rattle.btr_store.specs.Work.{DoesRightly};
+ghost use Rattle.btr_store.specs.Work.{DoesRightly, IfHolds, IsPlainWork};
 ghost use Rattle.btr_store.specs.Transcript.{SaysLines};
 ghost use Rattle.btr_store.specs.Streams.{AreStreams, Stays};
 ghost use Rattle.btr_store.specs.Distil.{Distils, DistilsInTurn, DistilsStore, output_line, current_line, nothing_of};
@@ -49,14 +49,14 @@ pub fn distil_store<R: Threads + Wait + Sync, D: Disk + Send, P: Pace + Sync>(
     pace: &P,
     disk: D,
 ) -> Result<Worked<D>, OpenFault<D>>
-    ensures done { IfOk result (λ w. DoesRightly ⟦<D as Disk>⟧ (λ start log own. DistilsStore start log workers w.said own)
-        disk w.disk) }
+    ensures plain { IfOk result (λ w. IsPlainWork ⟦<D as Disk>⟧ disk w.said w.disk) }
+    ensures done { IfOk result (λ w. IfHolds ⟦<D as Disk>⟧ disk (DoesRightly ⟦<D as Disk>⟧
+        (λ start log own. DistilsStore start log workers w.said own) disk w.disk)) }
     ensures refused { IfErr result (IsNotOpened ⟦<D as Disk>⟧ disk) }
 {
     let (hall, mut session) = open_hall(alloc, disk)?;
     let said = distil(rt, alloc, &hall, &mut session, workers, pace);
-    let disk = close_hall(hall, session);
-    Ok(Worked { said, disk })
+    Ok(close_hall(hall, session, said))
 }
 
 /// Brings each output up to date once, and says what became of each. An `Err` means out of memory.

@@ -1,13 +1,12 @@
 //! The work of `live`: a script runs on a store.
-ghost use Rattle.std.specs.Prelude.{◌≡◌, ◌+◌, ◌≤◌, false, List, IfErr, IfOk};
+ghost use Rattle.std.specs.Prelude.{◌≡◌, ◌+◌, ◌≤◌, false, IfErr, IfOk};
 ghost use Rattle.btr_base.specs.declared.limits.TheConstants.{MAX_COMMIT_POINTS};
-ghost use Rattle.btr_hist.specs.declared.entry.Entry.{Entry as EntrySpec};
-ghost use Rattle.btr_engine.specs.Engine.{is_stopped, IsEngineOf};
+ghost use Rattle.btr_engine.specs.Engine.{is_stopped};
 ghost use Rattle.btr_text.specs.Input.{HaveLanes};
 ghost use Rattle.btr_open.specs.Opening.{IsNotOpened};
 ghost use Rattle.btr_hall.specs.Session.{IsAlone, opening_of};
 ghost use Rattle.btr_jobs.specs.Jobs.{IsAt, Does};
-ghost use Rattle.btr_store.specs.Work.{DoesRightly};
+ghost use Rattle.btr_store.specs.Work.{DoesRightly, IfHolds, IsPlainWork};
 ghost use Rattle.btr_store.specs.Live.{LivesStore};
 ghost use Rattle.btr_store.specs.LiveLines.{Lives};
 
@@ -36,8 +35,9 @@ pub fn live_store<R: Threads + Wait + Sync, D: Disk + Send, P: Pace + Sync>(
 ) -> Result<Worked<D>, OpenFault<D>>
     requires batch { (1 ≤ batch) × (batch ≤ MAX_COMMIT_POINTS) }
     requires lanes { HaveLanes lines.items }
-    ensures done { IfOk result (λ w. DoesRightly ⟦<D as Disk>⟧
-        (λ start log own. LivesStore batch materialize lines.items start log w.said own) disk w.disk) }
+    ensures plain { IfOk result (λ w. IsPlainWork ⟦<D as Disk>⟧ disk w.said w.disk) }
+    ensures done { IfOk result (λ w. IfHolds ⟦<D as Disk>⟧ disk (DoesRightly ⟦<D as Disk>⟧
+        (λ start log own. LivesStore batch materialize lines.items start log w.said own) disk w.disk)) }
     ensures refused { IfErr result (IsNotOpened ⟦<D as Disk>⟧ disk) }
 {
     // what holds of all scripts that ran alone
@@ -55,8 +55,7 @@ pub fn live_store<R: Threads + Wait + Sync, D: Disk + Send, P: Pace + Sync>(
         materialize,
         pace,
     );
-    let disk = close_hall(hall, session);
-    Ok(Worked { said, disk })
+    Ok(close_hall(hall, session, said))
 }
 
 /// Runs lines at a hall, and says their replies and what the last round refused. An `Err` means out of memory.
@@ -70,7 +69,7 @@ fn live<R: Threads + Wait + Sync, D: Disk + Send, P: Pace + Sync>(
     materialize: bool,
     pace: &P,
 ) -> Result<Transcript, AllocError>
-    requires runs { ((h : List EntrySpec) × IsEngineOf h (opening_of hall.now)) × (is_stopped (opening_of hall.now) ≡ false) }
+    requires runs { is_stopped (opening_of hall.now) ≡ false }
     requires at { IsAt hall.now session.old }
     requires alone { IsAlone session.old }
     requires lanes { HaveLanes lines.items }

@@ -3,7 +3,7 @@ ghost use Rattle.std.specs.Prelude.{◌≡◌, ◌≤◌, ℕ, List, IfErr, IfOk
 ghost use Rattle.btr_open.specs.Opening.{IsNotOpened};
 ghost use Rattle.btr_hall.specs.Session.{IsAlone};
 ghost use Rattle.btr_jobs.specs.Jobs.{IsAt, Does};
-ghost use Rattle.btr_store.specs.Work.{DoesRightly};
+ghost use Rattle.btr_store.specs.Work.{DoesRightly, IfHolds, IsPlainWork};
 ghost use Rattle.btr_store.specs.Load.{LoadsRows, LoadsRowsInTurn, LoadsStore};
 
 use crate::load_lines::load_lines;
@@ -44,14 +44,14 @@ pub fn load_store<R: Threads + Wait + Sync, D: Disk + Send, P: Pace + Sync>(
     disk: D,
 ) -> Result<Worked<D>, OpenFault<D>>
     requires batch { 1 ≤ batch }
-    ensures done { IfOk result (λ w. DoesRightly ⟦<D as Disk>⟧ (λ start log own. LoadsStore start log rows batch workers w.said own)
-        disk w.disk) }
+    ensures plain { IfOk result (λ w. IsPlainWork ⟦<D as Disk>⟧ disk w.said w.disk) }
+    ensures done { IfOk result (λ w. IfHolds ⟦<D as Disk>⟧ disk (DoesRightly ⟦<D as Disk>⟧
+        (λ start log own. LoadsStore start log rows batch workers w.said own) disk w.disk)) }
     ensures refused { IfErr result (IsNotOpened ⟦<D as Disk>⟧ disk) }
 {
     let (hall, mut session) = open_hall(alloc, disk)?;
     let said = load_rows(rt, alloc, &hall, &mut session, rows, batch, workers, pace);
-    let disk = close_hall(hall, session);
-    Ok(Worked { said, disk })
+    Ok(close_hall(hall, session, said))
 }
 
 /// Loads rows, and says what became of them. An `Err` means out of memory.

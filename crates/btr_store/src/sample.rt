@@ -7,7 +7,7 @@ ghost use Rattle.btr_hall.specs.Trace.{history_of};
 ghost use Rattle.btr_hall.specs.Session.{IsAlone, opening_of, seen_of};
 ghost use Rattle.btr_jobs.specs.Jobs.{IsAt, Does};
 ghost use Rattle.btr_report.specs.declared.line.ReportLine.TheVariants as lines;
-ghost use Rattle.btr_store.specs.Work.{DoesRightly};
+ghost use Rattle.btr_store.specs.Work.{DoesRightly, IfHolds, IsPlainWork};
 ghost use Rattle.btr_store.specs.Transcript.{SaysLines};
 ghost use Rattle.btr_store.specs.Streams.{Stays};
 ghost use Rattle.btr_store.specs.Sample.{IsFilledInPart, Samples, rows_of_sample};
@@ -72,8 +72,9 @@ pub fn sample_store<R: Threads + Wait + Sync, D: Disk + Send, P: Pace + Sync>(
     pace: &P,
     disk: D,
 ) -> Result<Worked<D>, OpenFault<D>>
-    ensures done { IfOk result (λ w. DoesRightly ⟦<D as Disk>⟧
-        (λ start log own. SamplesStore number streams points start log w.said own) disk w.disk) }
+    ensures plain { IfOk result (λ w. IsPlainWork ⟦<D as Disk>⟧ disk w.said w.disk) }
+    ensures done { IfOk result (λ w. IfHolds ⟦<D as Disk>⟧ disk (DoesRightly ⟦<D as Disk>⟧
+        (λ start log own. SamplesStore number streams points start log w.said own) disk w.disk)) }
     ensures refused { IfErr result (IsNotOpened ⟦<D as Disk>⟧ disk) }
 {
     let (hall, mut session) = open_hall(alloc, disk)?;
@@ -87,8 +88,7 @@ pub fn sample_store<R: Threads + Wait + Sync, D: Disk + Send, P: Pace + Sync>(
         points,
         pace,
     );
-    let disk = close_hall(hall, session);
-    Ok(Worked { said, disk })
+    Ok(close_hall(hall, session, said))
 }
 
 /// Fills the store if it is empty, and says what was done. An `Err` means out of memory.

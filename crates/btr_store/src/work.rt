@@ -1,16 +1,18 @@
 //! The begin and the end of work on a store: it is opened and has a hall, and the hall is closed.
-ghost use Rattle.std.specs.Prelude.{◌≡◌, ℕ, List, IfErr, IfOk};
+ghost use Rattle.std.specs.Prelude.{◌≡◌, ℕ, true, List, Ok, IfErr, IfOk, IsTrue};
+ghost use Rattle.btr_disk.specs.Causes.{Rose};
 ghost use Rattle.btr_hist.specs.declared.entry.Entry.{Entry as EntrySpec};
-ghost use Rattle.btr_engine.specs.Engine.{IsEngineOf};
 ghost use Rattle.btr_open.specs.declared.opening.OpenCause.TheVariants.{Want};
-ghost use Rattle.btr_open.specs.Opening.{IsNotOpened, IsOpened, KeepsDisk};
+ghost use Rattle.btr_open.specs.Opening.{IsNotOpened, IsOpened, IsOpenedOn, KeepsDisk};
 ghost use Rattle.btr_hall.specs.declared.session.Session.{Session as SessionSpec};
 ghost use Rattle.btr_hall.specs.Session.{Begins, IsAlone, opening_of};
 ghost use Rattle.btr_jobs.specs.States.{log_seen, start_of};
 ghost use Rattle.btr_jobs.specs.Jobs.{Goes, IsAt};
-ghost use Rattle.btr_store.specs.Work.{Works};
+ghost use Rattle.btr_store.specs.declared.status.Status.TheVariants.{DeviceFault};
+ghost use Rattle.btr_store.specs.Work.{IsPlainWork, Works};
 ghost use Rattle.btr_store.specs.Closing.{BeginsOn};
 
+use crate::status::Status;
 use crate::transcript::Transcript;
 use btr_disk::Disk;
 use btr_engine::Engine;
@@ -45,7 +47,6 @@ fn begin_hall<D: Disk>(
     alloc: Global,
     engine: Engine<D>,
 ) -> Result<(Hall<D>, Session<D>), OpenFault<D>>
-    requires some { (h : List EntrySpec) × IsEngineOf h engine }
     ensures begun { IfOk result (λ r. Begins engine r.0 r.1) }
     ensures cause { IfErr result (λ fault. fault.cause ≡ Want) }
     ensures kept { (old : D) → IsOpened ⟦<D as Disk>⟧ old engine → IfErr result (λ fault. KeepsDisk ⟦<D as Disk>⟧ old fault.disk) }
@@ -59,18 +60,45 @@ fn begin_hall<D: Disk>(
     }
 }
 
-/// Closes a hall whose only session is this one, and takes the device out. It takes constant time and no memory, and does not call the
-/// device.
+/// Closes a hall whose only session is this one, takes the device out, and returns what is said of the work. It takes constant time and no
+/// memory, and does not call the device.
+///
+/// What is said is handed on. But if its status says that the device failed, and no step failed, it is that memory ran out: then the
+/// status is right on each device. It never comes on a device that held a history.
 ///
 /// If the hall was opened by [`open_hall`], its contract says what the work at the hall left on the device, also after a crash at any
 /// moment.
-pub fn close_hall<D: Disk>(hall: Hall<D>, session: Session<D>) -> D
+pub fn close_hall<D: Disk>(
+    hall: Hall<D>,
+    session: Session<D>,
+    said: Result<Transcript, AllocError>,
+) -> Worked<D>
     requires at { IsAt hall session }
     requires alone { IsAlone session }
+    ensures said { IfOk result.said (λ t. said ≡ Ok t) }
+    ensures plain { (old : D) → IsOpened ⟦<D as Disk>⟧ old (opening_of hall) → IsPlainWork ⟦<D as Disk>⟧ old result.said result.disk }
     ensures works { (old : D) (opened : IsOpened ⟦<D as Disk>⟧ old (opening_of hall)) (begun : SessionSpec D ⟦<D as Disk>⟧) (own : List ℕ)
         → Begins (opening_of hall) hall begun → Goes begun session own
-        → Works ⟦<D as Disk>⟧ (start_of opened.some.0 hall) (log_seen opened.some.0 session) own old result }
+        → (h : List EntrySpec) → IsOpenedOn ⟦<D as Disk>⟧ h (opening_of hall)
+        → Works ⟦<D as Disk>⟧ (start_of h hall) (log_seen h session) own old result.disk }
 {
     let engine = hall.close(session);
-    engine.into_disk()
+    let failed = engine.stopped();
+    let disk = engine.into_disk();
+    Worked {
+        said: confirmed(said, failed),
+        disk,
+    }
+}
+
+/// Returns what is said, unless its status says that the device failed and it did not.
+fn confirmed(said: Result<Transcript, AllocError>, failed: bool) -> Result<Transcript, AllocError>
+    ensures said { IfOk result (λ t. said ≡ Ok t) }
+    ensures failed { IfOk result (λ t. t.status ≡ DeviceFault → failed ≡ true) }
+{
+    let transcript = said?;
+    if transcript.status == Status::DeviceFault && !failed {
+        return Err(AllocError);
+    }
+    Ok(transcript)
 }
