@@ -1,5 +1,5 @@
 -- The command `ask`: what each line is answered, and why the command ends as it does.
-use Rattle.std.specs.Prelude.{List, [], ◌∷◌}
+use Rattle.std.specs.Prelude.{List, [], ◌∷◌, Ok}
 use Rattle.btr_io.specs.declared.source.Source.{Ghosts as SourceGhosts}
 use Rattle.btr_disk.specs.declared.disk.Disk.{Ghosts}
 use Rattle.btr_disk.specs.Bytes.{Image}
@@ -16,6 +16,7 @@ use Rattle.btr_live.specs.Meaning.{question}
 use Rattle.btr_live.specs.Serving.{IsAnswerOrNoMemory}
 use Rattle.btr_top.specs.Command.{HoldsStoreWith, IsWithinLimit, IsKept, OpeningCause, CommandCause}
 use Rattle.btr_store.specs.Replies.{IsTranscript}
+use Rattle.btr_store.specs.Work.{IfHolds, IsPlainWork}
 
 -- One reply to each line, in order, all from the same history.
 abbrev pub AnswersEach : List Entry → List ScriptLine → List LineReply → Type 0
@@ -26,7 +27,7 @@ AnswersEach h (line ∷ lines) (reply ∷ replies) = IsAnswerOrNoMemory h (quest
 
 module _ {D : Type 0} (disk : Ghosts D) where
   -- Each line was answered from the history that the device `old` holds, and this is the transcript. Each entry of the history may
-  -- follow those before it, also if the device is not observable. Nothing was written. Every crash from now on leaves the history.
+  -- follow those before it. Nothing was written. Every crash from now on leaves the history.
   pub record AnswersAll (lines : List ScriptLine) (old new : D) (transcript : Transcript) : Type 0 where
     pub history : List Entry
     pub replies : List LineReply
@@ -37,9 +38,15 @@ module _ {D : Type 0} (disk : Ghosts D) where
     pub kept : IsKept disk old new
     pub durable : disk.is_observable → (c : Image) → disk.images_now new c → HoldsHistory (disk.size new) c history
 
+  -- The lines were answered with this transcript: on each device what is plain of it, and from each history that the device holds.
+  pub record WereAnswered (lines : List ScriptLine) (old new : D) (transcript : Transcript) : Type 0 where
+    pub plain : IsPlainWork disk old (Ok transcript) new
+    pub kept : IsKept disk old new
+    pub answers : IfHolds disk old (AnswersAll lines old new transcript)
+
   -- Why `ask` ends so, after its lines were read.
   abbrev pub QuestionsCause : List ScriptLine → D → D → Ending → Type 0
-  QuestionsCause lines old new (Replied transcript) = AnswersAll lines old new transcript
+  QuestionsCause lines old new (Replied transcript) = WereAnswered lines old new transcript
   QuestionsCause lines old new e = OpeningCause disk old new e × IsKept disk old new
 
 module _ {S D : Type 0} (source : SourceGhosts S) (disk : Ghosts D) where

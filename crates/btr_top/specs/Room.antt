@@ -12,7 +12,8 @@ use Rattle.btr_hist.specs.Legal.{Follows}
 use Rattle.btr_log.specs.Head.{content_blocks}
 use Rattle.btr_gate.specs.Numbers.{one, times, total, given}
 use Rattle.btr_gate.specs.Prefixes.{StartsWith}
-use Rattle.btr_hall.specs.Commit as blocks
+use Rattle.btr_engine.specs.Body as blocks
+use Rattle.btr_engine.specs.Body.{most_nodes}
 use Rattle.btr_text.specs.declared.script.Line.{Line}
 use Rattle.btr_text.specs.declared.script.Line.TheVariants as lines
 use Rattle.btr_text.specs.declared.script.ScriptLine.{ScriptLine}
@@ -161,16 +162,16 @@ HasRoomForScript batch materialize store script =
 
 -- ---- how much is enough
 
--- The blocks of a commit that adds this many points and removes nothing.
+-- The most blocks of a commit that adds this many points and removes nothing.
 abbrev pub blocks_of_points : ℕ → ℕ
-blocks_of_points count = content_blocks (21 + 16 * count) + 1
+blocks_of_points count = content_blocks (21 + 16 * count) + most_nodes count 0 + 1
 
 -- The most blocks that a line needs, in an entry of its own or for its points in one with those of others.
 abbrev pub most_blocks : Option Line → ℕ
 most_blocks (Some (lines.Create id)) = 2
 most_blocks (Some (lines.Distiller id kernel lead grain first second)) = 2
 most_blocks (Some (lines.Insert id added)) = blocks_of_points (length added)
-most_blocks (Some (lines.Delete id from to)) = 2
+most_blocks (Some (lines.Delete id from to)) = 2 + most_nodes 0 1
 most_blocks (Some (lines.Feed id added)) = blocks_of_points (length added)
 most_blocks line = 0
 

@@ -19,7 +19,7 @@ use Rattle.btr_top.specs.Work.{LoadCause, DistilCause, SampleCause, CanLoad, Can
 use Rattle.btr_top.specs.Ending.{Shows}
 
 -- Why a run with this command ends so. `given` and `rest` are the source before and after it, `old` and `new` the device. What is
--- said of bytes holds of a source and a device that can be observed.
+-- said of bytes holds of a source and a device that can be observed, and what is said of a history of each that the device held.
 abbrev pub Cause : {S D : Type 0} → SourceGhosts S → Ghosts D → Option Command → S → S → D → D → Ending → Type 0
 Cause source disk None given rest old new e = (e ≡ Usage) × (rest ≡ given) × (new ≡ old)
 Cause source disk (Some (Format blocks)) given rest old new e = (rest ≡ given) × FormatCause disk blocks old new e
@@ -78,6 +78,8 @@ module _ {S K D : Type 0} (source : SourceGhosts S) (sink : SinkGhosts K) (disk 
     pub input : source.is_observable → Gives (MAX_INPUT + 1) (source.left given) (source.left rest)
     -- why the run ends so, what the device is then, what a crash leaves of it, and what is written
     pub ends : Ends command given rest before after old new status
+    -- the status is 5 only if a call of the device failed, also on a device that cannot be observed
+    pub faulted : status ≡ 5 → Rose (disk.faults old) (disk.faults new)
     pub format_leaves : disk.is_observable → (blocks : ℕ) → command ≡ Some (Format blocks) → FormatLeaves disk blocks old new
     -- if a store can be made and nothing fails, one is made, and 9 says only that there is no memory for the line
     pub formats : disk.is_observable → (blocks : ℕ) → command ≡ Some (Format blocks) → CanFormat disk blocks old

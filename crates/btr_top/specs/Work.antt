@@ -10,7 +10,7 @@ use Rattle.btr_load.specs.There.{AreDistinct}
 use Rattle.btr_jobs.specs.States.{StoreState, LogState}
 use Rattle.btr_store.specs.declared.transcript.Transcript.{Transcript}
 use Rattle.btr_store.specs.Completes.{HasRoomForRows, HasRoomForOutputs}
-use Rattle.btr_store.specs.Work.{DoesRightly}
+use Rattle.btr_store.specs.Work.{DoesRightly, IfHolds, IsPlainWork}
 use Rattle.btr_store.specs.Load.{LoadsStore}
 use Rattle.btr_store.specs.Distil.{DistilsStore}
 use Rattle.btr_store.specs.SampleRoom.{HasRoomForSample}
@@ -29,12 +29,16 @@ abbrev pub WorkSays : Type 1
 WorkSays = Result Transcript AllocError → StoreState → LogState → List ℕ → Type 0
 
 module _ {D : Type 0} (disk : Ghosts D) where
+  -- What work did that says this: on each device what is plain of it, and what it did on each history that the device holds.
+  pub record WorkDid (What : WorkSays) (old new : D) (said : Result Transcript AllocError) : Type 0 where
+    pub plain : IsPlainWork disk old said new
+    pub rightly : IfHolds disk old (DoesRightly disk (What said) old new)
+
   -- Why a command ends so that opens a store and does this work on it. If memory runs out the store was not opened and nothing was
   -- written, or the work was done as far as it says.
   abbrev pub WorkCause : WorkSays → D → D → Ending → Type 0
-  WorkCause What old new (Replied transcript) = DoesRightly disk (What (Ok transcript)) old new
-  WorkCause What old new OutOfMemory =
-      IsKept disk old new ⊎ ((error : AllocError) × DoesRightly disk (What (Err error)) old new)
+  WorkCause What old new (Replied transcript) = WorkDid What old new (Ok transcript)
+  WorkCause What old new OutOfMemory = IsKept disk old new ⊎ ((error : AllocError) × WorkDid What old new (Err error))
   WorkCause What old new e = OpeningCause disk old new e × IsKept disk old new
 
   -- Why `distil` ends so.

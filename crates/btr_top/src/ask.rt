@@ -1,5 +1,5 @@
 //! The command `ask`, which answers questions from the store of a device.
-ghost use Rattle.std.specs.Prelude.{◌≡◌, ◌+◌, List, IfOk, OnOk};
+ghost use Rattle.std.specs.Prelude.{◌≡◌, ◌⊎◌, ◌+◌, List, IfOk, OnOk};
 ghost use Rattle.btr_io.specs.Bytes.{Gives};
 ghost use Rattle.btr_hist.specs.declared.entry.Entry.{Entry as EntrySpec};
 ghost use Rattle.btr_text.specs.Input.{questions_of};
@@ -13,6 +13,8 @@ ghost use Rattle.btr_top.specs.Command.{IsKept};
 ghost use Rattle.btr_live.specs.Serving.{IsAnswerOrNoMemory};
 ghost use Rattle.btr_top.specs.Ask.{AskCause, QuestionsCause, HasAnswered};
 ghost use Rattle.btr_store.specs.Replies.{AddsReply};
+ghost use Rattle.btr_store.specs.declared.status.Status.TheVariants.{DeviceFault};
+ghost use Rattle.btr_top.specs.declared.ending.Ending.TheVariants.{OutOfMemory, Replied};
 
 use crate::command::{CommandResult, open_refusal, read_input};
 use crate::ending::Ending;
@@ -21,7 +23,7 @@ use btr_engine::{Engine, Snapshot};
 use btr_io::Source;
 use btr_live::answer_question;
 use btr_open::open_store;
-use btr_store::{Transcript, add_reply, no_replies};
+use btr_store::{Status, Transcript, add_reply, no_replies};
 use btr_text::{Line, ScriptLine, read_questions};
 use std::alloc::{AllocError, Global};
 
@@ -79,15 +81,22 @@ fn ask_opened<D: Disk>(alloc: Global, lines: Vec<ScriptLine>, engine: Engine<D>)
 {
     let answered = answer_all(alloc, &engine, lines);
     let disk = engine.into_disk();
-    match answered {
-        Ok(transcript) => CommandResult {
-            ending: Ending::Replied(transcript),
-            disk,
-        },
-        Err(_) => CommandResult {
-            ending: Ending::OutOfMemory,
-            disk,
-        },
+    let ending = match answered {
+        Ok(transcript) => ending_of_replies(transcript),
+        Err(_) => Ending::OutOfMemory,
+    };
+    CommandResult { ending, disk }
+}
+
+/// Returns how `ask` ends with these replies. No reply to a question says that the device failed. If the status said so, the command
+/// would end as if memory ran out: so the status is right on each device.
+fn ending_of_replies(transcript: Transcript) -> Ending
+    ensures { ((result ≡ Replied transcript) × (transcript.status ≡ DeviceFault → ⊥)) ⊎ (result ≡ OutOfMemory) }
+{
+    if transcript.status == Status::DeviceFault {
+        Ending::OutOfMemory
+    } else {
+        Ending::Replied(transcript)
     }
 }
 

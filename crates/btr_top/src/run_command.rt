@@ -1,6 +1,7 @@
 //! The whole run of a command.
 ghost use Rattle.std.specs.Prelude.{◌≡◌, ◌⊎◌, ℕ, ◌+◌, ◌≤◌, ◌^◌, map, string_bytes, Some};
 ghost use Rattle.btr_io.specs.Bytes.{Gives};
+ghost use Rattle.btr_disk.specs.Causes.{Rose};
 ghost use Rattle.btr_words.specs.declared.command.Command.TheVariants.{Ask, Format};
 ghost use Rattle.btr_top.specs.declared.command.TheConstants.{MAX_INPUT};
 ghost use Rattle.btr_words.specs.Words.{command_of};
@@ -85,6 +86,7 @@ fn do_and_show<R: Threads + Wait + Sync, S: Source, K: Sink, D: Disk + Send, P: 
     ensures input { S.is_observable → Gives (MAX_INPUT + 1) (S.left source.old) (S.left source.new) }
     ensures ends { Ends ⟦<S as Source>⟧ ⟦<K as Sink>⟧ ⟦<D as Disk>⟧ (command_of (map string_bytes words.now))
         source.old source.new sink.old sink.new disk result.disk result.status }
+    ensures faulted { result.status ≡ 5 → Rose (D.faults disk) (D.faults result.disk) }
     ensures format_leaves { D.is_observable → (blocks : ℕ) → command_of (map string_bytes words.now) ≡ Some (Format blocks)
         → FormatLeaves ⟦<D as Disk>⟧ blocks disk result.disk }
     ensures formats { D.is_observable → (blocks : ℕ) → command_of (map string_bytes words.now) ≡ Some (Format blocks)
