@@ -1,8 +1,6 @@
 //! What the tests of several modules share: halls over devices in memory, a pace by which turns meet, and the end of a table.
-ghost use Rattle.std.specs.Prelude.{◌≡◌, ◌≤◌, List, [], IfOk};
-ghost use Rattle.btr_hist.specs.declared.entry.Entry.{Entry as EntrySpec};
-ghost use Rattle.btr_engine.specs.Engine.{IsEngineOf};
-ghost use Rattle.btr_hall.specs.Session.{IsSessionOf, IsAlone, opening_of};
+ghost use Rattle.std.specs.Prelude.{◌≤◌, IfOk};
+ghost use Rattle.btr_hall.specs.Session.{IsSessionOf, IsAlone};
 ghost use Rattle.btr_jobs.specs.Jobs.{IsAt};
 
 use btr_base::Point;
@@ -50,7 +48,6 @@ pub(crate) fn empty(
     failing: &[u64],
 ) -> Result<Engine<MemDisk>, AllocError>
     requires { (8 ≤ blocks) × (blocks ≤ 100_000) }
-    ensures { IfOk result (IsEngineOf []) }
 {
     let count = blocks as usize;
     let capacity = Capacity {
@@ -65,8 +62,6 @@ pub(crate) fn empty(
 
 /// Makes a hall of an engine, and its first session.
 pub(crate) fn begun(alloc: Global, engine: Engine<MemDisk>) -> Result<(Place, User), Fail>
-    requires { (h : List EntrySpec) × IsEngineOf h engine }
-    ensures opening { IfOk result (λ r. opening_of r.0 ≡ engine) }
     ensures at { IfOk result (λ r. IsAt r.0 r.1) }
     ensures own { IfOk result (λ r. IsSessionOf r.0 r.1) }
     ensures alone { IfOk result (λ r. IsAlone r.1) }
@@ -85,7 +80,6 @@ pub(crate) fn begun_empty(
     failing: &[u64],
 ) -> Result<(Place, User), Fail>
     requires { (8 ≤ blocks) × (blocks ≤ 100_000) }
-    ensures opening { IfOk result (λ r. IsEngineOf [] (opening_of r.0)) }
     ensures at { IfOk result (λ r. IsAt r.0 r.1) }
     ensures own { IfOk result (λ r. IsSessionOf r.0 r.1) }
     ensures alone { IfOk result (λ r. IsAlone r.1) }

@@ -1,7 +1,5 @@
 //! Outputs that are brought up to date by one worker and by many, over devices in memory. The expected values are worked out by hand.
-ghost use Rattle.std.specs.Prelude.{◌≤◌, List, IfOk, OnOk};
-ghost use Rattle.btr_hist.specs.declared.entry.Entry.{Entry as EntrySpec};
-ghost use Rattle.btr_engine.specs.Engine.{IsEngineOf};
+ghost use Rattle.std.specs.Prelude.{◌≤◌};
 ghost use Rattle.btr_hall.specs.Session.{IsAlone};
 ghost use Rattle.btr_jobs.specs.Jobs.{IsAt};
 
@@ -20,10 +18,7 @@ use std::test::Fail;
 use std::thread::Threads;
 
 /// Adds an entry.
-fn add(alloc: Global, engine: &mut Engine<MemDisk>, entry: &Entry) -> Result<(), Fail>
-    requires { (h : List EntrySpec) × IsEngineOf h engine.old }
-    ensures { OnOk result ((h : List EntrySpec) × IsEngineOf h engine.new) }
-{
+fn add(alloc: Global, engine: &mut Engine<MemDisk>, entry: &Entry) -> Result<(), Fail> {
     match engine.step(alloc, entry) {
         Ok(_) => Ok(()),
         Err(_) => Err("an entry was refused".into()),
@@ -53,10 +48,7 @@ fn thirds(first: u32) -> Spec {
 }
 
 /// Adds three points to stream 0.
-fn add_points(alloc: Global, engine: &mut Engine<MemDisk>) -> Result<(), Fail>
-    requires { (h : List EntrySpec) × IsEngineOf h engine.old }
-    ensures { OnOk result ((h : List EntrySpec) × IsEngineOf h engine.new) }
-{
+fn add_points(alloc: Global, engine: &mut Engine<MemDisk>) -> Result<(), Fail> {
     let points = points_of(alloc, &[(0, 10), (10, 20), (20, 30)])?;
     let entry = Entry::Commit {
         stream: 0,
@@ -67,17 +59,13 @@ fn add_points(alloc: Global, engine: &mut Engine<MemDisk>) -> Result<(), Fail>
 }
 
 /// Adds an output.
-fn define(alloc: Global, engine: &mut Engine<MemDisk>, id: u128, spec: Spec) -> Result<(), Fail>
-    requires { (h : List EntrySpec) × IsEngineOf h engine.old }
-    ensures { OnOk result ((h : List EntrySpec) × IsEngineOf h engine.new) }
-{
+fn define(alloc: Global, engine: &mut Engine<MemDisk>, id: u128, spec: Spec) -> Result<(), Fail> {
     add(alloc, engine, &Entry::Define { id, spec })
 }
 
 /// Returns a store of a plain stream with three points, 0; an output of its sums, 1; and an output of that, 2.
 fn two_levels(alloc: Global, blocks: u32) -> Result<Engine<MemDisk>, Fail>
     requires { (8 ≤ blocks) × (blocks ≤ 1000) }
-    ensures { IfOk result (λ e. (h : List EntrySpec) × IsEngineOf h e) }
 {
     let mut engine = empty(alloc, blocks, &[])?;
     add(alloc, &mut engine, &Entry::Create { id: 7 })?;
@@ -139,9 +127,7 @@ fn bring_twice<R: Threads + Wait + Sync, P: Pace + Sync>(
     engine: Engine<MemDisk>,
     workers: u8,
     pace: &P,
-) -> Result<Twice, Fail>
-    requires { (h : List EntrySpec) × IsEngineOf h engine }
-{
+) -> Result<Twice, Fail> {
     let (hall, mut session) = begun(alloc, engine)?;
     let first = bring(rt, alloc, &hall, &mut session, workers, pace);
     let second = bring_here(rt, alloc, &hall, &mut session);
@@ -252,9 +238,7 @@ fn an_output_is_refused_if_the_device_is_full(rt: HostRuntime) -> Result<(), Fai
 }
 
 /// Returns a store with one more output of the plain stream, 3.
-fn three_outputs(alloc: Global) -> Result<Engine<MemDisk>, Fail>
-    ensures { IfOk result (λ e. (h : List EntrySpec) × IsEngineOf h e) }
-{
+fn three_outputs(alloc: Global) -> Result<Engine<MemDisk>, Fail> {
     let mut engine = two_levels(alloc, 64)?;
     define(alloc, &mut engine, 10, sums(0))?;
     Ok(engine)
