@@ -7,7 +7,7 @@ use Rattle.btr_hist.specs.declared.entry.Entry.{Entry}
 use Rattle.btr_engine.specs.declared.engine.Engine.{Engine}
 use Rattle.btr_engine.specs.declared.board.Receipt.{Receipt}
 use Rattle.btr_engine.specs.declared.step.StepFault.TheVariants.{DeviceFault}
-use Rattle.btr_engine.specs.Engine.{entries_of, is_stopped}
+use Rattle.btr_engine.specs.Engine.{log_of, entries_of, is_stopped}
 use Rattle.btr_engine.specs.Step.{IsStep, AddsOne, StopsByFault}
 use Rattle.btr_gate.specs.Numbers.{one}
 use Rattle.btr_hall.specs.declared.item.Item.{Item}
@@ -82,7 +82,7 @@ module _ {D : Type 0} {disk : Ghosts D} where
 
   -- An engine has fewer entries than its device can have blocks.
   few_entries : (e : Engine D disk) → entries_of e < 2 ^ 32
-  few_entries e = omega (arith, e.counted, e.log.counted, e.log.tail_inside, e.log.addressable)
+  few_entries e = omega (arith, e.counted, (log_of e).counted, (log_of e).tail_inside, (log_of e).addressable)
 
   pub store_bounded : (s : Store D disk) (l : List (Item D disk)) (x : Engine D disk) → IsStoreOf s l x → length l < 2 ^ 63
   store_bounded s l x of =

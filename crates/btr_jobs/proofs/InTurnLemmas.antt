@@ -12,7 +12,7 @@ use Rattle.btr_hall.specs.declared.session.Session.{Session}
 use Rattle.btr_hall.specs.Session.{Splits, Meets}
 use Rattle.btr_jobs.specs.States.{StoreState, LogState, GoesOn}
 use Rattle.btr_jobs.specs.Jobs.{Doing, AllDid, DidInTurn, IsAt, Does}
-use Rattle.btr_jobs.specs.JobLaws.{all_did_lowers}
+use Rattle.btr_jobs.proofs.JobLemmas.{all_did_lowers}
 use Rattle.btr_jobs.specs.TurnLaws.{goes_refl, goes_trans}
 use Rattle.btr_jobs.proofs.DoesLemmas.{does_none, does_implied, does_then, does_both}
 use Rattle.btr_jobs.proofs.RunLemmas.{Lasts, Lowers, Did}

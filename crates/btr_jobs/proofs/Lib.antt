@@ -1,4 +1,5 @@
 pub mod StateLemmas
+pub mod JobLemmas
 pub mod DoesLemmas
 pub mod TurnLemmas
 pub mod RunLemmas

@@ -11,7 +11,7 @@ use Rattle.btr_hall.specs.declared.session.Session.{Session}
 use Rattle.btr_hall.specs.Session.{Splits, Meets}
 use Rattle.btr_jobs.specs.States.{StoreState, LogState, GoesOn}
 use Rattle.btr_jobs.specs.Jobs.{Doing, AllDid, IsAt, Does}
-use Rattle.btr_jobs.specs.JobLaws.{all_did_lasts, all_did_append, all_did_one}
+use Rattle.btr_jobs.proofs.JobLemmas.{all_did_lasts, all_did_append, all_did_one}
 use Rattle.btr_jobs.proofs.DoesLemmas.{does_none, does_then, does_both}
 
 -- A list in which the items up to the index i were changed: the item at i is still what it was.

@@ -8,4 +8,3 @@ pub mod Jobs
 pub mod PlainStore
 -- laws that the ghost members of jobs cite
 pub mod TurnLaws
-pub mod JobLaws

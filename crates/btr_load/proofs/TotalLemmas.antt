@@ -20,7 +20,7 @@ pub record IsIn (m : ℕ) (b : List ℕ) : Type 0 where
   pub back : List ℕ
   pub is : b ≡ front ++ m ∷ back
 
-taken : (m : ℕ) (b : List ℕ) → 0 < times m b → IsIn m b
+pub taken : (m : ℕ) (b : List ℕ) → 0 < times m b → IsIn m b
 taken m [] there = absurd (omega arith)
 taken m (n ∷ b) there =
     elim (n == m) as (λ t. (n == m) ≡ t → IsIn m (n ∷ b)) [

@@ -17,7 +17,7 @@ use Rattle.btr_hall.specs.Trace.{history_of}
 use Rattle.btr_hall.specs.Session.{Looks, opening_of, seen_of}
 use Rattle.btr_jobs.specs.States.{StoreState, LogState}
 use Rattle.btr_jobs.specs.Jobs.{Doing, AllDid, DidInTurn, IsAt, Does}
-use Rattle.btr_jobs.specs.JobLaws.{all_did_lowers}
+use Rattle.btr_jobs.proofs.JobLemmas.{all_did_lowers}
 use Rattle.btr_jobs.proofs.DoesLemmas.{does_then}
 use Rattle.btr_jobs.proofs.RunLemmas.{Lowers, length_after, rest_after, items_more, now_more}
 use Rattle.btr_jobs.proofs.InTurnLemmas.{flat, turn_implied, turn_lowers, turn_all, turn_flat, in_turn_none, in_turn_more}

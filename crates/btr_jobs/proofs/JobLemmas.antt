@@ -1,4 +1,4 @@
--- The laws of many jobs, which the ghost members of jobs of jobs cite: lists after one another, and what is said of each job.
+-- Lemmas on many jobs: lists after one another, and what is said of each job.
 use Rattle.std.specs.Prelude.{◌≡◌, ℕ, List, [], ◌∷◌, ◌++◌, length}
 use Rattle.std.proofs.Common.{suc, refl, ap, ◌∙◌, arith}
 use Rattle.btr_hist.specs.declared.entry.Entry.{Entry}
