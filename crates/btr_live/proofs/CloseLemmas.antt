@@ -52,7 +52,7 @@ module _ {D : Type 0} {disk : Ghosts D} where
       let mine = goes.mine n in
       let none : times n (mine_of old) ≡ times n [] = ap (times n) begins.mine in
       let first : session.entries_at_start new ≡ length h = goes.start ∙ begins.start ∙ ap entries_of (sym begins.opening) ∙ of.entries in
-      let long = length_of_list h (opening_of hall) (seen_of new) of at.trace in
+      let long = length_of_list (opening_of hall) (seen_of new) at.trace in
       let entries = (engine_of_list h (opening_of hall) (seen_of new) of at.trace).entries in
       let failed : one (is_some (failed_in (seen_of new))) ≡ one (has_halt (seen_of new)) = ap one (failed_halt (seen_of new)) in
       let last : length (seen_of new) ≡ length (log_seen h new).history + one (is_some (log_seen h new).failed) = omega (arith, long, entries, failed) in

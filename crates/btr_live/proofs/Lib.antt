@@ -1,7 +1,7 @@
 -- the points that wait
 pub mod WaitingLemmas
 -- what lines ask for
-mod StreamLemmas
+pub mod StreamLemmas
 mod FeedLines
 mod OutputLines
 mod DeleteLines

@@ -130,7 +130,7 @@ accepted_so s t stream spec version (Some why) replied store = absurd (not_refus
 not_done : (s t : StoreState) (e : Entry) (version : ℕ) → IsNotDone s (Commits e) (Done version) t → ⊥
 not_done s t e version h =
     ⊎_elim
-    (λ full. not_refused version (reasons.Full (need_of e) s.left) full.replied)
+    (λ full. not_refused version (reasons.Full (need_of s.history e) s.left) full.replied)
     (λ h. ⊎_elim (λ fault. not_refused version reasons.Device fault.replied) (λ stopped. not_refused version (reasons.Stopped (length s.history)) stopped.replied) h)
     h
 

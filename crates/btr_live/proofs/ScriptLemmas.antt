@@ -65,12 +65,12 @@ ran_all batch s t (line ∷ lines) (reply ∷ replies) script runs =
 -- ---- what a line needs
 
 -- No more blocks are gone after a commit than its entry needs.
-left_after_commit : (s : StoreState) (e : Entry) (why : Option Rejection) → s.left ≤ (after_commit s e why).left + need_of e
+left_after_commit : (s : StoreState) (e : Entry) (why : Option Rejection) → s.left ≤ (after_commit s e why).left + need_of s.history e
 left_after_commit s e None = omega arith
 left_after_commit s e (Some why) = omega arith
 
 -- No more blocks are gone after what is asked for than it needs.
-pub left_after : (s : StoreState) (m : Meaning) → s.left ≤ (after_asked s m).left + need_of_meaning m
+pub left_after : (s : StoreState) (m : Meaning) → s.left ≤ (after_asked s m).left + need_of_meaning s.history m
 left_after s (Commits e) = left_after_commit s e (rejection s.history e)
 left_after s (Asks query) = omega arith
 left_after s (Holds count) = omega arith
@@ -78,11 +78,11 @@ left_after s (Current version) = omega arith
 left_after s (Refuses reason) = omega arith
 
 -- What is done of a line needs no more blocks than what the line asks for.
-pub need_of_done : (batch : ℕ) (s : State) (line : Option Line) (m : Meaning) → Means batch s.store.history s.waiting line m → need_of_meaning m ≤ need_of_meaning (meaning batch s.store.history s.waiting line)
+pub need_of_done : (batch : ℕ) (s : State) (line : Option Line) (m : Meaning) → Means batch s.store.history s.waiting line m → need_of_meaning s.store.history m ≤ need_of_meaning s.store.history (meaning batch s.store.history s.waiting line)
 need_of_done batch s line m means =
     ⊎_elim
-    (λ e. omega (arith, ap (λ x. need_of_meaning x) e))
-    (λ lacks. omega (arith, ap (λ x. need_of_meaning x) lacks.1))
+    (λ e. omega (arith, ap (λ x. need_of_meaning s.store.history x) e))
+    (λ lacks. omega (arith, ap (λ x. need_of_meaning s.store.history x) lacks.1))
     means
 
 -- A store that is stopped does not run.
@@ -90,7 +90,7 @@ apart : {P : Type 0} (s t : StoreState) → t ≡ s → s.stopped ≡ true → t
 apart s t same stopped runs = let is = ap (λ (x : StoreState). x.stopped) same in absurd (cc)
 
 -- If there is room and the store runs after it, what is asked for is done.
-pub none_not_done : (s t : StoreState) (m : Meaning) (reply : LineReply) → need_of_meaning m ≤ s.left → t.stopped ≡ false → IsNotDone s m reply t → ⊥
+pub none_not_done : (s t : StoreState) (m : Meaning) (reply : LineReply) → need_of_meaning s.history m ≤ s.left → t.stopped ≡ false → IsNotDone s m reply t → ⊥
 none_not_done s t (Commits e) reply room runs h =
     ⊎_elim
     (λ full. omega (arith, full.short))

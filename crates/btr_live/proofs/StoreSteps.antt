@@ -14,11 +14,11 @@ use Rattle.btr_text.specs.declared.reply.Reason.TheVariants as reasons
 use Rattle.btr_engine.specs.declared.board.Receipt.{Receipt}
 use Rattle.btr_engine.specs.declared.step.StepFault.{StepFault}
 use Rattle.btr_engine.specs.declared.step.StepFault.TheVariants as steps
-use Rattle.btr_engine.specs.Body.{need_of}
+use Rattle.btr_engine.specs.Body.{need_of, needs_of}
+use Rattle.btr_engine.proofs.NeedLemmas.{needs-append, needs-push}
 use Rattle.btr_gate.specs.Numbers.{one}
 use Rattle.btr_gate.specs.Prefixes.{StartsWith}
 use Rattle.btr_gate.proofs.PrefixLemmas.{starts_length}
-use Rattle.btr_hall.specs.Commit.{needs_of}
 use Rattle.btr_jobs.specs.States.{StoreState, LogState}
 use Rattle.btr_jobs.specs.Turns.{IsAdded, IsFailed, IsIdle, IsFull, Committed}
 use Rattle.btr_live.specs.Meaning.{Meaning, Commits, Asks, Holds, Current, Refuses}
@@ -28,13 +28,6 @@ use Rattle.btr_live.specs.Script.{store_with_entry, after_commit, IsModel, IsDev
 use Rattle.btr_live.specs.OneLane.{FitsLeft}
 use Rattle.btr_live.proofs.ToldLemmas.{rejection_tells}
 use Rattle.btr_live.proofs.TurnEntries.{device_apart}
-
--- ---- what entries need
-
--- Entries after entries need the blocks of both.
-needs_append : (h k : List Entry) → needs_of (h ++ k) ≡ needs_of h + needs_of k
-needs_append [] k = omega arith
-needs_append (e ∷ h) k = let rest = needs_append h k in omega (arith, rest)
 
 -- Nothing is true and false.
 not_both : {P : Type 0} (b : Bool) → b ≡ false → b ≡ true → P
@@ -91,14 +84,14 @@ module _ (start : StoreState) (log : LogState) (fits : FitsLeft start log) (runs
   -- A history that begins that of the log fits.
   begins_fits : (h : List Entry) → StartsWith log.history h → needs_of h ≤ start.left + needs_of start.history
   begins_fits h begins =
-      let all = needs_append log.history (option_to_list log.failed) in
+      let all = needs-append log.history (option_to_list log.failed) in
       let split = ap needs_of begins.1 in
-      let both = needs_append h begins.0 in
+      let both = needs-append h begins.0 in
       omega (arith, fits, all, split, both)
 
   -- An entry that fits after a history fits into the blocks that are left.
-  entry_fits : (h : List Entry) (e : Entry) → needs_of (h ++ e ∷ []) ≤ start.left + needs_of start.history → need_of e ≤ room start h
-  entry_fits h e enough = let sum = needs_append h (e ∷ []) in omega (arith, enough, sum)
+  entry_fits : (h : List Entry) (e : Entry) → needs_of (h ++ e ∷ []) ≤ start.left + needs_of start.history → need_of h e ≤ room start h
+  entry_fits h e enough = let sum = needs-push h e in omega (arith, enough, sum)
 
   -- The entry in whose step the device failed fits.
   failed_fits : (h : List Entry) (e : Entry) → log.history ≡ h → log.failed ≡ Some e → needs_of (h ++ e ∷ []) ≤ start.left + needs_of start.history
@@ -110,8 +103,8 @@ module _ (start : StoreState) (log : LogState) (fits : FitsLeft start log) (runs
   -- The store of a history with one entry more.
   next_store : (h : List Entry) (e : Entry) → store_of start (h ++ e ∷ []) false ≡ store_with_entry (store_of start h false) e
   next_store h e =
-      let sum = needs_append h (e ∷ []) in
-      let same : room start (h ++ e ∷ []) ≡ room start h - need_of e = omega (arith, sum) in
+      let sum = needs-push h e in
+      let same : room start (h ++ e ∷ []) ≡ room start h - need_of h e = omega (arith, sum) in
       ap (λ left. store_with (h ++ e ∷ []) left false) same
 
   -- What was done is what the model does or its reason, and the store goes on to the next history.

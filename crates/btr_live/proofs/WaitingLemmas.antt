@@ -16,7 +16,7 @@ same_waiting w v each = λ i stream. each stream i
 pub at_stream : (stream : ℕ) (points : List Point) (w : Waiting) → with_points stream points w stream ≡ points
 at_stream stream points w = ap (λ t. cond t points (w stream)) (eq-eqb stream stream refl)
 
-at_other : (stream other : ℕ) (points : List Point) (w : Waiting) → other ≢ stream → with_points stream points w other ≡ w other
+pub at_other : (stream other : ℕ) (points : List Point) (w : Waiting) → other ≢ stream → with_points stream points w other ≡ w other
 at_other stream other points w ne = ap (λ t. cond t points (w other)) (ne_eqb other stream ne)
 
 -- what has the points at the stream, and elsewhere what waited, is what waits with these points

@@ -5,7 +5,7 @@ use Rattle.std.specs.List.{AllByRecursion}
 use Rattle.btr_hist.specs.Legal.{Follows}
 use Rattle.btr_text.specs.declared.script.ScriptLine.{ScriptLine}
 use Rattle.btr_text.specs.declared.reply.LineReply.{LineReply}
-use Rattle.btr_hall.specs.Commit.{needs_of}
+use Rattle.btr_engine.specs.Body.{needs_of}
 use Rattle.btr_jobs.specs.States.{StoreState, LogState}
 use Rattle.btr_work.specs.Laws.{AreAllSince}
 use Rattle.btr_live.specs.declared.live.LiveReport.{LiveReport}

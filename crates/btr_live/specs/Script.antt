@@ -22,7 +22,7 @@ use Rattle.btr_jobs.specs.States.{StoreState}
 
 -- The store with one entry more.
 abbrev pub store_with_entry : StoreState → Entry → StoreState
-store_with_entry s e = record { history = s.history ++ e ∷ []; left = s.left - need_of e; stopped = s.stopped }
+store_with_entry s e = record { history = s.history ++ e ∷ []; left = s.left - need_of s.history e; stopped = s.stopped }
 
 -- The store that takes no more entries.
 abbrev pub stopped_store : StoreState → StoreState
@@ -44,7 +44,7 @@ after_asked s (Refuses reason) = s
 
 -- The store can do it: it is not stopped, and an entry that the model accepts fits.
 abbrev pub Allows : StoreState → Meaning → Type 0
-Allows s (Commits e) = (s.stopped ≡ false) × (rejection s.history e ≡ None → need_of e ≤ s.left)
+Allows s (Commits e) = (s.stopped ≡ false) × (rejection s.history e ≡ None → need_of s.history e ≤ s.left)
 Allows s (Asks query) = Unit {0}
 Allows s (Holds count) = Unit {0}
 Allows s (Current version) = Unit {0}
@@ -60,15 +60,15 @@ pub record IsModel (s : StoreState) (m : Meaning) (reply : LineReply) (t : Store
 pub record LacksRoom (s : StoreState) (e : Entry) (reply : LineReply) (t : StoreState) : Type 0 where
   pub not_stopped : s.stopped ≡ false
   pub allowed : rejection s.history e ≡ None
-  pub short : s.left < need_of e
-  pub replied : reply ≡ No (reasons.Full (need_of e) s.left)
+  pub short : s.left < need_of s.history e
+  pub replied : reply ≡ No (reasons.Full (need_of s.history e) s.left)
   pub store : t ≡ s
 
 -- The model accepts the entry, but the device failed in its commit, which stops the store.
 pub record IsDeviceFault (s : StoreState) (e : Entry) (reply : LineReply) (t : StoreState) : Type 0 where
   pub not_stopped : s.stopped ≡ false
   pub allowed : rejection s.history e ≡ None
-  pub fits : need_of e ≤ s.left
+  pub fits : need_of s.history e ≤ s.left
   pub replied : reply ≡ No reasons.Device
   pub store : t ≡ stopped_store s
 
@@ -131,13 +131,13 @@ RunsScript batch s (line ∷ lines) [] t = ⊥
 RunsScript batch s (line ∷ lines) (reply ∷ replies) t =
     (u : State) × (m : Meaning) × RepliesToLine batch s line.line m reply u × RunsScript batch u lines replies t
 
--- The blocks that what is asked for needs.
-abbrev pub need_of_meaning : Meaning → ℕ
-need_of_meaning (Commits e) = need_of e
-need_of_meaning (Asks query) = 0
-need_of_meaning (Holds count) = 0
-need_of_meaning (Current version) = 0
-need_of_meaning (Refuses reason) = 0
+-- The blocks that what is asked for needs after this history.
+abbrev pub need_of_meaning : List Entry → Meaning → ℕ
+need_of_meaning h (Commits e) = need_of h e
+need_of_meaning h (Asks query) = 0
+need_of_meaning h (Holds count) = 0
+need_of_meaning h (Current version) = 0
+need_of_meaning h (Refuses reason) = 0
 
 -- The state after what is asked for, by the model, of a line that changes this feed, if it changes one.
 abbrev pub after_model : State → Option (ℕ × List Point) → Meaning → State
@@ -152,7 +152,8 @@ after_line batch s line =
 abbrev pub script_needs : ℕ → State → List ScriptLine → ℕ
 script_needs batch s [] = 0
 script_needs batch s (line ∷ lines) =
-    need_of_meaning (meaning batch s.store.history s.waiting line.line) + script_needs batch (after_line batch s line.line) lines
+    need_of_meaning s.store.history (meaning batch s.store.history s.waiting line.line)
+    + script_needs batch (after_line batch s line.line) lines
 
 -- The text of replies.
 abbrev pub text_of_replies : List LineReply → List ℕ

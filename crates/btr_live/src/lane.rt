@@ -1,5 +1,5 @@
 //! A lane: lines that run one after another, in one session, with feeds of their own.
-ghost use Rattle.std.specs.Prelude.{◌≡◌, ◌≤◌, [], ◌∷◌, length, IfOk};
+ghost use Rattle.std.specs.Prelude.{◌≡◌, ◌≤◌, ◌↔◌, IsTrue, [], ◌∷◌, length, IfOk};
 ghost use Rattle.std.specs.Vec.{vec_len};
 ghost use Rattle.std.specs.VecDeque.{deque_capacity};
 ghost use Rattle.btr_base.specs.declared.limits.TheConstants.{MAX_COMMIT_POINTS};
@@ -66,6 +66,13 @@ impl Lane {
             replies,
             running,
         })
+    }
+
+    /// Whether a reply is left.
+    pub(crate) fn has_reply(&self) -> bool
+        ensures { IsTrue result ↔ (1 ≤ length self.now.replies) }
+    {
+        !self.replies.is_empty()
     }
 
     /// Takes the first reply that is left. There is one. It takes no memory.

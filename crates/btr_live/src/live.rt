@@ -1,10 +1,7 @@
 //! A script runs: its lanes beside each other, rounds beside them, and a last round after them.
-ghost use Rattle.std.specs.Prelude.{◌≡◌, ◌≤◌, List, IfOk, OnErr};
+ghost use Rattle.std.specs.Prelude.{◌≡◌, ◌≤◌, IfOk, OnErr};
 ghost use Rattle.btr_base.specs.declared.limits.TheConstants.{MAX_COMMIT_POINTS};
-ghost use Rattle.btr_hist.specs.declared.entry.Entry.{Entry as EntrySpec};
 ghost use Rattle.btr_text.specs.Input.{HaveLanes};
-ghost use Rattle.btr_engine.specs.Engine.{IsEngineOf};
-ghost use Rattle.btr_hall.specs.Session.{opening_of};
 ghost use Rattle.btr_jobs.specs.Jobs.{IsAt, Does};
 ghost use Rattle.btr_live.specs.Live.{LastRound, RunsLive};
 
@@ -55,7 +52,6 @@ pub fn lanes<R: Threads + Wait + Sync, D: Disk + Send, P: Pace + Sync>(
     materialize: bool,
     pace: &P,
 ) -> Result<LiveReport, AllocError>
-    requires some { (h : List EntrySpec) × IsEngineOf h (opening_of hall.now) }
     requires at { IsAt hall.now session.old }
     requires lanes { HaveLanes script.items }
     requires batch { (1 ≤ batch) × (batch ≤ MAX_COMMIT_POINTS) }

@@ -1,20 +1,23 @@
 //! The replies of lanes, in the order of the script.
 ghost use Rattle.std.specs.Prelude.{◌≡◌, ℕ, ◌≤◌, [], ◌∷◌, ◌++◌, length};
 ghost use Rattle.std.specs.Vec.{vec_capacity};
+ghost use Rattle.btr_text.specs.declared.reply.LineReply.TheVariants.{No};
+ghost use Rattle.btr_text.specs.declared.reply.Reason.TheVariants as reasons;
 ghost use Rattle.btr_live.specs.OneHistory.{of_lane};
 ghost use Rattle.btr_live.specs.Parts.{replies_at};
 
 use crate::part::Part;
-use btr_text::LineReply;
+use btr_text::{LineReply, Reason};
 
 /// Takes the replies out of the lanes, and puts them in the order of the script, whose lines have these lanes. There is room for
-/// them. It takes constant time for each.
+/// them. If each lane has as many replies as lines, each line has the reply of its lane. A line whose lane has no reply left is told
+/// that memory ran out. It takes constant time for each.
 pub(crate) fn in_order(lanes: &[u8], parts: &mut [Part], replies: &mut Vec<LineReply>)
-    requires each { (k : ℕ) → length (replies_at parts.old k) ≡ length (of_lane k lanes.now lanes.now) }
     requires empty { replies.old.items ≡ [] }
     requires room { length lanes.now ≤ vec_capacity replies.old }
     ensures each { length replies.new.items ≡ length lanes.now }
-    ensures in_lanes { (k : ℕ) → of_lane k lanes.now replies.new.items ≡ replies_at parts.old k }
+    ensures in_lanes { ((k : ℕ) → length (replies_at parts.old k) ≡ length (of_lane k lanes.now lanes.now))
+        → (k : ℕ) → of_lane k lanes.now replies.new.items ≡ replies_at parts.old k }
 {
     for lane in lanes.iter() {
         let reply = next_reply(parts, *lane);
@@ -22,10 +25,17 @@ pub(crate) fn in_order(lanes: &[u8], parts: &mut [Part], replies: &mut Vec<LineR
     }
 }
 
-/// Takes the next reply of a lane that has one.
+/// Takes the next reply of a lane. If the lane has none left, or if there is no such lane, the reply is that memory ran out, and the
+/// parts stay as they are.
 fn next_reply(parts: &mut [Part], lane: u8) -> LineReply
-    requires there { 1 ≤ length (replies_at parts.old lane) }
-    ensures { (k : ℕ) → replies_at parts.old k ≡ of_lane k (lane ∷ []) (result ∷ []) ++ replies_at parts.new k }
+    ensures told { 1 ≤ length (replies_at parts.old lane)
+        → (k : ℕ) → replies_at parts.old k ≡ of_lane k (lane ∷ []) (result ∷ []) ++ replies_at parts.new k }
+    ensures none { replies_at parts.old lane ≡ [] → (result ≡ No reasons.Memory) × (parts.new ≡ parts.old) }
 {
-    parts[usize::from(lane)].next_reply()
+    let place = usize::from(lane);
+    if place < parts.len() && parts[place].has_reply() {
+        parts[place].next_reply()
+    } else {
+        LineReply::No(Reason::Memory)
+    }
 }

@@ -1,5 +1,5 @@
 //! The parts of a run, each of which is done in a session of its own: lanes, and the rounds beside them.
-ghost use Rattle.std.specs.Prelude.{◌≡◌, ◌≤◌, ◌∷◌, length};
+ghost use Rattle.std.specs.Prelude.{◌≡◌, ◌≤◌, ◌↔◌, IsTrue, ◌∷◌, length};
 ghost use Rattle.btr_live.specs.Parts.{replies_of};
 
 use crate::lane::Lane;
@@ -24,6 +24,16 @@ pub(crate) enum Part {
 }
 
 impl Part {
+    /// Whether it is a lane that has a reply left.
+    pub(crate) fn has_reply(&self) -> bool
+        ensures { IsTrue result ↔ (1 ≤ length (replies_of self.now)) }
+    {
+        match self {
+            Part::Lane(lane) => lane.has_reply(),
+            Part::Rounds(_) => false,
+        }
+    }
+
     /// Takes the next reply of a lane that has one. It takes no memory.
     pub(crate) fn next_reply(&mut self) -> LineReply
         requires there { 1 ≤ length (replies_of self.old) }

@@ -4,7 +4,6 @@ use Rattle.std.proofs.lemmas.List.{length-map}
 use Rattle.btr_text.specs.declared.script.ScriptLine.{ScriptLine}
 use Rattle.btr_jobs.specs.Jobs.{AllDid}
 use Rattle.btr_gate.specs.Numbers.{one}
-use Rattle.btr_jobs.proofs.StateLemmas.{history_goes_on}
 use Rattle.btr_jobs.proofs.DoesLemmas.{does_then}
 use Rattle.btr_live.specs.declared.live.LiveReport.{LiveReport}
 use Rattle.btr_live.specs.OneHistory.{of_lane, lanes_of, lane_lines}
@@ -12,19 +11,6 @@ use Rattle.btr_live.specs.Parts.{PartDid, HaveLimits, parties_of, lines_at, repl
 use Rattle.btr_live.specs.Live.{LastRound, RunsLive}
 use Rattle.btr_live.proofs.HistoryLemmas.{left_each, lanes_ran, live_ran}
 use Rattle.btr_live.proofs.live.lanes.Goals as goal
-
-pub in_order-requires-clause-each : goal.in_order-requires-clause-each
-in_order-requires-clause-each g c =
-    let script = c.args.script.items in
-    let before = c.as_mut_slice-all.result.now in
-    let after = c.run_jobs.new.jobs in
-    let prepared = c.in_ok-lanes.ensures in
-    let value = c.as_mut_slice-all.ensures.value in
-    let have : HaveLimits c.args.batch (length script) before = subst (HaveLimits c.args.batch (length script)) (sym value) prepared.limits in
-    let lines : (k : ℕ) → lines_at before k ≡ lane_lines k script = λ k. ap (λ all. lines_at all k) value ∙ prepared.lines k in
-    let same : c.as_slice-lanes.result.now ≡ lanes_of script = c.as_slice-lanes.ensures.value ∙ prepared.lanes in
-    let did = c.run_jobs.ensures.does in
-    left_each c.args.batch script before after have lines c.as_slice-lanes.result.now same _ _ _ did.0 (history_goes_on c.requires.some.0 c.run_jobs.new.session c.args.session.now did.1.seen) (did.2 c.requires.some.0 c.requires.some.1)
 
 pub returns-clause-runs : goal.returns-clause-runs
 returns-clause-runs g c =
@@ -45,7 +31,9 @@ returns-clause-runs g c =
     let report : LiveReport = record { replies = c.in_order.new.replies; last = c.last_round-last.result } in
     let replies = c.in_order.new.replies.items in
     let each : length replies ≡ length script = c.in_order.ensures.each ∙ ap length same ∙ length-map script (λ (line : ScriptLine). line.lane) in
-    let told : (k : ℕ) → of_lane k (lanes_of script) replies ≡ replies_at after k = λ k. subst (λ ls. of_lane k ls replies ≡ replies_at after k) same (c.in_order.ensures.in_lanes k) in
+    let lanes = c.as_slice-lanes.result.now in
+    let told : ((k : ℕ) → length (replies_at after k) ≡ length (of_lane k lanes lanes)) → (k : ℕ) → of_lane k (lanes_of script) replies ≡ replies_at after k = λ as_many k.
+    subst (λ ls. of_lane k ls replies ≡ replies_at after k) same (c.in_order.ensures.in_lanes as_many k) in
     does_then hall old mid new
     (λ start log low own. AllDid PartDid start log low before after own)
     (λ start log low own. LastRound start log low c.args.materialize c.last_round-last.result own)
@@ -53,6 +41,7 @@ returns-clause-runs g c =
     c.last_round-last.ensures.at
     (λ start late early low a b on starts did last.
     live_ran batch c.args.materialize script report start late early low a b on starts
-    (lanes_ran batch script before after have lines c.args.materialize parties replies each told start early low a starts did) last)
+    (lanes_ran batch script before after have lines c.args.materialize parties replies each
+    (told (left_each batch script before after have lines lanes same start early low a starts did)) start early low a starts did) last)
     c.run_jobs.ensures.does
     c.last_round-last.ensures.last

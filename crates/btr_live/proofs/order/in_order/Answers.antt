@@ -2,7 +2,7 @@
 use Rattle.std.proofs.Common.{◌≡◌, ◌+◌, sym, ap, subst, ◌∙◌, ◌++◌, ◌∷◌, length, take, drop, get_or, [], arith, length-append}
 use Rattle.std.proofs.lemmas.List.{take_more, drop_more, length-take-le}
 use Rattle.btr_live.specs.Parts.{replies_at}
-use Rattle.btr_live.proofs.OrderLemmas.{HasLeft, HasPlaced, left-more, placed-more}
+use Rattle.btr_live.proofs.OrderLemmas.{HasLeft, HasPlaced, left-first, left-more, placed-more}
 use Rattle.btr_live.proofs.order.in_order.Goals as goal
 
 pub loop-lane-preserved : goal.loop-lane-preserved
@@ -19,11 +19,16 @@ loop-lane-preserved c =
     let items = c.push_reserved.ensures.items in
     let long : length (take i lanes) ≡ i = length-take-le i lanes (omega (arith, low)) in
     let more = ap length items ∙ length-append placed (reply ∷ []) in
+    let rest = drop (i + 1) lanes in
+    let all = replies_at c.args.parts.now in
+    let has : HasLeft all lanes → HasLeft left (lane ∷ rest) = λ each. subst (HasLeft left) (drop_more lanes i 0 low) (before.left each) in
+    let told = λ (each : HasLeft all lanes). c.next_reply-reply.ensures.told (left-first left lane rest (has each)) in
     record {
       each = omega (arith, more, before.each);
       room = omega (arith, before.room, c.push_reserved.ensures.capacity);
-      left = left-more left after lane reply (drop (i + 1) lanes) (subst (HasLeft left) (drop_more lanes i 0 low) before.left) c.next_reply-reply.ensures;
-      placed = subst (λ ls. HasPlaced (replies_at c.args.parts.now) after ls c.push_reserved.new.self.items) (sym (take_more lanes i 0 low))
-          (subst (λ rs. HasPlaced (replies_at c.args.parts.now) after (take i lanes ++ lane ∷ []) rs) (sym items)
-          (placed-more (replies_at c.args.parts.now) left after (take i lanes) placed lane reply (before.each ∙ sym long) before.placed c.next_reply-reply.ensures));
+      left = λ each. left-more left after lane reply rest (has each) (told each);
+      placed = λ each.
+          subst (λ ls. HasPlaced all after ls c.push_reserved.new.self.items) (sym (take_more lanes i 0 low))
+          (subst (λ rs. HasPlaced all after (take i lanes ++ lane ∷ []) rs) (sym items)
+          (placed-more all left after (take i lanes) placed lane reply (before.each ∙ sym long) (before.placed each) (told each)));
     }

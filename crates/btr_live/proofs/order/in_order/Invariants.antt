@@ -4,11 +4,11 @@ use Rattle.btr_live.specs.Parts.{replies_at}
 use Rattle.btr_live.proofs.OrderLemmas.{HasLeft, HasPlaced}
 use Rattle.btr_live.proofs.order.in_order.Given as goal
 
--- the replies up to here are in order, and the lanes have those that are left
+-- the replies up to here are in order, and the lanes have those that are left, if each lane has as many as lines
 abbrev pub invariant-loop-lane : goal.invariant-loop-lane
 invariant-loop-lane l = record {
   each : length l.replies.items ≡ l.lane-index;
   room : length l.lanes ≤ vec_capacity l.replies;
-  left : HasLeft (replies_at l.parts) (drop l.lane-index l.lanes);
-  placed : HasPlaced (replies_at l.fn.parts) (replies_at l.parts) (take l.lane-index l.lanes) l.replies.items;
+  left : HasLeft (replies_at l.fn.parts) l.lanes → HasLeft (replies_at l.parts) (drop l.lane-index l.lanes);
+  placed : HasLeft (replies_at l.fn.parts) l.lanes → HasPlaced (replies_at l.fn.parts) (replies_at l.parts) (take l.lane-index l.lanes) l.replies.items;
 }
