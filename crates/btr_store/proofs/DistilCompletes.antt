@@ -19,14 +19,14 @@ use Rattle.btr_plan.specs.Next.{IsNextPlan}
 use Rattle.btr_plan.specs.Plan.{IsPlanOf, IsCurrent, landing_of}
 use Rattle.btr_plan.proofs.PlanLemmas.{plan-current, plan-stays}
 use Rattle.btr_engine.specs.declared.board.Receipt.{Receipt}
-use Rattle.btr_engine.specs.Body.{need_of}
+use Rattle.btr_engine.specs.Body.{need_of, needs_of}
+use Rattle.btr_engine.proofs.NeedLemmas.{needs-push}
 use Rattle.btr_gate.specs.Numbers.{given}
 use Rattle.btr_gate.specs.Prefixes.{StartsWith}
 use Rattle.btr_gate.proofs.NumberLemmas.{given_inside}
 use Rattle.btr_gate.proofs.PrefixLemmas.{starts_refl, starts_trans, starts_length, starts_same, starts_between, starts_more}
 use Rattle.btr_hall.specs.declared.land.LandFault.{LandFault}
 use Rattle.btr_hall.specs.declared.land.LandFault.TheVariants as faults
-use Rattle.btr_hall.specs.Commit.{needs_of}
 use Rattle.btr_jobs.specs.States.{StoreState, LogState}
 use Rattle.btr_jobs.specs.Turns.{IsFull, Landed}
 use Rattle.btr_work.specs.declared.report.Refreshed.{Refreshed}
@@ -42,7 +42,6 @@ use Rattle.btr_store.specs.Completes.{SaysBenign, IsPlannedSince, LandsSince, Ha
 use Rattle.btr_store.specs.Distil.{output_line, RefreshesIf, SaysReport}
 use Rattle.btr_store.specs.Work.{last_number, OwnsEachOnce}
 use Rattle.btr_store.proofs.Allowing.{last_same}
-use Rattle.btr_store.proofs.Rooms.{needs_append}
 use Rattle.btr_store.proofs.FewVersions.{AreOfOthers, latest_push-few, own-in, one-each, versions-since}
 use Rattle.btr_store.proofs.Benign.{IsCalm, says_benign, report_benign}
 
@@ -143,12 +142,11 @@ module _ (start : StoreState) (log : LogState) (runs : log.failed ≡ None) (low
   never_full : (most : ℕ) → HasRoomSince most start low → (p : List Entry) (e : Entry) (need left : ℕ) → IsFull start p e need left → LandsSince most low (p ++ e ∷ []) → ⊥
   never_full most room p e need left full lands =
       let fits : needs_of (p ++ e ∷ []) ≤ start.left + needs_of start.history = room (p ++ e ∷ []) lands in
-      let sum : needs_of (p ++ e ∷ []) ≡ needs_of p + needs_of (e ∷ []) = needs_append p (e ∷ []) in
-      let last : needs_of (e ∷ []) ≡ need_of e = omega arith in
+      let sum : needs_of (p ++ e ∷ []) ≡ needs_of p + need_of p e = needs-push p e in
       let needed = full.need in
       let was = full.left in
       let short = full.short in
-      omega (arith, fits, sum, last, needed, was, short)
+      omega (arith, fits, sum, needed, was, short)
 
   -- ---- each output is landed once at most
 

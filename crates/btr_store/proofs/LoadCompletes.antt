@@ -20,6 +20,7 @@ use Rattle.btr_load.specs.declared.outcome.RowsOutcome.TheVariants.{Output, NotC
 use Rattle.btr_load.specs.declared.stream.LoadedStream.{LoadedStream}
 use Rattle.btr_load.specs.Batches.{batches_of, batch_entry}
 use Rattle.btr_load.specs.Work.{BatchDid, BatchesDid, OutcomeDid, StreamsDid}
+use Rattle.btr_load.specs.There.{AreDistinct}
 use Rattle.btr_load.specs.Loads.{LoadedValue, OutcomeOfFound, OutcomeOfCreated, CreatesIfNew, CreatesEach, Loads}
 use Rattle.btr_load.proofs.FitLemmas.{loads_fit}
 use Rattle.btr_store.specs.declared.transcript.Transcript.{Transcript}
@@ -83,10 +84,10 @@ module _ (start : StoreState) (log : LogState) (runs : log.failed ≡ None) wher
   loads_ran low rows batch loaded own loads =
       streams_ran low low loads.middle batch rows.streams loaded.streams loads.created loads.committed loads.middle loads.opens loads.commits
 
-pub load_completes : (start : StoreState) (log : LogState) (rows : RowListValue) (batch : ℕ) (own : List ℕ) (loaded : Option LoadedValue) (said : Result Transcript AllocError) → Follows start.history → OwnsEachOnce start log own → LoadsIf start log start.history rows batch loaded own → SaysLoaded loaded said → HasRoomForRows start rows batch → log.failed ≡ None → SaysBenign said
-load_completes start log rows batch own loaded (Err error) before each loads says room runs = tt
-load_completes start log rows batch own None (Ok transcript) before each loads says room runs = absurd says
-load_completes start log rows batch own (Some loaded) (Ok transcript) before each loads says room runs =
+pub load_completes : (start : StoreState) (log : LogState) (rows : RowListValue) (batch : ℕ) (own : List ℕ) (loaded : Option LoadedValue) (said : Result Transcript AllocError) → Follows start.history → OwnsEachOnce start log own → LoadsIf start log start.history rows batch loaded own → SaysLoaded loaded said → AreDistinct rows.streams → HasRoomForRows start rows batch → log.failed ≡ None → SaysBenign said
+load_completes start log rows batch own loaded (Err error) before each loads says distinct room runs = tt
+load_completes start log rows batch own None (Ok transcript) before each loads says distinct room runs = absurd says
+load_completes start log rows batch own (Some loaded) (Ok transcript) before each loads says distinct room runs =
     load_benign loaded transcript says
-    (loads_fit start log rows batch loaded own before each loads room)
+    (loads_fit start log rows batch loaded own before distinct each loads room)
     (loads_ran start log runs start.history rows batch loaded own loads)

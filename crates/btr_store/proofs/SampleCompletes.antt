@@ -13,9 +13,9 @@ use Rattle.btr_text.specs.declared.reply.Reason.{Reason}
 use Rattle.btr_engine.specs.declared.board.Receipt.{Receipt}
 use Rattle.btr_engine.specs.declared.step.StepFault.{StepFault}
 use Rattle.btr_engine.specs.declared.step.StepFault.TheVariants as steps
-use Rattle.btr_engine.specs.Body.{need_of}
+use Rattle.btr_engine.specs.Body.{need_of, needs_of}
+use Rattle.btr_engine.proofs.NeedLemmas.{needs-push}
 use Rattle.btr_gate.proofs.PrefixLemmas.{starts_refl, starts_trans, starts_length, starts_same, starts_between, starts_more}
-use Rattle.btr_hall.specs.Commit.{needs_of}
 use Rattle.btr_jobs.specs.States.{StoreState, LogState}
 use Rattle.btr_jobs.specs.Turns.{IsFull, Committed}
 use Rattle.btr_load.specs.declared.stream.LoadedStream.{LoadedStream}
@@ -27,7 +27,6 @@ use Rattle.btr_store.specs.Define.{output_id, mean_of, refusal_of, DefinesOver, 
 use Rattle.btr_store.specs.SampleRoom.{AreOfRows, DefinesSince}
 use Rattle.btr_store.specs.Status.{status_of_reason}
 use Rattle.btr_store.proofs.Allowing.{last_same}
-use Rattle.btr_store.proofs.Rooms.{needs_append}
 use Rattle.btr_store.proofs.Benign.{IsCalmOutput, Ran, step_benign}
 use Rattle.btr_store.proofs.LoadCompletes.{committed_ran}
 
@@ -87,12 +86,11 @@ module _ (streams : ℕ) (low : List Entry) where
         let e : Entry = entries.Define (output_id stream) (mean_of input) in
         let next : DefinesSince streams low (p ++ e ∷ []) = defines_next p stream input inside accepted so_far in
         let fits : needs_of (p ++ e ∷ []) ≤ start.left + needs_of start.history = room (p ++ e ∷ []) (p ++ e ∷ []) next (lands_none 1 (p ++ e ∷ []) next.follows) in
-        let sum : needs_of (p ++ e ∷ []) ≡ needs_of p + needs_of (e ∷ []) = needs_append p (e ∷ []) in
-        let last : needs_of (e ∷ []) ≡ need_of e = omega arith in
+        let sum : needs_of (p ++ e ∷ []) ≡ needs_of p + need_of p e = needs-push p e in
         let needed = full.need in
         let was = full.left in
         let short = full.short in
-        omega (arith, fits, sum, last, needed, was, short)
+        omega (arith, fits, sum, needed, was, short)
 
     -- There was room for a definition.
     define_room : (p : List Entry) (stream input : ℕ) (result : Result Receipt StepFault) (own : List ℕ) (next : List Entry) → stream < streams → DefinesSince streams low p → Committed start log p (entries.Define (output_id stream) (mean_of input)) result own next → HadRoom result

@@ -383,7 +383,7 @@ module _ (number streams points : ℕ) (start : StoreState) (log : LogState) (ow
           let loads : Loads start work.load_end start.history rows BATCH loaded work.load_own = subst (λ (h : List Entry). Loads start work.load_end h rows BATCH loaded work.load_own) (sym empty) work.loads in
           let only : OnlyOwn work.load_end start.history work.load_own = subst (λ (h : List Entry). OnlyOwn work.load_end h work.load_own) (sym empty) (only_load (Some loaded) outputs (Some report) work loaded_runs) in
           let begins : Follows start.history = subst Follows (sym empty) (follows-prefix [] log.history follows) in
-          let fits = loads_fit start work.load_end rows BATCH loaded work.load_own begins only loads room.rows in
+          let fits = loads_fit start work.load_end rows BATCH loaded work.load_own begins distinct only loads room.rows in
           let ran = loads_ran start work.load_end loaded_runs [] rows BATCH loaded work.load_own work.loads in
           let there : AreThere work.load_end.history [] loaded = batches_there start work.load_end [] rows BATCH loaded work.load_own (follows-prefix [] log.history follows) distinct (only_load (Some loaded) outputs (Some report) work loaded_runs) work.loads in
           let of : AreOfRows BATCH rows.streams loaded.streams = of_rows start work.load_end [] [] BATCH rows.streams loaded.streams work.loads.created work.loads.middle work.loads.opens in

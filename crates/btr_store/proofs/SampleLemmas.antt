@@ -157,6 +157,30 @@ module _ (number streams points : ℕ) where
   samples_used start log (e ∷ low) entries said own is some none same says =
       record { none = none; same = same; says = subst (λ (n : ℕ). IfOk said (SaysLines (lines.Used n ∷ []))) is says }
 
+  -- What was said holds of what is said in the end: the same, or that memory ran out.
+  still_says : (h : List Entry) (loaded : Option LoadedValue) (outputs : List DefinedOutput) (report : Option (List refreshed.ReportLine)) (said told : Result Transcript AllocError) → IfOk told (λ t. said ≡ Ok t) → SaysSample streams h loaded outputs report said → SaysSample streams h loaded outputs report told
+  still_says h loaded outputs report said (Err error) is says = tt
+  still_says h loaded outputs report said (Ok transcript) is says =
+      subst (λ (s : Result Transcript AllocError). SaysSample streams h loaded outputs report s) is says
+
+  still_used : (P : Transcript → Type 0) (said told : Result Transcript AllocError) → IfOk told (λ t. said ≡ Ok t) → IfOk said P → IfOk told P
+  still_used P said (Err error) is says = tt
+  still_used P said (Ok transcript) is says = subst (λ (s : Result Transcript AllocError). IfOk s P) is says
+
+  pub samples_told : (start : StoreState) (log : LogState) (low : List Entry) (said told : Result Transcript AllocError) (own : List ℕ) → IfOk told (λ t. said ≡ Ok t) → Samples number streams points start log low said own → Samples number streams points start log low told own
+  samples_told start log [] said told own is did = record {
+    loaded = did.loaded;
+    outputs = did.outputs;
+    report = did.report;
+    work = did.work;
+    says = still_says log.history did.loaded did.outputs did.report said told is did.says;
+  }
+  samples_told start log (e ∷ low) said told own is did = record {
+    none = did.none;
+    same = did.same;
+    says = still_used (SaysLines (lines.Used (length (e ∷ low)) ∷ [])) said told is did.says;
+  }
+
   -- The store was empty.
   samples_filled : (start : StoreState) (log : LogState) (low : List Entry) (said : Result Transcript AllocError) (own : List ℕ) → length low ≡ 0 → Fills number streams points start log low said own → Samples number streams points start log low said own
   samples_filled start log [] said own none is = is

@@ -1,14 +1,16 @@
 -- Lemmas on work at a hall that was opened and closed, which other crates cite: its begin, and what it did on the device.
-use Rattle.std.specs.Prelude.{◌≡◌, ℕ, List, [], ◌∷◌, ◌++◌, length, replicate, None, option_to_list}
-use Rattle.std.proofs.Common.{zero, suc, refl, ap, ◌∙◌, subst, arith}
+use Rattle.std.specs.Prelude.{◌≡◌, ℕ, ◌≤◌, Bool, true, List, [], ◌∷◌, ◌++◌, length, replicate, None, option_to_list, Result, Ok, Err, IfOk}
+use Rattle.std.specs.declared.alloc.AllocError.{AllocError}
+use Rattle.std.proofs.Common.{zero, suc, refl, sym, ap, ◌∙◌, subst, arith}
 use Rattle.std.proofs.lemmas.List.{append-nil, length-append, length-replicate}
 use Rattle.btr_disk.specs.declared.disk.Disk.{Ghosts}
 use Rattle.btr_disk.specs.Bytes.{Image}
+use Rattle.btr_disk.specs.Causes.{Rose}
 use Rattle.btr_disk.proofs.ByteLemmas.{Same-is}
 use Rattle.btr_hist.specs.declared.entry.Entry.{Entry}
 use Rattle.btr_hist.specs.Legal.{Legal}
 use Rattle.btr_engine.specs.declared.engine.Engine.{Engine}
-use Rattle.btr_engine.specs.Engine.{device, blocks_of, tail_of, entries_of, IsAtRest}
+use Rattle.btr_engine.specs.Engine.{device, blocks_of, tail_of, entries_of, faults_at_open, IsEngineOf, IsAtRest, KeepsOpening}
 use Rattle.btr_engine.specs.Holds.{HoldsHistoryTo}
 use Rattle.btr_open.specs.Opening.{IsOpened}
 use Rattle.btr_gate.proofs.PrefixLemmas.{starts_append}
@@ -23,7 +25,9 @@ use Rattle.btr_jobs.specs.States.{StoreState, LogState, start_of, log_seen}
 use Rattle.btr_jobs.specs.PlainStore.{RunsThrough}
 use Rattle.btr_jobs.proofs.StateLemmas.{log_at}
 use Rattle.btr_jobs.proofs.PlainStoreLemmas.{needs_prefix}
-use Rattle.btr_store.specs.Work.{AddsAllowed, Works, DoesRightly}
+use Rattle.btr_store.specs.declared.status.Status.TheVariants.{DeviceFault}
+use Rattle.btr_store.specs.declared.transcript.Transcript.{Transcript}
+use Rattle.btr_store.specs.Work.{AddsAllowed, Works, DoesRightly, IsPlainWork}
 use Rattle.btr_store.specs.Closing.{BeginsOn}
 
 -- ---- the list of a hall
@@ -58,18 +62,36 @@ held_before {D} disk old first opened h rest told =
     let sized = subst (λ (n : ℕ). HoldsHistoryTo n (disk.contents (device first)) (blocks_of first) (tail_of first) h) opened.kept.counts.same_size rest.holds in
     subst (λ (c : Image). HoldsHistoryTo (disk.size old) c (blocks_of first) (tail_of first) h) bytes sized
 
+-- A count that rose since later rose since before.
+pub rose_from : (before old new : ℕ) → before ≤ old → Rose old new → Rose before new
+rose_from before old new le rose = omega (arith, le, rose)
+
+-- What holds of each device: the last engine goes on from the one that was opened, and the status is said of it.
+pub plain_on : {D : Type 0} (disk : Ghosts D) (old new : D) (x y : Engine D disk) → IsOpened disk old x → KeepsOpening x y → new ≡ device y → (said : Result Transcript AllocError) (failed : Bool) → (failed ≡ true → Rose (faults_at_open y) (disk.faults (device y))) → IfOk said (λ t. t.status ≡ DeviceFault → failed ≡ true) → IsPlainWork disk old said new
+plain_on {D} disk old new x y opened kept out said failed rose asks =
+    subst (λ (d : D). IsPlainWork disk old said d) (sym out) (record {
+      same_size = kept.device_kept.same_size ∙ opened.kept.counts.same_size;
+      faulted = by_said said asks;
+    })
+  where
+    before : disk.faults old ≤ faults_at_open y
+    before = omega (arith, opened.synced.before.more_faults, ap disk.faults kept.synced)
+
+    by_said : (said : Result Transcript AllocError) → IfOk said (λ t. t.status ≡ DeviceFault → failed ≡ true) → IfOk said (λ t. t.status ≡ DeviceFault → Rose (disk.faults old) (disk.faults (device y)))
+    by_said (Err error) asks = tt
+    by_said (Ok transcript) asks = λ is. rose_from (disk.faults old) (faults_at_open y) (disk.faults (device y)) before (rose (asks is))
+
 -- ---- the work
 
--- Work whose entries are allowed, in the only session of a hall of a store that was opened.
-pub does_rightly : {D : Type 0} (disk : Ghosts D) (What : StoreState → LogState → List Entry → List ℕ → Type 0) (old new : D) (hall : Hall D disk) (begun last : Session D disk) → ((start : StoreState) (log : LogState) (own : List ℕ) → What start log start.history own → AddsAllowed log own) → BeginsOn disk old hall begun → Does hall begun last What → ((opened : IsOpened disk old (opening_of hall)) (own : List ℕ) → Goes begun last own → Works disk (start_of opened.some.0 hall) (log_seen opened.some.0 last) own old new) → DoesRightly disk (λ start log own. What start log start.history own) old new
-does_rightly disk What old new hall begun last allows on does closes =
-    let h : List Entry = on.opened.some.0 in
+-- Work whose entries are allowed, in the only session of a hall of a store of this history that was opened.
+pub does_rightly : {D : Type 0} (disk : Ghosts D) (What : StoreState → LogState → List Entry → List ℕ → Type 0) (old new : D) (hall : Hall D disk) (begun last : Session D disk) → ((start : StoreState) (log : LogState) (own : List ℕ) → What start log start.history own → AddsAllowed log own) → BeginsOn disk old hall begun → (h : List Entry) → IsEngineOf h (opening_of hall) → Does hall begun last What → ((own : List ℕ) → Goes begun last own → Works disk (start_of h hall) (log_seen h last) own old new) → DoesRightly disk (λ start log own. What start log start.history own) old new
+does_rightly disk What old new hall begun last allows on h of does closes =
     let own : List ℕ = does.0 in
     let start : StoreState = start_of h hall in
     let log : LogState = log_seen h last in
-    let works : Works disk start log own old new = closes on.opened own does.1 in
+    let works : Works disk start log own old new = closes own does.1 in
     let what : What start log h own =
-    subst (λ low. What start log low own) (begun_history h (opening_of hall) (seen_of begun) on.begins.trace on.begins.seen) (does.2 h on.opened.some.1) in
+    subst (λ low. What start log low own) (begun_history h (opening_of hall) (seen_of begun) on.begins.trace on.begins.seen) (does.2 h of) in
     let allowed : AddsAllowed log own = allows start log own what in
     record {
       first = start;

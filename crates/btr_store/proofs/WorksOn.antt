@@ -15,8 +15,10 @@ use Rattle.btr_hist.proofs.HistoryLemmas.{legal-push}
 use Rattle.btr_hist.proofs.RightLemmas.{legal-right}
 use Rattle.btr_engine.specs.declared.engine.Engine.{Engine}
 use Rattle.btr_engine.specs.Engine.{device, blocks_of, tail_of, room_of, entries_of, is_stopped, faults_at_open, IsEngineOf, IsAtRest, KeepsOpening}
+use Rattle.btr_engine.specs.Body.{needs_of, needs_after}
 use Rattle.btr_engine.proofs.EngineLemmas.{stopped_by_fault}
-use Rattle.btr_open.specs.Opening.{IsOpened}
+use Rattle.btr_engine.proofs.NeedLemmas.{needs-append}
+use Rattle.btr_open.specs.Opening.{IsOpened, IsOpenedOn}
 use Rattle.btr_gate.specs.Numbers.{one, times, given}
 use Rattle.btr_gate.specs.Prefixes.{StartsWith}
 use Rattle.btr_gate.proofs.PrefixLemmas.{starts_length, starts_more}
@@ -27,15 +29,14 @@ use Rattle.btr_hall.specs.Session as session
 use Rattle.btr_hall.specs.Session.{Begins, HasEachOnce, seen_of, mine_of}
 use Rattle.btr_jobs.specs.Jobs.{Goes}
 use Rattle.btr_hall.specs.Trace.{IsTraceOf, engine_after, entries_in, has_halt}
-use Rattle.btr_hall.specs.Commit.{needs_of}
 use Rattle.btr_hall.specs.StoreLaws.{engine_earlier}
 use Rattle.btr_hall.proofs.TraceLemmas.{engine_of_list, stopped_of_list, length_of_list, keeps_of_list, at_rest_of_list}
 use Rattle.btr_jobs.specs.States.{StoreState, LogState, start_with, failed_in}
 use Rattle.btr_jobs.proofs.StateLemmas.{log_at, failed_halt}
 use Rattle.btr_store.specs.Work.{OwnsEachOnce, HoldsPrefix, HoldsLog, AddsAllowed, IsRightInFlight, all_entries, HoldsSafely, KeepsEach, CrashLeavesLog, Works}
 use Rattle.btr_store.proofs.Moments.{steps_leave, steps_end, keeps_each}
-use Rattle.btr_store.proofs.Rooms.{needs_append, steps_fit}
-use Rattle.btr_store.proofs.WorkLemmas.{log_is, held_before}
+use Rattle.btr_store.proofs.Rooms.{steps_fit}
+use Rattle.btr_store.proofs.WorkLemmas.{log_is, held_before, rose_from}
 
 -- ---- legal histories
 
@@ -90,9 +91,6 @@ module _ {D : Type 0} {disk : Ghosts D} where
 
 -- ---- the device
 
-rose_from : (before old new : ℕ) → before ≤ old → Rose old new → Rose before new
-rose_from before old new le rose = omega (arith, rose)
-
 stopped_if : (x halt : Bool) → halt ≡ true → (x || halt) ≡ true
 stopped_if true halt is = refl
 stopped_if false halt is = is
@@ -104,12 +102,9 @@ none_failed : {A : Type 0} (o : Option A) → o ≡ None → is_some o ≡ false
 none_failed None is = refl
 none_failed (Some x) is = absurd (cc)
 
-module _ {D : Type 0} (disk : Ghosts D) (only_now : disk.is_observable → (d : D) (c : Image) → disk.images_since d (disk.calls d) c → disk.images_now d c) (counts_now : disk.is_observable → (d : D) (t : ℕ) (c : Image) → t ≤ disk.calls d → disk.images_now d c → disk.images_since d t c) (old : D) (x : Engine D disk) (opened : IsOpened disk old x) where
-  abbrev h : List Entry
-  h = opened.some.0
-
-  at_rest : disk.is_observable → IsAtRest h x
-  at_rest told = (opened.some.2 told).at_rest
+module _ {D : Type 0} (disk : Ghosts D) (only_now : disk.is_observable → (d : D) (c : Image) → disk.images_since d (disk.calls d) c → disk.images_now d c) (counts_now : disk.is_observable → (d : D) (t : ℕ) (c : Image) → t ≤ disk.calls d → disk.images_now d c → disk.images_since d t c) (old : D) (x : Engine D disk) (opened : IsOpened disk old x) (h : List Entry) (on : IsOpenedOn disk h x) where
+  rest : IsAtRest h x
+  rest = on.at_rest
 
   module _ (l : List (Item D disk)) (trace : IsTraceOf x l) where
     abbrev y : Engine D disk
@@ -127,7 +122,7 @@ module _ {D : Type 0} (disk : Ghosts D) (only_now : disk.is_observable → (d : 
         let is : log ≡ log_at h trace.steps = log_is h x l trace in (
           entries_in trace.steps,
           ap (λ (k : LogState). k.history) is,
-          keeps_each disk told (only_now told) (counts_now told) (device y) log h x trace.steps (at_rest told) same_size trace.trace (ap (λ (e : Engine D disk). device e) (engine_is x l trace)) is,
+          keeps_each disk told (only_now told) (counts_now told) (device y) log h x trace.steps rest same_size trace.trace (ap (λ (e : Engine D disk). device e) (engine_is x l trace)) is,
         )
 
     -- The entries need no more blocks than there were.
@@ -136,8 +131,8 @@ module _ {D : Type 0} (disk : Ghosts D) (only_now : disk.is_observable → (d : 
         let is : log ≡ log_at h trace.steps = log_is h x l trace in
         let last : List Entry = option_to_list (failed_in trace.steps) in
         let all : needs_of (log.history ++ option_to_list log.failed) ≡ needs_of ((h ++ entries_in trace.steps) ++ last) = ap (λ (k : LogState). needs_of (k.history ++ option_to_list k.failed)) is in
-        let parts : needs_of ((h ++ entries_in trace.steps) ++ last) ≡ needs_of h + needs_of (entries_in trace.steps ++ last) = ap needs_of (append_assoc h (entries_in trace.steps) last) ∙ needs_append h (entries_in trace.steps ++ last) in
-        omega (arith, all, parts, steps_fit h x trace.steps opened.some.1 trace.trace)
+        let parts : needs_of ((h ++ entries_in trace.steps) ++ last) ≡ needs_of h + needs_after h (entries_in trace.steps ++ last) = ap needs_of (append_assoc h (entries_in trace.steps) last) ∙ needs-append h (entries_in trace.steps ++ last) in
+        omega (arith, all, parts, steps_fit h x trace.steps rest.of trace.trace)
 
     crash : disk.is_observable → CrashLeavesLog disk (start_with h x) log old (device y)
     crash told =
@@ -149,7 +144,7 @@ module _ {D : Type 0} (disk : Ghosts D) (only_now : disk.is_observable → (d : 
         let same_size : disk.size a ≡ size = sym kept.device_kept.same_size in
         let unwritten : IsUnwritten disk.calls disk.contents disk.images_now disk.images_since old a = opened.kept.unwritten told in
         let steps : Leaves disk.calls disk.images_since a (device (engine_after x trace.steps)) (HoldsPrefix size (length h) (log_at h trace.steps)) =
-        steps_leave told (only_now told) (counts_now told) size h x trace.steps (at_rest told) same_size trace.trace in
+        steps_leave told (only_now told) (counts_now told) size h x trace.steps rest same_size trace.trace in
         let leaves : Leaves disk.calls disk.images_since a z R =
         subst (λ (e : Engine D disk). Leaves disk.calls disk.images_since a (device e) R) (sym (engine_is x l trace))
         (subst (λ (k : LogState). Leaves disk.calls disk.images_since a (device (engine_after x trace.steps)) (HoldsPrefix size (length h) k)) (sym (log_is h x l trace)) steps) in
@@ -163,33 +158,33 @@ module _ {D : Type 0} (disk : Ghosts D) (only_now : disk.is_observable → (d : 
           now = λ c left.
               let here : disk.images_now (device (engine_after x trace.steps)) c = subst (λ (e : Engine D disk). disk.images_now (device e) c) (engine_is x l trace) left in
               subst (λ (k : LogState). HoldsLog size k c) (sym (log_is h x l trace))
-              (steps_end told (only_now told) (counts_now told) size h x trace.steps (at_rest told) same_size trace.trace c here);
+              (steps_end told (only_now told) (counts_now told) size h x trace.steps rest same_size trace.trace c here);
         }
 
     safe : disk.is_observable → log.failed ≡ None → HoldsSafely disk (device y) log.history
     safe told none =
         let halt : has_halt l ≡ false = sym (failed_halt l) ∙ none_failed (failed_in l) none in
-        let runs : is_stopped y ≡ false = stopped_of_list h x l opened.some.1 trace ∙ runs_if (is_stopped x) (has_halt l) opened.runs halt in
-        let rest : IsAtRest log.history y = at_rest_of_list told h x l (at_rest told) trace runs in record {
-          holds = record { blocks = blocks_of y; tail = tail_of y; holds = rest.holds };
-          only = rest.only;
+        let runs : is_stopped y ≡ false = stopped_of_list x l trace ∙ runs_if (is_stopped x) (has_halt l) opened.runs halt in
+        let last : IsAtRest log.history y = at_rest_of_list told h x l rest trace runs in record {
+          holds = record { blocks = blocks_of y; tail = tail_of y; holds = last.holds };
+          only = last.only;
         }
 
     faulted : is_some log.failed ≡ true → Rose (disk.faults old) (disk.faults (device y))
     faulted some =
         let halt : has_halt l ≡ true = sym (failed_halt l) ∙ some in
-        let stopped : is_stopped y ≡ true = stopped_of_list h x l opened.some.1 trace ∙ stopped_if (is_stopped x) (has_halt l) halt in
+        let stopped : is_stopped y ≡ true = stopped_of_list x l trace ∙ stopped_if (is_stopped x) (has_halt l) halt in
         rose_from (disk.faults old) (faults_at_open y) (disk.faults (device y))
         (omega (arith, opened.synced.before.more_faults, ap disk.faults kept.synced))
         (stopped_by_fault y stopped)
 
     works : (own : List ℕ) → ((n : ℕ) → times n own ≡ given (entries_of x) (length l) n) → Works disk (start_with h x) log own old (device y)
     works own each =
-        let of : IsEngineOf log.history y = engine_of_list h x l opened.some.1 trace in
-        let first : entries_of x ≡ length h = opened.some.1.entries in
+        let of : IsEngineOf log.history y = engine_of_list h x l rest.of trace in
+        let first : entries_of x ≡ length h = rest.of.entries in
         let last : entries_of y ≡ length log.history = of.entries in
         let halt : one (is_some log.failed) ≡ one (has_halt l) = ap one (failed_halt l) in
-        let long : length l ≡ length log.history + one (is_some log.failed) = omega (arith, length_of_list h x l opened.some.1 trace, last, halt) in
+        let long : length l ≡ length log.history + one (is_some log.failed) = omega (arith, length_of_list x l trace, last, halt) in
         let once : OwnsEachOnce (start_with h x) log own = λ n.
         each n ∙ ap (λ (k : ℕ). given k (length l) n) first ∙ ap (λ (k : ℕ). given (length h) k n) long in
         let begins : StartsWith log.history h = (entries_in l, refl) in
@@ -206,7 +201,7 @@ module _ {D : Type 0} (disk : Ghosts D) (only_now : disk.is_observable → (d : 
           before = λ told. record {
             blocks = blocks_of x;
             tail = tail_of x;
-            holds = held_before disk old x opened h (at_rest told) told;
+            holds = held_before disk old x opened h rest told;
             same_left = refl;
           };
           after = safe;

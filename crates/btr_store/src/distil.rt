@@ -42,6 +42,9 @@ use std::thread::Threads;
 ///
 /// It costs the reading of the store, logarithmic time for each stream, and what the outputs need. If there is no memory for the
 /// lines, all outputs may have been brought up to date, or none.
+///
+/// What is said of histories holds if the device can be observed and held one when it was opened. On each device, if the status says that
+/// it failed, its count of faults rose.
 pub fn distil_store<R: Threads + Wait + Sync, D: Disk + Send, P: Pace + Sync>(
     rt: &R,
     alloc: Global,

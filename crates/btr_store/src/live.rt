@@ -24,6 +24,9 @@ use std::sync::Wait;
 use std::thread::Threads;
 
 /// Opens the store of a device, runs lines on it, and closes it.
+///
+/// What is said of histories holds if the device can be observed and held one when it was opened. On each device, if the status says that
+/// it failed, its count of faults rose.
 pub fn live_store<R: Threads + Wait + Sync, D: Disk + Send, P: Pace + Sync>(
     rt: &R,
     alloc: Global,

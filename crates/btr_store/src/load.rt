@@ -25,8 +25,8 @@ use std::thread::Threads;
 ///
 /// In the end a batch is in the store exactly if it was not refused, and nothing else was added but new streams. If the memory and the
 /// device suffice, each stream is as one worker leaves it, which commits the batches stream by stream. Both is so if the rows list each
-/// id once, as rows that were read do. If there is room for the rows, and the device does not fail, no line says that it was full or
-/// failed.
+/// id once, as rows that were read do. If there is also room for the rows, and the device does not fail, no line says that it was full
+/// or failed.
 ///
 /// One worker has one right outcome, also on a nearly full device: it makes the creates in order, and then commits the batches stream by
 /// stream. Each entry is added if the model accepts it and the blocks that are left suffice. If the memory suffices and the device does
@@ -34,6 +34,9 @@ use std::thread::Threads;
 ///
 /// It costs the reading of the store, time linear in the rows, logarithmic time for each stream and each refused row, and what the
 /// entries need. If there is no memory for the lines, all rows may have been loaded, or none.
+///
+/// What is said of histories holds if the device can be observed and held one when it was opened. On each device, if the status says that
+/// it failed, its count of faults rose.
 pub fn load_store<R: Threads + Wait + Sync, D: Disk + Send, P: Pace + Sync>(
     rt: &R,
     alloc: Global,

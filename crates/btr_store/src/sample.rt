@@ -63,6 +63,9 @@ pub(crate) struct Filled {
 ///
 /// It costs the reading of the store, time and memory linear in the points, and what the entries need. If there is no memory for the
 /// lines, or for a part of the work, what was done before stays.
+///
+/// What is said of histories holds if the device can be observed and held one when it was opened. On each device, if the status says that
+/// it failed, its count of faults rose.
 pub fn sample_store<R: Threads + Wait + Sync, D: Disk + Send, P: Pace + Sync>(
     rt: &R,
     alloc: Global,

@@ -2,22 +2,31 @@
 use Rattle.btr_store.specs.Live.{LivesStore}
 use Rattle.btr_store.specs.LiveLines.{Lives}
 use Rattle.btr_store.proofs.WorkLemmas.{does_rightly, does_more}
-use Rattle.btr_store.proofs.LiveLemmas.{lives_allowed, lives_store}
+use Rattle.btr_store.proofs.LiveLemmas.{lives_allowed, lives_told, lives_store}
 use Rattle.btr_store.proofs.live.live_store.Goals as goal
 
+pub returns-clause-plain : goal.returns-clause-plain
+returns-clause-plain g c = c.close_hall.ensures.plain c.args.disk c.in_ok-hall.ensures.begun.opened
+
 pub returns-clause-done : goal.returns-clause-done
-returns-clause-done g c =
+returns-clause-done g c = λ seen h held.
+    let disk = g.D.Disk in
     let said = c.live-said.result in
+    let told = c.close_hall.result.said in
     let script = c.args.lines.items in
     let batch = c.args.batch in
     let materialize = c.args.materialize in
     let begun = c.in_ok-hall.ensures.begun in
+    let on = begun.opened.stood seen h held in
     let hall = c.in_ok-hall.hall in
     let session = c.in_ok-hall.session in
-    let rightly = does_rightly g.D.Disk (λ start log low own. Lives batch materialize script start log low said own) c.args.disk c.close_hall-disk.result hall session c.live-said.new.session
+    let old = c.args.disk in
+    let new = c.close_hall.result.disk in
+    does_more disk (λ start log own. Lives batch materialize script start log start.history said own) (λ start log own. LivesStore batch materialize script start log told own) old new
+    (λ start log own works legal is.
+    lives_store c.runs_are_one_history.ensures c.one_lane_is_the_model.ensures c.last_is_current.ensures batch materialize script start log own works.each_once works.not_stopped works.follows works.fits told
+    (lives_told batch materialize script start log start.history said told own c.close_hall.ensures.said is))
+    (does_rightly disk (λ start log low own. Lives batch materialize script start log low said own) old new hall session c.live-said.new.session
     (λ start log own is. lives_allowed batch materialize script start log said own is)
-    begun c.live-said.ensures.does
-    (λ opened own goes. c.close_hall-disk.ensures.works c.args.disk opened session own begun.begins goes) in
-    does_more g.D.Disk (λ start log own. Lives batch materialize script start log start.history said own) (λ start log own. LivesStore batch materialize script start log said own) c.args.disk c.close_hall-disk.result
-    (λ start log own works legal is. lives_store c.runs_are_one_history.ensures c.one_lane_is_the_model.ensures c.last_is_current.ensures batch materialize script start log own works.each_once works.not_stopped works.follows works.fits said is)
-    rightly
+    begun h on.at_rest.of c.live-said.ensures.does
+    (λ own goes. c.close_hall.ensures.works old begun.opened session own begun.begins goes h on))

@@ -3,35 +3,42 @@ use Rattle.std.proofs.Common.{inl, inr}
 use Rattle.std.proofs.lemmas.Bool.{cases_lt}
 use Rattle.btr_store.specs.Load.{LoadsRows, LoadsRowsInTurn, LoadsStore}
 use Rattle.btr_store.proofs.WorkLemmas.{does_rightly, does_more}
-use Rattle.btr_store.proofs.LoadLemmas.{loads_if_allowed, loads_store, loads_store_in_order}
+use Rattle.btr_store.proofs.LoadLemmas.{loads_if_allowed, loads_told, turn_told, loads_store, loads_store_in_order}
 use Rattle.btr_store.proofs.load.load_store.Goals as goal
 
+pub returns-clause-plain : goal.returns-clause-plain
+returns-clause-plain g c = c.close_hall.ensures.plain c.args.disk c.in_ok-hall.ensures.begun.opened
+
 pub returns-clause-done : goal.returns-clause-done
-returns-clause-done g c =
+returns-clause-done g c = λ seen h held.
     let disk = g.D.Disk in
     let rows = c.args.rows in
     let batch = c.args.batch in
     let workers = c.args.workers in
     let said = c.load_rows-said.result in
+    let told = c.close_hall.result.said in
     let begun = c.in_ok-hall.ensures.begun in
+    let on = begun.opened.stood seen h held in
     let hall = c.in_ok-hall.hall in
     let session = c.in_ok-hall.session in
     let last = c.load_rows-said.new.session in
     let old = c.args.disk in
-    let new = c.close_hall-disk.result in
+    let new = c.close_hall.result.disk in
     elim (cases_lt 1 workers) [
       | inl many ↦
-          does_more disk (λ start log own. LoadsRows start log start.history rows batch said own) (λ start log own. LoadsStore start log rows batch workers said own) old new
-          (λ start log own works legal is. loads_store disk old new start log rows batch workers own said works many is)
+          does_more disk (λ start log own. LoadsRows start log start.history rows batch said own) (λ start log own. LoadsStore start log rows batch workers told own) old new
+          (λ start log own works legal is. loads_store disk old new start log rows batch workers own told works many
+          (loads_told start log start.history rows batch said told own c.close_hall.ensures.said is))
           (does_rightly disk (λ start log low own. LoadsRows start log low rows batch said own) old new hall session last
           (λ start log own is. loads_if_allowed start log start.history rows batch is.loaded own is.loads)
-          begun c.load_rows-said.ensures.does
-          (λ opened own goes. c.close_hall-disk.ensures.works old opened session own begun.begins goes))
+          begun h on.at_rest.of c.load_rows-said.ensures.does
+          (λ own goes. c.close_hall.ensures.works old begun.opened session own begun.begins goes h on))
       | inr few ↦
-          does_more disk (λ start log own. LoadsRowsInTurn start log start.history rows batch said own) (λ start log own. LoadsStore start log rows batch workers said own) old new
-          (λ start log own works legal is. loads_store_in_order disk old new start log rows batch workers own said works is)
+          does_more disk (λ start log own. LoadsRowsInTurn start log start.history rows batch said own) (λ start log own. LoadsStore start log rows batch workers told own) old new
+          (λ start log own works legal is. loads_store_in_order disk old new start log rows batch workers own told works
+          (turn_told start log start.history rows batch said told own c.close_hall.ensures.said is))
           (does_rightly disk (λ start log low own. LoadsRowsInTurn start log low rows batch said own) old new hall session last
           (λ start log own is. loads_if_allowed start log start.history rows batch is.did.loaded own is.did.loads)
-          begun (c.load_rows-said.ensures.in_turn few)
-          (λ opened own goes. c.close_hall-disk.ensures.works old opened session own begun.begins goes))
+          begun h on.at_rest.of (c.load_rows-said.ensures.in_turn few)
+          (λ own goes. c.close_hall.ensures.works old begun.opened session own begun.begins goes h on))
     ]
