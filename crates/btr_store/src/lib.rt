@@ -1,6 +1,7 @@
 //! Work on a whole store: it is opened, one piece of work is done at its hall, with many threads, and it is closed.
 //!
-//! [`distil_store`] brings each output up to date. What is said of the device afterwards, also after a crash at any moment, is the
+//! [`live_store`] runs a script, [`load_store`] commits rows, [`distil_store`] brings each output up to date, and [`sample_store`] fills an
+//! empty store. What is said of the device afterwards, also after a crash at any moment, is the
 //! same for all work ([`Works`]), also for work of another crate between [`open_hall`] and [`close_hall`].
 //!
 //! [`Works`]: ../specs/Work.antt

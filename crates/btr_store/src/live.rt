@@ -23,7 +23,16 @@ use std::alloc::{AllocError, Global};
 use std::sync::Wait;
 use std::thread::Threads;
 
-/// Opens the store of a device, runs lines on it, and closes it.
+/// Opens the store on a device, runs the lines of a script on it, and closes the store. The lines of a lane run in order, the lanes beside
+/// each other, and a feed is due with `batch` points. With `materialize` rounds run beside the lanes, each of which brings each output up
+/// to date once, and a last round after them. It says a reply for each line, in the order of the script, and then a line for each output
+/// that the last round refused. The turns of `pace` are those of [`btr_live::lanes`].
+///
+/// All lanes and rounds make one history, and each reply is the model's at a beginning of it. A script in one lane without rounds has the
+/// model's replies, one line after another. If the device does not fail, each output that the last round did not refuse is up to date.
+///
+/// It costs the reading of the store, time linear in the script, and what its lines and rounds need. If there is no memory for the
+/// replies, no line ran; if there is none for their text, all lines ran.
 ///
 /// What is said of histories holds if the device can be observed and held one when it was opened. On each device, if the status says that
 /// it failed, its count of faults rose.
