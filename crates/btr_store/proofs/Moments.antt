@@ -5,7 +5,6 @@ use Rattle.std.proofs.Math.Seq.{take-append_seam}
 use Rattle.std.proofs.lemmas.List.{append-nil, length-append, take_all}
 use Rattle.btr_disk.specs.declared.disk.Disk.{Ghosts}
 use Rattle.btr_disk.specs.Bytes.{Image}
-use Rattle.btr_disk.specs.Causes.{Rose}
 use Rattle.btr_disk.specs.Moments.{Leaves}
 use Rattle.btr_disk.proofs.MomentLemmas.{begins, composes, weakens}
 use Rattle.btr_hist.specs.declared.entry.Entry.{Entry}

@@ -1,6 +1,5 @@
 //! The begin and the end of work on a store: it is opened and has a hall, and the hall is closed.
-ghost use Rattle.std.specs.Prelude.{◌≡◌, ℕ, true, List, Ok, IfErr, IfOk, IsTrue};
-ghost use Rattle.btr_disk.specs.Causes.{Rose};
+ghost use Rattle.std.specs.Prelude.{◌≡◌, ℕ, true, List, Ok, IfErr, IfOk};
 ghost use Rattle.btr_hist.specs.declared.entry.Entry.{Entry as EntrySpec};
 ghost use Rattle.btr_open.specs.declared.opening.OpenCause.TheVariants.{Want};
 ghost use Rattle.btr_open.specs.Opening.{IsNotOpened, IsOpened, IsOpenedOn, KeepsDisk};
