@@ -37,7 +37,8 @@ module _ {S D : Type 0} (source : SourceGhosts S) (disk : Ghosts D) (given rest 
   benign_cause lines (TooSmall asked has) why = absurd why.0
   benign_cause lines (Formatted blocks) why = absurd why.0
   benign_cause lines (Replied transcript) why =
-      subst (λ (s : Status). IsPlainStatus (code_of s)) (sym why.is_transcript.same_status) (benign_code (status_of_replies why.replies) (benign_answers why.history lines why.replies why.answers))
+      let all = why.answers told can.1.history (record { blocks = can.1.blocks; tail = can.1.tail; holds = can.1.holds }) in
+      subst (λ (s : Status). IsPlainStatus (code_of s)) (sym all.is_transcript.same_status) (benign_code (status_of_replies all.replies) (benign_answers all.history lines all.replies all.answers))
 
   pub benign_ask : (e : Ending) → AskCause source disk given rest old new e → IsPlainStatus (status_of e)
   benign_ask e why =

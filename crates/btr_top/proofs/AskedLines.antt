@@ -1,21 +1,22 @@
 -- Lines that were answered as questions, one line more, and the device that holds the history.
-use Rattle.std.specs.Prelude.{◌≡◌, List, [], ◌∷◌, ◌++◌}
-use Rattle.std.proofs.Common.{sym, subst}
+use Rattle.std.specs.Prelude.{◌≡◌, ◌⊎◌, List, [], ◌∷◌, ◌++◌}
+use Rattle.std.proofs.Common.{sym, subst, ⊎_elim}
 use Rattle.btr_disk.specs.declared.disk.Disk.{Ghosts}
 use Rattle.btr_hist.specs.declared.entry.Entry.{Entry}
 use Rattle.btr_text.specs.declared.script.ScriptLine.{ScriptLine}
 use Rattle.btr_text.specs.declared.reply.LineReply.{LineReply}
 use Rattle.btr_engine.specs.declared.engine.Engine.{Engine}
-use Rattle.btr_engine.specs.Engine.{device, blocks_of, tail_of, IsEngineOf, IsAtRest}
-use Rattle.btr_open.specs.Opening.{IsOpened}
+use Rattle.btr_engine.specs.Engine.{device, IsEngineOf}
+use Rattle.btr_engine.specs.Holds.{HoldsHistory}
+use Rattle.btr_open.specs.Opening.{IsOpenedOn, IsOpened}
+use Rattle.btr_store.specs.declared.status.Status.TheVariants.{DeviceFault}
 use Rattle.btr_store.specs.declared.transcript.Transcript.{Transcript}
 use Rattle.btr_top.specs.declared.ending.Ending.{Ending}
 use Rattle.btr_top.specs.declared.ending.Ending.TheVariants.{OutOfMemory, Replied}
 use Rattle.btr_live.specs.Meaning.{question}
 use Rattle.btr_live.specs.Serving.{IsAnswerOrNoMemory}
 use Rattle.btr_store.specs.Replies.{IsTranscript, AddsReply}
-use Rattle.btr_top.specs.Ask.{AnswersEach, AnswersAll, QuestionsCause, HasAnswered}
-use Rattle.btr_store.proofs.WorkLemmas.{held_before}
+use Rattle.btr_top.specs.Ask.{AnswersEach, AnswersAll, WereAnswered, QuestionsCause, HasAnswered}
 
 AnswersEach-push : (h : List Entry) (lines : List ScriptLine) (replies : List LineReply) (line : ScriptLine) (reply : LineReply) → AnswersEach h lines replies → IsAnswerOrNoMemory h (question h line.line) reply → AnswersEach h (lines ++ line ∷ []) (replies ++ reply ∷ [])
 AnswersEach-push h [] [] line reply answers one = (one, tt)
@@ -36,31 +37,36 @@ HasAnswered-push h lines line t u has one = record {
 }
 
 module _ {D : Type 0} (disk : Ghosts D) (old : D) (engine : Engine D disk) (opened : IsOpened disk old engine) where
-  -- the history of the opening
-  abbrev h : List Entry
-  h = opened.some.0
-
-  at_rest : disk.is_observable → IsAtRest h engine
-  at_rest told = (opened.some.2 told).at_rest
-
-  answers_all : (lines : List ScriptLine) (transcript : Transcript) → HasAnswered h lines transcript → AnswersAll disk lines old (device engine) transcript
-  answers_all lines transcript has = record {
+  -- The lines were answered from a history that the device holds.
+  answers_all : (lines : List ScriptLine) (transcript : Transcript) (h : List Entry) → HoldsHistory (disk.size old) (disk.contents old) h → IsOpenedOn disk h engine → HasAnswered h lines transcript → AnswersAll disk lines old (device engine) transcript
+  answers_all lines transcript h held on has = record {
     history = h;
     replies = has.replies;
-    follows = opened.some.1.follows;
-    holds = λ told. record { blocks = blocks_of engine; tail = tail_of engine; holds = held_before disk old engine opened h (at_rest told) told };
+    follows = on.at_rest.of.follows;
+    holds = λ told. held;
     answers = has.answers;
     is_transcript = has.is_transcript;
     kept = opened.kept.unwritten;
-    durable = λ told. (opened.some.2 told).held.now;
+    durable = λ told. on.held.now;
   }
 
-  pub ended_answered : (lines : List ScriptLine) (transcript : Transcript) (new : D) (e : Ending) → e ≡ Replied transcript → new ≡ device engine → ((k : List Entry) → IsEngineOf k engine → HasAnswered k lines transcript) → QuestionsCause disk lines old new e
-  ended_answered lines transcript new e is same has =
-      subst (QuestionsCause disk lines old new) (sym is)
-      (subst (λ (d : D). AnswersAll disk lines old d transcript) (sym same) (answers_all lines transcript (has h opened.some.1)))
+  were_answered : (lines : List ScriptLine) (transcript : Transcript) → (transcript.status ≡ DeviceFault → ⊥) → ((h : List Entry) → IsEngineOf h engine → HasAnswered h lines transcript) → WereAnswered disk lines old (device engine) transcript
+  were_answered lines transcript sound has = record {
+    plain = record { same_size = opened.kept.counts.same_size; faulted = λ failed. absurd (sound failed) };
+    kept = opened.kept.unwritten;
+    answers = λ told h held. let on = opened.stood told h held in answers_all lines transcript h held on (has h on.at_rest.of);
+  }
 
   pub ended_unanswered : (lines : List ScriptLine) (new : D) (e : Ending) → e ≡ OutOfMemory → new ≡ device engine → QuestionsCause disk lines old new e
   ended_unanswered lines new e is same =
       subst (QuestionsCause disk lines old new) (sym is)
       (subst (λ (d : D). QuestionsCause disk lines old d OutOfMemory) (sym same) (tt, opened.kept.unwritten))
+
+  pub ended_answered : (lines : List ScriptLine) (transcript : Transcript) (new : D) (e : Ending) → ((e ≡ Replied transcript) × (transcript.status ≡ DeviceFault → ⊥)) ⊎ (e ≡ OutOfMemory) → new ≡ device engine → ((h : List Entry) → IsEngineOf h engine → HasAnswered h lines transcript) → QuestionsCause disk lines old new e
+  ended_answered lines transcript new e ends same has =
+      ⊎_elim
+      (λ (replied : (e ≡ Replied transcript) × (transcript.status ≡ DeviceFault → ⊥)).
+      subst (QuestionsCause disk lines old new) (sym replied.0)
+      (subst (λ (d : D). WereAnswered disk lines old d transcript) (sym same) (were_answered lines transcript replied.1 has)))
+      (λ lacks. ended_unanswered lines new e lacks same)
+      ends

@@ -179,7 +179,7 @@ apart b is is_not = absurd (cc)
 pub along : (reply other : LineReply) → reply ≡ other → IsBenign (status_of_reply other) → IsBenign (status_of_reply reply)
 along reply other e benign = subst (λ r. IsBenign (status_of_reply r)) (sym e) benign
 
-benign_reply : (s t : StoreState) (m : Meaning) (reply : LineReply) → RepliesTo s m reply t → IsBenign (status_of_reply (model_reply s.history m)) → need_of_meaning m ≤ s.left → t.stopped ≡ false → IsBenign (status_of_reply reply)
+benign_reply : (s t : StoreState) (m : Meaning) (reply : LineReply) → RepliesTo s m reply t → IsBenign (status_of_reply (model_reply s.history m)) → need_of_meaning s.history m ≤ s.left → t.stopped ≡ false → IsBenign (status_of_reply reply)
 benign_reply s t m reply replied benign room runs =
     ⊎_elim
     (λ model. along reply (model_reply s.history m) model.replied benign)
@@ -215,7 +215,7 @@ within_reply reply other e within = subst (λ r. Within (status_of_reply r)) (sy
 within_not_done : (s t : StoreState) (m : Meaning) (reply : LineReply) → t.stopped ≡ false → IsNotDone s m reply t → Within (status_of_reply reply)
 within_not_done s t (Commits e) reply runs h =
     ⊎_elim
-    (λ full. within_reply reply (No (reasons.Full (need_of e) s.left)) full.replied refl)
+    (λ full. within_reply reply (No (reasons.Full (need_of s.history e) s.left)) full.replied refl)
     (λ h. ⊎_elim
     (λ fault. absurd (apart t.stopped (ap (λ (x : StoreState). x.stopped) fault.store) runs))
     (λ stopped. absurd (apart t.stopped (ap (λ (x : StoreState). x.stopped) stopped.store ∙ stopped.stopped) runs))
@@ -269,7 +269,7 @@ benign_from batch status s t (line ∷ lines) (reply ∷ replies) benign script 
     benign_from batch (greater status (status_of_reply reply)) u t lines replies (benign_greater status (status_of_reply reply) benign one) script.3 left runs)
     (λ h. ⊎_elim
     (λ memory. inr (inr (ap (λ r. greatest_of_replies (greater status (status_of_reply r)) replies) memory ∙ ap (λ x. greatest_of_replies x replies) (memory_next status benign) ∙ ran_out_from batch u t lines replies script.3 runs)))
-    (λ not. absurd (none_not_done s.store u.store m reply (subst (λ (x : Meaning). need_of_meaning x ≤ s.store.left) (sym not.0) (omega (arith, room))) running not.1))
+    (λ not. absurd (none_not_done s.store u.store m reply (subst (λ (x : Meaning). need_of_meaning s.store.history x ≤ s.store.left) (sym not.0) (omega (arith, room))) running not.1))
     h)
     (line_is batch s u line.line m reply is)
 

@@ -30,6 +30,7 @@ use Rattle.btr_live.specs.Feeds.{Waiting, with_points, fed}
 use Rattle.btr_live.specs.Meaning.{Meaning, Commits, Asks, Holds, Current, Refuses, on_stream, feed, flush, refresh, if_plain, meaning}
 use Rattle.btr_live.specs.Replies.{reply_of_answer, waiting_after, Means}
 use Rattle.btr_live.specs.Lanes.{Answers, LaneState, RunsLine, RunsLines}
+use Rattle.btr_live.proofs.StreamLemmas.{stream_of-longer}
 use Rattle.btr_store.specs.Completes.{IsBenign}
 use Rattle.btr_store.specs.Replies.{status_of_reply}
 use Rattle.btr_top.specs.Room.{Purpose, OfLine, OfFeeds, has_line, has_landing, LandsFor, IsAskedSince, IsOfLine, IsAtPlace, IsFeedOf, fed_by, IsFor, Service}
@@ -38,7 +39,7 @@ use Rattle.btr_top.proofs.ServiceLemmas.{counted, lines_had, landings_had, up_to
 use Rattle.btr_top.proofs.PlaceLemmas.{AtPlaces}
 use Rattle.btr_top.proofs.LineTurns.{Lands, WasFull, WasAdded, WasRefused, Turned, offered_turn}
 use Rattle.btr_top.proofs.LineEntries.{on_found, asked_only, entry_is, asked_feed, asked_flush, IsOfOutput, asked_refresh}
-use Rattle.btr_top.proofs.WaitingPlaces.{stream_of-longer, Pending, waits_for, of_stream, others, split_sum, feed_longer, feeds_of, each_snoc, Waits, waits_longer, waits_same, waits_drop, points_more, waits_push}
+use Rattle.btr_top.proofs.WaitingPlaces.{Pending, waits_for, of_stream, others, split_sum, feed_longer, feeds_of, each_snoc, Waits, waits_longer, waits_same, waits_drop, points_more, waits_push}
 
 abbrev pub AreBenign : List LineReply → Type 0
 AreBenign all = AllByRecursion (λ (reply : LineReply). IsBenign (status_of_reply reply)) all

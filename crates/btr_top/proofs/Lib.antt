@@ -4,6 +4,7 @@ mod FormatCauses
 mod LineLists
 mod AskedLines
 mod WorkCauses
+mod FaultCauses
 -- if nothing fails
 mod BenignStatuses
 mod ServiceLemmas

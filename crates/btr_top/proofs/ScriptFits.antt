@@ -1,5 +1,5 @@
 -- A script without rounds, of which no line brings an output up to date, has room if the most that all its lines need is left.
-use Rattle.std.specs.Prelude.{◌≡◌, ◌⊎◌, ℕ, ◌+◌, ◌^◌, ◌<◌, ◌≤◌, ◌==◌, nat_le, ℤ, true, false, List, [], ◌∷◌, ◌++◌, length, cond, slice_get, Option, Some, None}
+use Rattle.std.specs.Prelude.{◌≡◌, ◌⊎◌, ℕ, ◌+◌, ◌*◌, ◌^◌, ◌<◌, ◌≤◌, ◌==◌, nat_le, ℤ, true, false, List, [], ◌∷◌, ◌++◌, length, cond, slice_get, Option, Some, None}
 use Rattle.std.specs.List.{AllByRecursion}
 use Rattle.std.specs.Int.{w32}
 use Rattle.std.proofs.Common.{zero, suc, refl, sym, ap, ◌∙◌, subst, arith, inl, inr, length-append, append_assoc}
@@ -26,12 +26,13 @@ use Rattle.btr_entry.proofs.NumberLemmas.{wide32}
 use Rattle.btr_entry.proofs.SpecLemmas.{length-kernel, length-numbers, length-spec}
 use Rattle.btr_entry.proofs.SpellingLemmas.{length-create, length-commit, length-define}
 use Rattle.btr_log.specs.Head.{content_blocks}
-use Rattle.btr_engine.specs.Body.{need_of}
+use Rattle.btr_engine.specs.Body as blocks
+use Rattle.btr_engine.specs.Body.{most_nodes, most_need_of}
+use Rattle.btr_engine.proofs.NeedLemmas.{needs-append}
 use Rattle.btr_gate.specs.Numbers.{one, times, total, given}
 use Rattle.btr_gate.proofs.NumberLemmas.{one_same, times_append}
-use Rattle.btr_hall.specs.Commit as blocks
 use Rattle.btr_load.proofs.TotalLemmas.{total_append, at_number, at_there, entries_sum}
-use Rattle.btr_load.proofs.FitLemmas.{needs_total}
+use Rattle.btr_load.proofs.FitLemmas.{needs_least}
 use Rattle.btr_text.specs.declared.script.Line.{Line}
 use Rattle.btr_text.specs.declared.script.Line.TheVariants as lines
 use Rattle.btr_text.specs.declared.script.ScriptLine.{ScriptLine}
@@ -45,14 +46,14 @@ use Rattle.btr_top.proofs.PlaceLemmas.{places_from}
 
 -- ---- the entry of a line
 
-need_of_commit : (stream : ℕ) (cut : List RangeValue) (added : List Point) → need_of (entries.Commit stream cut added) ≡ blocks_of_points (length cut + length added)
-need_of_commit stream cut added = ap (λ l. content_blocks l + 1) (sym (length-commit stream cut added))
+need_of_commit : (stream : ℕ) (cut : List RangeValue) (added : List Point) → most_need_of (entries.Commit stream cut added) ≡ content_blocks (21 + 16 * (length cut + length added)) + most_nodes (length added) (length cut) + 1
+need_of_commit stream cut added = ap (λ l. content_blocks l + most_nodes (length added) (length cut) + 1) (sym (length-commit stream cut added))
 
 abbrev AtMost : ℕ → Entry → Type 0
-AtMost blocks e = need_of e ≤ blocks
+AtMost most e = most_need_of e ≤ most
 
 least_create : (id : ℕ) → AtMost 2 (entries.Create id)
-least_create id = let same : need_of (entries.Create id) ≡ 2 = ap (λ l. content_blocks l + 1) (sym (length-create id)) in omega (arith, same)
+least_create id = let same : most_need_of (entries.Create id) ≡ 2 = ap (λ l. content_blocks l + 1) (sym (length-create id)) in omega (arith, same)
 
 least_define : (id : ℕ) (s : Spec) → AtMost 2 (entries.Define id s)
 least_define id s =
@@ -61,12 +62,12 @@ least_define id s =
 least_insert : (stream : ℕ) (added : List Point) → AtMost (blocks_of_points (length added)) (entries.Commit stream [] added)
 least_insert stream added = let same = need_of_commit stream [] added in omega (arith, same)
 
-on_delete : (stream : ℕ) (from to : ℤ) → Asked (AtMost 2) (delete stream from to)
+on_delete : (stream : ℕ) (from to : ℤ) → Asked (AtMost (2 + most_nodes 0 1)) (delete stream from to)
 on_delete stream from to =
     let cut : List RangeValue = record { from = from; to = to } ∷ [] in
     let e = entries.Commit stream cut [] in
-    elim (is_range from to) as (λ t. Asked (AtMost 2) (cond t (Commits e) (Refuses reasons.Range))) [
-      | true ↦ let same : need_of e ≡ 2 = need_of_commit stream cut [] in omega (arith, same)
+    elim (is_range from to) as (λ t. Asked (AtMost (2 + most_nodes 0 1)) (cond t (Commits e) (Refuses reasons.Range))) [
+      | true ↦ let same : most_need_of e ≡ 2 + most_nodes 0 1 = need_of_commit stream cut [] in omega (arith, same)
       | false ↦ tt
     ]
 
@@ -75,10 +76,10 @@ on_other P h None asked each = each None
 on_other P h (Some id) asked each = on_found P (stream_of h id) (λ stream. asked (Some stream)) (λ stream. each (Some stream))
 
 module _ (batch : ℕ) (low p : List Entry) (e : Entry) where
-  asked_least : (line : Option Line) (blocks : ℕ) → IsAskedSince batch low p e line → ((h : List Entry) → Asked (AtMost blocks) (meaning batch h none_waiting line)) → need_of e ≤ blocks
+  asked_least : (line : Option Line) (blocks : ℕ) → IsAskedSince batch low p e line → ((h : List Entry) → Asked (AtMost blocks) (meaning batch h none_waiting line)) → most_need_of e ≤ blocks
   asked_least line blocks is each = entry_is (AtMost blocks) (meaning batch is.at none_waiting line) e (sym is.asked) (each is.at)
 
-  line_least : (line : Option Line) → IsNoRefresh line → IsOfLine batch low p e line → need_of e ≤ most_blocks line
+  line_least : (line : Option Line) → IsNoRefresh line → IsOfLine batch low p e line → most_need_of e ≤ most_blocks line
   line_least None plain is = asked_least None 0 is (λ h. tt)
   line_least (Some (lines.Create id)) plain is = asked_least (Some (lines.Create id)) 2 is (λ h. least_create id)
   line_least (Some (lines.Insert id added)) plain is =
@@ -86,8 +87,8 @@ module _ (batch : ℕ) (low p : List Entry) (e : Entry) where
       asked_least (Some (lines.Insert id added)) most is
       (λ h. on_found (AtMost most) (stream_of h id) (λ stream. Commits (entries.Commit stream [] added)) (λ stream. least_insert stream added))
   line_least (Some (lines.Delete id from to)) plain is =
-      asked_least (Some (lines.Delete id from to)) 2 is
-      (λ h. on_found (AtMost 2) (stream_of h id) (λ stream. delete stream from to) (λ stream. on_delete stream from to))
+      asked_least (Some (lines.Delete id from to)) (2 + most_nodes 0 1) is
+      (λ h. on_found (AtMost (2 + most_nodes 0 1)) (stream_of h id) (λ stream. delete stream from to) (λ stream. on_delete stream from to))
   line_least (Some (lines.Feed id added)) plain is = absurd is
   line_least (Some (lines.Flush id)) plain is = absurd is
   line_least (Some (lines.Discard id)) plain is =
@@ -226,11 +227,11 @@ module _ (script : List ScriptLine) where
       let whole : blocks_of_points (length (points_fed script (place ∷ next ∷ places))) ≡ blocks_of_points (length (fed_by (slice_get script place)) + length (points_fed script (next ∷ places))) = ap blocks_of_points long in
       omega (arith, here, rest, sum, whole)
 
-  feeds_least : (p : List Entry) (e : Entry) (places : List ℕ) → rejection p e ≡ None → CommitsFeeds script p e places → need_of e ≤ total at places
+  feeds_least : (p : List Entry) (e : Entry) (places : List ℕ) → rejection p e ≡ None → CommitsFeeds script p e places → most_need_of e ≤ total at places
   feeds_least p e [] accepted is = absurd (not_empty p is.stream (sym (ap (rejection p) is.commits) ∙ accepted))
   feeds_least p e (place ∷ places) accepted is =
       let points : List Point = points_fed script (place ∷ places) in
-      let same : need_of e ≡ need_of (entries.Commit is.stream [] (sort points)) = ap need_of is.commits in
+      let same : most_need_of e ≡ most_need_of (entries.Commit is.stream [] (sort points)) = ap most_need_of is.commits in
       let need = least_insert is.stream (sort points) in
       let long : blocks_of_points (length (sort points)) ≡ blocks_of_points (length points) = ap blocks_of_points (length-sort points) in
       let least = feeds_cost p is.lane is.stream place places is.are in
@@ -245,21 +246,21 @@ module _ (script : List ScriptLine) where
   plain_at (l ∷ ls) (suc k) line plain is = plain_at ls k line plain.1 is
 
   module _ (batch : ℕ) (plain : AllByRecursion (λ (line : ScriptLine). IsNoRefresh line.line) script) (low h : List Entry) (follows : Follows h) where
-    place_least : (p : List Entry) (e : Entry) (place : ℕ) (o : Option ScriptLine) → slice_get script place ≡ o → IsAtPlace batch low p e o → need_of e ≤ most_of o
+    place_least : (p : List Entry) (e : Entry) (place : ℕ) (o : Option ScriptLine) → slice_get script place ≡ o → IsAtPlace batch low p e o → most_need_of e ≤ most_of o
     place_least p e place None at_place is = absurd is
     place_least p e place (Some line) at_place is = line_least batch low p e line.line (plain_at script place line plain at_place) is
 
-    purpose_least : (p : List Entry) (e : Entry) (purpose : Purpose) → rejection p e ≡ None → IsFor batch 0 script low p e purpose → need_of e ≤ cost purpose
+    purpose_least : (p : List Entry) (e : Entry) (purpose : Purpose) → rejection p e ≡ None → IsFor batch 0 script low p e purpose → most_need_of e ≤ cost purpose
     purpose_least p e (OfLine place) accepted is = place_least p e place (slice_get script place) refl is
     purpose_least p e (OfFeeds places) accepted is = feeds_least p e places accepted is
     purpose_least p e (OfRound round output) accepted is = let none = is.0 in absurd (omega (arith, none))
 
-    service_least : (s : Service) → IsServed batch 0 script low h s → at_number need_of h s.number ≤ cost s.purpose
+    service_least : (s : Service) → IsServed batch 0 script low h s → at_number most_need_of h s.number ≤ cost s.purpose
     service_least s is =
         let part : List Entry = is.before ++ is.entry ∷ [] in
         let accepted = follows-last is.before is.entry (follows-prefix part is.there.0 (subst Follows is.there.1 follows)) in
         let whole : h ≡ is.before ++ is.entry ∷ is.there.0 = is.there.1 ∙ append_assoc is.before (is.entry ∷ []) is.there.0 in
-        let there : at_number need_of h s.number ≡ need_of is.entry = ap (λ l. at_number need_of l s.number) whole ∙ at_there need_of is.before is.there.0 is.entry s.number is.same_number in
+        let there : at_number most_need_of h s.number ≡ most_need_of is.entry = ap (λ l. at_number most_need_of l s.number) whole ∙ at_there most_need_of is.before is.there.0 is.entry s.number is.same_number in
         let least = purpose_least is.before is.entry s.purpose accepted is.is_for in
         omega (arith, there, least)
 
@@ -320,11 +321,11 @@ script_fits batch store script plain fits h serves =
     let low = store.history in
     let since = serves.begins.0 in
     let numbers = numbers_of serves.services in
-    let added = entries_sum need_of h low since 0 numbers serves.begins.1 (λ n.
+    let added = entries_sum most_need_of h low since 0 numbers serves.begins.1 (λ n.
     numbers_counted n serves.services ∙ serves.each n ∙ ap (λ m. given (length low) m n) (let e : length h ≡ length h + 0 = omega arith in e)) in
-    let least = each_least (IsServed batch 0 script low h) (at_number need_of h) (λ (s : Service). cost script s.purpose) serves.services (service_least script batch plain low h serves.follows) serves.are in
+    let least = each_least (IsServed batch 0 script low h) (at_number most_need_of h) (λ (s : Service). cost script s.purpose) serves.services (service_least script batch plain low h serves.follows) serves.are in
     let costs = all_cost script serves.services in
     let most = places_least script (all_places script serves.services) (λ k. let a = all_lines script k serves.services in let b = serves.lines_once k in omega (arith, a, b)) in
-    let whole : blocks.needs_of h ≡ total need_of low + total need_of since = needs_total h ∙ ap (total need_of) serves.begins.1 ∙ total_append need_of low since in
-    let part = needs_total low in
-    omega (arith, added, least, costs, most, whole, part, fits)
+    let whole : blocks.needs_of h ≡ blocks.needs_of low + blocks.needs_after low since = ap (λ l. blocks.needs_of l) serves.begins.1 ∙ needs-append low since in
+    let needed = needs_least low since in
+    omega (arith, added, least, costs, most, whole, needed, fits)

@@ -6,16 +6,15 @@ use Rattle.std.proofs.lemmas.Bool.{cases_lt, le-leb, lt-leb}
 use Rattle.btr_hist.specs.declared.entry.Entry.{Entry}
 use Rattle.btr_hist.specs.Legal.{rejection, Follows}
 use Rattle.btr_hist.proofs.HistoryLemmas.{follows-prefix, follows-push}
-use Rattle.btr_engine.specs.Body.{need_of}
+use Rattle.btr_engine.specs.Body.{needs_of}
+use Rattle.btr_engine.proofs.NeedLemmas.{needs-push}
 use Rattle.btr_gate.specs.Numbers.{one, total, given}
 use Rattle.btr_gate.specs.Prefixes.{StartsWith}
 use Rattle.btr_gate.proofs.NumberLemmas.{given_inside, given_below, given_above, given_more, one_other}
 use Rattle.btr_gate.proofs.PrefixLemmas.{starts_refl, starts_trans, starts_length, starts_between, starts_more}
-use Rattle.btr_hall.specs.Commit.{needs_of}
 use Rattle.btr_jobs.specs.States.{StoreState}
 use Rattle.btr_jobs.specs.Turns.{IsFull}
 use Rattle.btr_load.proofs.TotalLemmas.{total_append}
-use Rattle.btr_load.proofs.FitLemmas.{needs_total}
 use Rattle.btr_text.specs.declared.script.ScriptLine.{ScriptLine}
 use Rattle.btr_top.specs.Room.{Purpose, has_line, has_landing, IsFor, Service, IsServed, ServesScript, HasRoomForHistories}
 
@@ -193,9 +192,8 @@ module _ (batch rounds : ℕ) (script : List ScriptLine) (low : List Entry) wher
     never_full start p e purpose need left begins room is full =
         let serves : ServesScript batch rounds script start.history (p ++ e ∷ []) = subst (λ (l : List Entry). ServesScript batch rounds script l (p ++ e ∷ [])) begins (serves_next p e purpose is) in
         let fits : needs_of (p ++ e ∷ []) ≤ start.left + needs_of start.history = room (p ++ e ∷ []) serves in
-        let whole = needs_total (p ++ e ∷ []) ∙ total_append need_of p (e ∷ []) in
-        let part = needs_total p in
+        let whole = needs-push p e in
         let needed = full.need in
         let was = full.left in
         let short = full.short in
-        omega (arith, fits, whole, part, needed, was, short)
+        omega (arith, fits, whole, needed, was, short)

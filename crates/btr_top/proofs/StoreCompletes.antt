@@ -9,7 +9,6 @@ use Rattle.btr_super.proofs.ChoiceLemmas.{one_chosen}
 use Rattle.btr_log.specs.Extents.{left, first_gate}
 use Rattle.btr_log.proofs.ExtentLemmas.{Extents-one}
 use Rattle.btr_hist.specs.declared.entry.Entry.{Entry}
-use Rattle.btr_engine.specs.Body.{bodies}
 use Rattle.btr_engine.specs.Holds.{HoldsHistory, HoldsHistoryTo}
 use Rattle.btr_open.specs.Laws.{HeldIsSound, OneHistoryIsHeld}
 use Rattle.btr_jobs.specs.States.{StoreState, LogState}
@@ -38,7 +37,7 @@ module _ {D : Type 0} (disk : Ghosts D) (old new : D) (history : List Entry) (bl
       let image = disk.contents old in
       let supers : is.holds.super ≡ holds.super = one_chosen size image is.holds.super holds.super is.holds.chosen holds.chosen in
       let sizes : is.blocks ≡ blocks = sym is.holds.same_blocks ∙ ap (λ (s : Super). s.blocks) supers ∙ holds.same_blocks in
-      let tails : is.tail ≡ tail = (Extents-one image first_gate (bodies first.history) (bodies history) is.tail tail is.holds.extents is.holds.closed holds.extents holds.closed).1 in
+      let tails : is.tail ≡ tail = (Extents-one image first_gate is.holds.bodies holds.bodies is.tail tail is.holds.extents is.holds.closed holds.extents holds.closed).1 in
       is.same_left ∙ ap (λ b. left b is.tail) sizes ∙ ap (λ t. left blocks t) tails
 
   -- The store that the device holds.
@@ -76,4 +75,4 @@ module _ {D : Type 0} (disk : Ghosts D) (old new : D) (history : List Entry) (bl
   plain_work What benign Occupied why = absurd why.0
   plain_work What benign (TooSmall asked has) why = absurd why.0
   plain_work What benign (Formatted made) why = absurd why.0
-  plain_work What benign (Replied transcript) why = benign_code transcript.status (benign transcript why)
+  plain_work What benign (Replied transcript) why = benign_code transcript.status (benign transcript (why.rightly told history held))

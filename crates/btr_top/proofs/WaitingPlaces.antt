@@ -1,7 +1,7 @@
 -- The points that wait in a lane are those of `feed` lines, which are in no entry yet: a list of them with the lane's feeds, as it changes
 -- line by line.
-use Rattle.std.specs.Prelude.{◌≡◌, ◌≢◌, ℕ, ◌+◌, ◌==◌, Bool, true, false, nat_eq, List, [], ◌∷◌, ◌++◌, cond, slice_get, Some}
-use Rattle.std.specs.List.{AllByRecursion, position_from}
+use Rattle.std.specs.Prelude.{◌≡◌, ◌≢◌, ℕ, ◌+◌, ◌==◌, true, false, List, [], ◌∷◌, ◌++◌, cond, slice_get}
+use Rattle.std.specs.List.{AllByRecursion}
 use Rattle.std.proofs.Common.{refl, sym, ap, ◌∙◌, subst, arith, inl, inr, append-nil}
 use Rattle.std.proofs.lemmas.Bool.{cases_eq, eq-eqb, eqb-true, ne_eqb}
 use Rattle.std.proofs.lemmas.Grind.{flat_map-append}
@@ -9,37 +9,13 @@ use Rattle.btr_base.specs.declared.point.Point.{Point}
 use Rattle.btr_base.specs.Bag.{sort}
 use Rattle.btr_base.proofs.PointLemmas.{sort-sort_left}
 use Rattle.btr_hist.specs.declared.entry.Entry.{Entry}
-use Rattle.btr_hist.specs.History.{ids, stream_of}
-use Rattle.btr_hist.proofs.HistoryLemmas.{ids-append}
 use Rattle.btr_gate.specs.Numbers.{one, times, total}
 use Rattle.btr_gate.specs.Prefixes.{StartsWith}
 use Rattle.btr_text.specs.declared.script.ScriptLine.{ScriptLine}
 use Rattle.btr_live.specs.Feeds.{Waiting, with_points}
+use Rattle.btr_live.proofs.StreamLemmas.{stream_of-longer}
+use Rattle.btr_live.proofs.WaitingLemmas.{at_stream, at_other}
 use Rattle.btr_top.specs.Room.{fed_by, points_fed, IsFeedOf}
-
--- ---- streams of longer histories
-
-position-append : (f : ℕ → Bool) (i : ℕ) (xs ys : List ℕ) (n : ℕ) → position_from f i xs ≡ Some n → position_from f i (xs ++ ys) ≡ Some n
-position-append f i [] ys n is = absurd (cc)
-position-append f i (x ∷ xs) ys n is =
-    elim (f x) as (λ t. cond t (Some i) (position_from f (i + 1) xs) ≡ Some n → cond t (Some i) (position_from f (i + 1) (xs ++ ys)) ≡ Some n) [
-      | true ↦ λ e. e
-      | false ↦ λ e. position-append f (i + 1) xs ys n e
-    ] is
-
-pub stream_of-longer : (a h : List Entry) (id stream : ℕ) → StartsWith a h → stream_of h id ≡ Some stream → stream_of a id ≡ Some stream
-stream_of-longer a h id stream starts is =
-    ap (λ (l : List Entry). stream_of l id) starts.1
-    ∙ ap (λ (l : List ℕ). position_from (nat_eq id) 0 l) (ids-append h starts.0)
-    ∙ position-append (nat_eq id) 0 (ids h) (ids starts.0) stream is
-
--- ---- points that wait
-
-at_stream : (stream : ℕ) (points : List Point) (w : Waiting) → with_points stream points w stream ≡ points
-at_stream stream points w = ap (λ t. cond t points (w stream)) (eq-eqb stream stream refl)
-
-at_other : (stream other : ℕ) (points : List Point) (w : Waiting) → other ≢ stream → with_points stream points w other ≡ w other
-at_other stream other points w ne = ap (λ t. cond t points (w other)) (ne_eqb other stream ne)
 
 -- ---- places that wait
 

@@ -55,26 +55,26 @@ module _ {S D : Type 0} (source : SourceGhosts S) (disk : Ghosts D) (workers bat
   not_too_long : ExceedsInputLimit source given rest → ⊥
   not_too_long exceeds = omega (arith, exceeds source_told, can.0)
 
-  benign_loaded : (rows : RowListValue) → rows ≡ list_of (rows_of (source.left given)) → (transcript : Transcript) → DoesRightly disk (λ start log own. LoadsStore start log rows batch workers (Ok transcript) own) old new → IsBenign transcript.status
-  benign_loaded rows all transcript does =
+  benign_loaded : (rows : RowListValue) → rows ≡ list_of (rows_of (source.left given)) → AreDistinct rows.streams → (transcript : Transcript) → DoesRightly disk (λ start log own. LoadsStore start log rows batch workers (Ok transcript) own) old new → IsBenign transcript.status
+  benign_loaded rows all distinct transcript does =
       let What : StoreState → LogState → List ℕ → Type 0 = λ start log own. LoadsStore start log rows batch workers (Ok transcript) own in
       let store = opened disk old new can.1.history can.1.blocks can.1.tail can.1.holds sound one told device_works in
       let same = began disk old new can.1.history can.1.blocks can.1.tail can.1.holds sound one told device_works What does in
       let room : HasRoomForRows does.first rows batch =
       subst (λ (s : StoreState). HasRoomForRows s rows batch) (sym same)
       (subst (λ (rs : RowListValue). HasRoomForRows store rs batch) (sym all) can.1.room) in
-      does.what.completes room (no_failure disk old new can.1.history can.1.blocks can.1.tail can.1.holds sound one told device_works What does)
+      does.what.completes distinct room (no_failure disk old new can.1.history can.1.blocks can.1.tail can.1.holds sound one told device_works What does)
 
-  benign_rows : (input : List ℕ) → HasRead source input given rest → (e : Ending) → RowsCause disk workers batch (list_of (rows_of input)) old new e → IsPlainStatus (status_of e)
-  benign_rows input read e why =
+  benign_rows : (input : List ℕ) → HasRead source input given rest → AreDistinct (list_of (rows_of input)).streams → (e : Ending) → RowsCause disk workers batch (list_of (rows_of input)) old new e → IsPlainStatus (status_of e)
+  benign_rows input read distinct e why =
       let rows : RowListValue = list_of (rows_of input) in
       let all : rows ≡ list_of (rows_of (source.left given)) = ap (λ (i : List ℕ). list_of (rows_of i)) (read.all source_told) in
       plain_work disk old new can.1.history can.1.blocks can.1.tail can.1.holds sound one told device_works
-      (λ said start log own. LoadsStore start log rows batch workers said own) (benign_loaded rows all) e why
+      (λ said start log own. LoadsStore start log rows batch workers said own) (benign_loaded rows all distinct) e why
 
   pub benign_load : (e : Ending) → LoadCause source disk workers batch given rest old new e → IsPlainStatus (status_of e)
   benign_load e why =
       ⊎_elim
       (λ unread. benign_input source given rest source_works (λ exceeds. not_too_long exceeds) e unread.0)
-      (λ (read : (input : List ℕ) × HasRead source input given rest × (AreDistinct (list_of (rows_of input)).streams × RowsCause disk workers batch (list_of (rows_of input)) old new e)). benign_rows read.0 read.1 e read.2.1)
+      (λ (read : (input : List ℕ) × HasRead source input given rest × (AreDistinct (list_of (rows_of input)).streams × RowsCause disk workers batch (list_of (rows_of input)) old new e)). benign_rows read.0 read.1 read.2.0 e read.2.1)
       why

@@ -3,7 +3,6 @@ use Rattle.std.specs.Prelude.{◌⊎◌, ℕ, List, Result, Ok, Err}
 use Rattle.std.specs.declared.alloc.AllocError.{AllocError}
 use Rattle.btr_io.specs.declared.source.Source.{Ghosts as SourceGhosts}
 use Rattle.btr_disk.specs.declared.disk.Disk.{Ghosts}
-use Rattle.btr_log.specs.Extents.{left}
 use Rattle.btr_rows.specs.Rows.{rows_of}
 use Rattle.btr_rows.specs.Streams.{RowListValue, list_of}
 use Rattle.btr_load.specs.There.{AreDistinct}

@@ -1,12 +1,17 @@
 -- What was answered from the engine was answered from the device that the engine was opened on.
-use Rattle.std.proofs.Common.{refl}
+use Rattle.std.proofs.Common.{sym, subst}
+use Rattle.btr_top.specs.declared.ending.Ending.{Ending}
+use Rattle.btr_top.specs.Ask.{QuestionsCause}
 use Rattle.btr_top.proofs.AskedLines.{ended_answered, ended_unanswered}
 use Rattle.btr_top.proofs.ask.ask_opened.Goals as goal
+use Rattle.btr_top.proofs.ask.ask_opened.Goals.{in-Ok, in-Err}
 
-pub returns-in-Ok-clause-cause : goal.returns-in-Ok-clause-cause
-returns-in-Ok-clause-cause g c = λ old opened.
-    ended_answered g.D.Disk old c.args.engine opened c.args.lines.items c.in-Ok.transcript c.into_disk-disk.result _ refl c.into_disk-disk.ensures c.in-Ok.ensures
-
-pub returns-in-Err-clause-cause : goal.returns-in-Err-clause-cause
-returns-in-Err-clause-cause g c = λ old opened.
-    ended_unanswered g.D.Disk old c.args.engine opened c.args.lines.items c.into_disk-disk.result _ refl c.into_disk-disk.ensures
+pub returns-clause-cause : goal.returns-clause-cause
+returns-clause-cause g c =
+    elim c.match-answered.branch [
+      | in-Ok w ↦ λ old opened.
+          subst (λ (e : Ending). QuestionsCause g.D.Disk c.args.lines.items old c.into_disk-disk.result e) (sym w.ending-is)
+          (ended_answered g.D.Disk old c.args.engine opened c.args.lines.items w.in-Ok.transcript c.into_disk-disk.result w.ending_of_replies-ending.result w.ending_of_replies-ending.ensures c.into_disk-disk.ensures w.in-Ok.ensures)
+      | in-Err w ↦ λ old opened.
+          ended_unanswered g.D.Disk old c.args.engine opened c.args.lines.items c.into_disk-disk.result c.match-answered.ending w.ending-is c.into_disk-disk.ensures
+    ]

@@ -6,4 +6,4 @@ use Rattle.btr_top.proofs.load.load_rows.Goals as goal
 pub returns-in-Ok-clause-cause : goal.returns-in-Ok-clause-cause
 returns-in-Ok-clause-cause g c =
     work_cause g.D.Disk (λ said start log own. LoadsStore start log c.args.rows c.args.batch c.args.workers said own) c.in-Ok.worked.said c.args.disk c.in-Ok.worked.disk c.work_result.result.disk c.work_result.result.ending
-    c.work_result.ensures.ending c.work_result.ensures.disk c.in-Ok.ensures.done
+    c.work_result.ensures.ending c.work_result.ensures.disk c.in-Ok.ensures.plain c.in-Ok.ensures.done

@@ -6,4 +6,4 @@ use Rattle.btr_top.proofs.sample.run_sample.Goals as goal
 pub returns-in-Ok-clause-cause : goal.returns-in-Ok-clause-cause
 returns-in-Ok-clause-cause g c =
     work_cause g.D.Disk (λ said start log own. SamplesStore c.args.number c.args.streams c.args.points start log said own) c.in-Ok.worked.said c.args.disk c.in-Ok.worked.disk c.work_result.result.disk c.work_result.result.ending
-    c.work_result.ensures.ending c.work_result.ensures.disk c.in-Ok.ensures.done
+    c.work_result.ensures.ending c.work_result.ensures.disk c.in-Ok.ensures.plain c.in-Ok.ensures.done

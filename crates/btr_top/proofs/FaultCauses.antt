@@ -1,0 +1,156 @@
+-- A run ends with status 5 only if a call of the device failed.
+use Rattle.std.specs.Prelude.{◌≡◌, ℕ, List, Option, Some, None}
+use Rattle.std.proofs.Common.{refl, sym, ◌∙◌, ap, arith, ⊎_elim}
+use Rattle.btr_io.specs.declared.source.Source.{Ghosts as SourceGhosts}
+use Rattle.btr_io.specs.declared.sink.Sink.{Ghosts as SinkGhosts}
+use Rattle.btr_disk.specs.declared.disk.Disk.{Ghosts}
+use Rattle.btr_disk.specs.Causes.{Rose}
+use Rattle.btr_words.specs.declared.command.Command.{Command}
+use Rattle.btr_words.specs.declared.command.Command.TheVariants.{Format, Load, Ask, Distil, Live, Sample}
+use Rattle.btr_rows.specs.Rows.{rows_of}
+use Rattle.btr_rows.specs.Streams.{list_of}
+use Rattle.btr_text.specs.Input.{questions_of, script_of}
+use Rattle.btr_text.specs.declared.script.ScriptLine.{ScriptLine}
+use Rattle.btr_load.specs.There.{AreDistinct}
+use Rattle.btr_store.specs.declared.status.Status.{Status}
+use Rattle.btr_store.specs.declared.status.Status.TheVariants as statuses
+use Rattle.btr_store.specs.Status.{code_of}
+use Rattle.btr_store.specs.Load.{LoadsStore}
+use Rattle.btr_store.specs.Live.{LivesStore}
+use Rattle.btr_store.specs.Distil.{DistilsStore}
+use Rattle.btr_store.specs.SampleLaw.{SamplesStore}
+use Rattle.btr_top.specs.declared.ending.Ending.{Ending}
+use Rattle.btr_top.specs.declared.ending.Ending.TheVariants.{Usage, NoSource, TooLong, OutOfMemory, NoDevice, NoStore, Damaged, Occupied, TooSmall, Formatted, Replied}
+use Rattle.btr_top.specs.Ending.{status_of, text_of, Writes, Shows}
+use Rattle.btr_top.specs.Command.{InputCause, CommandCause}
+use Rattle.btr_top.specs.Format.{FormatCause}
+use Rattle.btr_top.specs.Work.{WorkSays, WorkCause, RowsCause}
+use Rattle.btr_top.specs.Ask.{QuestionsCause}
+use Rattle.btr_top.specs.Live.{ScriptCause}
+use Rattle.btr_top.specs.Run.{Cause, RunCause}
+
+-- ---- statuses
+
+fault_of_code : (s : Status) → code_of s ≡ 5 → s ≡ statuses.DeviceFault
+fault_of_code statuses.Done five = absurd (omega (arith, five))
+fault_of_code statuses.Refused five = absurd (omega (arith, five))
+fault_of_code statuses.Full five = absurd (omega (arith, five))
+fault_of_code statuses.OutOfMemory five = absurd (omega (arith, five))
+fault_of_code statuses.DeviceFault five = refl
+
+module _ {K : Type 0} (sink : SinkGhosts K) (before after : K) where
+  written_five : (text : List ℕ) (wanted status : ℕ) → Writes sink text wanted before after status → status ≡ 5 → wanted ≡ 5
+  written_five text wanted status writes five =
+      ⊎_elim
+      (λ all. sym all.same_status ∙ five)
+      (λ failed. absurd (four status failed.same_status five))
+      writes
+    where
+      four : (n : ℕ) → n ≡ 4 → n ≡ 5 → ⊥
+      four n is five = omega (arith, is, five)
+
+  -- The status of the run is that of its ending, if it is 5.
+  shown_five : (e : Ending) (status : ℕ) → Shows sink e before after status → status ≡ 5 → status_of e ≡ 5
+  shown_five e status shows five =
+      ⊎_elim
+      (λ writes. written_five (text_of e) (status_of e) status writes five)
+      (λ short. let is = written_five (text_of OutOfMemory) 9 status short.1 five in absurd (omega (arith, is)))
+      shows
+
+-- ---- endings
+
+module _ {D : Type 0} (disk : Ghosts D) (old new : D) where
+  abbrev Failed : Type 0
+  Failed = Rose (disk.faults old) (disk.faults new)
+
+  work_fault : (What : WorkSays) (e : Ending) → WorkCause disk What old new e → status_of e ≡ 5 → Failed
+  work_fault What Usage why five = absurd why.0
+  work_fault What NoSource why five = absurd why.0
+  work_fault What TooLong why five = absurd why.0
+  work_fault What OutOfMemory why five = absurd (omega (arith, five))
+  work_fault What NoDevice why five = why.0
+  work_fault What NoStore why five = absurd (omega (arith, five))
+  work_fault What (Damaged block) why five = absurd (omega (arith, five))
+  work_fault What Occupied why five = absurd why.0
+  work_fault What (TooSmall asked has) why five = absurd why.0
+  work_fault What (Formatted made) why five = absurd why.0
+  work_fault What (Replied transcript) why five = why.plain.faulted (fault_of_code transcript.status five)
+
+  asked_fault : (lines : List ScriptLine) (e : Ending) → QuestionsCause disk lines old new e → status_of e ≡ 5 → Failed
+  asked_fault lines Usage why five = absurd why.0
+  asked_fault lines NoSource why five = absurd why.0
+  asked_fault lines TooLong why five = absurd why.0
+  asked_fault lines OutOfMemory why five = absurd (omega (arith, five))
+  asked_fault lines NoDevice why five = why.0
+  asked_fault lines NoStore why five = absurd (omega (arith, five))
+  asked_fault lines (Damaged block) why five = absurd (omega (arith, five))
+  asked_fault lines Occupied why five = absurd why.0
+  asked_fault lines (TooSmall asked has) why five = absurd why.0
+  asked_fault lines (Formatted made) why five = absurd why.0
+  asked_fault lines (Replied transcript) why five = why.plain.faulted (fault_of_code transcript.status five)
+
+  format_fault : (blocks : ℕ) (e : Ending) → FormatCause disk blocks old new e → status_of e ≡ 5 → Failed
+  format_fault blocks Usage why five = absurd why
+  format_fault blocks NoSource why five = absurd why
+  format_fault blocks TooLong why five = absurd why
+  format_fault blocks OutOfMemory why five = absurd why
+  format_fault blocks NoDevice why five = why.1
+  format_fault blocks NoStore why five = absurd why
+  format_fault blocks (Damaged block) why five = absurd why
+  format_fault blocks Occupied why five = absurd (omega (arith, five))
+  format_fault blocks (TooSmall asked has) why five = absurd (omega (arith, five))
+  format_fault blocks (Formatted made) why five = absurd (omega (arith, five))
+  format_fault blocks (Replied transcript) why five = absurd why
+
+-- An input that was not read is no fault of the device.
+input_five : {S : Type 0} (source : SourceGhosts S) (given rest : S) (e : Ending) → InputCause source given rest e → status_of e ≡ 5 → ⊥
+input_five source given rest Usage why five = why
+input_five source given rest NoSource why five = omega (arith, five)
+input_five source given rest TooLong why five = omega (arith, five)
+input_five source given rest OutOfMemory why five = omega (arith, five)
+input_five source given rest NoDevice why five = why
+input_five source given rest NoStore why five = why
+input_five source given rest (Damaged block) why five = why
+input_five source given rest Occupied why five = why
+input_five source given rest (TooSmall asked has) why five = why
+input_five source given rest (Formatted made) why five = why
+input_five source given rest (Replied transcript) why five = why
+
+-- ---- runs
+
+module _ {S D : Type 0} (source : SourceGhosts S) (disk : Ghosts D) (given rest : S) (old new : D) where
+  read_fault : (cause : List ℕ → D → D → Ending → Type 0) (e : Ending) → ((input : List ℕ) → cause input old new e → status_of e ≡ 5 → Failed disk old new) → CommandCause source cause given rest old new e → status_of e ≡ 5 → Failed disk old new
+  read_fault cause e each why five =
+      ⊎_elim
+      (λ unread. absurd (input_five source given rest e unread.0 five))
+      (λ read. each read.0 read.2 five)
+      why
+
+  cause_fault : (command : Option Command) (e : Ending) → Cause source disk command given rest old new e → status_of e ≡ 5 → Failed disk old new
+  cause_fault None e why five = let two : status_of e ≡ 2 = ap status_of why.0 in absurd (omega (arith, two, five))
+  cause_fault (Some (Format blocks)) e why five = format_fault disk old new blocks e why.1 five
+  cause_fault (Some (Live batch materialize)) e why five =
+      read_fault (λ input. ScriptCause disk batch materialize (script_of input)) e
+      (λ input. work_fault disk old new (λ said start log own. LivesStore batch materialize (script_of input) start log said own) e) why five
+  cause_fault (Some Ask) e why five =
+      read_fault (λ input. QuestionsCause disk (questions_of input)) e (λ input. asked_fault disk old new (questions_of input) e) why five
+  cause_fault (Some (Load workers batch)) e why five =
+      read_fault
+      (λ input was now end. AreDistinct (list_of (rows_of input)).streams × RowsCause disk workers batch (list_of (rows_of input)) was now end) e
+      (λ input cause. work_fault disk old new (λ said start log own. LoadsStore start log (list_of (rows_of input)) batch workers said own) e cause.1)
+      why five
+  cause_fault (Some (Distil workers)) e why five =
+      work_fault disk old new (λ said start log own. DistilsStore start log workers said own) e why.1 five
+  cause_fault (Some (Sample number streams points)) e why five =
+      work_fault disk old new (λ said start log own. SamplesStore number streams points start log said own) e why.1 five
+
+  run_fault : (command : Option Command) (e : Ending) → RunCause source disk command given rest old new e → status_of e ≡ 5 → Failed disk old new
+  run_fault command e why five =
+      ⊎_elim
+      (λ cause. cause_fault command e cause five)
+      (λ lacks. let nine : status_of e ≡ 9 = ap status_of lacks.0 in absurd (omega (arith, nine, five)))
+      why
+
+  -- The status that was shown is 5 only if the count of faults of the device rose.
+  pub fault_shown : {K : Type 0} (sink : SinkGhosts K) (before after : K) (command : Option Command) (e : Ending) (status : ℕ) → RunCause source disk command given rest old new e → Shows sink e before after status → status ≡ 5 → Rose (disk.faults old) (disk.faults new)
+  fault_shown sink before after command e status why shows five = run_fault command e why (shown_five sink before after e status shows five)
