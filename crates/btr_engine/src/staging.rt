@@ -33,6 +33,9 @@ struct StageWalk;
 
 impl Label for StageWalk {}
 
+/// The block that the first node of each commit is for, as long as nodes are not on the device.
+const FIRST_NODE: u64 = 4;
+
 impl Board {
     /// Makes the next board, with an entry more, if the entry may follow. This board stays as it is.
     ///
@@ -464,7 +467,8 @@ fn next_tree(
         unreachable!()
     };
     let mut steps = Steps::<StageWalk>::new();
-    match last.apply(alloc, cut, added, latest as u64 + 1, &mut steps) {
+    // Nodes are not on the device yet: what is told of them, with their blocks, is dropped.
+    match last.apply(alloc, cut, added, latest as u64 + 1, FIRST_NODE, &mut steps) {
         Ok(applied) => Ok(applied.tree),
         Err(fault) => Err(push_fault(fault)),
     }

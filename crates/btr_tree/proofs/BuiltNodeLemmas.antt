@@ -22,13 +22,13 @@ use Rattle.btr_tree.specs.Change.{IsFresh, IsLeafOf, IsInnerOf}
 
 -- What holds of a kind holds in a weaker form.
 pub by_kind-weaker : (P R : ℕ → List Point → Type 0) (Q S : ℕ → Slots → Type 0) (n : NodeData-F NodeData Link Kept Slots) → ((v : ℕ) (ps : List Point) → P v ps → R v ps) → ((v : ℕ) (x : Slots) → Q v x → S v x) → ByKind P Q n → ByKind R S n
-by_kind-weaker P R Q S (NodeData-F.Leaf version points) f g h = f version points.items h
-by_kind-weaker P R Q S (NodeData-F.Inner version slots) f g h = g version slots h
+by_kind-weaker P R Q S (NodeData-F.Leaf block version points) f g h = f version points.items h
+by_kind-weaker P R Q S (NodeData-F.Inner block version slots) f g h = g version slots h
 
 -- What follows from a fact of either kind.
 pub by_kind-gives : (P : ℕ → List Point → Type 0) (Q : ℕ → Slots → Type 0) (R : Type 0) (n : NodeData-F NodeData Link Kept Slots) → ((v : ℕ) (ps : List Point) → P v ps → R) → ((v : ℕ) (x : Slots) → Q v x → R) → ByKind P Q n → R
-by_kind-gives P Q R (NodeData-F.Leaf version points) f g h = f version points.items h
-by_kind-gives P Q R (NodeData-F.Inner version slots) f g h = g version slots h
+by_kind-gives P Q R (NodeData-F.Leaf block version points) f g h = f version points.items h
+by_kind-gives P Q R (NodeData-F.Inner block version slots) f g h = g version slots h
 
 -- A node that a commit touches or makes has its version.
 pub version-fresh : (k : ℕ) (s : ℤ) (above : List Point → Bool) (h : Past) (c : Commit) (v : ℕ) → v ≡ c.version → (touches c k s (bag h) || not (is_node above k s (bag h))) ≡ true → v ≡ node_version above k s (c ▷ h)

@@ -18,7 +18,7 @@ use Rattle.btr_tree.specs.declared.slots.Slots.{Slots, out-Slots}
 use Rattle.btr_tree.specs.declared.node.NodeData.TheViews.{roll-Slots, out-roll-Slots, roll-Kept, out-roll-Kept}
 use Rattle.std.specs.declared.alloc.Global.{Global}
 use Rattle.btr_tree.specs.Packed.{without_address}
-use Rattle.btr_tree.specs.Slots.{linked, rank, base_of, mask_of, all_kept, kept_in, slot_in, child_in, empty_slot, slot_or_empty, child_or_none, AreSameSlots, IsFilled, IsPut}
+use Rattle.btr_tree.specs.Slots.{linked, rank, base_of, mask_of, all_kept, kept_in, slot_in, child_in, empty_slot, slot_or_empty, child_or_none, AreSameSlots, IsFilled, IsPut, block_of, addressed}
 
 -- ---- a bit more in a mask
 
@@ -147,6 +147,14 @@ child-none x i e = ap child_or_none e
 pub slot-empty : (x : Slots) (i : ℕ) (a : AggValue) → kept_in x i ≡ None → a ≡ no_points → (let s : Slot = record { agg = a; version = base_of x; child = 0 } in s) ≡ slot_in x i
 slot-empty x i a e none =
     ap (λ b. let s : Slot = record { agg = b; version = base_of x; child = 0 } in s) none ∙ sym (slot-none x i e)
+
+slot-by : (a b : AggValue) (v w m n : ℕ) → a ≡ b → v ≡ w → m ≡ n → (let s : Slot = record { agg = a; version = v; child = m } in s) ≡ record { agg = b; version = w; child = n }
+slot-by a b v w m n p q r = cc
+
+pub addressed-by : (x : Slots) (i : ℕ) (a : AggValue) (v m : ℕ) → a ≡ (slot_in x i).agg → v ≡ (slot_in x i).version → m ≡ block_of (child_in x i) → (let s : Slot = record { agg = a; version = v; child = m } in s) ≡ addressed x i
+unfolding addressed
+addressed-by x i a v m p q r =
+    slot-by a (slot_in x i).agg v (slot_in x i).version m (block_of (child_in x i)) p q r
 
 -- ---- what a look at a slot finds
 

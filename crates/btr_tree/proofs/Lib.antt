@@ -2,11 +2,13 @@ pub mod AppliedNodeLemmas
 pub mod BuiltNodeLemmas
 pub mod CrowdLemmas
 pub mod CutLemmas
+pub mod LeadsLemmas
 pub mod NewNodeCountLemmas
 pub mod KeptSlotLemmas
 pub mod NewNodeLemmas
 pub mod NodeLemmas
 pub mod RootLemmas
 pub mod SlotSplitLemmas
+pub mod StoredLemmas
 pub mod UntouchedNodeLemmas
 pub mod VersionLemmas

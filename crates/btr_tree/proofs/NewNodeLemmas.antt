@@ -1,8 +1,8 @@
 -- Lemmas on the nodes that have the version of a commit: those that it writes.
-use Rattle.std.specs.Prelude.{◌≡◌, ℕ, ◌+◌, ◌-◌, ◌<◌, ◌≤◌, min, ℤ, Bool, true, false, not, ◌&&◌, ◌||◌, cond, nat_lt, nat_eq, List, [], ◌∷◌, ◌++◌, length, slice_get, Option, Some, None, Vec}
+use Rattle.std.specs.Prelude.{◌≡◌, ℕ, ◌+◌, ◌-◌, ◌<◌, ◌≤◌, min, ℤ, Bool, true, false, not, ◌&&◌, ◌||◌, cond, nat_lt, nat_eq, List, [], ◌∷◌, ◌++◌, length, map, slice_get, Option, Some, None, Vec}
 use Rattle.std.proofs.Common.{zero, suc, refl, sym, ap, ◌∙◌, arith, subst, append-nil, append_assoc, inl, inr}
 use Rattle.std.proofs.lemmas.Bool.Decides.{nat_tests}
-use Rattle.std.proofs.lemmas.List.{length_push}
+use Rattle.std.proofs.lemmas.List.{length_push, map-append}
 use Rattle.std.proofs.lemmas.Option.{slice_get_past}
 use Rattle.std.specs.declared.alloc.Global.{Global}
 use Rattle.std.proofs.Math.Nat.{eq-or-lt_of_le}
@@ -20,12 +20,13 @@ use Rattle.btr_tree.specs.declared.node.NodeData.TheOpen.{NodeData-F}
 use Rattle.btr_tree.specs.declared.node.NodeData.TheVariants.{Leaf, Inner}
 use Rattle.btr_tree.specs.declared.slots.Kept.{Kept}
 use Rattle.btr_tree.specs.declared.slots.Slots.{Slots}
-use Rattle.btr_tree.specs.Slots.{slot_in, first_slots, AreSameSlots}
+use Rattle.btr_tree.specs.Slots.{slot_in, child_in, block_of, addressed, first_slots, AreSameSlots}
+use Rattle.btr_tree.specs.Packed.{without_address}
 use Rattle.btr_tree.proofs.NodeLemmas.{out-leaf, out-inner}
 use Rattle.btr_tree.proofs.KeptSlotLemmas.{get-front, get-last}
 use Rattle.btr_tree.specs.Shape.{slot_start, slot_of_points, ByKind, HasSlots}
 use Rattle.btr_tree.proofs.UntouchedNodeLemmas.{touches-slot, last_change-kept, some-has, many-inner}
-use Rattle.btr_tree.specs.NewNodes.{NewNodeValue, slots_of_kind, slots_of_node, concat_first, slots_of, new_node, own_node, new_nodes}
+use Rattle.btr_tree.specs.NewNodes.{NewNodeValue, bare, bare_all, slots_of_kind, slots_of_node, concat_first, slots_of, new_node, own_node, new_nodes}
 
 pub last_change-before : (was : List Point → Bool) (k : ℕ) (s : ℤ) (h : Past) (v : ℕ) → 0 < v → IsBefore v h → last_change was k s h < v
 last_change-before was k s (Opened b dates) v some before = before k s
@@ -45,29 +46,34 @@ first-none (suc n) f h =
 
 -- ---- the slots of an inner node
 
-slots-first : (below : ℕ) (s : ℤ) (h : Past) (x : Slots) → HasSlots below s h x → (n : ℕ) → n ≤ 64 → first_slots n x ≡ concat_first n (λ i. slot_of_points (suc below) s below (slot_start below s i) h ∷ [])
+bare-addressed : (x : Slots) (i : ℕ) → without_address (addressed x i) ≡ without_address (slot_in x i)
+unfolding addressed
+bare-addressed x i = refl
+
+slots-first : (below : ℕ) (s : ℤ) (h : Past) (x : Slots) → HasSlots below s h x → (n : ℕ) → n ≤ 64 → map without_address (first_slots n x) ≡ concat_first n (λ i. slot_of_points (suc below) s below (slot_start below s i) h ∷ [])
 unfolding first_slots
 slots-first below s h x holds zero le = refl
 slots-first below s h x holds (suc n) le =
-    ap (λ xs. xs ++ slot_in x n ∷ []) (slots-first below s h x holds n (omega arith))
-    ∙ ap (λ y. concat_first n (λ i. slot_of_points (suc below) s below (slot_start below s i) h ∷ []) ++ y ∷ []) (holds.each n (omega arith))
+    map-append without_address (first_slots n x) (addressed x n ∷ [])
+    ∙ ap (λ xs. xs ++ without_address (addressed x n) ∷ []) (slots-first below s h x holds n (omega arith))
+    ∙ ap (λ y. concat_first n (λ i. slot_of_points (suc below) s below (slot_start below s i) h ∷ []) ++ y ∷ []) (bare-addressed x n ∙ ap without_address (holds.each n (omega arith)))
 
-pub slots-are : (below : ℕ) (s : ℤ) (h : Past) (x : Slots) → HasSlots below s h x → first_slots 64 x ≡ slots_of below s h
+pub slots-are : (below : ℕ) (s : ℤ) (h : Past) (x : Slots) → HasSlots below s h x → map without_address (first_slots 64 x) ≡ slots_of below s h
 slots-are below s h x holds = slots-first below s h x holds 64 (omega arith)
 
 first-length : (n : ℕ) (x : Slots) → length (first_slots n x) ≡ n
 unfolding first_slots
 first-length zero x = refl
-first-length (suc n) x = omega (arith, length_push (first_slots n x) (slot_in x n), first-length n x)
+first-length (suc n) x = omega (arith, length_push (first_slots n x) (addressed x n), first-length n x)
 
-first-get : (n : ℕ) (x : Slots) (i : ℕ) → i < n → slice_get (first_slots n x) i ≡ Some (slot_in x i)
+first-get : (n : ℕ) (x : Slots) (i : ℕ) → i < n → slice_get (first_slots n x) i ≡ Some (addressed x i)
 unfolding first_slots
 first-get zero x i lt = absurd (omega arith)
 first-get (suc n) x i lt =
     let le : i ≤ n = omega arith in
     elim (eq-or-lt_of_le le) [
-      | inl e ↦ get-last (first_slots n x) (slot_in x n) i (e ∙ sym (first-length n x)) ∙ ap (λ j. Some (slot_in x j)) (sym e)
-      | inr less ↦ let long = first-length n x in get-front (first_slots n x) (slot_in x n) i (omega arith) ∙ first-get n x i less
+      | inl e ↦ get-last (first_slots n x) (addressed x n) i (e ∙ sym (first-length n x)) ∙ ap (λ j. Some (addressed x j)) (sym e)
+      | inr less ↦ let long = first-length n x in get-front (first_slots n x) (addressed x n) i (omega arith) ∙ first-get n x i less
     ]
 
 -- The slots of no node, of a leaf and of an inner node.
@@ -75,24 +81,24 @@ pub slots-of_none : slots_of_node None ≡ []
 unfolding slots_of_node
 slots-of_none = refl
 
-pub slots-of_leaf : (n : NodeData) (v : ℕ) (ps : Vec Point Global) → n ≡ Leaf v ps → slots_of_node (Some n) ≡ []
+pub slots-of_leaf : {b : ℕ} (n : NodeData) (v : ℕ) (ps : Vec Point Global) → n ≡ Leaf b v ps → slots_of_node (Some n) ≡ []
 unfolding slots_of_node
 slots-of_leaf n v ps e = ap slots_of_kind (ap out-NodeData e ∙ out-leaf v ps)
 
-pub slots-of_inner : (n : NodeData) (v : ℕ) (x : Slots) → n ≡ Inner v x → slots_of_node (Some n) ≡ first_slots 64 x
+pub slots-of_inner : {b : ℕ} (n : NodeData) (v : ℕ) (x : Slots) → n ≡ Inner b v x → slots_of_node (Some n) ≡ first_slots 64 x
 unfolding slots_of_node
 slots-of_inner n v x e = ap slots_of_kind (ap out-NodeData e ∙ out-inner v x)
 
-pub length-of_inner : (n : NodeData) (v : ℕ) (x : Slots) → n ≡ Inner v x → length (slots_of_node (Some n)) ≡ 64
+pub length-of_inner : {b : ℕ} (n : NodeData) (v : ℕ) (x : Slots) → n ≡ Inner b v x → length (slots_of_node (Some n)) ≡ 64
 length-of_inner n v x e = ap length (slots-of_inner n v x e) ∙ first-length 64 x
 
-pub get-of_inner : (n : NodeData) (v : ℕ) (x : Slots) (i : ℕ) → n ≡ Inner v x → i < 64 → slice_get (slots_of_node (Some n)) i ≡ Some (slot_in x i)
+pub get-of_inner : {b : ℕ} (n : NodeData) (v : ℕ) (x : Slots) (i : ℕ) → n ≡ Inner b v x → i < 64 → slice_get (slots_of_node (Some n)) i ≡ Some (addressed x i)
 get-of_inner n v x i e lt = ap (λ xs. slice_get xs i) (slots-of_inner n v x e) ∙ first-get 64 x i lt
 
 -- There are at most 64 slots.
 kind-few : (n : NodeData-F NodeData Link Kept Slots) → length (slots_of_kind n) ≤ 64
-kind-few (NodeData-F.Leaf version points) = omega arith
-kind-few (NodeData-F.Inner version slots) = omega (arith, first-length 64 slots)
+kind-few (NodeData-F.Leaf block version points) = omega arith
+kind-few (NodeData-F.Inner block version slots) = omega (arith, first-length 64 slots)
 
 slots-few : (o : Option NodeData) → length (slots_of_node o) ≤ 64
 unfolding slots_of_node
@@ -103,15 +109,22 @@ pub get-past : (o : Option NodeData) (i : ℕ) → 64 ≤ i → slice_get (slots
 get-past o i le = let few = slots-few o in slice_get_past (slots_of_node o) i (omega arith)
 
 -- The slots of an inner node that was made.
-same-first : (n : ℕ) (x y : Slots) → AreSameSlots x y → first_slots n y ≡ first_slots n x
+same-addressed : (x y : Slots) (i : ℕ) → AreSameSlots x y → addressed y i ≡ addressed x i
+unfolding addressed
+same-addressed x y i same =
+    ap (λ (s : Slot). let t : Slot = record { agg = s.agg; version = s.version; child = block_of (child_in y i) } in t) (same.slots i)
+    ∙ ap (λ o. let t : Slot = record { agg = (slot_in x i).agg; version = (slot_in x i).version; child = block_of o } in t) (same.children i)
+
+pub same-first : (n : ℕ) (x y : Slots) → AreSameSlots x y → first_slots n y ≡ first_slots n x
 unfolding first_slots
 same-first zero x y same = refl
 same-first (suc n) x y same =
-    ap (λ xs. xs ++ slot_in y n ∷ []) (same-first n x y same) ∙ ap (λ z. first_slots n x ++ z ∷ []) (same.slots n)
+    ap (λ xs. xs ++ addressed y n ∷ []) (same-first n x y same)
+    ∙ ap (λ z. first_slots n x ++ z ∷ []) (same-addressed x y n same)
 
 kind-inner : (v : ℕ) (x : Slots) (n : NodeData-F NodeData Link Kept Slots) → ByKind (λ w ps. ⊥) (λ w y. (w ≡ v) × AreSameSlots x y) n → slots_of_kind n ≡ first_slots 64 x
-kind-inner v x (NodeData-F.Leaf version points) is = absurd is
-kind-inner v x (NodeData-F.Inner version slots) is = same-first 64 x slots is.1
+kind-inner v x (NodeData-F.Leaf block version points) is = absurd is
+kind-inner v x (NodeData-F.Inner block version slots) is = same-first 64 x slots is.1
 
 pub slots-of_made : (v : ℕ) (x : Slots) (o : Option NodeData) → IsInnerOf v x o → slots_of_node o ≡ first_slots 64 x
 unfolding slots_of_node
@@ -166,15 +179,15 @@ new_nodes-leaf (suc k) s above h v points w e same some few =
     ∙ ap (λ p. p ∷ []) (new_node-by _ _ _ _ _ _ _ (sym e) (ap (λ t. cond t [] (points_of (suc k) s (bag h))) no ∙ sym same) (ap (λ t. cond t (slots_of k s h) []) no))
 
 -- An inner node of the version.
-pub new_nodes-inner : (below : ℕ) (s : ℤ) (above : List Point → Bool) (h : Past) (v : ℕ) (x : Slots) → above (bag h) ≡ true → v ≡ node_version above (suc below) s h → LEAF_POINTS < length (points_of (suc below) s (bag h)) → HasSlots below s h x → new_nodes (suc below) s above h v ≡ concat_first 64 (λ i. new_nodes below (slot_start below s i) (is_inner (suc below) s) h v) ++ record { span = record { start = s; height = suc below }; version = v; points = []; slots = first_slots 64 x } ∷ []
+pub new_nodes-inner : (below : ℕ) (s : ℤ) (above : List Point → Bool) (h : Past) (v : ℕ) (x : Slots) → above (bag h) ≡ true → v ≡ node_version above (suc below) s h → LEAF_POINTS < length (points_of (suc below) s (bag h)) → HasSlots below s h x → new_nodes (suc below) s above h v ≡ concat_first 64 (λ i. new_nodes below (slot_start below s i) (is_inner (suc below) s) h v) ++ record { span = record { start = s; height = suc below }; version = v; points = []; slots = map without_address (first_slots 64 x) } ∷ []
 new_nodes-inner below s above h v x w e many holds =
     let yes = many-inner (suc below) s (bag h) many in
     ap (λ t. cond t (concat_first 64 (λ i. new_nodes below (slot_start below s i) (is_inner (suc below) s) h v)) [] ++ own_node (suc below) s above h v) yes
     ∙ ap (λ x. concat_first 64 (λ i. new_nodes below (slot_start below s i) (is_inner (suc below) s) h v) ++ x) (own-here (suc below) s above h v w (omega arith) e ∙ ap (λ p. p ∷ []) (new_node-by _ _ _ _ _ _ _ (sym e) (ap (λ t. cond t [] (points_of (suc below) s (bag h))) yes) (ap (λ t. cond t (slots_of below s h) []) yes ∙ sym (slots-are below s h x holds))))
 
-pub new_nodes-inner_at : (k below : ℕ) (s : ℤ) (above : List Point → Bool) (h : Past) (v : ℕ) (x : Slots) → k ≡ suc below → above (bag h) ≡ true → v ≡ node_version above k s h → LEAF_POINTS < length (points_of k s (bag h)) → HasSlots below s h x → new_nodes k s above h v ≡ concat_first 64 (λ i. new_nodes below (slot_start below s i) (is_inner (suc below) s) h v) ++ record { span = record { start = s; height = k }; version = v; points = []; slots = first_slots 64 x } ∷ []
+pub new_nodes-inner_at : (k below : ℕ) (s : ℤ) (above : List Point → Bool) (h : Past) (v : ℕ) (x : Slots) → k ≡ suc below → above (bag h) ≡ true → v ≡ node_version above k s h → LEAF_POINTS < length (points_of k s (bag h)) → HasSlots below s h x → new_nodes k s above h v ≡ concat_first 64 (λ i. new_nodes below (slot_start below s i) (is_inner (suc below) s) h v) ++ record { span = record { start = s; height = k }; version = v; points = []; slots = map without_address (first_slots 64 x) } ∷ []
 new_nodes-inner_at k below s above h v x high w e many holds =
-    subst (λ j. new_nodes j s above h v ≡ concat_first 64 (λ i. new_nodes below (slot_start below s i) (is_inner (suc below) s) h v) ++ record { span = record { start = s; height = j }; version = v; points = []; slots = first_slots 64 x } ∷ []) (sym high) (new_nodes-inner below s above h v x w (subst (λ j. v ≡ node_version above j s h) high e) (subst (λ j. LEAF_POINTS < length (points_of j s (bag h))) high many) holds)
+    subst (λ j. new_nodes j s above h v ≡ concat_first 64 (λ i. new_nodes below (slot_start below s i) (is_inner (suc below) s) h v) ++ record { span = record { start = s; height = j }; version = v; points = []; slots = map without_address (first_slots 64 x) } ∷ []) (sym high) (new_nodes-inner below s above h v x w (subst (λ j. v ≡ node_version above j s h) high e) (subst (λ j. LEAF_POINTS < length (points_of j s (bag h))) high many) holds)
 
 -- ---- what a commit does not touch is not of its version
 
@@ -209,6 +222,10 @@ pub told-more : {X : Type 0} (old mid new before here next : List X) → mid ≡
 told-more old mid new before here next p q r =
     q ∙ ap (λ x. x ++ here) p ∙ append_assoc old before here ∙ ap (λ x. old ++ x) (sym r)
 
+-- One more node without addresses.
+pub bare-push : (xs ys : List NewNodeValue) (n : NewNodeValue) → ys ≡ xs ++ n ∷ [] → bare_all ys ≡ bare_all xs ++ bare n ∷ []
+bare-push xs ys n e = ap bare_all e ∙ map-append bare xs (n ∷ [])
+
 -- ---- how many there are
 
 -- A counter that stops at the greatest number counts two lists one after the other as both together.
@@ -216,7 +233,7 @@ stop-more : (a x y m : ℕ) → min (min (a + x) m + y) m ≡ min (a + x + y) m
 stop-more a x y m = omega arith
 
 pub counts-none : (a : ℕ) (xs : List NewNodeValue) → CountsNodes a a xs xs
-counts-none a xs = record { grows = omega arith; none = λ _. refl; some = λ less. absurd (omega arith) }
+counts-none a xs = record { grows = omega arith; keeps = λ i lt. refl; none = λ _. refl; some = λ less. absurd (omega arith) }
 
 pub counts-one : (a b : ℕ) (xs ys : List NewNodeValue) (x : NewNodeValue) → ys ≡ xs ++ x ∷ [] → b ≡ min (a + 1) 18446744073709551615 → CountsNodes a b xs ys
 counts-one a b xs ys x e n =
@@ -224,6 +241,7 @@ counts-one a b xs ys x e n =
     let one : length ys - length xs ≡ 1 = omega arith in
     record {
       grows = omega arith;
+      keeps = λ i lt. ap (λ (zs : List NewNodeValue). slice_get zs i) e ∙ get-front xs x i lt;
       none = λ same. absurd (omega arith);
       some = λ _. n ∙ sym (ap (λ k. min (a + k) 18446744073709551615) one);
     }
@@ -234,6 +252,7 @@ counts-more a b c xs ys zs f s =
     let high = s.grows in
     record {
       grows = omega arith;
+      keeps = λ i lt. s.keeps i (omega arith) ∙ f.keeps i lt;
       none = λ e. s.none (omega arith) ∙ f.none (omega arith);
       some = λ less. elim (eq-or-lt_of_le low) [
         | inl same ↦ s.some (omega arith) ∙ ap (λ k. min k 18446744073709551615) (omega (arith, f.none (sym same)))

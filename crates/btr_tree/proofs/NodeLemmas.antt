@@ -31,20 +31,20 @@ use Rattle.btr_tree.specs.Shape.{ByKind, slot_start, IsLeaf, IsInner, HasSlots, 
 
 -- ---- a node in memory
 
-pub out-leaf : (v : ℕ) (ps : Vec Point Global) → out-NodeData (Leaf v ps) ≡ NodeData-F.Leaf v ps
-out-leaf v ps = ap out-NodeData (sym (rolls-Leaf v ps)) ∙ out-roll-NodeData (NodeData-F.Leaf v ps)
+pub out-leaf : {b : ℕ} (v : ℕ) (ps : Vec Point Global) → out-NodeData (Leaf b v ps) ≡ NodeData-F.Leaf b v ps
+out-leaf {b} v ps = ap out-NodeData (sym (rolls-Leaf b v ps)) ∙ out-roll-NodeData (NodeData-F.Leaf b v ps)
 
-pub out-inner : (v : ℕ) (x : Slots) → out-NodeData (Inner v x) ≡ NodeData-F.Inner v x
-out-inner v x = ap out-NodeData (sym (rolls-Inner v x)) ∙ out-roll-NodeData (NodeData-F.Inner v x)
+pub out-inner : {b : ℕ} (v : ℕ) (x : Slots) → out-NodeData (Inner b v x) ≡ NodeData-F.Inner b v x
+out-inner {b} v x = ap out-NodeData (sym (rolls-Inner b v x)) ∙ out-roll-NodeData (NodeData-F.Inner b v x)
 
 -- What holds of the kind of a node, at its parts.
-pub by_leaf : (P : ℕ → List Point → Type 0) (Q : ℕ → Slots → Type 0) (n : NodeData) (v : ℕ) (ps : Vec Point Global) → n ≡ Leaf v ps → ByKind P Q (out-NodeData n) → P v ps.items
+pub by_leaf : {b : ℕ} (P : ℕ → List Point → Type 0) (Q : ℕ → Slots → Type 0) (n : NodeData) (v : ℕ) (ps : Vec Point Global) → n ≡ Leaf b v ps → ByKind P Q (out-NodeData n) → P v ps.items
 by_leaf P Q n v ps e h = subst (ByKind P Q) (ap out-NodeData e ∙ out-leaf v ps) h
 
-pub by_inner : (P : ℕ → List Point → Type 0) (Q : ℕ → Slots → Type 0) (n : NodeData) (v : ℕ) (x : Slots) → n ≡ Inner v x → ByKind P Q (out-NodeData n) → Q v x
+pub by_inner : {b : ℕ} (P : ℕ → List Point → Type 0) (Q : ℕ → Slots → Type 0) (n : NodeData) (v : ℕ) (x : Slots) → n ≡ Inner b v x → ByKind P Q (out-NodeData n) → Q v x
 by_inner P Q n v x e h = subst (ByKind P Q) (ap out-NodeData e ∙ out-inner v x) h
 
-pub leaf_data-is : (k : ℕ) (s : ℤ) (above : List Point → Bool) (h : Past) (n : NodeData) (v : ℕ) (ps : Vec Point Global) → n ≡ Leaf v ps → IsNodeData k s above h n → IsLeaf k s above h v ps.items
+pub leaf_data-is : {b : ℕ} (k : ℕ) (s : ℤ) (above : List Point → Bool) (h : Past) (n : NodeData) (v : ℕ) (ps : Vec Point Global) → n ≡ Leaf b v ps → IsNodeData k s above h n → IsLeaf k s above h v ps.items
 leaf_data-is zero s above h n v ps e holds = by_leaf _ _ n v ps e holds
 leaf_data-is (suc k) s above h n v ps e holds = by_leaf _ _ n v ps e holds
 
@@ -55,7 +55,7 @@ pub record IsBody (k : ℕ) (s : ℤ) (above : List Point → Bool) (h : Past) (
   pub inner : IsInner below s above h v x
   pub each : HasChildren below s h x
 
-pub inner_data-is : (k : ℕ) (s : ℤ) (above : List Point → Bool) (h : Past) (n : NodeData) (v : ℕ) (x : Slots) → n ≡ Inner v x → IsNodeData k s above h n → IsBody k s above h v x
+pub inner_data-is : {b : ℕ} (k : ℕ) (s : ℤ) (above : List Point → Bool) (h : Past) (n : NodeData) (v : ℕ) (x : Slots) → n ≡ Inner b v x → IsNodeData k s above h n → IsBody k s above h v x
 inner_data-is zero s above h n v x e holds = absurd (by_inner _ _ n v x e holds)
 inner_data-is (suc k) s above h n v x e holds =
     let body : IsInner k s above h v x × HasChildren k s h x = by_inner _ _ n v x e holds in

@@ -1,6 +1,6 @@
 -- What the private functions that apply a commit promise, and the premises that their clauses share.
 use Rattle.std.specs.Prelude.{◌≡◌, ℕ, zero, suc, ◌+◌, ◌<◌, ◌≤◌, ◌^◌, ℤ, pos, ◌+ℤ◌}
-use Rattle.std.specs.Prelude.{◌≤ℤ◌, ◌<ℤ◌, Bool, true, not, ◌||◌, List, length, Option, MatchOption, min, ◌-◌}
+use Rattle.std.specs.Prelude.{◌≤ℤ◌, ◌<ℤ◌, Bool, true, not, ◌||◌, List, length, slice_get, Option, MatchOption, min, ◌-◌}
 use Rattle.btr_base.specs.declared.point.Point.{Point}
 use Rattle.btr_base.specs.Range.{RangeValue, covered}
 use Rattle.btr_base.specs.Span.{width, SpanValue}
@@ -69,9 +69,10 @@ abbrev pub IsInnerOf : ℕ → Slots → Option NodeData → Type 0
 IsInnerOf version slots child =
     MatchOption child ⊥ (λ n. ByKind (λ v ps. ⊥) (λ v x. (v ≡ version) × AreSameSlots slots x) (out-NodeData n))
 
--- The counter rose by the number of nodes that were appended, up to the end of its type.
+-- Nodes were appended, and the counter rose by their number, up to the end of its type.
 pub record CountsNodes (before after : ℕ) (old new : List NewNodeValue) : Type 0 where
   pub grows : length old ≤ length new
+  pub keeps : (i : ℕ) → i < length old → slice_get new i ≡ slice_get old i
   pub none : length new ≡ length old → after ≡ before
   pub some : length old < length new → after ≡ min (before + (length new - length old)) 18446744073709551615
 

@@ -12,6 +12,8 @@ pub mod Shape
 pub mod EachHistory
 -- The nodes that a commit writes.
 pub mod NewNodes
+-- Where nodes lie on the device.
+pub mod Stored
 -- The tree of a stream, and why a commit is not applied.
 pub mod Root
 -- Nodes that are newer than a version.
@@ -20,3 +22,5 @@ pub mod Uncounted
 pub mod Agree
 -- What the private functions promise.
 pub mod Change
+-- To which nodes a root leads on the device.
+pub mod Leads

@@ -1,5 +1,5 @@
 -- The nodes of a tree that have a version, children before parents: those that a commit writes.
-use Rattle.std.specs.Prelude.{ℕ, zero, suc, ℤ, Bool, ◌&&◌, nat_eq, List, [], ◌∷◌, ◌++◌, Option, Some, None, if◌then◌else◌}
+use Rattle.std.specs.Prelude.{ℕ, zero, suc, ℤ, Bool, ◌&&◌, nat_eq, List, [], ◌∷◌, ◌++◌, map, Option, Some, None, if◌then◌else◌}
 use Rattle.btr_base.specs.declared.point.Point.{Point}
 use Rattle.btr_tree.specs.declared.node.NodeData.{NodeData, out-NodeData}
 use Rattle.btr_tree.specs.declared.node.NodeData.TheOpen.{NodeData-F}
@@ -11,12 +11,13 @@ use Rattle.btr_tree.specs.History.{Past, bag}
 use Rattle.btr_base.specs.Span.{SpanValue}
 use Rattle.btr_tree.specs.Nodes.{points_of, is_inner, is_node, node_version}
 use Rattle.btr_tree.specs.Shape.{slot_start, slot_of_points}
+use Rattle.btr_tree.specs.Packed.{without_address}
 use Rattle.btr_tree.specs.Slots.{first_slots}
 
--- The slots of a node: 64 of an inner node, and none of a leaf.
+-- The slots of a node with the blocks of their children: 64 of an inner node, and none of a leaf.
 abbrev pub slots_of_kind : NodeData-F NodeData Link Kept Slots → List Slot
-slots_of_kind (NodeData-F.Leaf version points) = []
-slots_of_kind (NodeData-F.Inner version slots) = first_slots 64 slots
+slots_of_kind (NodeData-F.Leaf block version points) = []
+slots_of_kind (NodeData-F.Inner block version slots) = first_slots 64 slots
 
 -- The slots of a node, if there is one.
 unfoldable pub slots_of_node : Option NodeData → List Slot
@@ -29,6 +30,14 @@ pub record NewNodeValue : Type 0 where
   pub version : ℕ
   pub points : List Point
   pub slots : List Slot
+
+-- The node without addresses in its slots.
+abbrev pub bare : NewNodeValue → NewNodeValue
+bare n = record { span = n.span; version = n.version; points = n.points; slots = map without_address n.slots }
+
+-- The nodes without addresses in their slots.
+abbrev pub bare_all : List NewNodeValue → List NewNodeValue
+bare_all nodes = map bare nodes
 
 -- The first n lists of a sequence, one after the other.
 abbrev pub concat_first : {X : Type 0} → ℕ → (ℕ → List X) → List X

@@ -49,8 +49,8 @@ pub record IsInner (below : ℕ) (start : ℤ) (above : List Point → Bool) (h 
 
 -- A fact on the version and points of a leaf, and one on the version and slots of an inner node.
 abbrev pub ByKind : (ℕ → List Point → Type 0) → (ℕ → Slots → Type 0) → NodeData-F NodeData Link Kept Slots → Type 0
-ByKind leaf inner (NodeData-F.Leaf version points) = leaf version points.items
-ByKind leaf inner (NodeData-F.Inner version slots) = inner version slots
+ByKind leaf inner (NodeData-F.Leaf block version points) = leaf version points.items
+ByKind leaf inner (NodeData-F.Inner block version slots) = inner version slots
 
 -- A node in memory is that of a span after a past, and so is each node below it. A slot without a point has no child.
 abbrev pub IsNodeData : ℕ → ℤ → (List Point → Bool) → Past → NodeData → Type 0

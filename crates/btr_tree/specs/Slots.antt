@@ -8,7 +8,8 @@ use Rattle.std.specs.Int.{bit_at}
 use Rattle.btr_base.specs.Agg.{no_points}
 use Rattle.btr_tree.specs.declared.node.Child.{Child}
 use Rattle.btr_tree.specs.declared.node.Link.{Link, out-Link}
-use Rattle.btr_tree.specs.declared.node.NodeData.{NodeData}
+use Rattle.btr_tree.specs.declared.node.NodeData.{NodeData, out-NodeData}
+use Rattle.btr_tree.specs.declared.node.NodeData.TheOpen.{NodeData-F}
 use Rattle.btr_tree.specs.declared.node.Slot.{Slot}
 use Rattle.btr_tree.specs.declared.slots.Kept.{Kept, out-Kept}
 use Rattle.btr_tree.specs.declared.slots.Slots.{Slots, out-Slots}
@@ -21,6 +22,16 @@ linked link = option_map (λ a. a.value) (out-Link link).node
 -- The node of a link that a walk sees, if there is one.
 abbrev pub node_of : Child → Option NodeData
 node_of child = option_map (λ a. a.now.value) child.node
+
+-- The block of a node of either kind.
+abbrev pub block_of_kind : NodeData-F NodeData Link Kept Slots → ℕ
+block_of_kind (NodeData-F.Leaf block version points) = block
+block_of_kind (NodeData-F.Inner block version slots) = block
+
+-- The block of a node on the device, or 0 if there is no node.
+abbrev pub block_of : Option NodeData → ℕ
+block_of None = 0
+block_of (Some n) = block_of_kind (out-NodeData n)
 
 -- How many bits of a mask are set below bit i: the place of slot i among the kept slots.
 abbrev pub rank : ℕ → ℕ → ℕ
@@ -62,10 +73,14 @@ slot_in x i = slot_or_empty (base_of x) (kept_in x i)
 unfoldable pub child_in : Slots → ℕ → Option NodeData
 child_in x i = child_or_none (kept_in x i)
 
--- The first n slots, as a list.
+-- Slot i with the block of its child.
+unfoldable pub addressed : Slots → ℕ → Slot
+addressed x i = record { agg = (slot_in x i).agg; version = (slot_in x i).version; child = block_of (child_in x i) }
+
+-- The first n slots with the blocks of their children, as a list.
 unfoldable pub first_slots : ℕ → Slots → List Slot
 first_slots zero x = []
-first_slots (suc n) x = first_slots n x ++ slot_in x n ∷ []
+first_slots (suc n) x = first_slots n x ++ addressed x n ∷ []
 
 -- Slot i has a point.
 abbrev pub IsOccupied : Slots → ℕ → Type 0

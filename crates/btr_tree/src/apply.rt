@@ -1,5 +1,5 @@
 //! A commit, applied to the nodes of a span.
-ghost use Rattle.std.specs.Prelude.{◌≡◌, ◌<◌, ◌≤◌, ◌+◌, ◌++◌, ◌∷◌, ◌||◌, [], ◌+ℤ◌, ℕ, ℤ};
+ghost use Rattle.std.specs.Prelude.{◌≡◌, ◌<◌, ◌≤◌, ◌+◌, ◌++◌, ◌∷◌, ◌||◌, [], ◌+ℤ◌, ◌^◌, ℕ, ℤ};
 ghost use Rattle.std.specs.Prelude.{pos, suc, true, false, not, Bool, List, length, IfOk, IfErr, OnOk};
 ghost use Rattle.btr_base.specs.Agg.{agg};
 ghost use Rattle.btr_base.specs.Bag.{IsInOrder, within, outside, sort};
@@ -13,7 +13,8 @@ ghost use Rattle.btr_tree.specs.EachHistory.{AtEachInner, points_in};
 ghost use Rattle.btr_tree.specs.Change.{IsSomeChild, AreSomeSlots, IsSomeSlot, CountsNodes, slot_at, new_below, end_of};
 ghost use Rattle.btr_tree.specs.Change.{AtEachCommit, AtEachSlotCommit, AtEachInnerCommit};
 ghost use Rattle.btr_tree.specs.Crowd.{IsCrowdedFault};
-ghost use Rattle.btr_tree.specs.NewNodes.{new_nodes};
+ghost use Rattle.btr_tree.specs.NewNodes.{new_nodes, bare_all};
+ghost use Rattle.btr_tree.specs.Stored.{Store, IsBelow, IsLaid, AreBelow, AreLaid};
 ghost use Rattle.btr_tree.specs.Slots.{linked, node_of};
 
 use crate::aggregate::agg_of_child;
@@ -40,6 +41,7 @@ pub(crate) fn apply_slot<L>(
     cut: &[Range],
     added: &[Point],
     version: u64,
+    first: u64,
     nodes: &mut Vec<NewNode>,
     steps: &mut Steps<L>,
 ) -> Result<(Slot, Link), TreeFault>
@@ -47,6 +49,7 @@ pub(crate) fn apply_slot<L>(
     requires cut { IsCut cut.now }
     requires order { IsInOrder added.now }
     requires inside { within span.start (end_of span) added.now ≡ added.now }
+    requires first { (1 ≤ first) × (first ≤ 2 ^ 33) }
     ensures child { IfOk result (λ r. AtEachSlotCommit span slot (node_of child.entry) cut.now added.now version (λ above h c.
         IsChild span.height span.start above (c ▷ h) (linked r.1))) }
     ensures agg { IfOk result (λ r. AtEachSlotCommit span slot (node_of child.entry) cut.now added.now version (λ above h c.
@@ -55,7 +58,9 @@ pub(crate) fn apply_slot<L>(
         slot ≡ slot_at above span.height span.start h → r.0 ≡ slot_at above span.height span.start (c ▷ h))) }
     ensures nodes { OnOk result (AtEachSlotCommit span slot (node_of child.entry) cut.now added.now version (λ above h c.
         above (bag (c ▷ h)) ≡ true → 0 < version → IsBefore version h
-        → nodes.new.items ≡ nodes.old.items ++ new_nodes span.height span.start above (c ▷ h) version)) }
+        → bare_all nodes.new.items ≡ bare_all nodes.old.items ++ new_nodes span.height span.start above (c ▷ h) version)) }
+    ensures stored { IfOk result (λ r. (store : Store) → IsBelow store first span.height span.start (node_of child.entry)
+        → IsLaid store first nodes.new.items span.height span.start (linked r.1)) }
     ensures counted { OnOk result (CountsNodes steps.old steps.new nodes.old.items nodes.new.items) }
     ensures fault { IfErr result (λ e. AtEachSlotCommit span slot (node_of child.entry) cut.now added.now version (λ above h c.
         IsCrowdedFault span.start (end_of span) (points_in span (bag (c ▷ h))) e)) }
@@ -64,7 +69,9 @@ pub(crate) fn apply_slot<L>(
     if is_untouched(alloc, span, slot, child, here, added)? {
         return Ok((slot, child.share()?));
     }
-    let new_child = apply_child(alloc, span, child, here, added, version, nodes, steps)?;
+    let new_child = apply_child(
+        alloc, span, child, here, added, version, first, nodes, steps,
+    )?;
     let agg = agg_of_child(new_child.seen());
     let slot = Slot {
         agg,
@@ -105,6 +112,7 @@ pub(crate) fn apply_child<L>(
     cut: &[Range],
     added: &[Point],
     version: u64,
+    first: u64,
     nodes: &mut Vec<NewNode>,
     steps: &mut Steps<L>,
 ) -> Result<Link, TreeFault>
@@ -112,24 +120,27 @@ pub(crate) fn apply_child<L>(
     requires cut { IsCut cut.now }
     requires order { IsInOrder added.now }
     requires inside { within span.start (end_of span) added.now ≡ added.now }
+    requires first { (1 ≤ first) × (first ≤ 2 ^ 33) }
     ensures child { IfOk result (λ r. AtEachCommit span (node_of child.entry) cut.now added.now version (λ above h c.
         touches c span.height span.start (bag h) ≡ true → IsChild span.height span.start above (c ▷ h) (linked r))) }
     ensures nodes { OnOk result (AtEachCommit span (node_of child.entry) cut.now added.now version (λ above h c.
         touches c span.height span.start (bag h) ≡ true → above (bag (c ▷ h)) ≡ true → 0 < version → IsBefore version h
-        → nodes.new.items ≡ nodes.old.items ++ new_nodes span.height span.start above (c ▷ h) version)) }
+        → bare_all nodes.new.items ≡ bare_all nodes.old.items ++ new_nodes span.height span.start above (c ▷ h) version)) }
+    ensures stored { IfOk result (λ r. (store : Store) → IsBelow store first span.height span.start (node_of child.entry)
+        → IsLaid store first nodes.new.items span.height span.start (linked r)) }
     ensures counted { OnOk result (CountsNodes steps.old steps.new nodes.old.items nodes.new.items) }
     ensures fault { IfErr result (λ e. AtEachCommit span (node_of child.entry) cut.now added.now version (λ above h c.
         IsCrowdedFault span.start (end_of span) (points_in span (bag (c ▷ h))) e)) }
 {
     match child.node {
-        None => build(alloc, span, added, version, nodes, steps),
+        None => build(alloc, span, added, version, first, nodes, steps),
         Some(node) => match &**node {
             NodeData::Leaf { points, .. } => {
                 let all = changed(alloc, points, cut, added)?;
-                build(alloc, span, &all, version, nodes, steps)
+                build(alloc, span, &all, version, first, nodes, steps)
             }
             NodeData::Inner { slots, .. } => {
-                apply_inner(alloc, span, slots, cut, added, version, nodes, steps)
+                apply_inner(alloc, span, slots, cut, added, version, first, nodes, steps)
             }
         },
     }
@@ -160,6 +171,7 @@ pub(crate) fn apply_inner<L>(
     cut: &[Range],
     added: &[Point],
     version: u64,
+    first: u64,
     nodes: &mut Vec<NewNode>,
     steps: &mut Steps<L>,
 ) -> Result<Link, TreeFault>
@@ -167,23 +179,26 @@ pub(crate) fn apply_inner<L>(
     requires cut { IsCut cut.now }
     requires order { IsInOrder added.now }
     requires inside { within span.start (end_of span) added.now ≡ added.now }
+    requires first { (1 ≤ first) × (first ≤ 2 ^ 33) }
     ensures child { IfOk result (λ r. AtEachInnerCommit span slots.now cut.now added.now version (λ below h c.
         (above : List APoint → Bool) → touches c span.height span.start (bag h) ≡ true
         → IsChild span.height span.start above (c ▷ h) (linked r))) }
     ensures nodes { OnOk result (AtEachInnerCommit span slots.now cut.now added.now version (λ below h c.
         (above : List APoint → Bool) → touches c span.height span.start (bag h) ≡ true → above (bag (c ▷ h)) ≡ true
         → 0 < version → IsBefore version h
-        → nodes.new.items ≡ nodes.old.items ++ new_nodes span.height span.start above (c ▷ h) version)) }
+        → bare_all nodes.new.items ≡ bare_all nodes.old.items ++ new_nodes span.height span.start above (c ▷ h) version)) }
+    ensures stored { IfOk result (λ r. (store : Store) (below : ℕ) → span.height ≡ suc below
+        → AreBelow store first below span.start slots.now → IsLaid store first nodes.new.items span.height span.start (linked r)) }
     ensures counted { OnOk result (CountsNodes steps.old steps.new nodes.old.items nodes.new.items) }
     ensures fault { IfErr result (λ e. AtEachInnerCommit span slots.now cut.now added.now version (λ below h c.
         IsCrowdedFault span.start (end_of span) (points_in span (bag (c ▷ h))) e)) }
 {
     if is_few(alloc, span, slots, cut, added)? {
         let all = gathered(alloc, span, slots, cut, added)?;
-        return build(alloc, span, &all, version, nodes, steps);
+        return build(alloc, span, &all, version, first, nodes, steps);
     }
-    let new_slots = apply_slots(alloc, span, slots, cut, added, version, nodes, steps)?;
-    Ok(push_inner(alloc, span, version, new_slots, nodes, steps)?)
+    let new_slots = apply_slots(alloc, span, slots, cut, added, version, first, nodes, steps)?;
+    Ok(push_inner(alloc, span, version, first, new_slots, nodes, steps)?)
 }
 
 /// Whether a commit leaves an inner node so few points that it is none. Its points are counted only if the cut is not empty.
@@ -236,6 +251,7 @@ pub(crate) fn apply_slots<L>(
     cut: &[Range],
     added: &[Point],
     version: u64,
+    first: u64,
     nodes: &mut Vec<NewNode>,
     steps: &mut Steps<L>,
 ) -> Result<Slots, TreeFault>
@@ -243,11 +259,14 @@ pub(crate) fn apply_slots<L>(
     requires cut { IsCut cut.now }
     requires order { IsInOrder added.now }
     requires inside { within span.start (end_of span) added.now ≡ added.now }
+    requires first { (1 ≤ first) × (first ≤ 2 ^ 33) }
     ensures slots { IfOk result (λ r. AtEachInnerCommit span slots.now cut.now added.now version (λ below h c.
         HasSlots below span.start (c ▷ h) r × HasChildren below span.start (c ▷ h) r)) }
     ensures nodes { OnOk result (AtEachInnerCommit span slots.now cut.now added.now version (λ below h c.
         FEW < length (points_of (suc below) span.start (bag (c ▷ h))) → 0 < version → IsBefore version h
-        → nodes.new.items ≡ nodes.old.items ++ new_below below span.start (c ▷ h) version)) }
+        → bare_all nodes.new.items ≡ bare_all nodes.old.items ++ new_below below span.start (c ▷ h) version)) }
+    ensures stored { IfOk result (λ r. (store : Store) (below : ℕ) → span.height ≡ suc below
+        → AreBelow store first below span.start slots.now → AreLaid 64 store first nodes.new.items below span.start r) }
     ensures counted { OnOk result (CountsNodes steps.old steps.new nodes.old.items nodes.new.items) }
     ensures fault { IfErr result (λ e. AtEachInnerCommit span slots.now cut.now added.now version (λ below h c.
         IsCrowdedFault span.start (end_of span) (points_in span (bag (c ▷ h))) e)) }
@@ -270,6 +289,7 @@ pub(crate) fn apply_slots<L>(
             cut,
             here,
             version,
+            first,
             nodes,
             steps,
         )?;

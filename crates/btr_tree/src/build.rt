@@ -1,5 +1,5 @@
 //! New nodes of given points.
-ghost use Rattle.std.specs.Prelude.{◌≡◌, ◌<◌, ◌≤◌, ◌+◌, ◌++◌, ◌∷◌, [], ◌+ℤ◌, ℕ, ℤ, pos, suc, true, Bool, List, length, min};
+ghost use Rattle.std.specs.Prelude.{◌≡◌, ◌<◌, ◌≤◌, ◌+◌, ◌++◌, ◌∷◌, [], ◌+ℤ◌, ◌^◌, ℕ, ℤ, pos, suc, true, Bool, List, length, min};
 ghost use Rattle.std.specs.Prelude.{IfOk, IfErr, OnOk};
 ghost use Rattle.btr_base.specs.Agg.{agg};
 ghost use Rattle.btr_base.specs.Bag.{IsInOrder, within};
@@ -7,8 +7,9 @@ ghost use Rattle.btr_tree.specs.History.{bag, ◌▷◌};
 ghost use Rattle.btr_tree.specs.Shape.{IsChild, HasSlots, HasChildren};
 ghost use Rattle.btr_tree.specs.Change.{IsLeafOf, IsInnerOf, CountsNodes, AtEachFresh, AtEachSplit, new_below, end_of};
 ghost use Rattle.btr_tree.specs.Crowd.{HasNoCrowdedSpan, IsCrowdedFault};
-ghost use Rattle.btr_tree.specs.NewNodes.{new_nodes};
-ghost use Rattle.btr_tree.specs.Slots.{linked, first_slots};
+ghost use Rattle.btr_tree.specs.NewNodes.{new_nodes, bare_all};
+ghost use Rattle.btr_tree.specs.Stored.{Store, IsLaid, AreLaid};
+ghost use Rattle.btr_tree.specs.Slots.{linked, block_of, first_slots};
 ghost use Rattle.btr_base.specs.declared.limits.TheConstants.{LEAF_POINTS as FEW};
 
 use crate::fault::TreeFault;
@@ -19,22 +20,26 @@ use crate::steps::Steps;
 use btr_base::{Agg, FAN_OUT, LEAF_POINTS, Point, Span, parted};
 use std::alloc::{AllocError, Global};
 
-/// Builds the subtree for `points`, which all lie in `span`. Appends each new node to `nodes`, children before parents.
+/// Builds the subtree for `points`, which all lie in `span`. Appends each new node to `nodes`, children
+/// before parents. The n-th of them is for the block `first + n`.
 #[cycle(build)]
 pub(crate) fn build<L>(
     alloc: Global,
     span: Span,
     points: &[Point],
     version: u64,
+    first: u64,
     nodes: &mut Vec<NewNode>,
     steps: &mut Steps<L>,
 ) -> Result<Link, TreeFault>
     requires order { IsInOrder points.now }
     requires inside { within span.start (end_of span) points.now ≡ points.now }
+    requires first { (1 ≤ first) × (first ≤ 2 ^ 33) }
     ensures child { IfOk result (λ r. AtEachFresh span version points.now (λ above h c.
         IsChild span.height span.start above (c ▷ h) (linked r))) }
     ensures nodes { OnOk result (AtEachFresh span version points.now (λ above h c. above (bag (c ▷ h)) ≡ true
-        → nodes.new.items ≡ nodes.old.items ++ new_nodes span.height span.start above (c ▷ h) version)) }
+        → bare_all nodes.new.items ≡ bare_all nodes.old.items ++ new_nodes span.height span.start above (c ▷ h) version)) }
+    ensures stored { IfOk result (λ r. (store : Store) → IsLaid store first nodes.new.items span.height span.start (linked r)) }
     ensures counted { OnOk result (CountsNodes steps.old steps.new nodes.old.items nodes.new.items) }
     ensures room { OnOk result (HasNoCrowdedSpan span.start (end_of span) points.now) }
     ensures fault { IfErr result (λ e. IsCrowdedFault span.start (end_of span) points.now e) }
@@ -43,13 +48,13 @@ pub(crate) fn build<L>(
         return Ok(Link::none());
     }
     if points.len() <= LEAF_POINTS {
-        return Ok(push_leaf(alloc, span, version, points, nodes, steps)?);
+        return Ok(push_leaf(alloc, span, version, first, points, nodes, steps)?);
     }
     if span.height == 0 {
         return Err(TreeFault::Crowded { start: span.start });
     }
-    let slots = build_slots(alloc, span, points, version, nodes, steps)?;
-    Ok(push_inner(alloc, span, version, slots, nodes, steps)?)
+    let slots = build_slots(alloc, span, points, version, first, nodes, steps)?;
+    Ok(push_inner(alloc, span, version, first, slots, nodes, steps)?)
 }
 
 /// Builds the slots of an inner node for `points`, and the children of the slots.
@@ -59,16 +64,20 @@ pub(crate) fn build_slots<L>(
     span: Span,
     points: &[Point],
     version: u64,
+    first: u64,
     nodes: &mut Vec<NewNode>,
     steps: &mut Steps<L>,
 ) -> Result<Slots, TreeFault>
     requires height { 1 ≤ span.height }
     requires order { IsInOrder points.now }
     requires inside { within span.start (end_of span) points.now ≡ points.now }
+    requires first { (1 ≤ first) × (first ≤ 2 ^ 33) }
     ensures slots { IfOk result (λ r. AtEachSplit span version points.now (λ below h c.
         HasSlots below span.start (c ▷ h) r × HasChildren below span.start (c ▷ h) r)) }
     ensures nodes { OnOk result (AtEachSplit span version points.now (λ below h c. FEW < length points.now
-        → nodes.new.items ≡ nodes.old.items ++ new_below below span.start (c ▷ h) version)) }
+        → bare_all nodes.new.items ≡ bare_all nodes.old.items ++ new_below below span.start (c ▷ h) version)) }
+    ensures stored { IfOk result (λ r. (store : Store) (below : ℕ) → span.height ≡ suc below
+        → AreLaid 64 store first nodes.new.items below span.start r) }
     ensures counted { OnOk result (CountsNodes steps.old steps.new nodes.old.items nodes.new.items) }
     ensures room { OnOk result (HasNoCrowdedSpan span.start (end_of span) points.now) }
     ensures fault { IfErr result (λ e. IsCrowdedFault span.start (end_of span) points.now e) }
@@ -78,7 +87,7 @@ pub(crate) fn build_slots<L>(
     for i in 0..FAN_OUT {
         let part = span.slot(i);
         let (here, after) = parted(rest, part.end());
-        let (slot, child) = build_slot(alloc, part, here, version, nodes, steps)?;
+        let (slot, child) = build_slot(alloc, part, here, version, first, nodes, steps)?;
         slots.put(i, slot, child)?;
         rest = after;
     }
@@ -92,21 +101,24 @@ pub(crate) fn build_slot<L>(
     span: Span,
     points: &[Point],
     version: u64,
+    first: u64,
     nodes: &mut Vec<NewNode>,
     steps: &mut Steps<L>,
 ) -> Result<(Slot, Link), TreeFault>
     requires order { IsInOrder points.now }
     requires inside { within span.start (end_of span) points.now ≡ points.now }
+    requires first { (1 ≤ first) × (first ≤ 2 ^ 33) }
     ensures slot { IfOk result (λ r. r.0 ≡ record { agg = agg points.now; version = version; child = 0 }) }
     ensures child { IfOk result (λ r. AtEachFresh span version points.now (λ above h c.
         IsChild span.height span.start above (c ▷ h) (linked r.1))) }
     ensures nodes { OnOk result (AtEachFresh span version points.now (λ above h c. above (bag (c ▷ h)) ≡ true
-        → nodes.new.items ≡ nodes.old.items ++ new_nodes span.height span.start above (c ▷ h) version)) }
+        → bare_all nodes.new.items ≡ bare_all nodes.old.items ++ new_nodes span.height span.start above (c ▷ h) version)) }
+    ensures stored { IfOk result (λ r. (store : Store) → IsLaid store first nodes.new.items span.height span.start (linked r.1)) }
     ensures counted { OnOk result (CountsNodes steps.old steps.new nodes.old.items nodes.new.items) }
     ensures room { OnOk result (HasNoCrowdedSpan span.start (end_of span) points.now) }
     ensures fault { IfErr result (λ e. IsCrowdedFault span.start (end_of span) points.now e) }
 {
-    let child = build(alloc, span, points, version, nodes, steps)?;
+    let child = build(alloc, span, points, version, first, nodes, steps)?;
     let agg = Agg::of_points(points);
     let slot = Slot {
         agg,
@@ -121,15 +133,19 @@ fn push_leaf<L>(
     alloc: Global,
     span: Span,
     version: u64,
+    first: u64,
     points: &[Point],
     nodes: &mut Vec<NewNode>,
     steps: &mut Steps<L>,
 ) -> Result<Link, AllocError>
+    requires { first ≤ 2 ^ 33 }
     ensures child { IfOk result (λ r. IsLeafOf version points.now (linked r)) }
+    ensures block { IfOk result (λ r. block_of (linked r) ≡ first + length nodes.old.items) }
     ensures nodes { OnOk result (nodes.new.items ≡ nodes.old.items
         ++ record { span = span; version = version; points = points.now; slots = [] } ∷ []) }
     ensures counted { OnOk result (CountsNodes steps.old steps.new nodes.old.items nodes.new.items) }
 {
+    let block = first + nodes.len() as u64;
     nodes.push(NewNode {
         span,
         version,
@@ -137,7 +153,15 @@ fn push_leaf<L>(
         slots: NewSlots::none(),
     })?;
     let points = Vec::from_slice(alloc, points)?;
-    Link::new(alloc, NodeData::Leaf { version, points }, steps)
+    Link::new(
+        alloc,
+        NodeData::Leaf {
+            block,
+            version,
+            points,
+        },
+        steps,
+    )
 }
 
 /// Makes an inner node, and appends it to `nodes`.
@@ -145,16 +169,20 @@ pub(crate) fn push_inner<L>(
     alloc: Global,
     span: Span,
     version: u64,
+    first: u64,
     slots: Slots,
     nodes: &mut Vec<NewNode>,
     steps: &mut Steps<L>,
 ) -> Result<Link, AllocError>
+    requires { first ≤ 2 ^ 33 }
     ensures child { IfOk result (λ r. IsInnerOf version slots (linked r)) }
+    ensures block { IfOk result (λ r. block_of (linked r) ≡ first + length nodes.old.items) }
     ensures nodes { OnOk result (nodes.new.items ≡ nodes.old.items
         ++ record { span = span; version = version; points = []; slots = first_slots 64 slots } ∷ []) }
     ensures counted { OnOk result (CountsNodes steps.old steps.new nodes.old.items nodes.new.items) }
 {
-    let link = inner_node(alloc, version, slots, steps)?;
+    let block = first + nodes.len() as u64;
+    let link = inner_node(alloc, block, version, slots, steps)?;
     nodes.push(NewNode {
         span,
         version,
@@ -167,14 +195,24 @@ pub(crate) fn push_inner<L>(
 /// An inner node, which takes no more room than its slots need.
 fn inner_node<L>(
     alloc: Global,
+    block: u64,
     version: u64,
     slots: Slots,
     steps: &mut Steps<L>,
 ) -> Result<Link, AllocError>
     ensures child { IfOk result (λ r. IsInnerOf version slots (linked r)) }
+    ensures block { IfOk result (λ r. block_of (linked r) ≡ block) }
     ensures counted { OnOk result (steps.new ≡ min (steps.old + 1) 18446744073709551615) }
 {
     let mut slots = slots;
     slots.fit();
-    Link::new(alloc, NodeData::Inner { version, slots }, steps)
+    Link::new(
+        alloc,
+        NodeData::Inner {
+            block,
+            version,
+            slots,
+        },
+        steps,
+    )
 }

@@ -28,11 +28,15 @@ fn seen<'a>(node: &'a NodeData) -> Node<'a>
         → IsNode height start above h result }
 {
     match node {
-        NodeData::Leaf { version, points } => Node::Leaf {
+        NodeData::Leaf {
+            version,
+            points,
+            ..
+        } => Node::Leaf {
             version: *version,
             points,
         },
-        NodeData::Inner { version, slots } => Node::Inner {
+        NodeData::Inner { version, slots, .. } => Node::Inner {
             version: *version,
             slots,
         },

@@ -19,7 +19,7 @@ pub struct NewNode {
     /// The points of a leaf, by time and value.
     pub points: Vec<Point>,
 
-    /// The 64 slots of an inner node, in order.
+    /// The 64 slots of an inner node, in order. A slot has the block of its child, or 0 if it has no child.
     pub slots: NewSlots,
 }
 
@@ -86,7 +86,7 @@ impl NewSlots {
             None => None,
             Some(node) => match &**node {
                 NodeData::Leaf { .. } => None,
-                NodeData::Inner { slots, .. } if i < FAN_OUT => Some(slots.slot(i)),
+                NodeData::Inner { slots, .. } if i < FAN_OUT => Some(slots.addressed(i)),
                 NodeData::Inner { .. } => None,
             },
         }

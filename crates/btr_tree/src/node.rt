@@ -1,6 +1,6 @@
 //! Nodes in memory, and what a walk sees of them.
 ghost use Rattle.std.specs.Prelude.{◌≡◌, ◌+◌, min, IfOk, OnOk, Some, None};
-ghost use Rattle.btr_tree.specs.Slots.{linked, node_of};
+ghost use Rattle.btr_tree.specs.Slots.{linked, node_of, block_of};
 
 use crate::slots::Slots;
 use crate::steps::Steps;
@@ -28,15 +28,23 @@ pub(crate) struct Link {
     pub(crate) node: Option<Arc<NodeData, Global>>,
 }
 
-/// What a tree keeps of a span that has a point (BTrDB, FAST 2016).
+/// What a tree keeps of a span that has a point (BTrDB, FAST 2016), and the block of the node on the device.
 #[cycle(node)]
 #[derive(Drop)]
 pub(crate) enum NodeData {
     /// The points, at most 252, by time and value.
-    Leaf { version: u64, points: Vec<Point> },
+    Leaf {
+        block: u64,
+        version: u64,
+        points: Vec<Point>,
+    },
 
     /// More than 252 points, in 64 slots in order of time. A slot has a child if it has a point.
-    Inner { version: u64, slots: Slots },
+    Inner {
+        block: u64,
+        version: u64,
+        slots: Slots,
+    },
 }
 
 /// The link to the node of a span, or to none if the span has no point. [`crate::visit`] is the only way from a link to its
@@ -90,6 +98,19 @@ impl Link {
 }
 
 impl Child<'_> {
+    /// The block of the node on the device, or 0 if there is no node.
+    pub(crate) fn block(self) -> u64
+        ensures { result ≡ block_of (node_of self.entry) }
+    {
+        match self.node {
+            None => 0,
+            Some(node) => match &**node {
+                NodeData::Leaf { block, .. } => *block,
+                NodeData::Inner { block, .. } => *block,
+            },
+        }
+    }
+
     /// A link to the same node, in constant time.
     pub(crate) fn share(self) -> Result<Link, AllocError>
         ensures { IfOk result (λ l. linked l ≡ node_of self.entry) }

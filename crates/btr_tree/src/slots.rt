@@ -1,7 +1,7 @@
 //! The 64 slots of an inner node in memory.
 ghost use Rattle.std.specs.Prelude.{◌≡◌, ◌<◌, ◌≤◌, true, nat_lt, option_map, IfSome, IsNone, IfOk, OnOk};
 ghost use Rattle.btr_tree.specs.Packed.{without_address};
-ghost use Rattle.btr_tree.specs.Slots.{linked, node_of, kept_in, slot_in, child_in, base_of, empty_slot};
+ghost use Rattle.btr_tree.specs.Slots.{linked, node_of, kept_in, slot_in, child_in, base_of, empty_slot, addressed};
 ghost use Rattle.btr_tree.specs.Slots.{IsNextOccupied, IsPreviousOccupied, IsFilled, IsPut, AreSameSlots};
 
 use crate::node::{Child, Link, Slot};
@@ -65,6 +65,19 @@ impl Slots {
         match self.kept_at(i) {
             Some(kept) => kept.child.seen(),
             None => Child { node: None },
+        }
+    }
+
+    /// The slot of a number with the block of its child, in constant time. It takes no memory.
+    pub(crate) fn addressed(&self, i: u8) -> Slot
+        requires { i < 64 }
+        ensures { result ≡ addressed self.now i }
+    {
+        let slot = self.slot(i);
+        Slot {
+            agg: slot.agg,
+            version: slot.version,
+            child: self.child(i).block(),
         }
     }
 

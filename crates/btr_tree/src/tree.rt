@@ -1,11 +1,12 @@
-ghost use Rattle.std.specs.Prelude.{◌≡◌, ◌<◌, ◌≤◌, ◌+◌, ◌*◌, length, min, IfOk, IfErr, OnOk};
+ghost use Rattle.std.specs.Prelude.{◌≡◌, ◌<◌, ◌≤◌, ◌+◌, ◌*◌, ◌^◌, length, min, IfOk, IfErr, OnOk};
 ghost use Rattle.btr_base.specs.Agg.{agg};
 ghost use Rattle.btr_base.specs.Point.{AreInDomain};
 ghost use Rattle.btr_base.specs.declared.limits.TheConstants.{FIRST as FIRST_TIME, END as END_TIME};
 ghost use Rattle.btr_tree.specs.History.{bag, nothing, ◌▷◌, IsBefore};
 ghost use Rattle.btr_tree.specs.Crowd.{HasNoCrowdedSpan};
 ghost use Rattle.btr_tree.specs.Nodes.{above_root};
-ghost use Rattle.btr_tree.specs.NewNodes.{new_nodes};
+ghost use Rattle.btr_tree.specs.NewNodes.{new_nodes, bare_all};
+ghost use Rattle.btr_tree.specs.Stored.{Store, IsBelow, IsLaid};
 ghost use Rattle.btr_tree.specs.Shape.{IsChild};
 ghost use Rattle.btr_tree.specs.Change.{IsSomeChild};
 ghost use Rattle.btr_tree.specs.Slots.{node_of};
@@ -104,6 +105,10 @@ impl Tree {
     /// `version`, if that is at least 1 and above the versions of all commits before. It counts exactly one step for each.
     /// They are at most 11 for each end of a range of the cut, and 11 times 253 for each added point.
     ///
+    /// The n-th of them, counted from 0, is for the block `first + n` of the device, and a slot has the block of its child. So
+    /// each node has its own block, above those of the nodes below it. If this tree is stored in blocks before `first`, then
+    /// the new tree is stored once these nodes are in their blocks.
+    ///
     /// Returns `Crowded`, with the first such start, exactly if a bottom span would have more than 252 points. Else returns
     /// `TooManyPoints`, with their number, exactly if there would be more than 2^32 points. `Want` is out of memory, which
     /// may come in place of any answer.
@@ -113,12 +118,16 @@ impl Tree {
         cut: &Ranges,
         added: &Bag,
         version: u64,
+        first: u64,
         steps: &mut Steps<L>,
     ) -> Result<Applied, TreeFault>
-        requires { AreInDomain added.now }
+        requires added { AreInDomain added.now }
+        requires first { (1 ≤ first) × (first ≤ 2 ^ 33) }
         ensures tree { IfOk result (λ a. AfterCommit self.now version cut.now added.now (λ h c. IsTree (c ▷ h) a.tree)) }
         ensures nodes { IfOk result (λ a. AfterCommit self.now version cut.now added.now (λ h c.
-            0 < version → IsBefore version h → a.nodes.items ≡ new_nodes 10 FIRST_TIME above_root (c ▷ h) version)) }
+            0 < version → IsBefore version h → bare_all a.nodes.items ≡ new_nodes 10 FIRST_TIME above_root (c ▷ h) version)) }
+        ensures stored { IfOk result (λ a. (store : Store) → IsBelow store first 10 FIRST_TIME self.now.node
+            → IsLaid store first a.nodes.items 10 FIRST_TIME a.tree.node) }
         ensures few { IfOk result (λ a. AfterCommit self.now version cut.now added.now (λ h c.
             0 < version → IsBefore version h → length a.nodes.items ≤ 11 * (253 * length added.now + 2 * length cut.now))) }
         ensures steps { IfOk result (λ a. steps.new ≡ min (steps.old + length a.nodes.items) 18446744073709551615) }
@@ -141,6 +150,7 @@ impl Tree {
             cut.as_slice(),
             added.as_slice(),
             version,
+            first,
             &mut nodes,
             steps,
         )?;

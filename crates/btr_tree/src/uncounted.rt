@@ -88,11 +88,15 @@ fn seen<'a>(node: &'a NodeData) -> UncountedNode<'a>
         → IsUncountedNode height start above h result }
 {
     match node {
-        NodeData::Leaf { version, points } => UncountedNode::Leaf {
+        NodeData::Leaf {
+            version,
+            points,
+            ..
+        } => UncountedNode::Leaf {
             version: *version,
             points,
         },
-        NodeData::Inner { version, slots } => UncountedNode::Inner {
+        NodeData::Inner { version, slots, .. } => UncountedNode::Inner {
             version: *version,
             slots: UncountedSlots { slots },
         },

@@ -102,7 +102,7 @@ pub(crate) fn after(
     if !are_in_domain(added.as_slice()) {
         return Err("a time outside the domain".into());
     }
-    match tree.apply(alloc, cut, added, version, &mut Steps::<Counts>::new()) {
+    match tree.apply(alloc, cut, added, version, 4, &mut Steps::<Counts>::new()) {
         Ok(applied) => Ok((applied.tree, applied.nodes.len() as u64)),
         Err(_) => Err("no commit".into()),
     }

@@ -282,12 +282,15 @@ fn plain_slots(alloc: Global, slots: &Slots) -> Result<Vec<PlainSlot>, AllocErro
     Ok(all)
 }
 
-/// The slots of a node that was written, of which there is none after the last.
+/// The slots of a node that was written, without the blocks of their children. There is none after the last.
 fn written_slots(alloc: Global, slots: &NewSlots) -> Result<Vec<PlainSlot>, AllocError> {
     let mut all = Vec::new(alloc);
     for i in 0..66 {
         if let Some(slot) = slots.get(i) {
-            all.push(plain_slot(slot))?;
+            all.push(PlainSlot {
+                child: 0,
+                ..plain_slot(slot)
+            })?;
         }
     }
     if all.len() != slots.len() {
@@ -431,7 +434,7 @@ fn applied_to(
         return Err("a time outside the domain".into());
     }
     let mut steps = Steps::<Counts>::new();
-    let applied = tree.apply(alloc, cut, added, version, &mut steps);
+    let applied = tree.apply(alloc, cut, added, version, 4, &mut steps);
     if let Ok(applied) = &applied {
         if steps.count() != applied.nodes.len() as u64 {
             return Err("another number of steps".into());
@@ -612,6 +615,41 @@ fn commits_of_one_stream(rt: HostRuntime) -> Result<(), Fail> {
         stream = after(rt.alloc(), stream, case)?;
         assert!(rt; are_as_derived(rt.alloc(), &stream)?);
     }
+    Ok(())
+}
+
+/// The blocks of the children of a node that was written, with the numbers of their slots.
+fn blocks_in(alloc: Global, node: &NewNode) -> Result<Vec<(u8, u64)>, AllocError> {
+    let mut blocks = Vec::new(alloc);
+    for i in 0..64 {
+        match node.slots.get(i) {
+            Some(slot) if slot.child != 0 => blocks.push((i, slot.child))?,
+            _ => {}
+        }
+    }
+    Ok(blocks)
+}
+
+#[test]
+fn blocks_of_new_nodes(rt: HostRuntime) -> Result<(), Fail> {
+    let alloc = rt.alloc();
+    let none = Ranges::none(alloc);
+    // two leaves and their root, in blocks 4, 5 and 6; and then a leaf more and the root, in blocks 4 and 5 of a second count
+    let first = points_of(alloc, &[(FIRST, 0, 1), (0, 4, 252)])?;
+    let Ok(one) = applied_to(alloc, &Tree::empty(), &none, &first, 1)? else {
+        return Err("no commit".into());
+    };
+    let second = points_of(alloc, &[(FIRST, 0, 1)])?;
+    let Ok(two) = applied_to(alloc, &one.tree, &none, &second, 2)? else {
+        return Err("no commit".into());
+    };
+    assert!(rt; one.nodes.len() == 3 && two.nodes.len() == 2);
+    let told = blocks_in(alloc, &one.nodes[2])?;
+    assert!(rt; told.as_slice() == [(0, 4), (32, 5)]);
+    let told = blocks_in(alloc, &two.nodes[1])?;
+    assert!(rt; told.as_slice() == [(0, 4), (32, 5)]);
+    let told = blocks_in(alloc, &two.nodes[0])?;
+    assert!(rt; told.is_empty());
     Ok(())
 }
 

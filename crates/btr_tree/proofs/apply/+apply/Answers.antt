@@ -1,4 +1,4 @@
-use Rattle.std.proofs.Common.{◌==◌, true, [], ◌≡◌, ℕ, suc, refl, ◌+◌, ◌^◌, ◌<◌, ◌≤◌, ◌++◌, ◌∷◌, Bool, List, length, sym, ap, ◌∙◌, subst, arith, Result, append-nil}
+use Rattle.std.proofs.Common.{◌==◌, true, [], ◌≡◌, ℕ, suc, refl, ◌+◌, ◌^◌, ◌<◌, ◌≤◌, ◌++◌, ◌∷◌, Bool, List, length, sym, ap, ◌∙◌, subst, arith, Result, append-nil, option_map}
 use Rattle.std.proofs.lemmas.Int.{ints}
 use Rattle.std.proofs.lemmas.Result.{IfOk-weaker, MatchResult-weaker, err_from_is_err_and, on_ok_weaker}
 use Rattle.std.specs.Result.{IfErr}
@@ -28,8 +28,10 @@ use Rattle.btr_tree.proofs.BuiltNodeLemmas.{first-put, first-all}
 use Rattle.btr_tree.proofs.SlotSplitLemmas.{parted-at, parted-inside, crowding-part, room-more}
 use Rattle.btr_tree.proofs.UntouchedNodeLemmas.{child-kept, child-room, child-counted, after-fewer, last_change-kept, slot-same, many-inner}
 use Rattle.btr_tree.proofs.AppliedNodeLemmas.{untouched-nothing, change-after, own, own-change, change-here, change-count, touched-fresh, last_change-touched, inner-child_on, is-touched, is-untouched, parted-of, step-at}
-use Rattle.btr_tree.specs.NewNodes.{concat_first, new_nodes}
-use Rattle.btr_tree.proofs.NewNodeLemmas.{first-next, new_nodes-kept, new_nodes-inner_at, told-more, counts-more}
+use Rattle.btr_tree.specs.NewNodes.{concat_first, new_nodes, bare_all}
+use Rattle.btr_tree.specs.Stored.{Store, IsLaid}
+use Rattle.btr_tree.proofs.StoredLemmas.{laid-below, laid-inner, laid-put, laid-part, laid-all, below-children, below-part}
+use Rattle.btr_tree.proofs.NewNodeLemmas.{first-next, new_nodes-kept, new_nodes-inner_at, told-more, bare-push, counts-none, counts-more}
 use Rattle.btr_tree.proofs.apply.+apply.Goals as goal
 
 err-weaker : {X Y : Type 0} (r : Result X Y) (P Q : Y → Type 0) → ((y : Y) → P y → Q y) → IfErr r P → IfErr r Q
@@ -136,7 +138,7 @@ apply_child-apply_inner-requires g t c κs outlives =
               few = subst (λ k. length (points_of k span.start (bag st.commits)) + length c.args.added.now < 2 ^ 64) high st.few;
             },
           ),
-          (c.requires.cut, (c.requires.order, c.requires.inside)),
+          (c.requires.cut, (c.requires.order, (c.requires.inside, c.requires.first))),
         ),
       ),
     )
@@ -297,7 +299,7 @@ apply_slots-apply_slot-requires g t c κs outlives =
     let few = st.2.few in
     let down : part.height ≡ below = ap (λ u. u.height) at.is in
     let d = c.decreases in
-    (omega arith, (outlives, (record { above = is_inner (suc below) span.start; commits = st.2.commits; holds = known.holds; counted = known.counted; few = omega arith }, (c.requires.cut, (subst IsInOrder (sym c.parted.ensures.before) (filter-in_order _ c.loop-i.rest.now c.loop-i.invariant.order), parted-inside part.start (end_of part) c.args.added.now c.parted.result.0.now at.has)))))
+    (omega arith, (outlives, (record { above = is_inner (suc below) span.start; commits = st.2.commits; holds = known.holds; counted = known.counted; few = omega arith }, (c.requires.cut, (subst IsInOrder (sym c.parted.ensures.before) (filter-in_order _ c.loop-i.rest.now c.loop-i.invariant.order), (parted-inside part.start (end_of part) c.args.added.now c.parted.result.0.now at.has, c.requires.first))))))
 
 pub apply_slots-returns-in_err-slot-clause-fault : goal.apply_slots-returns-in_err-slot-clause-fault
 apply_slots-returns-in_err-slot-clause-fault g t c =
@@ -341,8 +343,11 @@ apply_slots-loop-i-preserved g t c =
           let inner = many-inner (suc below) span.start (bag (commit ▷ h)) many in
           let told = c.in_ok-slot.ensures.nodes (is_inner (suc below) span.start) h commit step.was step.holds (ap (λ (x : Slot). x.agg) step.slot_is) step.change inner some before in
           let f = λ (j : ℕ). new_nodes below (slot_start below span.start j) (is_inner (suc below) span.start) (commit ▷ h) c.args.version in
-          told-more c.args.nodes.now.items c.loop-i.nodes.items c.apply_slot.new.nodes.items (concat_first i f) (f i) (concat_first (i + 1) f) (c.loop-i.invariant.nodes below h commit applied many some before) (told ∙ ap (λ (u : SpanValue). c.loop-i.nodes.items ++ new_nodes u.height u.start (is_inner (suc below) span.start) (commit ▷ h) c.args.version) parted.is) (first-next i f);
+          told-more (bare_all c.args.nodes.now.items) (bare_all c.loop-i.nodes.items) (bare_all c.apply_slot.new.nodes.items) (concat_first i f) (f i) (concat_first (i + 1) f) (c.loop-i.invariant.nodes below h commit applied many some before) (told ∙ ap (λ (u : SpanValue). bare_all c.loop-i.nodes.items ++ new_nodes u.height u.start (is_inner (suc below) span.start) (commit ▷ h) c.args.version) parted.is) (first-next i f);
       counted = counts-more c.args.steps.now c.loop-i.steps c.apply_slot.new.steps c.args.nodes.now.items c.loop-i.nodes.items c.apply_slot.new.nodes.items c.loop-i.invariant.counted c.in_ok-slot.ensures.counted;
+      stored = λ store below high low.
+          let part_is = (at below high).is in
+          laid-put store c.args.first c.loop-i.steps c.apply_slot.new.steps c.loop-i.nodes.items c.apply_slot.new.nodes.items below span.start i c.loop-i.new_slots c.put.new.self c.in_ok-slot.slot (linked c.in_ok-slot.child) c.in_ok-slot.ensures.counted c.in_ok-put.ensures (c.loop-i.invariant.stored store below high low) (laid-part store c.args.first c.apply_slot.new.nodes.items part below span.start i (linked c.in_ok-slot.child) part_is (c.in_ok-slot.ensures.stored store (below-part store c.args.first part below span.start i c.args.slots.now (node_of c.child.result) part_is c.loop-i-test.true c.child.ensures low)));
       room = λ below h commit applied.
           let parted = at below applied.height in
           let step = step-at span part below i h commit c.slot.result (node_of c.child.result) c.args.cut.now c.args.added.now here behind c.args.version c.args.slots.now applied parted c.loop-i-test.true c.slot-part.ensures c.slot.ensures c.child.ensures in
@@ -388,8 +393,10 @@ apply_slots-loop-i-preserved-then-is_empty-2 g t c =
           let kept = same below h commit applied in
           let f = λ (j : ℕ). new_nodes below (slot_start below span.start j) (is_inner (suc below) span.start) (commit ▷ h) c.args.version in
           let no_node : f i ≡ [] = subst (λ (u : SpanValue). new_nodes u.height u.start (is_inner (suc below) span.start) (commit ▷ h) c.args.version ≡ []) (at below applied.height).is (new_nodes-kept part.height part.start (is_inner (suc below) span.start) h commit c.args.version was.was kept some before) in
-          told-more c.args.nodes.now.items c.loop-i.nodes.items c.loop-i.nodes.items (concat_first i f) (f i) (concat_first (i + 1) f) (c.loop-i.invariant.nodes below h commit applied many some before) (sym (ap (λ x. c.loop-i.nodes.items ++ x) no_node ∙ append-nil c.loop-i.nodes.items)) (first-next i f);
+          told-more (bare_all c.args.nodes.now.items) (bare_all c.loop-i.nodes.items) (bare_all c.loop-i.nodes.items) (concat_first i f) (f i) (concat_first (i + 1) f) (c.loop-i.invariant.nodes below h commit applied many some before) (sym (ap (λ x. bare_all c.loop-i.nodes.items ++ x) no_node ∙ append-nil (bare_all c.loop-i.nodes.items))) (first-next i f);
       counted = c.loop-i.invariant.counted;
+      stored = λ store below high low.
+          laid-put store c.args.first c.loop-i.steps c.loop-i.steps c.loop-i.nodes.items c.loop-i.nodes.items below span.start i c.loop-i.new_slots c.put_from.new.self slot_was child_was (counts-none c.loop-i.steps c.loop-i.nodes.items) c.in_ok-put_from.ensures (c.loop-i.invariant.stored store below high low) (laid-below store c.args.first c.loop-i.nodes.items below (slot_start below span.start i) child_was (low i c.loop-i-test.true));
       room = λ below h commit applied.
           let was = step below h commit applied in
           let kept = same below h commit applied in
@@ -413,7 +420,7 @@ apply_slot-returns-then-branch-clause-nodes g t c was h commit w holds counted c
     let alike = here-alike span.start (end_of span) c.args.cut.now c.ranges_from.result.now c.ranges_before-here.result.now (λ u low. c.ranges_from.ensures.times u (omega (arith, ints))) (λ u high. c.ranges_before-here.ensures.times u (omega (arith, ints))) in
     let here = change-here span.height span.start commit c.args.cut.now c.ranges_before-here.result.now c.args.added.now c.args.version change alike in
     let same = is-untouched c.in_ok-is_untouched.field-0 (touches commit span.height span.start (bag h)) c.if-branch.true (c.in_ok-is_untouched.ensures c.args.version was h commit holds here counted) in
-    sym (ap (λ x. c.args.nodes.now.items ++ x) (new_nodes-kept span.height span.start was h commit c.args.version w same some before) ∙ append-nil c.args.nodes.now.items)
+    sym (ap (λ x. bare_all c.args.nodes.now.items ++ x) (new_nodes-kept span.height span.start was h commit c.args.version w same some before) ∙ append-nil (bare_all c.args.nodes.now.items))
 
 pub apply_slot-returns-clause-nodes : goal.apply_slot-returns-clause-nodes
 apply_slot-returns-clause-nodes g t c was h commit w holds counted change now some before =
@@ -445,7 +452,7 @@ apply_inner-returns-clause-nodes g t c below h commit applied above touched w so
     let many : LEAF_POINTS < length (points_of span.height span.start (bag (commit ▷ h))) = omega arith in
     let made = c.in_ok-new_slots.ensures.slots below h commit applied in
     let told = c.in_ok-new_slots.ensures.nodes below h commit applied (subst (λ k. LEAF_POINTS < length (points_of k span.start (bag (commit ▷ h)))) applied.height many) some before in
-    told-more c.args.nodes.now.items c.apply_slots.new.nodes.items c.push_inner.new.nodes.items _ _ (new_nodes span.height span.start above (commit ▷ h) c.args.version) told c.in_ok-push_inner.ensures.nodes (new_nodes-inner_at span.height below span.start above (commit ▷ h) c.args.version c.in_ok-new_slots.new_slots applied.height w (last_change-touched (is_node above span.height span.start) span.height span.start h commit c.args.version change.number touched) many made.0)
+    told-more (bare_all c.args.nodes.now.items) (bare_all c.apply_slots.new.nodes.items) (bare_all c.push_inner.new.nodes.items) _ _ (new_nodes span.height span.start above (commit ▷ h) c.args.version) told (bare-push c.apply_slots.new.nodes.items c.push_inner.new.nodes.items _ c.in_ok-push_inner.ensures.nodes) (new_nodes-inner_at span.height below span.start above (commit ▷ h) c.args.version c.in_ok-new_slots.new_slots applied.height w (last_change-touched (is_node above span.height span.start) span.height span.start h commit c.args.version change.number touched) many made.0)
 
 pub apply_child-returns-in-None-clause-nodes : goal.apply_child-returns-in-None-clause-nodes
 apply_child-returns-in-None-clause-nodes g t c =
@@ -477,9 +484,44 @@ pub apply_slots-returns-clause-nodes : goal.apply_slots-returns-clause-nodes
 apply_slots-returns-clause-nodes g t c below h commit applied many some before =
     let done : c.loop-i.i ≡ 64 = omega arith in
     c.loop-i.invariant.nodes below h commit applied many some before
-    ∙ ap (λ n. c.args.nodes.now.items ++ concat_first n (λ j. new_nodes below (slot_start below c.args.span.start j) (is_inner (suc below) c.args.span.start) (commit ▷ h) c.args.version)) done
+    ∙ ap (λ n. bare_all c.args.nodes.now.items ++ concat_first n (λ j. new_nodes below (slot_start below c.args.span.start j) (is_inner (suc below) c.args.span.start) (commit ▷ h) c.args.version)) done
 
 -- ---- how many nodes there are
 
 pub apply_slots-returns-clause-counted : goal.apply_slots-returns-clause-counted
 apply_slots-returns-clause-counted g t c = c.loop-i.invariant.counted
+
+-- ---- where the nodes are
+
+pub apply_slot-returns-then-branch-clause-stored : goal.apply_slot-returns-then-branch-clause-stored
+apply_slot-returns-then-branch-clause-stored g t c store low =
+    subst (IsLaid store c.args.first c.args.nodes.now.items c.args.span.height c.args.span.start) (sym c.in_ok-share.ensures) (laid-below store c.args.first c.args.nodes.now.items c.args.span.height c.args.span.start (node_of c.args.child) low)
+
+pub apply_child-returns-in-None-clause-stored : goal.apply_child-returns-in-None-clause-stored
+apply_child-returns-in-None-clause-stored g t c =
+    IfOk-weaker c.build.result _ _ (λ p made store low. made store) c.build.ensures.stored
+
+pub apply_child-returns-in_ok-all-in-Leaf-clause-stored : goal.apply_child-returns-in_ok-all-in-Leaf-clause-stored
+apply_child-returns-in_ok-all-in-Leaf-clause-stored g t c =
+    IfOk-weaker c.build-in-Leaf.result _ _ (λ p made store low. made store) c.build-in-Leaf.ensures.stored
+
+pub apply_child-returns-in-Inner-clause-stored : goal.apply_child-returns-in-Inner-clause-stored
+apply_child-returns-in-Inner-clause-stored g t c =
+    let st = c.requires.some in
+    let span = c.args.span in
+    let node = child-is span.height span.start st.above st.commits c.args.child c.in-Some.node c.in-Some.is st.holds in
+    let body = inner_data-is span.height span.start st.above st.commits c.in-Some.node.now.value c.in-Inner.version c.in-Inner.slots (sym c.deref.ensures ∙ c.in-Inner.is) node in
+    IfOk-weaker c.apply_inner.result _ _ (λ p made store low. made store body.below body.height (below-children store c.args.first span.height body.below span.start (node_of c.args.child) c.in-Some.node.now.value c.in-Inner.block c.in-Inner.version c.in-Inner.slots body.height (ap (option_map (λ b. b.now.value)) c.in-Some.is) (sym c.deref.ensures ∙ c.in-Inner.is) low)) c.apply_inner.ensures.stored
+
+pub apply_inner-returns-then-branch-clause-stored : goal.apply_inner-returns-then-branch-clause-stored
+apply_inner-returns-then-branch-clause-stored g t c =
+    IfOk-weaker c.build.result _ _ (λ p made store below high low. made store) c.build.ensures.stored
+
+pub apply_inner-returns-clause-stored : goal.apply_inner-returns-clause-stored
+apply_inner-returns-clause-stored g t c store below high low =
+    laid-inner store c.args.first c.apply_slots.new.nodes.items c.push_inner.new.nodes.items c.args.span below c.args.version c.in_ok-new_slots.new_slots (linked c.in_ok-push_inner.field-0) c.requires.first.0 high c.in_ok-push_inner.ensures.child c.in_ok-push_inner.ensures.block c.in_ok-push_inner.ensures.nodes (c.in_ok-new_slots.ensures.stored store below high low)
+
+pub apply_slots-returns-clause-stored : goal.apply_slots-returns-clause-stored
+apply_slots-returns-clause-stored g t c store below high low =
+    let done : c.loop-i.i ≡ 64 = omega arith in
+    laid-all store c.args.first c.loop-i.i c.loop-i.nodes.items below c.args.span.start c.loop-i.new_slots done (c.loop-i.invariant.stored store below high low)

@@ -7,7 +7,8 @@ use Rattle.btr_tree.specs.Slots.{IsFilled, base_of}
 use Rattle.btr_tree.proofs.BuiltNodeLemmas.{HasFirst}
 use Rattle.btr_tree.specs.Change.{IsApplied, CountsNodes, end_of}
 use Rattle.btr_base.specs.declared.limits.TheConstants.{LEAF_POINTS}
-use Rattle.btr_tree.specs.NewNodes.{concat_first, new_nodes}
+use Rattle.btr_tree.specs.NewNodes.{concat_first, new_nodes, bare_all}
+use Rattle.btr_tree.specs.Stored.{Store, AreBelow, AreLaid}
 use Rattle.btr_tree.specs.Crowd.{HasNoCrowdedSpan}
 use Rattle.btr_tree.proofs.apply.+apply.Given as goal
 
@@ -19,7 +20,8 @@ invariant-apply_slots-loop-i g l = record {
   slots : (below : ℕ) (h : Past) (c : Commit) → IsApplied below l.span h c l.cut l.added l.version l.slots → HasFirst below l.span.start (c ▷ h) l.i l.new_slots;
   filled : IsFilled l.i l.new_slots;
   base : base_of l.new_slots ≡ base_of l.slots;
-  nodes : (below : ℕ) (h : Past) (c : Commit) → IsApplied below l.span h c l.cut l.added l.version l.slots → LEAF_POINTS < length (points_of (suc below) l.span.start (bag (c ▷ h))) → 0 < l.version → IsBefore l.version h → l.nodes.items ≡ l.fn.nodes.items ++ concat_first l.i (λ i. new_nodes below (slot_start below l.span.start i) (is_inner (suc below) l.span.start) (c ▷ h) l.version);
+  nodes : (below : ℕ) (h : Past) (c : Commit) → IsApplied below l.span h c l.cut l.added l.version l.slots → LEAF_POINTS < length (points_of (suc below) l.span.start (bag (c ▷ h))) → 0 < l.version → IsBefore l.version h → bare_all l.nodes.items ≡ bare_all l.fn.nodes.items ++ concat_first l.i (λ i. new_nodes below (slot_start below l.span.start i) (is_inner (suc below) l.span.start) (c ▷ h) l.version);
+  stored : (store : Store) (below : ℕ) → l.span.height ≡ suc below → AreBelow store l.first below l.span.start l.slots → AreLaid l.i store l.first l.nodes.items below l.span.start l.new_slots;
   counted : CountsNodes l.fn.steps l.steps l.fn.nodes.items l.nodes.items;
   room : (below : ℕ) (h : Past) (c : Commit) → IsApplied below l.span h c l.cut l.added l.version l.slots → HasNoCrowdedSpan l.span.start (slot_start below l.span.start l.i) (points_of (suc below) l.span.start (bag (c ▷ h)));
 }

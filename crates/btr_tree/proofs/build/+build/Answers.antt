@@ -18,8 +18,10 @@ use Rattle.btr_tree.proofs.CrowdLemmas.{room-few, room-none}
 use Rattle.btr_tree.proofs.BuiltNodeLemmas.{first-put, slot-fresh, slot-new, slot-made, leaf-child, inner-child_at, version-fresh}
 use Rattle.std.proofs.lemmas.Bool.Decides.{nat_tests}
 use Rattle.btr_tree.proofs.UntouchedNodeLemmas.{many-inner}
-use Rattle.btr_tree.specs.NewNodes.{concat_first, new_nodes}
-use Rattle.btr_tree.proofs.NewNodeLemmas.{first-next, new_nodes-none, new_nodes-leaf, new_nodes-inner_at, told-more, counts-more}
+use Rattle.btr_tree.specs.NewNodes.{concat_first, new_nodes, bare_all}
+use Rattle.btr_tree.specs.Stored.{Store}
+use Rattle.btr_tree.proofs.StoredLemmas.{laid-none, laid-leaf, laid-inner, laid-put, laid-part, laid-all}
+use Rattle.btr_tree.proofs.NewNodeLemmas.{first-next, new_nodes-none, new_nodes-leaf, new_nodes-inner_at, told-more, bare-push, counts-more}
 use Rattle.btr_tree.proofs.build.+build.Goals as goal
 
 some-points : {X : Type 0} (xs : List X) → (length xs == 0) ≡ false → 0 < length xs
@@ -69,7 +71,7 @@ build_slots-build_slot-requires g t c κs outlives =
     let at = parted-at c.args.span c.slot-part.result below c.loop-i.i c.args.points.now c.loop-i.rest.now c.parted.result.0.now c.parted.result.1.now _ high c.loop-i-test.true c.slot-part.ensures c.end.ensures.span (omega (arith, ints)) (c.loop-i.invariant.rest below high) c.parted.ensures.before c.parted.ensures.from in
     let down : c.slot-part.result.height ≡ below = ap (λ u. u.height) at.is in
     let d = c.decreases in
-    (omega arith, (outlives, (subst IsInOrder (sym c.parted.ensures.before) (filter-in_order _ c.loop-i.rest.now c.loop-i.invariant.order), parted-inside c.slot-part.result.start (end_of c.slot-part.result) c.args.points.now c.parted.result.0.now at.has)))
+    (omega arith, (outlives, (subst IsInOrder (sym c.parted.ensures.before) (filter-in_order _ c.loop-i.rest.now c.loop-i.invariant.order), (parted-inside c.slot-part.result.start (end_of c.slot-part.result) c.args.points.now c.parted.result.0.now at.has, c.requires.first))))
 
 pub build_slots-returns-in_err-slot-clause-fault : goal.build_slots-returns-in_err-slot-clause-fault
 build_slots-returns-in_err-slot-clause-fault g t c =
@@ -108,8 +110,11 @@ build_slots-loop-i-preserved g t c =
           let inner = many-inner (suc below) span.start (bag (commit ▷ h)) (subst (λ x. LEAF_POINTS < length x) split.same many) in
           let told = c.in_ok-slot.ensures.nodes (is_inner (suc below) span.start) h commit (subst (λ (u : SpanValue). IsFresh u.height u.start (is_inner (suc below) span.start) h commit c.args.version here) (sym parted.is) fresh) inner in
           let f = λ (j : ℕ). new_nodes below (slot_start below span.start j) (is_inner (suc below) span.start) (commit ▷ h) c.args.version in
-          told-more c.args.nodes.now.items c.loop-i.nodes.items c.build_slot.new.nodes.items (concat_first i f) (f i) (concat_first (i + 1) f) (c.loop-i.invariant.nodes below h commit split many) (told ∙ ap (λ (u : SpanValue). c.loop-i.nodes.items ++ new_nodes u.height u.start (is_inner (suc below) span.start) (commit ▷ h) c.args.version) parted.is) (first-next i f);
+          told-more (bare_all c.args.nodes.now.items) (bare_all c.loop-i.nodes.items) (bare_all c.build_slot.new.nodes.items) (concat_first i f) (f i) (concat_first (i + 1) f) (c.loop-i.invariant.nodes below h commit split many) (told ∙ ap (λ (u : SpanValue). bare_all c.loop-i.nodes.items ++ new_nodes u.height u.start (is_inner (suc below) span.start) (commit ▷ h) c.args.version) parted.is) (first-next i f);
       counted = counts-more c.args.steps.now c.loop-i.steps c.build_slot.new.steps c.args.nodes.now.items c.loop-i.nodes.items c.build_slot.new.nodes.items c.loop-i.invariant.counted c.in_ok-slot.ensures.counted;
+      stored = λ store below high.
+          let part_is = (at below high).is in
+          laid-put store c.args.first c.loop-i.steps c.build_slot.new.steps c.loop-i.nodes.items c.build_slot.new.nodes.items below span.start i c.loop-i.slots c.put.new.self c.in_ok-slot.slot (linked c.in_ok-slot.child) c.in_ok-slot.ensures.counted c.in_ok-put.ensures (c.loop-i.invariant.stored store below high) (laid-part store c.args.first c.build_slot.new.nodes.items part below span.start i (linked c.in_ok-slot.child) part_is (c.in_ok-slot.ensures.stored store));
       room = λ below high. room-more span part below i c.args.points.now here behind (at below high) (c.loop-i.invariant.room below high) c.in_ok-slot.ensures.room;
     }
 
@@ -127,14 +132,14 @@ empty-is (x ∷ xs) e = absurd (grind (arith, nat_tests))
 pub build-returns-then-is_empty-clause-nodes : goal.build-returns-then-is_empty-clause-nodes
 build-returns-then-is_empty-clause-nodes g t c above h commit fresh w =
     let none = empty-is c.args.points.now (sym c.is_empty.ensures ∙ c.if-is_empty.true) in
-    sym (ap (λ x. c.args.nodes.now.items ++ x) (new_nodes-none c.args.span.height c.args.span.start above (commit ▷ h) c.args.version (sym fresh.same ∙ none)) ∙ append-nil c.args.nodes.now.items)
+    sym (ap (λ x. bare_all c.args.nodes.now.items ++ x) (new_nodes-none c.args.span.height c.args.span.start above (commit ▷ h) c.args.version (sym fresh.same ∙ none)) ∙ append-nil (bare_all c.args.nodes.now.items))
 
 pub build-returns-then-points-le-LEAF_POINTS-clause-nodes : goal.build-returns-then-points-le-LEAF_POINTS-clause-nodes
 build-returns-then-points-le-LEAF_POINTS-clause-nodes g t c above h commit fresh w =
     let k = c.args.span.height in
     let s = c.args.span.start in
-    c.in_ok-push_leaf.ensures.nodes
-    ∙ ap (λ x. c.args.nodes.now.items ++ x) (sym (new_nodes-leaf k s above (commit ▷ h) c.args.version c.args.points.now w (version-fresh k s above h commit c.args.version fresh.number fresh.fresh) fresh.same (some-points c.args.points.now (sym c.is_empty.ensures ∙ c.if-is_empty.false)) c.if-points-le-LEAF_POINTS.true))
+    bare-push c.args.nodes.now.items c.push_leaf.new.nodes.items _ c.in_ok-push_leaf.ensures.nodes
+    ∙ ap (λ x. bare_all c.args.nodes.now.items ++ x) (sym (new_nodes-leaf k s above (commit ▷ h) c.args.version c.args.points.now w (version-fresh k s above h commit c.args.version fresh.number fresh.fresh) fresh.same (some-points c.args.points.now (sym c.is_empty.ensures ∙ c.if-is_empty.false)) c.if-points-le-LEAF_POINTS.true))
 
 pub build-returns-clause-nodes : goal.build-returns-clause-nodes
 build-returns-clause-nodes g t c above h commit fresh w =
@@ -145,15 +150,36 @@ build-returns-clause-nodes g t c above h commit fresh w =
     let split : IsSplit below c.args.span h commit c.args.version c.args.points.now = record { height = high; number = fresh.number; same = fresh.same ∙ ap (λ j. points_of j s (bag (commit ▷ h))) high; few = subst (λ j. length (points_of j s (bag h)) ≤ LEAF_POINTS) high (fresh.small c.if-points-le-LEAF_POINTS.false) } in
     let made = c.in_ok-slots.ensures.slots below h commit split in
     let told = c.in_ok-slots.ensures.nodes below h commit split c.if-points-le-LEAF_POINTS.false in
-    told-more c.args.nodes.now.items c.build_slots.new.nodes.items c.push_inner.new.nodes.items _ _ (new_nodes k s above (commit ▷ h) c.args.version) told c.in_ok-push_inner.ensures.nodes (new_nodes-inner_at k below s above (commit ▷ h) c.args.version c.in_ok-slots.slots high w (version-fresh k s above h commit c.args.version fresh.number fresh.fresh) (subst (λ x. LEAF_POINTS < length x) fresh.same c.if-points-le-LEAF_POINTS.false) made.0)
+    told-more (bare_all c.args.nodes.now.items) (bare_all c.build_slots.new.nodes.items) (bare_all c.push_inner.new.nodes.items) _ _ (new_nodes k s above (commit ▷ h) c.args.version) told (bare-push c.build_slots.new.nodes.items c.push_inner.new.nodes.items _ c.in_ok-push_inner.ensures.nodes) (new_nodes-inner_at k below s above (commit ▷ h) c.args.version c.in_ok-slots.slots high w (version-fresh k s above h commit c.args.version fresh.number fresh.fresh) (subst (λ x. LEAF_POINTS < length x) fresh.same c.if-points-le-LEAF_POINTS.false) made.0)
 
 pub build_slots-returns-clause-nodes : goal.build_slots-returns-clause-nodes
 build_slots-returns-clause-nodes g t c below h commit split many =
     let done : c.loop-i.i ≡ 64 = omega arith in
     c.loop-i.invariant.nodes below h commit split many
-    ∙ ap (λ n. c.args.nodes.now.items ++ concat_first n (λ j. new_nodes below (slot_start below c.args.span.start j) (is_inner (suc below) c.args.span.start) (commit ▷ h) c.args.version)) done
+    ∙ ap (λ n. bare_all c.args.nodes.now.items ++ concat_first n (λ j. new_nodes below (slot_start below c.args.span.start j) (is_inner (suc below) c.args.span.start) (commit ▷ h) c.args.version)) done
 
 -- ---- how many nodes there are
 
 pub build_slots-returns-clause-counted : goal.build_slots-returns-clause-counted
 build_slots-returns-clause-counted g t c = c.loop-i.invariant.counted
+
+-- ---- where the nodes are
+
+pub build-returns-then-is_empty-clause-stored : goal.build-returns-then-is_empty-clause-stored
+build-returns-then-is_empty-clause-stored g t c store =
+    laid-none store c.args.first c.args.nodes.now.items c.args.span.height c.args.span.start (linked c.none.result) c.requires.first.0 c.none.ensures
+
+pub build-returns-then-points-le-LEAF_POINTS-clause-stored : goal.build-returns-then-points-le-LEAF_POINTS-clause-stored
+build-returns-then-points-le-LEAF_POINTS-clause-stored g t c store =
+    laid-leaf store c.args.first c.args.nodes.now.items c.push_leaf.new.nodes.items c.args.span c.args.version c.args.points.now (linked c.in_ok-push_leaf.field-0) c.requires.first.0 c.in_ok-push_leaf.ensures.child c.in_ok-push_leaf.ensures.block c.in_ok-push_leaf.ensures.nodes
+
+pub build-returns-clause-stored : goal.build-returns-clause-stored
+build-returns-clause-stored g t c store =
+    let below = c.args.span.height - 1 in
+    let high : c.args.span.height ≡ suc below = omega (arith, ap (λ p. p.height) c.span.view_is, c.if-span-eq0.false) in
+    laid-inner store c.args.first c.build_slots.new.nodes.items c.push_inner.new.nodes.items c.args.span below c.args.version c.in_ok-slots.slots (linked c.in_ok-push_inner.field-0) c.requires.first.0 high c.in_ok-push_inner.ensures.child c.in_ok-push_inner.ensures.block c.in_ok-push_inner.ensures.nodes (c.in_ok-slots.ensures.stored store below high)
+
+pub build_slots-returns-clause-stored : goal.build_slots-returns-clause-stored
+build_slots-returns-clause-stored g t c store below high =
+    let done : c.loop-i.i ≡ 64 = omega arith in
+    laid-all store c.args.first c.loop-i.i c.loop-i.nodes.items below c.args.span.start c.loop-i.slots done (c.loop-i.invariant.stored store below high)

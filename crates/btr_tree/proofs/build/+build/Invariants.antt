@@ -7,7 +7,8 @@ use Rattle.btr_tree.proofs.BuiltNodeLemmas.{HasFirst}
 use Rattle.btr_tree.specs.Change.{IsSplit, CountsNodes, end_of}
 use Rattle.btr_base.specs.declared.limits.TheConstants.{LEAF_POINTS}
 use Rattle.btr_tree.specs.Nodes.{is_inner}
-use Rattle.btr_tree.specs.NewNodes.{concat_first, new_nodes}
+use Rattle.btr_tree.specs.NewNodes.{concat_first, new_nodes, bare_all}
+use Rattle.btr_tree.specs.Stored.{Store, AreLaid}
 use Rattle.btr_tree.specs.Crowd.{HasNoCrowdedSpan}
 use Rattle.btr_tree.proofs.build.+build.Given as goal
 
@@ -18,7 +19,8 @@ invariant-build_slots-loop-i g l = record {
   order : IsInOrder l.rest;
   slots : (below : ℕ) (h : Past) (c : Commit) → IsSplit below l.span h c l.version l.points → HasFirst below l.span.start (c ▷ h) l.i l.slots;
   filled : IsFilled l.i l.slots;
-  nodes : (below : ℕ) (h : Past) (c : Commit) → IsSplit below l.span h c l.version l.points → LEAF_POINTS < length l.points → l.nodes.items ≡ l.fn.nodes.items ++ concat_first l.i (λ i. new_nodes below (slot_start below l.span.start i) (is_inner (suc below) l.span.start) (c ▷ h) l.version);
+  nodes : (below : ℕ) (h : Past) (c : Commit) → IsSplit below l.span h c l.version l.points → LEAF_POINTS < length l.points → bare_all l.nodes.items ≡ bare_all l.fn.nodes.items ++ concat_first l.i (λ i. new_nodes below (slot_start below l.span.start i) (is_inner (suc below) l.span.start) (c ▷ h) l.version);
+  stored : (store : Store) (below : ℕ) → l.span.height ≡ suc below → AreLaid l.i store l.first l.nodes.items below l.span.start l.slots;
   counted : CountsNodes l.fn.steps l.steps l.fn.nodes.items l.nodes.items;
   room : (below : ℕ) → l.span.height ≡ suc below → HasNoCrowdedSpan l.span.start (slot_start below l.span.start l.i) l.points;
 }

@@ -18,7 +18,7 @@ returns-in-Leaf c =
 
 pub returns-in-Inner : goal.returns-in-Inner
 returns-in-Inner c =
-    ap Some c.slot.ensures
+    ap Some c.addressed.ensures
     ∙ sym (ap (λ (xs : List Slot). slice_get xs c.args.i) (sym c.self.view_is ∙ ap (λ o. slots_of_node (option_map (λ (a : Arc NodeData Global). a.value) o)) c.in-Some.is) ∙ get-of_inner c.in-Some.node.value c.in-Inner.version c.in-Inner.slots c.args.i (sym c.deref.ensures ∙ c.in-Inner.is) c.if-i-lt-FAN_OUT.true)
 
 pub returns-in-Inner-2 : goal.returns-in-Inner-2
