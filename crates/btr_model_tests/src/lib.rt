@@ -1,4 +1,4 @@
-//! Tests of the model, of devices, sources and sinks in memory, and of the bytes of entries.
+//! Tests of the model, of devices, sources and sinks in memory, and of the bytes of entries and pages.
 #![tactic(auto)]
 
 #[cfg(test)]
@@ -17,3 +17,5 @@ mod fixture;
 mod hist_tests;
 #[cfg(test)]
 mod io_tests;
+#[cfg(test)]
+mod node_tests;

@@ -3,7 +3,7 @@ use Rattle.std.specs.Prelude.{◌≡◌, ◌⊎◌, ℕ, ◌+◌, ◌*◌, ◌^�
 use Rattle.std.specs.List.{AllByRecursion}
 use Rattle.std.specs.Int.{w32}
 use Rattle.std.proofs.Common.{zero, suc, refl, sym, ap, ◌∙◌, subst, arith, inl, inr, length-append, append_assoc}
-use Rattle.std.proofs.lemmas.Bool.{cases_lt, eqb-true}
+use Rattle.std.proofs.lemmas.Bool.{cases_lt}
 use Rattle.std.proofs.lemmas.Option.{slice_get_past}
 use Rattle.btr_base.specs.declared.limits.TheConstants.{MAX_VERSIONS}
 use Rattle.btr_base.specs.declared.point.Point.{Point}
@@ -31,7 +31,7 @@ use Rattle.btr_engine.specs.Body.{most_nodes, most_need_of}
 use Rattle.btr_engine.proofs.NeedLemmas.{needs-append}
 use Rattle.btr_gate.specs.Numbers.{one, times, total, given}
 use Rattle.btr_gate.proofs.NumberLemmas.{one_same, times_append}
-use Rattle.btr_load.proofs.TotalLemmas.{total_append, at_number, at_there, entries_sum}
+use Rattle.btr_load.proofs.TotalLemmas.{total_append, at_number, at_there, entries_sum, taken}
 use Rattle.btr_load.proofs.FitLemmas.{needs_least}
 use Rattle.btr_text.specs.declared.script.Line.{Line}
 use Rattle.btr_text.specs.declared.script.Line.TheVariants as lines
@@ -127,23 +127,6 @@ most_of None = 0
 most_of (Some line) = most_blocks line.line
 
 -- ---- lists of places
-
--- A number that is in a list stands between two parts of it.
-record IsIn (m : ℕ) (b : List ℕ) : Type 0 where
-  front : List ℕ
-  back : List ℕ
-  is : b ≡ front ++ m ∷ back
-
-taken : (m : ℕ) (b : List ℕ) → 0 < times m b → IsIn m b
-taken m [] there = absurd (omega arith)
-taken m (n ∷ b) there =
-    elim (n == m) as (λ t. (n == m) ≡ t → IsIn m (n ∷ b)) [
-      | true ↦ λ e. record { front = []; back = b; is = ap (λ k. k ∷ b) (eqb-true n m e) }
-      | false ↦ λ e.
-          let none : one (n == m) ≡ 0 = ap one e in
-          let rest = taken m b (omega (arith, there, none)) in
-          record { front = n ∷ rest.front; back = rest.back; is = ap (λ l. n ∷ l) rest.is }
-    ] refl
 
 -- A sum over a list is no greater than that over one which has each number as often, if what it sums is not 0 there.
 totals_least : (f : ℕ → ℕ) (a b : List ℕ) → ((n : ℕ) → (times n a ≤ times n b) ⊎ (f n ≡ 0)) → total f a ≤ total f b

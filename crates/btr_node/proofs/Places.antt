@@ -1,0 +1,183 @@
+-- What is read at the places of bytes that were spelled.
+use Rattle.std.specs.Prelude.{◌≡◌, ℕ, zero, suc, ◌+◌, ◌*◌, ◌^◌, ◌<◌, ℤ, pos, ◌*ℤ◌, ◌≤ℤ◌, int_le, nat_lt, true}
+use Rattle.std.specs.Prelude.{List, [], ◌∷◌, ◌++◌, length, take, drop, slice_set, Option, Some, None}
+use Rattle.std.proofs.Common.{refl, sym, ap, ◌∙◌, arith, rules, append_assoc}
+use Rattle.std.specs.Int.{w32, w64, w128, from_be_bytes, cast_unsigned, cast_signed}
+use Rattle.std.specs.Int.RustNames.{FitsSigned}
+use Rattle.std.specs.List.{flat_map, AllByRecursion}
+use Rattle.std.proofs.lemmas.Bool.Decides.{nat_tests}
+use Rattle.std.proofs.lemmas.Int.{ints, to_z-of_z}
+use Rattle.std.proofs.lemmas.List.{drop_at, drop-drop, take_all, take_more_set, length-set}
+use Rattle.std.proofs.lemmas.List.Concat.{flat_map-cons}
+use Rattle.std.proofs.lemmas.Nat.{from_be_bytes-to_be_bytes_4, from_be_bytes-to_be_bytes_8}
+use Rattle.btr_base.specs.declared.point.Point.{Point}
+use Rattle.btr_base.specs.Agg.{EndsFit}
+use Rattle.btr_node.specs.declared.page.Front.{Front}
+use Rattle.btr_node.specs.declared.page.PageSlot.{PageSlot}
+use Rattle.btr_node.specs.Page.{number, signed, zeros, front_bytes, point_bytes, slot_bytes, ends_or, FitsFront, FitsPoint, FitsSlot}
+use Rattle.btr_node.specs.Reading.{front_in, point_in, agg_from, agg_in, slot_in, items_in}
+
+-- ---- numbers
+
+again32 : (n : ℕ) → n < 2 ^ 32 → from_be_bytes w32 (number w32 n) ≡ n
+unfolding number
+again32 n lt = from_be_bytes-to_be_bytes_4 n lt
+
+again64 : (n : ℕ) → n < 2 ^ 64 → from_be_bytes w64 (number w64 n) ≡ n
+unfolding number
+again64 n lt = from_be_bytes-to_be_bytes_8 n lt
+
+again128 : (n : ℕ) → n < 2 ^ 128 → from_be_bytes w128 (number w128 n) ≡ n
+unfolding number
+again128 n lt = omega arith
+
+signed-again : (z : ℤ) → FitsSigned w64 z → cast_signed w64 (from_be_bytes w64 (signed z)) ≡ z
+signed-again z fits =
+    let small : cast_unsigned w64 z < 2 ^ 64 = omega (arith, ints) in
+    ap (cast_signed w64) (again64 (cast_unsigned w64 z) small) ∙ to_z-of_z w64 z fits
+
+sum-again : (z : ℤ) → FitsSigned w128 z → cast_signed w128 (from_be_bytes w128 (number w128 (cast_unsigned w128 z))) ≡ z
+sum-again z fits =
+    let small : cast_unsigned w128 z < 2 ^ 128 = omega (arith, ints) in
+    ap (cast_signed w128) (again128 (cast_unsigned w128 z) small) ∙ to_z-of_z w128 z fits
+
+-- ---- places
+
+pub drop-more : (m n : ℕ) (xs : List ℕ) → drop (m + n) xs ≡ drop n (drop m xs)
+drop-more m n xs = sym (drop-drop n m xs)
+
+-- ---- the fields of both kinds
+
+pub front-again : (b0 b1 b2 b3 b4 b5 b6 b7 : ℕ) (f : Front) (rest : List ℕ) → FitsFront f → front_in ((b0 ∷ b1 ∷ b2 ∷ b3 ∷ b4 ∷ b5 ∷ b6 ∷ b7 ∷ []) ++ front_bytes f ++ rest) ≡ f
+unfolding front_in front_bytes number zeros
+front-again b0 b1 b2 b3 b4 b5 b6 b7 f rest fits =
+    let start = signed-again f.start fits.start in
+    let height = again32 f.height fits.height in
+    let stream = again32 f.stream fits.stream in
+    let version = again64 f.version fits.version in
+    let count = again64 f.count fits.count in
+    λ i. record { start = start i; height = height i; stream = stream i; version = version i; count = count i }
+
+pub length-front : (f : Front) → length (front_bytes f) ≡ 56
+unfolding front_bytes number zeros
+length-front f = refl
+
+-- ---- a point
+
+pub point-again : (p : Point) (rest : List ℕ) → FitsPoint p → point_in 0 (point_bytes p ++ rest) ≡ p
+unfolding point_in point_bytes number
+point-again p rest fits =
+    let time = signed-again p.time fits.time in
+    let value = signed-again p.value fits.value in
+    λ i. record { time = time i; value = value i }
+
+pub point-moved : (at : ℕ) (bytes : List ℕ) → point_in at bytes ≡ point_in 0 (drop at bytes)
+unfolding point_in
+point-moved at bytes =
+    let e = drop-more at 8 bytes in
+    λ i. record { time = cast_signed w64 (from_be_bytes w64 (take 8 (drop at bytes))); value = cast_signed w64 (from_be_bytes w64 (take 8 (e i))) }
+
+pub length-point : (p : Point) → length (point_bytes p) ≡ 16
+unfolding point_bytes number
+length-point p = refl
+
+-- ---- a slot
+
+le-true : (a b : ℤ) → a ≤ℤ b → int_le a b ≡ true
+le-true a b h = grind (arith, ints)
+
+lt-true : (n : ℕ) → 0 < n → nat_lt 0 n ≡ true
+lt-true n h = grind (arith, nat_tests)
+
+pub agg-again : (n : ℕ) (total : ℤ) (ends : Option (ℤ × ℤ)) → EndsFit n total ends → agg_from n total (ends_or ends).0 (ends_or ends).1 ≡ record { count = n; total = total; ends = ends }
+unfolding agg_from
+agg-again n total None fit =
+    let a = sym fit.0 in
+    let b = sym fit.1 in
+    ap (λ m. agg_from m total (pos 0) (pos 0)) fit.0
+    ∙ ap (λ t. agg_from 0 t (pos 0) (pos 0)) fit.1
+    ∙ (λ i. record { count = a i; total = b i; ends = None })
+agg-again n total (Some e) fit =
+    let a = lt-true n fit.0 in
+    let b = le-true (pos n *ℤ e.0) total fit.1 in
+    let c = le-true total (pos n *ℤ e.1) fit.2 in
+    rw (a, b, c) refl
+
+ends-fit : (n : ℕ) (total : ℤ) (ends : Option (ℤ × ℤ)) → EndsFit n total ends → FitsSigned w64 (ends_or ends).0 × FitsSigned w64 (ends_or ends).1
+ends-fit n total None fit = (search rules, search rules)
+ends-fit n total (Some e) fit =
+    let least = fit.3 in
+    let greatest = fit.4 in
+    (omega (arith, ints, least.0, least.1), omega (arith, ints, greatest.0, greatest.1))
+
+pub slot-again : (s : PageSlot) (rest : List ℕ) → FitsSlot s → slot_in 0 (slot_bytes s ++ rest) ≡ s
+unfolding slot_in agg_in slot_bytes number
+slot-again s rest fits =
+    let count = again64 s.agg.count fits.count in
+    let total = sum-again s.agg.total fits.total in
+    let least = signed-again (ends_or s.agg.ends).0 (ends-fit s.agg.count s.agg.total s.agg.ends fits.summary).0 in
+    let greatest = signed-again (ends_or s.agg.ends).1 (ends-fit s.agg.count s.agg.total s.agg.ends fits.summary).1 in
+    let same = agg-again s.agg.count s.agg.total s.agg.ends fits.summary in
+    let agg = (λ i. agg_from (count i) (total i) (least i) (greatest i)) ∙ same in
+    let version = again64 s.version fits.version in
+    let child = again64 s.child fits.child in
+    λ i. record { agg = agg i; version = version i; child = child i }
+
+pub slot-moved : (at : ℕ) (bytes : List ℕ) → slot_in at bytes ≡ slot_in 0 (drop at bytes)
+unfolding slot_in agg_in
+slot-moved at bytes =
+    let e8 = drop-more at 8 bytes in
+    let e24 = drop-more at 24 bytes in
+    let e32 = drop-more at 32 bytes in
+    let e40 = drop-more at 40 bytes in
+    let e48 = drop-more at 48 bytes in
+    λ i. record {
+      agg = agg_from (from_be_bytes w64 (take 8 (drop at bytes))) (cast_signed w128 (from_be_bytes w128 (take 16 (e8 i)))) (cast_signed w64 (from_be_bytes w64 (take 8 (e24 i)))) (cast_signed w64 (from_be_bytes w64 (take 8 (e32 i))));
+      version = from_be_bytes w64 (take 8 (e40 i));
+      child = from_be_bytes w64 (take 8 (e48 i));
+    }
+
+pub length-slot : (s : PageSlot) → length (slot_bytes s) ≡ 56
+unfolding slot_bytes number
+length-slot s = refl
+
+-- ---- items of one width
+
+pub items-again : {X : Type 0} (item : ℕ → List ℕ → X) (bytes_of : X → List ℕ) (Fit : X → Type 0) (w : ℕ) → ((x : X) (rest : List ℕ) → Fit x → item 0 (bytes_of x ++ rest) ≡ x) → ((at : ℕ) (bytes : List ℕ) → item at bytes ≡ item 0 (drop at bytes)) → ((x : X) → length (bytes_of x) ≡ w) → (xs : List X) (at : ℕ) (bytes rest : List ℕ) → AllByRecursion Fit xs → drop at bytes ≡ flat_map bytes_of xs ++ rest → items_in item w (length xs) at bytes ≡ xs
+unfolding items_in
+items-again item bytes_of Fit w again moved len [] at bytes rest fits is = refl
+items-again item bytes_of Fit w again moved len (x ∷ xs) at bytes rest fits is =
+    let here : drop at bytes ≡ bytes_of x ++ (flat_map bytes_of xs ++ rest) = is ∙ ap (λ l. l ++ rest) (flat_map-cons bytes_of x xs) ∙ append_assoc (bytes_of x) (flat_map bytes_of xs) rest in
+    let first : item at bytes ≡ x = moved at bytes ∙ ap (item 0) here ∙ again x (flat_map bytes_of xs ++ rest) fits.0 in
+    let next : drop (at + w) bytes ≡ flat_map bytes_of xs ++ rest = drop-more at w bytes ∙ ap (drop w) here ∙ drop_at (bytes_of x) (flat_map bytes_of xs ++ rest) w (len x) in
+    let others = items-again item bytes_of Fit w again moved len xs (at + w) bytes rest fits.1 next in
+    λ i. first i ∷ others i
+
+pub items-more : {X : Type 0} (item : ℕ → List ℕ → X) (w n at : ℕ) (bytes : List ℕ) → items_in item w (suc n) at bytes ≡ items_in item w n at bytes ++ item (at + w * n) bytes ∷ []
+unfolding items_in
+items-more item w zero at bytes =
+    let e : at ≡ at + w * 0 = omega arith in ap (λ k. item k bytes ∷ []) e
+items-more item w (suc n) at bytes =
+    let e : at + w + w * n ≡ at + w * suc n = omega arith in
+    ap (λ l. item at bytes ∷ l) (items-more item w n (at + w) bytes ∙ ap (λ k. items_in item w n (at + w) bytes ++ item k bytes ∷ []) e)
+
+-- The items that a list has so far are those that stand at the places from 64 on.
+abbrev pub AreRead : {X : Type 0} → (ℕ → List ℕ → X) → ℕ → ℕ → List ℕ → ℕ → List X → Type 0
+AreRead item w n bytes i xs = (take i xs ≡ items_in item w i 64 bytes) × (length xs ≡ n)
+
+pub one-read : {X : Type 0} (item : ℕ → List ℕ → X) (w n : ℕ) (bytes : List ℕ) (i : ℕ) (xs : List X) (x : X) → i < n → x ≡ item (64 + w * i) bytes → AreRead item w n bytes i xs → AreRead item w n bytes (i + 1) (slice_set xs i x)
+one-read item w n bytes i xs x lt is so_far =
+    let len = so_far.1 in
+    let e : suc i ≡ i + 1 = omega arith in (
+      take_more_set xs i x (omega arith)
+          ∙ ap (λ l. l ++ x ∷ []) so_far.0
+          ∙ ap (λ y. items_in item w i 64 bytes ++ y ∷ []) is
+          ∙ sym (items-more item w i 64 bytes)
+          ∙ ap (λ k. items_in item w k 64 bytes) e,
+      length-set xs i x ∙ so_far.1,
+    )
+
+pub all-read : {X : Type 0} (item : ℕ → List ℕ → X) (w n : ℕ) (bytes : List ℕ) (i : ℕ) (xs : List X) → i ≡ n → AreRead item w n bytes i xs → xs ≡ items_in item w n 64 bytes
+all-read item w n bytes i xs done read =
+    let len = read.1 in
+    sym (take_all i xs (omega arith)) ∙ read.0 ∙ ap (λ k. items_in item w k 64 bytes) done

@@ -1,0 +1,15 @@
+use Rattle.std.proofs.Common.{refl, arith}
+use Rattle.btr_node.specs.Reading.{slot_in, items_in}
+use Rattle.btr_node.proofs.Places.{one-read, all-read}
+use Rattle.btr_node.proofs.reading.read_slots.Goals as goal
+
+pub loop-i-init : goal.loop-i-init
+unfolding items_in
+loop-i-init c = (refl, refl)
+
+pub loop-i-preserved : goal.loop-i-preserved
+loop-i-preserved c =
+    one-read slot_in 56 64 c.args.bytes.now c.loop-i.i c.loop-i.slots c.slot_at.result c.loop-i-test.true c.slot_at.ensures c.loop-i.invariant
+
+pub returns : goal.returns
+returns c = all-read slot_in 56 64 c.args.bytes.now c.loop-i.i c.loop-i.slots (omega (arith, c.loop-i-test.false, c.loop-i.auto.i-end)) c.loop-i.invariant
