@@ -44,7 +44,7 @@ pub fn changes<L>(
     compare_roots(
         root_span(),
         old.root(),
-        new.root(),
+        new.link(),
         comparison,
         &mut out,
         steps,

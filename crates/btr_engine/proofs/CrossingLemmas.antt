@@ -6,6 +6,8 @@ use Rattle.btr_tree.proofs.node.NodeData.TheLaws.TheKnot as tree_nodes
 use Rattle.btr_board.proofs.trail_node.TrailNode.TheLaws.TheKnot as trail_nodes
 use Rattle.btr_board.proofs.index_node.IndexNode.TheLaws.TheKnot as index_nodes
 use Rattle.btr_disk.specs.declared.disk.Disk.{Ghosts}
+use Rattle.btr_base.specs.contracts.agg.Agg as agg
+use Rattle.btr_base.specs.contracts.span.Span as span
 use Rattle.btr_tree.specs.contracts.tree.Tree as tree
 use Rattle.btr_board.specs.contracts.trail.Trail as trail
 use Rattle.btr_board.specs.contracts.index.Index as index
@@ -16,11 +18,23 @@ use Rattle.btr_engine.specs.contracts.board.Board as board
 use Rattle.btr_engine.specs.contracts.snapshot.Snapshot as snapshot
 use Rattle.btr_engine.specs.contracts.engine.Engine as engine
 
+span_send : IsSend span.the_row
+span_send = search (sendable, crosses) depth 20
+
+span_sync : IsSync span.the_row
+span_sync = search (sendable, crosses) depth 20
+
+agg_send : IsSend agg.the_row
+agg_send = search (sendable, crosses) depth 20
+
+agg_sync : IsSync agg.the_row
+agg_sync = search (sendable, crosses) depth 20
+
 tree_send : IsSend tree.the_row
-tree_send = search (sendable, crosses, tree_nodes.both_send-Link) depth 20
+tree_send = search (tree_nodes.both_send-Link, span_send, agg_send, sendable, crosses) depth 20
 
 tree_sync : IsSync tree.the_row
-tree_sync = search (sendable, crosses, tree_nodes.both_sync-Link) depth 20
+tree_sync = search (tree_nodes.both_sync-Link, span_sync, agg_sync, sendable, crosses) depth 20
 
 trail_send : (T : RattleType) → IsSend T → IsSync T → IsSend (trail.the_row T)
 trail_send T s y = search (sendable, crosses, trail_nodes.both_send-TrailNode, trail_nodes.both_sync-TrailNode) depth 20

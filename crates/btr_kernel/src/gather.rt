@@ -10,7 +10,7 @@ ghost use Rattle.btr_tree.specs.Root.{AtEachTree};
 ghost use Rattle.btr_kernel.specs.Past.{begun_earlier as earlier};
 ghost use Rattle.btr_kernel.specs.Sources.{IsSecond, second_past_points};
 
-use btr_base::{FIRST, Point, Range, Ranges};
+use btr_base::{FIRST, Point, ROOT_HEIGHT, Range, Ranges};
 use btr_scan::range;
 use btr_tree::Tree;
 use std::alloc::{AllocError, Global};
@@ -46,8 +46,12 @@ pub(crate) fn gather(alloc: Global, tree: &Tree, ranges: &Ranges) -> Result<Vec<
     ensures order { IfOk result (λ v. IsInOrder v.items) }
     ensures domain { IfOk result (λ v. AreInDomain v.items) }
 {
-    // the proof reads here that the tree is that of some past
+    // the proof reads here that a tree of the whole domain is that of some past
     let _kept = tree.share()?;
+    let whole = tree.span();
+    if whole.height < ROOT_HEIGHT {
+        return Ok(Vec::new(alloc));
+    }
     let mut points = Vec::new(alloc);
     for part in ranges.as_slice() {
         points.extend_from_slice(&range(alloc, tree, *part)?)?;

@@ -19,7 +19,7 @@ pub fn nearest<L>(tree: &Tree, time: i64, toward: Toward, steps: &mut Steps<L>) 
     ensures never_falls { steps.old ≤ steps.new }
 {
     match toward {
-        Toward::Forward => next_in_root(tree.root(), time, steps),
-        Toward::Backward => previous_in_root(tree.root(), time, steps),
+        Toward::Forward => next_in_root(tree.link(), time, steps),
+        Toward::Backward => previous_in_root(tree.link(), time, steps),
     }
 }

@@ -24,7 +24,7 @@ pub fn range(alloc: Global, tree: &Tree, range: Range) -> Result<Vec<Point>, All
     let mut rows = Vec::new(alloc);
     let mut steps = Steps::<RangeWalk>::new();
     prove!(FIRST < range.to && range.from < END);
-    walk_child(root_span(), tree.root(), range, &mut rows, &mut steps)?;
+    walk_child(root_span(), tree.link(), range, &mut rows, &mut steps)?;
     Ok(rows)
 }
 

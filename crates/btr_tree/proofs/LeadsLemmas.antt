@@ -1,10 +1,10 @@
 -- Laws of where a root leads: an opened tree is that of the past, a commit's root leads to its nodes, and old roots lead on.
-use Rattle.std.specs.Prelude.{◌≡◌, ◌⊎◌, ℕ, ◌+◌, ◌<◌, ◌≤◌, ℤ, Bool, true, false, cond, List, [], ◌∷◌, ◌++◌, length, slice_get, Option, Some, None, MatchOption}
+use Rattle.std.specs.Prelude.{◌≡◌, ℕ, ◌<◌, ◌≤◌, ℤ, Bool, true, false, cond, List, [], ◌∷◌, ◌++◌, length, slice_get, Option, Some, None, MatchOption}
 use Rattle.std.proofs.Common.{zero, suc, refl, sym, ap, ◌∙◌, arith, subst, inl, inr}
 use Rattle.std.proofs.lemmas.Bool.Decides.{nat_tests}
 use Rattle.std.proofs.lemmas.List.{length_push}
 use Rattle.std.proofs.Math.Nat.{eq-or-lt_of_le}
-use Rattle.btr_base.specs.Agg.{AggValue, agg, no_points}
+use Rattle.btr_base.specs.Agg.{AggValue, agg}
 use Rattle.btr_base.specs.declared.limits.TheConstants.{LEAF_POINTS}
 use Rattle.btr_base.specs.declared.point.Point.{Point}
 use Rattle.btr_base.specs.Span.{SpanValue}
@@ -16,11 +16,11 @@ use Rattle.btr_tree.specs.declared.slots.Kept.{Kept}
 use Rattle.btr_tree.specs.declared.slots.Slots.{Slots}
 use Rattle.btr_tree.specs.History.{Past, bag}
 use Rattle.btr_tree.specs.NewNodes.{NewNodeValue, concat_first}
-use Rattle.btr_tree.specs.Nodes.{points_of, is_inner, node_version, slot_version}
-use Rattle.btr_tree.specs.Shape.{ByKind, slot_start, slot_of_points, IsLeaf, IsInner, HasSlots, HasChildren, IsNodeData, IsChild}
+use Rattle.btr_tree.specs.Nodes.{points_of, is_inner, slot_version}
+use Rattle.btr_tree.specs.Shape.{ByKind, slot_start, slot_of_points, IsLeaf, IsInner, HasChildren, IsChild}
 use Rattle.btr_tree.specs.Slots.{slot_in, child_in, block_of, block_of_kind, addressed, first_slots}
 use Rattle.btr_tree.specs.Stored.{Store, leaf_node, inner_node, ByBlock, IsStoredLeaf, IsStoredInner, IsStored}
-use Rattle.btr_tree.specs.Leads.{slot_to, slots_to, node_to, LeadsNowhere, LeadsToNode, Leads, total_of_kind, total_of, IsSlotRead, IsReadLeaf, IsReadInner, IsRead}
+use Rattle.btr_tree.specs.Leads.{slot_to, slots_to, node_to, LeadsToNode, Leads, total_of_kind, total_of, IsSlotRead, IsReadLeaf, IsReadInner, IsRead}
 use Rattle.btr_tree.proofs.KeptSlotLemmas.{get-front, get-last}
 use Rattle.btr_tree.proofs.NodeLemmas.{total-of}
 use Rattle.btr_tree.proofs.NewNodeLemmas.{new_node-by, few-inner}

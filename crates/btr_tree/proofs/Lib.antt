@@ -7,6 +7,8 @@ pub mod NewNodeCountLemmas
 pub mod KeptSlotLemmas
 pub mod NewNodeLemmas
 pub mod NodeLemmas
+pub mod OpenedLemmas
+pub mod ReadLemmas
 pub mod RootLemmas
 pub mod SlotSplitLemmas
 pub mod StoredLemmas

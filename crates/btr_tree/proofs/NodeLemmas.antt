@@ -138,7 +138,7 @@ rest-next below s i h place =
 
 -- ---- the aggregates of the slots
 
-joined-suc : (n : ℕ) (x : Slots) → joined_first (suc n) x ≡ joined (joined_first n x) (slot_in x n).agg
+pub joined-suc : (n : ℕ) (x : Slots) → joined_first (suc n) x ≡ joined (joined_first n x) (slot_in x n).agg
 unfolding joined_first
 joined-suc n x = refl
 

@@ -1,5 +1,5 @@
 -- Lemmas on nodes that are stored: what stands below a block stays, and what a commit writes is laid above it.
-use Rattle.std.specs.Prelude.{◌≡◌, ℕ, ◌+◌, ◌-◌, ◌<◌, ◌≤◌, ℤ, cond, true, false, nat_lt, List, [], ◌∷◌, ◌++◌, length, slice_get, Option, Some, None}
+use Rattle.std.specs.Prelude.{◌≡◌, ◌⊎◌, ℕ, ◌+◌, ◌-◌, ◌<◌, ◌≤◌, ℤ, cond, true, false, nat_lt, List, [], ◌∷◌, ◌++◌, length, slice_get, Option, Some, None}
 use Rattle.std.proofs.Common.{zero, suc, refl, sym, ap, ◌∙◌, arith, subst, inl, inr}
 use Rattle.std.proofs.lemmas.Bool.Decides.{nat_tests}
 use Rattle.std.proofs.lemmas.List.{length_push}
@@ -15,7 +15,7 @@ use Rattle.btr_tree.specs.declared.slots.Kept.{Kept}
 use Rattle.btr_tree.specs.declared.slots.Slots.{Slots}
 use Rattle.btr_tree.specs.NewNodes.{NewNodeValue}
 use Rattle.btr_tree.specs.Shape.{ByKind, slot_start}
-use Rattle.btr_tree.specs.Slots.{child_in, block_of, block_of_kind, first_slots, AreSameSlots, IsPut}
+use Rattle.btr_tree.specs.Slots.{child_in, block_of, block_of_kind, AreSameSlots, IsPut}
 use Rattle.btr_tree.specs.Stored.{Store, laid, leaf_node, inner_node, ByBlock, IsStoredLeaf, IsStoredInner, IsStored, IsBelow, IsLaid, AreBelow, AreLaid}
 use Rattle.btr_tree.specs.Change.{CountsNodes, IsLeafOf, IsInnerOf}
 use Rattle.btr_tree.proofs.KeptSlotLemmas.{get-front, get-last}
@@ -190,6 +190,14 @@ below-at store first below s n b v x e h i lt =
 pub below-children : (store : Store) (first k below : ℕ) (s : ℤ) (child : Option NodeData) (n : NodeData) (b v : ℕ) (x : Slots) → k ≡ suc below → child ≡ Some n → n ≡ Inner b v x → IsBelow store first k s child → AreBelow store first below s x
 below-children store first k below s child n b v x high is e h =
     below-at store first below s n b v x e (subst (λ (o : Option NodeData). IsBelow store first (suc below) s o) is (subst (λ j. IsBelow store first j s child) high h))
+
+-- The child, or none.
+pub below-either : (store : Store) (first k : ℕ) (s : ℤ) (child seen : Option NodeData) → 1 ≤ first → (seen ≡ child) ⊎ (seen ≡ None) → IsBelow store first k s child → IsBelow store first k s seen
+below-either store first k s child seen some either low =
+    elim either [
+      | inl same ↦ subst (IsBelow store first k s) (sym same) low
+      | inr none ↦ subst (IsBelow store first k s) (sym none) (record { stored = none-stored store k s; below = omega arith })
+    ]
 
 -- ---- one slot of the walk
 

@@ -22,5 +22,6 @@ pub mod Uncounted
 pub mod Agree
 -- What the private functions promise.
 pub mod Change
--- To which nodes a root leads on the device.
+-- To which nodes a root leads on the device, and trees that are made of nodes read from there.
 pub mod Leads
+pub mod Opened

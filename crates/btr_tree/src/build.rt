@@ -193,7 +193,7 @@ pub(crate) fn push_inner<L>(
 }
 
 /// An inner node, which takes no more room than its slots need.
-fn inner_node<L>(
+pub(crate) fn inner_node<L>(
     alloc: Global,
     block: u64,
     version: u64,

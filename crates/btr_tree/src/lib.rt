@@ -5,6 +5,9 @@
 //! and the child of each of its 64 slots. In memory it keeps only the slots that have a point, or a version other than one
 //! that it keeps once. Versions share what a commit does not touch, and any thread can read them.
 //!
+//! Each node has its block on the device. [`Tree::apply`] tells the nodes that it wrote with their blocks, children first, and
+//! [`Tree::leaf`] and [`Tree::inner`] make trees of nodes that were read, from the leaves up.
+//!
 //! Links to nodes are opaque: [`visit`] counts each node in a [`Steps`]. Only a call that knows a type with [`Label`] can make a
 //! counter. All calls here are generic in the label, so they count with their caller's counter. One call makes nodes, and it
 //! counts each. A walk without a counter goes through a tree that its caller hands in as [`Uncounted`].
@@ -31,6 +34,8 @@ mod uncounted;
 mod apply;
 mod build;
 mod tree;
+// trees made of nodes that were read
+mod opened;
 // theorems on the definitions
 mod laws;
 

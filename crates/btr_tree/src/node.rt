@@ -1,6 +1,7 @@
 //! Nodes in memory, and what a walk sees of them.
 ghost use Rattle.std.specs.Prelude.{◌≡◌, ◌+◌, min, IfOk, OnOk, Some, None};
 ghost use Rattle.btr_tree.specs.Slots.{linked, node_of, block_of};
+ghost use Rattle.btr_tree.specs.Root.{version_of};
 
 use crate::slots::Slots;
 use crate::steps::Steps;
@@ -107,6 +108,19 @@ impl Child<'_> {
             Some(node) => match &**node {
                 NodeData::Leaf { block, .. } => *block,
                 NodeData::Inner { block, .. } => *block,
+            },
+        }
+    }
+
+    /// The version of the node, or 0 if there is no node.
+    pub(crate) fn version(self) -> u64
+        ensures { result ≡ version_of (node_of self.entry) }
+    {
+        match self.node {
+            None => 0,
+            Some(node) => match &**node {
+                NodeData::Leaf { version, .. } => *version,
+                NodeData::Inner { version, .. } => *version,
             },
         }
     }

@@ -7,7 +7,7 @@ use std::marker::{Model, PhantomData};
 /// A call that is generic in its label knows no such type. So it counts with its caller's counter alone.
 pub trait Label {}
 
-/// A counter of the nodes that a call writes, or visits. It stops at the greatest `u64`. `L` is its label.
+/// A counter of the nodes that a call makes, or visits. It stops at the greatest `u64`. `L` is its label.
 #[derive(Drop)]
 pub struct Steps<L> {
     count: u64,

@@ -1,16 +1,16 @@
-ghost use Rattle.std.specs.Prelude.{◌≡◌, ◌<◌, ◌≤◌, ◌+◌, ◌*◌, ◌^◌, length, min, IfOk, IfErr, OnOk};
+ghost use Rattle.std.specs.Prelude.{◌≡◌, ◌⊎◌, None, ◌<◌, ◌≤◌, ◌+◌, ◌*◌, ◌^◌, length, min, IfOk, IfErr, OnOk};
 ghost use Rattle.btr_base.specs.Agg.{agg};
 ghost use Rattle.btr_base.specs.Point.{AreInDomain};
 ghost use Rattle.btr_base.specs.declared.limits.TheConstants.{FIRST as FIRST_TIME, END as END_TIME};
-ghost use Rattle.btr_tree.specs.History.{bag, nothing, ◌▷◌, IsBefore};
+ghost use Rattle.btr_tree.specs.History.{Past, bag, nothing, ◌▷◌, IsBefore};
 ghost use Rattle.btr_tree.specs.Crowd.{HasNoCrowdedSpan};
 ghost use Rattle.btr_tree.specs.Nodes.{above_root};
 ghost use Rattle.btr_tree.specs.NewNodes.{new_nodes, bare_all};
 ghost use Rattle.btr_tree.specs.Stored.{Store, IsBelow, IsLaid};
 ghost use Rattle.btr_tree.specs.Shape.{IsChild};
 ghost use Rattle.btr_tree.specs.Change.{IsSomeChild};
-ghost use Rattle.btr_tree.specs.Slots.{node_of};
-ghost use Rattle.btr_tree.specs.Root.{IsTree, IsTreeFault, AfterCommit, AtEachTree};
+ghost use Rattle.btr_tree.specs.Slots.{node_of, block_of};
+ghost use Rattle.btr_tree.specs.Root.{IsTree, IsTreeFault, AfterCommit, AtEachTree, root_part, version_of};
 
 use crate::apply::apply_slot;
 use crate::fault::TreeFault;
@@ -18,32 +18,32 @@ use crate::new_node::NewNode;
 use crate::node::{Child, Link, Slot};
 use crate::root::root_span;
 use crate::steps::Steps;
-use btr_base::{Agg, Bag, MAX_POINTS, Ranges};
+use btr_base::{Agg, Bag, MAX_POINTS, ROOT_HEIGHT, Ranges, Span};
 use std::alloc::{AllocError, Global};
 use std::marker::Model;
 
 /// The points of one version of a stream, by time (BTrDB, FAST 2016). Trees of several versions share what they have in
-/// common, in any threads.
+/// common, in any threads. A tree that was made of nodes read from a device may also be the part of a version in one span.
 #[derive(Drop)]
 pub struct Tree {
-    root: Link,
-    agg: Agg,
+    pub(crate) span: Span,
+    pub(crate) root: Link,
+    pub(crate) agg: Agg,
 }
 
 impl Model for Tree {
     ghost use Rattle.std.specs.Coded.{codes};
     ghost use Rattle.btr_tree.specs.contracts.node.NodeData as node_contract;
-    ghost use Rattle.btr_tree.specs.History.{Past};
-    ghost use Rattle.btr_tree.specs.Root.{TreeValue, IsTree};
+    ghost use Rattle.btr_tree.specs.Root.{TreeValue, IsSomeTree};
     ghost use Rattle.btr_tree.specs.Slots.{linked};
 
     ghost Value = { TreeValue };
 
     ghost coded = { Prim.hlevel (codes, node_contract.the_row.coded) };
 
-    ghost view = { λ t. record { node = linked t.root; total = t.agg } };
+    ghost view = { λ t. record { span = t.span; node = linked t.root; total = t.agg } };
 
-    ghost invariant = { λ t. (h : Past) × IsTree h (record { node = linked t.root; total = t.agg }) };
+    ghost invariant = { λ t. IsSomeTree (record { span = t.span; node = linked t.root; total = t.agg }) };
 }
 
 /// A commit that was applied: the new tree, and the nodes that it wrote, children before parents.
@@ -59,6 +59,7 @@ impl Tree {
         ensures { IsTree nothing result }
     {
         Tree {
+            span: root_span(),
             root: Link::none(),
             agg: Agg::none(),
         }
@@ -69,6 +70,7 @@ impl Tree {
         ensures { IfOk result (λ t. t ≡ self.now) }
     {
         Ok(Tree {
+            span: self.span,
             root: self.root.seen().share()?,
             agg: self.agg,
         })
@@ -89,12 +91,47 @@ impl Tree {
         self.agg
     }
 
-    /// The link to the root, whose span is the whole domain, in constant time. It takes no memory.
-    pub fn root(&self) -> Child<'_>
+    /// The block of the root on the device, or 0 if there is no point, in constant time. It takes no memory.
+    pub fn root(&self) -> u64
+        ensures { result ≡ block_of self.now.node }
+    {
+        self.root.seen().block()
+    }
+
+    /// The span, in constant time. It takes no memory.
+    pub fn span(&self) -> Span
+        ensures { result ≡ self.now.span }
+    {
+        self.span
+    }
+
+    /// The version of the root, or 0 if there is no point, in constant time. It takes no memory.
+    pub fn version(&self) -> u64
+        ensures { result ≡ version_of self.now.node }
+    {
+        self.root.seen().version()
+    }
+
+    /// The link to the root, whose span is the whole domain, in constant time. It takes no memory. If the tree is the part of a
+    /// version in one span, it is the link to no node.
+    pub fn link(&self) -> Child<'_>
         ensures child { AtEachTree self.now (λ h. IsChild 10 FIRST_TIME above_root h (node_of result)) }
         ensures some { IsSomeChild 10 FIRST_TIME (node_of result) 0 }
     {
-        self.root.seen()
+        let (link, _agg) = self.whole();
+        link
+    }
+
+    /// The root and the aggregate, or those of no point if the span is not the whole domain.
+    fn whole(&self) -> (Child<'_>, Agg)
+        ensures some { (h : Past) × IsTree h (record { span = root_part; node = node_of result.0; total = result.1 }) }
+        ensures same { AtEachTree self.now (λ h. (node_of result.0 ≡ self.now.node) × (result.1 ≡ self.now.total)) }
+        ensures either { (node_of result.0 ≡ self.now.node) ⊎ (node_of result.0 ≡ None) }
+    {
+        if self.span.height < ROOT_HEIGHT {
+            return (Child { node: None }, Agg::none());
+        }
+        (self.root.seen(), self.agg)
     }
 
     /// Applies a commit: removes the points whose time `cut` covers, and then adds the points of `added`. This tree stays as
@@ -137,8 +174,9 @@ impl Tree {
     {
         prove!(steps.count() <= u64::MAX);
         let mut nodes = Vec::new(alloc);
+        let (link, total) = self.whole();
         let whole = Slot {
-            agg: self.agg,
+            agg: total,
             version: 0,
             child: 0,
         };
@@ -146,7 +184,7 @@ impl Tree {
             alloc,
             root_span(),
             whole,
-            self.root.seen(),
+            link,
             cut.as_slice(),
             added.as_slice(),
             version,
@@ -159,7 +197,11 @@ impl Tree {
             return Err(TreeFault::TooManyPoints { count: agg.count });
         }
         Ok(Applied {
-            tree: Tree { root, agg },
+            tree: Tree {
+                span: root_span(),
+                root,
+                agg,
+            },
             nodes,
         })
     }

@@ -67,7 +67,7 @@ impl<'a> Uncounted<'a> {
         ensures some { IsSomeChild 10 FIRST_TIME (uncounted_child result) 0 }
     {
         UncountedChild {
-            child: self.tree.root(),
+            child: self.tree.link(),
         }
     }
 }

@@ -373,7 +373,7 @@ fn walk(
 /// All nodes of a tree, in the order of a walk.
 fn nodes_in(alloc: Global, tree: &Tree) -> Result<Vec<PlainNode>, AllocError> {
     let mut nodes = Vec::new(alloc);
-    walk(alloc, tree.root(), WHOLE, &mut nodes)?;
+    walk(alloc, tree.link(), WHOLE, &mut nodes)?;
     Ok(nodes)
 }
 

@@ -20,7 +20,7 @@ pub fn aggregate<L>(tree: &Tree, range: Range, steps: &mut Steps<L>) -> Agg
     ensures never_falls { steps.old ≤ steps.new }
 {
     prove!(FIRST < range.to && range.from < END);
-    agg_in_child(root_span(), tree.root(), range, steps)
+    agg_in_child(root_span(), tree.link(), range, steps)
 }
 
 /// Returns the aggregate of the points of a span in a range that meets it. It visits the node of the span, and below

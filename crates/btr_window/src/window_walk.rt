@@ -79,7 +79,7 @@ fn cells_of(alloc: Global, tree: &Tree, grid: Grid, range: Range) -> Result<Vec<
 {
     prove!(FIRST < range.to && range.from < END);
     let mut cells = Vec::new(alloc);
-    walk_child(alloc, root_span(), tree.root(), grid, range, &mut cells)?;
+    walk_child(alloc, root_span(), tree.link(), grid, range, &mut cells)?;
     Ok(cells)
 }
 

@@ -9,7 +9,9 @@ use Rattle.btr_base.proofs.ListLemmas.{each-filter}
 use Rattle.btr_base.proofs.PointLemmas.{filter-in_order}
 use Rattle.btr_base.proofs.RangeLemmas.{IsCut-take}
 use Rattle.btr_tree.specs.History.{bag}
-use Rattle.btr_tree.specs.Root.{IsTree}
+use Rattle.btr_base.specs.Span.{SpanValue}
+use Rattle.btr_tree.specs.Root.{IsSomeTree}
+use Rattle.btr_tree.proofs.RootLemmas.{some-whole}
 use Rattle.btr_tree.proofs.VersionLemmas.{bag-in_order}
 use Rattle.btr_kernel.proofs.GatherLemmas.{gather-none, gather-more}
 use Rattle.btr_kernel.proofs.gather.gather.Goals as goal
@@ -33,16 +35,29 @@ loop-part-preserved c h tree =
 
 pub returns-clause-order : goal.returns-clause-order
 returns-clause-order c =
-    let past = c._kept.invariant in
+    let some = subst IsSomeTree (c._kept.view_is ∙ c.in_ok-_kept.ensures) c._kept.invariant in
+    let span = ap (λ (u : SpanValue). u.height) (c.whole.view_is ∙ c.span-whole.ensures) in
+    let high = c.if-whole-lt-ROOT_HEIGHT.false in
+    let past = some-whole c.args.tree.now some (omega arith) in
     let h = past.0 in
-    let tree = subst (IsTree h) (c._kept.view_is ∙ c.in_ok-_kept.ensures) past.1 in
+    let tree = past.1 in
     let rs = take c.loop-part.part-index c.as_slice-part-items.result.now in
     subst IsInOrder (sym (c.loop-part.invariant h tree)) (filter-in_order (λ p. covered rs p.time) (bag h) (bag-in_order h))
 
 pub returns-clause-domain : goal.returns-clause-domain
 returns-clause-domain c =
-    let past = c._kept.invariant in
+    let some = subst IsSomeTree (c._kept.view_is ∙ c.in_ok-_kept.ensures) c._kept.invariant in
+    let span = ap (λ (u : SpanValue). u.height) (c.whole.view_is ∙ c.span-whole.ensures) in
+    let high = c.if-whole-lt-ROOT_HEIGHT.false in
+    let past = some-whole c.args.tree.now some (omega arith) in
     let h = past.0 in
-    let tree = subst (IsTree h) (c._kept.view_is ∙ c.in_ok-_kept.ensures) past.1 in
+    let tree = past.1 in
     let rs = take c.loop-part.part-index c.as_slice-part-items.result.now in
     subst AreInDomain (sym (c.loop-part.invariant h tree)) (each-filter (λ p. InDomain p.time) (λ p. covered rs p.time) (bag h) tree.times)
+
+pub returns-then-whole-lt-ROOT_HEIGHT-clause-points : goal.returns-then-whole-lt-ROOT_HEIGHT-clause-points
+returns-then-whole-lt-ROOT_HEIGHT-clause-points c h tree =
+    let span = ap (λ (u : SpanValue). u.height) (c.whole.view_is ∙ c.span-whole.ensures) in
+    let top = ap (λ (u : SpanValue). u.height) tree.whole in
+    let low = c.if-whole-lt-ROOT_HEIGHT.true in
+    absurd (omega arith)

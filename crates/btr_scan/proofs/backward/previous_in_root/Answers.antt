@@ -11,7 +11,8 @@ use Rattle.btr_tree.specs.History.{bag}
 use Rattle.btr_tree.specs.Slots.{node_of}
 use Rattle.btr_tree.specs.Nodes.{points_of, above_root}
 use Rattle.btr_tree.specs.Shape.{IsChild}
-use Rattle.btr_tree.proofs.RootLemmas.{root_part, end-root, root-points}
+use Rattle.btr_tree.specs.Root.{root_part}
+use Rattle.btr_tree.proofs.RootLemmas.{end-root, root-points}
 use Rattle.btr_scan.proofs.Domain.{none-before_first, all-before_end, rest-before}
 use Rattle.btr_scan.proofs.backward.previous_in_root.Goals as goal
 

@@ -10,7 +10,8 @@ use Rattle.btr_tree.specs.History.{bag}
 use Rattle.btr_tree.specs.Slots.{node_of}
 use Rattle.btr_tree.specs.Nodes.{points_of, above_root}
 use Rattle.btr_tree.specs.Shape.{IsChild}
-use Rattle.btr_tree.proofs.RootLemmas.{root_part, end-root, root-points}
+use Rattle.btr_tree.specs.Root.{root_part}
+use Rattle.btr_tree.proofs.RootLemmas.{end-root, root-points}
 use Rattle.btr_scan.proofs.Domain.{none-from_end, all-from_first, rest-from}
 use Rattle.btr_scan.proofs.forward.next_in_root.Goals as goal
 

@@ -20,7 +20,7 @@ walk_child-requires-clause-begins c =
 
 pub returns : goal.returns
 returns c h tree =
-    let place = subst (λ (u : SpanValue). IsChild u.height u.start above_root h (node_of c.root.result)) (sym c.root_span.ensures) (c.root.ensures.child h tree) in
+    let place = subst (λ (u : SpanValue). IsChild u.height u.start above_root h (node_of c.link.result)) (sym c.root_span.ensures) (c.link.ensures.child h tree) in
     c.in_ok-walk_child.ensures above_root h place
     ∙ ap (λ (u : SpanValue). c.new-rows.result.items ++ within c.args.range.from c.args.range.to (points_of u.height u.start (bag h))) c.root_span.ensures
     ∙ ap (λ x. x ++ within c.args.range.from c.args.range.to (points_of 10 FIRST (bag h))) c.new-rows.ensures.items

@@ -29,7 +29,7 @@ use Rattle.btr_tree.proofs.SlotSplitLemmas.{parted-at, parted-inside, crowding-p
 use Rattle.btr_tree.proofs.UntouchedNodeLemmas.{child-kept, child-room, child-counted, after-fewer, last_change-kept, slot-same, many-inner}
 use Rattle.btr_tree.proofs.AppliedNodeLemmas.{untouched-nothing, change-after, own, own-change, change-here, change-count, touched-fresh, last_change-touched, inner-child_on, is-touched, is-untouched, parted-of, step-at}
 use Rattle.btr_tree.specs.NewNodes.{concat_first, new_nodes, bare_all}
-use Rattle.btr_tree.specs.Stored.{Store, IsLaid}
+use Rattle.btr_tree.specs.Stored.{IsLaid}
 use Rattle.btr_tree.proofs.StoredLemmas.{laid-below, laid-inner, laid-put, laid-part, laid-all, below-children, below-part}
 use Rattle.btr_tree.proofs.NewNodeLemmas.{first-next, new_nodes-kept, new_nodes-inner_at, told-more, bare-push, counts-none, counts-more}
 use Rattle.btr_tree.proofs.apply.+apply.Goals as goal

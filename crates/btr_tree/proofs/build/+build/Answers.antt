@@ -19,7 +19,6 @@ use Rattle.btr_tree.proofs.BuiltNodeLemmas.{first-put, slot-fresh, slot-new, slo
 use Rattle.std.proofs.lemmas.Bool.Decides.{nat_tests}
 use Rattle.btr_tree.proofs.UntouchedNodeLemmas.{many-inner}
 use Rattle.btr_tree.specs.NewNodes.{concat_first, new_nodes, bare_all}
-use Rattle.btr_tree.specs.Stored.{Store}
 use Rattle.btr_tree.proofs.StoredLemmas.{laid-none, laid-leaf, laid-inner, laid-put, laid-part, laid-all}
 use Rattle.btr_tree.proofs.NewNodeLemmas.{first-next, new_nodes-none, new_nodes-leaf, new_nodes-inner_at, told-more, bare-push, counts-more}
 use Rattle.btr_tree.proofs.build.+build.Goals as goal

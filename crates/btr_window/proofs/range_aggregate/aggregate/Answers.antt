@@ -14,7 +14,7 @@ use Rattle.btr_window.proofs.EndsInside.{ends-most}
 use Rattle.btr_window.proofs.range_aggregate.aggregate.Goals as goal
 
 pub agg_in_child-requires-clause-some : goal.agg_in_child-requires-clause-some
-agg_in_child-requires-clause-some over c = subst (λ (s : SpanValue). IsSomeChild s.height s.start (node_of c.root.result) 0) (sym c.root_span.ensures) c.root.ensures.some
+agg_in_child-requires-clause-some over c = subst (λ (s : SpanValue). IsSomeChild s.height s.start (node_of c.link.result) 0) (sym c.root_span.ensures) c.link.ensures.some
 
 pub agg_in_child-requires-clause-begins : goal.agg_in_child-requires-clause-begins
 agg_in_child-requires-clause-begins over c =
@@ -26,7 +26,7 @@ agg_in_child-requires-clause-begins over c =
 
 pub returns-clause-agg : goal.returns-clause-agg
 returns-clause-agg over c h tree =
-    let place = subst (λ (s : SpanValue). IsChild s.height s.start above_root h (node_of c.root.result)) (sym c.root_span.ensures) (c.root.ensures.child h tree) in
+    let place = subst (λ (s : SpanValue). IsChild s.height s.start above_root h (node_of c.link.result)) (sym c.root_span.ensures) (c.link.ensures.child h tree) in
     c.agg_in_child.ensures.agg above_root h place
     ∙ ap (λ (s : SpanValue). agg_within c.args.range.from c.args.range.to (points_of s.height s.start (bag h))) c.root_span.ensures
     ∙ ap (agg_within c.args.range.from c.args.range.to) (root-points (bag h) tree.times)

@@ -29,7 +29,7 @@ returns c h tree =
     let range = c.args.range in
     let begins = c.requires.begins in
     let ends = c.requires.ends in
-    let place = subst (λ (s : SpanValue). IsChild s.height s.start above_root h (node_of c.root.result)) (sym c.root_span.ensures) (c.root.ensures.child h tree) in
+    let place = subst (λ (s : SpanValue). IsChild s.height s.start above_root h (node_of c.link.result)) (sym c.root_span.ensures) (c.link.ensures.child h tree) in
     let bounds = cells-as grid.first grid.width range.from range.to begins.0 ends.0 (bag h) begins.1 ends.1 (cells-are grid.first grid.width c.requires.grid.some begins.0 ends.0 (bag h) (bag-in_order h)) in
     c.in_ok-walk_child.ensures.cells above_root h place
     ∙ ap (λ old. add_points grid.first grid.width old (within range.from range.to (points_of c.root_span.result.height c.root_span.result.start (bag h)))) c.new-cells.ensures.items

@@ -12,41 +12,42 @@ use Rattle.btr_tree.specs.Shape.{IsChild}
 use Rattle.btr_tree.specs.Slots.{linked, node_of}
 use Rattle.btr_tree.specs.Change.{end_of}
 use Rattle.btr_tree.specs.Crowd.{IsCrowdedFault}
-use Rattle.btr_tree.specs.Root.{TreeValue, IsTree}
-use Rattle.btr_tree.proofs.RootLemmas.{root-step, root-points, root-fault, tree-of, tree-room}
+use Rattle.btr_tree.specs.Root.{IsTree}
+use Rattle.btr_tree.proofs.RootLemmas.{root-step, root-points, root-fault, tree-of, tree-room, tree-whole}
+use Rattle.btr_tree.proofs.StoredLemmas.{below-either}
 use Rattle.btr_tree.specs.NewNodes.{NewNodeValue}
 use Rattle.btr_tree.specs.NewNodes.{new_nodes, bare, bare_all}
-use Rattle.btr_tree.specs.Stored.{Store, IsBelow, IsLaid}
+use Rattle.btr_tree.specs.Stored.{IsBelow, IsLaid}
 use Rattle.btr_tree.proofs.NewNodeCountLemmas.{new_nodes-bound}
 use Rattle.btr_tree.proofs.tree.Tree.apply.Goals as goal
 
 pub apply_slot-requires-clause-some : goal.apply_slot-requires-clause-some
 apply_slot-requires-clause-some g c =
-    let h = c.self.invariant.0 in
+    let h = c.whole-total.ensures.some.0 in
     let mine : Commit = record { version = c.args.version; cut = c.args.cut.now; added = c.args.added.now } in
-    let step = root-step c.root_span.result h mine (linked c.self.inside.root) (node_of c.seen.result) c.self.inside.agg c.as_slice.result.now c.as_slice-2.result.now c.root_span.ensures c.as_slice.ensures.ranges c.as_slice-2.ensures.points c.seen.ensures c.self.invariant.1 c.requires.added in
+    let step = root-step c.root_span.result h mine (node_of c.whole-total.result.0) c.whole-total.result.1 c.as_slice.result.now c.as_slice-2.result.now c.root_span.ensures c.as_slice.ensures.ranges c.as_slice-2.ensures.points c.whole-total.ensures.some.1 c.requires.added in
     let long = c.as_slice-2.type_inv in
     let few = step.few in
     record { above = above_root; commits = h; holds = step.holds; counted = step.counted; few = omega arith }
 
 pub apply_slot-requires-clause-inside : goal.apply_slot-requires-clause-inside
 apply_slot-requires-clause-inside g c =
-    let h = c.self.invariant.0 in
+    let h = c.whole-total.ensures.some.0 in
     let mine : Commit = record { version = c.args.version; cut = c.args.cut.now; added = c.args.added.now } in
-    (root-step c.root_span.result h mine (linked c.self.inside.root) (node_of c.seen.result) c.self.inside.agg c.as_slice.result.now c.as_slice-2.result.now c.root_span.ensures c.as_slice.ensures.ranges c.as_slice-2.ensures.points c.seen.ensures c.self.invariant.1 c.requires.added).inside
+    (root-step c.root_span.result h mine (node_of c.whole-total.result.0) c.whole-total.result.1 c.as_slice.result.now c.as_slice-2.result.now c.root_span.ensures c.as_slice.ensures.ranges c.as_slice-2.ensures.points c.whole-total.ensures.some.1 c.requires.added).inside
 
 pub returns-in_err-slot-clause-fault : goal.returns-in_err-slot-clause-fault
 returns-in_err-slot-clause-fault g c =
     let mine : Commit = record { version = c.args.version; cut = c.args.cut.now; added = c.args.added.now } in
     let p = err_from_is_err_and c.from_residual.result c.from_residual.ensures.1 in
     rw (p.1, p.2) (λ h tree.
-    let step = root-step c.root_span.result h mine (linked c.self.inside.root) (node_of c.seen.result) c.self.inside.agg c.as_slice.result.now c.as_slice-2.result.now c.root_span.ensures c.as_slice.ensures.ranges c.as_slice-2.ensures.points c.seen.ensures (subst (IsTree h) (sym c.self.view_is) tree) c.requires.added in
+    let step = root-step c.root_span.result h mine (node_of c.whole-total.result.0) c.whole-total.result.1 c.as_slice.result.now c.as_slice-2.result.now c.root_span.ensures c.as_slice.ensures.ranges c.as_slice-2.ensures.points (tree-whole h c.args.self.now (node_of c.whole-total.result.0) c.whole-total.result.1 tree (c.whole-total.ensures.same h tree).0 (c.whole-total.ensures.same h tree).1) c.requires.added in
     root-fault (mine ▷ h) c.in_err-slot.field-0.0 step.times (subst (λ (u : SpanValue). IsCrowdedFault u.start (end_of u) (points_of u.height u.start (bag (mine ▷ h))) c.in_err-slot.field-0.0) c.root_span.ensures (c.in_err-slot.ensures.fault above_root h mine refl step.holds step.counted step.change)))
 
 pub returns-then-agg-gt-MAX_POINTS-clause-fault : goal.returns-then-agg-gt-MAX_POINTS-clause-fault
 returns-then-agg-gt-MAX_POINTS-clause-fault g c h tree =
     let mine : Commit = record { version = c.args.version; cut = c.args.cut.now; added = c.args.added.now } in
-    let step = root-step c.root_span.result h mine (linked c.self.inside.root) (node_of c.seen.result) c.self.inside.agg c.as_slice.result.now c.as_slice-2.result.now c.root_span.ensures c.as_slice.ensures.ranges c.as_slice-2.ensures.points c.seen.ensures (subst (IsTree h) (sym c.self.view_is) tree) c.requires.added in
+    let step = root-step c.root_span.result h mine (node_of c.whole-total.result.0) c.whole-total.result.1 c.as_slice.result.now c.as_slice-2.result.now c.root_span.ensures c.as_slice.ensures.ranges c.as_slice-2.ensures.points (tree-whole h c.args.self.now (node_of c.whole-total.result.0) c.whole-total.result.1 tree (c.whole-total.ensures.same h tree).0 (c.whole-total.ensures.same h tree).1) c.requires.added in
     let holds = subst (λ (u : SpanValue). IsChild u.height u.start above_root (mine ▷ h) (linked c.in_ok-slot.root)) c.root_span.ensures (c.in_ok-slot.ensures.child above_root h mine refl step.holds step.counted step.change) in
     let counted = subst (λ (u : SpanValue). c.in_ok-slot.slot.agg ≡ agg (points_of u.height u.start (bag (mine ▷ h)))) c.root_span.ensures (c.in_ok-slot.ensures.agg above_root h mine refl step.holds step.counted step.change) in
     let count : c.agg.inside.count ≡ length (bag (mine ▷ h)) = ap (λ u. u.count) c.agg.view_is ∙ ap (λ u. u.count) counted ∙ agg-count (points_of 10 FIRST (bag (mine ▷ h))) ∙ ap length (root-points (bag (mine ▷ h)) step.times) in
@@ -55,29 +56,36 @@ returns-then-agg-gt-MAX_POINTS-clause-fault g c h tree =
 pub returns-clause-tree : goal.returns-clause-tree
 returns-clause-tree g c h tree =
     let mine : Commit = record { version = c.args.version; cut = c.args.cut.now; added = c.args.added.now } in
-    let step = root-step c.root_span.result h mine (linked c.self.inside.root) (node_of c.seen.result) c.self.inside.agg c.as_slice.result.now c.as_slice-2.result.now c.root_span.ensures c.as_slice.ensures.ranges c.as_slice-2.ensures.points c.seen.ensures (subst (IsTree h) (sym c.self.view_is) tree) c.requires.added in
+    let step = root-step c.root_span.result h mine (node_of c.whole-total.result.0) c.whole-total.result.1 c.as_slice.result.now c.as_slice-2.result.now c.root_span.ensures c.as_slice.ensures.ranges c.as_slice-2.ensures.points (tree-whole h c.args.self.now (node_of c.whole-total.result.0) c.whole-total.result.1 tree (c.whole-total.ensures.same h tree).0 (c.whole-total.ensures.same h tree).1) c.requires.added in
     let holds = subst (λ (u : SpanValue). IsChild u.height u.start above_root (mine ▷ h) (linked c.in_ok-slot.root)) c.root_span.ensures (c.in_ok-slot.ensures.child above_root h mine refl step.holds step.counted step.change) in
     let counted = subst (λ (u : SpanValue). c.in_ok-slot.slot.agg ≡ agg (points_of u.height u.start (bag (mine ▷ h)))) c.root_span.ensures (c.in_ok-slot.ensures.agg above_root h mine refl step.holds step.counted step.change) in
     let few = c.if-agg-gt-MAX_POINTS.false in
-    tree-of (mine ▷ h) (linked c.in_ok-slot.root) c.in_ok-slot.slot.agg step.times holds counted (omega (arith, ap (λ u. u.count) c.agg.view_is))
+    subst (λ (u : SpanValue). IsTree (mine ▷ h) (record { span = u; node = linked c.in_ok-slot.root; total = c.in_ok-slot.slot.agg })) (sym c.root_span-2.ensures) (tree-of (mine ▷ h) (linked c.in_ok-slot.root) c.in_ok-slot.slot.agg step.times holds counted (omega (arith, ap (λ u. u.count) c.agg.view_is)))
 
 pub invariant_of-result : goal.invariant_of-result
 invariant_of-result g c =
-    let h = c.self.invariant.0 in
+    let h = c.whole-total.ensures.some.0 in
     let mine : Commit = record { version = c.args.version; cut = c.args.cut.now; added = c.args.added.now } in
-    (mine ▷ h, returns-clause-tree g c h (subst (IsTree h) c.self.view_is c.self.invariant.1))
+    let step = root-step c.root_span.result h mine (node_of c.whole-total.result.0) c.whole-total.result.1 c.as_slice.result.now c.as_slice-2.result.now c.root_span.ensures c.as_slice.ensures.ranges c.as_slice-2.ensures.points c.whole-total.ensures.some.1 c.requires.added in
+    let holds = subst (λ (u : SpanValue). IsChild u.height u.start above_root (mine ▷ h) (linked c.in_ok-slot.root)) c.root_span.ensures (c.in_ok-slot.ensures.child above_root h mine refl step.holds step.counted step.change) in
+    let counted = subst (λ (u : SpanValue). c.in_ok-slot.slot.agg ≡ agg (points_of u.height u.start (bag (mine ▷ h)))) c.root_span.ensures (c.in_ok-slot.ensures.agg above_root h mine refl step.holds step.counted step.change) in
+    let few = c.if-agg-gt-MAX_POINTS.false in
+    inl (
+      mine ▷ h,
+      subst (λ (u : SpanValue). IsTree (mine ▷ h) (record { span = u; node = linked c.in_ok-slot.root; total = c.in_ok-slot.slot.agg })) (sym c.root_span-2.ensures) (tree-of (mine ▷ h) (linked c.in_ok-slot.root) c.in_ok-slot.slot.agg step.times holds counted (omega (arith, ap (λ u. u.count) c.agg.view_is))),
+    )
 
 pub returns-clause-room : goal.returns-clause-room
 returns-clause-room g c h tree =
     let mine : Commit = record { version = c.args.version; cut = c.args.cut.now; added = c.args.added.now } in
-    let step = root-step c.root_span.result h mine (linked c.self.inside.root) (node_of c.seen.result) c.self.inside.agg c.as_slice.result.now c.as_slice-2.result.now c.root_span.ensures c.as_slice.ensures.ranges c.as_slice-2.ensures.points c.seen.ensures (subst (IsTree h) (sym c.self.view_is) tree) c.requires.added in
+    let step = root-step c.root_span.result h mine (node_of c.whole-total.result.0) c.whole-total.result.1 c.as_slice.result.now c.as_slice-2.result.now c.root_span.ensures c.as_slice.ensures.ranges c.as_slice-2.ensures.points (tree-whole h c.args.self.now (node_of c.whole-total.result.0) c.whole-total.result.1 tree (c.whole-total.ensures.same h tree).0 (c.whole-total.ensures.same h tree).1) c.requires.added in
     let holds = subst (λ (u : SpanValue). IsChild u.height u.start above_root (mine ▷ h) (linked c.in_ok-slot.root)) c.root_span.ensures (c.in_ok-slot.ensures.child above_root h mine refl step.holds step.counted step.change) in
     tree-room (mine ▷ h) (linked c.in_ok-slot.root) step.times holds
 
 pub returns-clause-nodes : goal.returns-clause-nodes
 returns-clause-nodes g c h tree some before =
     let mine : Commit = record { version = c.args.version; cut = c.args.cut.now; added = c.args.added.now } in
-    let step = root-step c.root_span.result h mine (linked c.self.inside.root) (node_of c.seen.result) c.self.inside.agg c.as_slice.result.now c.as_slice-2.result.now c.root_span.ensures c.as_slice.ensures.ranges c.as_slice-2.ensures.points c.seen.ensures (subst (IsTree h) (sym c.self.view_is) tree) c.requires.added in
+    let step = root-step c.root_span.result h mine (node_of c.whole-total.result.0) c.whole-total.result.1 c.as_slice.result.now c.as_slice-2.result.now c.root_span.ensures c.as_slice.ensures.ranges c.as_slice-2.ensures.points (tree-whole h c.args.self.now (node_of c.whole-total.result.0) c.whole-total.result.1 tree (c.whole-total.ensures.same h tree).0 (c.whole-total.ensures.same h tree).1) c.requires.added in
     c.in_ok-slot.ensures.nodes above_root h mine refl step.holds step.counted step.change refl some before
     ∙ ap (λ (u : SpanValue). bare_all c.new-nodes.result.items ++ new_nodes u.height u.start above_root (mine ▷ h) c.args.version) c.root_span.ensures
     ∙ ap (λ (x : List NewNodeValue). bare_all x ++ new_nodes 10 FIRST above_root (mine ▷ h) c.args.version) c.new-nodes.ensures.items
@@ -99,6 +107,6 @@ returns-clause-steps g c =
 
 pub returns-clause-stored : goal.returns-clause-stored
 returns-clause-stored g c store low =
-    let seen : node_of c.seen.result ≡ c.args.self.now.node = c.seen.ensures ∙ ap (λ (t : TreeValue). t.node) c.self.view_is in
-    let here = subst (λ (u : SpanValue). IsBelow store c.args.first u.height u.start (node_of c.seen.result)) (sym c.root_span.ensures) (subst (IsBelow store c.args.first 10 FIRST) (sym seen) low) in
+    let seen = below-either store c.args.first 10 FIRST c.args.self.now.node (node_of c.whole-total.result.0) c.requires.first.0 c.whole-total.ensures.either low in
+    let here = subst (λ (u : SpanValue). IsBelow store c.args.first u.height u.start (node_of c.whole-total.result.0)) (sym c.root_span.ensures) seen in
     subst (λ (u : SpanValue). IsLaid store c.args.first c.apply_slot.new.nodes.items u.height u.start (linked c.in_ok-slot.root)) c.root_span.ensures (c.in_ok-slot.ensures.stored store here)
