@@ -645,9 +645,9 @@ fn blocks_of_new_nodes(rt: HostRuntime) -> Result<(), Fail> {
     };
     assert!(rt; one.nodes.len() == 3 && two.nodes.len() == 2);
     let told = blocks_in(alloc, &one.nodes[2])?;
-    assert!(rt; told.as_slice() == [(0, 4), (32, 5)]);
+    assert!(rt; told.as_slice() == [(0, 4), (16, 5)].as_slice());
     let told = blocks_in(alloc, &two.nodes[1])?;
-    assert!(rt; told.as_slice() == [(0, 4), (32, 5)]);
+    assert!(rt; told.as_slice() == [(0, 4), (16, 5)].as_slice());
     let told = blocks_in(alloc, &two.nodes[0])?;
     assert!(rt; told.is_empty());
     Ok(())
