@@ -1,5 +1,5 @@
 -- A split, a meeting and the look after it keep the rule of a gate.
-use Rattle.std.proofs.Common.{◌≡◌, ◌≢◌, ℕ, zero, suc, ◌+◌, ◌<◌, ◌≤◌, true, false, Option, is_some, List, [], ◌∷◌, ◌++◌, length, set, inl, inr, ⊎_elim, refl, sym, ap, ◌∙◌, subst, true≢false, arith, length-append}
+use Rattle.std.proofs.Common.{◌≡◌, ◌≢◌, ℕ, zero, suc, ◌+◌, ◌<◌, ◌≤◌, Bool, true, false, Option, is_some, List, [], ◌∷◌, ◌++◌, length, set, inl, inr, ⊎_elim, refl, sym, ap, ◌∙◌, subst, true≢false, arith, length-append}
 use mathlib.Core.Logic.{dite}
 use mathlib.Core.Option as maybe
 use mathlib.Core.Option.{some, some-injective, some-ne-none}
@@ -15,17 +15,17 @@ use Rattle.btr_gate.specs.declared.view.Stage.TheVariants.{Idle, Met}
 use Rattle.btr_gate.specs.declared.turn.Turn.{Turn}
 use Rattle.btr_gate.specs.Prefixes.{StartsWith}
 use Rattle.btr_gate.specs.Turns.{HaveOneHistory}
-use Rattle.btr_gate.specs.Numbers.{one, times}
+use Rattle.btr_gate.specs.Numbers.{one, total, times}
 use Rattle.btr_gate.specs.Shares.{on_path}
 use Rattle.btr_gate.specs.Views.{is_turn, spent_view, kept_view, other_view, just_met, at_stage}
-use Rattle.btr_gate.specs.Rule.{Now, HasTicket, Fits, FitsStage, IsLive, Rule}
+use Rattle.btr_gate.specs.Rule.{Now, HasTicket, Fits, FitsStage, IsLive, IsWhole, IsInUse, Rule}
 use Rattle.btr_gate.specs.Steps.{Seated, Settles}
 use Rattle.btr_gate.proofs.Totals.{cut_same, two_same, set_same, total_parts}
 use Rattle.btr_gate.proofs.ShareLemmas.{on_path_halves, on_path_append, length_halves}
 use Rattle.btr_gate.proofs.NumberLemmas.{times_merged, climbs_merged, climbs_higher, given_once}
 use Rattle.btr_gate.proofs.PrefixLemmas.{longer_starts, longer_first, longer_second, longer_whole, starts_length}
 use Rattle.btr_gate.proofs.Places.{place_set, whole_stays}
-use Rattle.btr_gate.proofs.RuleFacts.{same_view, Stays, stays_set, stays_snoc, idle_free, in_use, live_at, live_stage, slot_stays, waits_stay, away_set, away_snoc}
+use Rattle.btr_gate.proofs.RuleFacts.{same_view, Stays, Away, stays_set, stays_snoc, idle_free, in_use, live_at, live_stage, slot_stays, waits_stay, away_set, away_snoc}
 
 -- A place where a view was read is one of the list.
 at_below : {V : Type 0} (views : List V) (i : ℕ) (v : V) → get_elem? views i ≡ some v → i < length views
@@ -101,6 +101,37 @@ module _ {T E X : Type 0} (C : Ghosts T E X) where
           since = λ _ carries. absurd (true≢false (sym carries ∙ home));
         }
 
+  -- The views after a step that changes views alone: each view with a ticket stays where it was, each view fits, some view
+  -- has seen all, and all views together hold the same numbers, paths and part.
+  record ViewsFit (s : St) (r : IsInUse C s) (later : List V) : Type 0 where
+    stays : Stays s.views later
+    away : Away r.slot later
+    seats : (j : ℕ) (v : V) → get_elem? later j ≡ some v → Fits C r.now j v
+    whole : IsWhole r.now later
+    numbers : (n : ℕ) → total (λ (x : V). times n x.mine) later ≡ total (λ (x : V). times n x.mine) s.views
+    paths : (path : ℕ → Bool) → total (λ (x : V). on_path path x.share) later ≡ total (λ (x : V). on_path path x.share) s.views
+    carriers : total (λ (x : V). one x.carries) later ≡ total (λ (x : V). one x.carries) s.views
+
+  -- A gate stays in use after a step that changes views alone.
+  views_change : (s : St) (r : IsInUse C s) (later : List V) → ViewsFit s r later → IsInUse C record { words = s.words; homes = s.homes; views = later }
+  views_change s r later f = record {
+    now = r.now;
+    slot = r.slot;
+    words = r.words;
+    homes = r.homes;
+    order = r.order;
+    small = r.small;
+    began = r.began;
+    state = slot_stays C r.now s.views later f.stays r.slot r.state;
+    away = f.away;
+    seats = f.seats;
+    whole = f.whole;
+    waits = waits_stay C r.now s.views later f.stays r.waits;
+    numbers = λ n. f.numbers n ∙ r.numbers n;
+    paths = λ path. f.paths path ∙ r.paths path;
+    carriers = f.carriers ∙ r.carriers;
+  }
+
   -- A split keeps the rule.
   pub splits : (id : ℕ) (v : V) → is_some v.setting ≡ true → v.stage ≡ Idle → v.carries ≡ false → Splits (Rule C) id v (kept_view v) (other_view v)
   splits id v live idle home s rule at =
@@ -109,15 +140,8 @@ module _ {T E X : Type 0} (C : Ghosts T E X) where
       let now = r.now in
       let later : List V = set s.views id (kept_view v) ++ other_view v ∷ [] in
       let stays : Stays s.views later = stays_snoc s.views (set s.views id (kept_view v)) (other_view v) (stays_set s.views id v (kept_view v) at (idle_free v.stage idle)) in
-      let whole = r.whole in inr record {
-        now = now;
-        slot = r.slot;
-        words = r.words;
-        homes = r.homes;
-        order = r.order;
-        small = r.small;
-        began = r.began;
-        state = slot_stays C now s.views later stays r.slot r.state;
+      let whole = r.whole in inr (views_change s r later record {
+        stays = stays;
         away = away_snoc r.slot (set s.views id (kept_view v)) (other_view v) (ap is_turn idle) (away_set r.slot s.views id (kept_view v) (ap is_turn idle) r.away);
         seats = λ j e here. ⊎_elim
             (λ old. ⊎_elim
@@ -135,11 +159,10 @@ module _ {T E X : Type 0} (C : Ghosts T E X) where
               sym (ap (λ (x : V). x.seen) is) ∙ whole.4,
             ))
             (λ other. (whole.0, whole.1, at_longer (set s.views id (kept_view v)) (other_view v ∷ []) whole.0 whole.1 (set_else s.views id whole.0 (kept_view v) other ∙ whole.2), whole.3, whole.4));
-        waits = waits_stay C now s.views later stays r.waits;
-        numbers = λ n. cut_same (λ (x : V). times n x.mine) s.views id v (kept_view v) (other_view v) at (omega arith) ∙ r.numbers n;
-        paths = λ path. cut_same (λ (x : V). on_path path x.share) s.views id v (kept_view v) (other_view v) at (on_path_halves path v.share) ∙ r.paths path;
-        carriers = cut_same (λ (x : V). one x.carries) s.views id v (kept_view v) (other_view v) at (let none : one v.carries ≡ 0 = ap one home in omega arith) ∙ r.carriers;
-      }
+        numbers = λ n. cut_same (λ (x : V). times n x.mine) s.views id v (kept_view v) (other_view v) at (omega arith);
+        paths = λ path. cut_same (λ (x : V). on_path path x.share) s.views id v (kept_view v) (other_view v) at (on_path_halves path v.share);
+        carriers = cut_same (λ (x : V). one x.carries) s.views id v (kept_view v) (other_view v) at (let none : one v.carries ≡ 0 = ap one home in omega arith);
+      })
 
   -- A meeting keeps the rule.
   pub joins : (id : ℕ) (v : V) (other : ℕ) (u : V) → is_some v.setting ≡ true → is_some u.setting ≡ true → v.stage ≡ Idle → u.stage ≡ Idle → v.carries ≡ false → u.carries ≡ false
@@ -161,15 +184,8 @@ module _ {T E X : Type 0} (C : Ghosts T E X) where
       let q = r.numbers n in
       let g = given_once now.start (length now.history) n in omega arith in
       let here : get_elem? later id ≡ some both = set_else middle other id spent_view (λ e. apart (sym e)) ∙ set_here s.views id both (at_below s.views id v at) in
-      let whole = r.whole in inr record {
-        now = now;
-        slot = r.slot;
-        words = r.words;
-        homes = r.homes;
-        order = r.order;
-        small = r.small;
-        began = r.began;
-        state = slot_stays C now s.views later stays r.slot r.state;
+      let whole = r.whole in inr (views_change s r later record {
+        stays = stays;
         away = away_set r.slot middle other spent_view refl (away_set r.slot s.views id both refl r.away);
         seats = λ j e there'. ⊎_elim
             (λ (t : (j ≡ other) × (spent_view ≡ e)). inl (sym t.1))
@@ -185,11 +201,10 @@ module _ {T E X : Type 0} (C : Ghosts T E X) where
             (λ same. let is = same_view s.views other whole.0 whole.1 u same at' whole.2 in
             (id, both, here, l.setting, longer_whole now.history v.seen u.seen l.seen m.seen (inr (sym (ap (λ (x : V). x.seen) is) ∙ whole.4))))
             (λ not_other. (whole.0, whole.1, set_else middle other whole.0 spent_view not_other ∙ (set_else s.views id whole.0 both not_id ∙ whole.2), whole.3, whole.4)));
-        waits = waits_stay C now s.views later stays r.waits;
-        numbers = λ n. two_same (λ (x : V). times n x.mine) s.views id other v both u spent_view at there (omega (arith, times_merged n v.mine u.mine)) ∙ r.numbers n;
-        paths = λ path. two_same (λ (x : V). on_path path x.share) s.views id other v both u spent_view at there (omega (arith, on_path_append path v.share u.share)) ∙ r.paths path;
-        carriers = two_same (λ (x : V). one x.carries) s.views id other v both u spent_view at there (let none : one u.carries ≡ 0 = ap one home' in omega arith) ∙ r.carriers;
-      }
+        numbers = λ n. two_same (λ (x : V). times n x.mine) s.views id other v both u spent_view at there (omega (arith, times_merged n v.mine u.mine));
+        paths = λ path. two_same (λ (x : V). on_path path x.share) s.views id other v both u spent_view at there (omega (arith, on_path_append path v.share u.share));
+        carriers = two_same (λ (x : V). one x.carries) s.views id other v both u spent_view at there (let none : one u.carries ≡ 0 = ap one home' in omega arith);
+      })
 
   -- The look after a meeting keeps the rule, and both lists begin the history.
   pub settles : (slots id : ℕ) (me : Me (Option (Turn T E)) V) (a b : List E) → is_some me.0.setting ≡ true → me.0.stage ≡ Met a b
@@ -206,22 +221,14 @@ module _ {T E X : Type 0} (C : Ghosts T E X) where
         w,
         keeps,
         tt,
-        inr record {
-          now = now;
-          slot = r.slot;
-          words = set-get_or s.words 0 0 ∙ r.words;
-          homes = r.homes;
-          order = r.order;
-          small = r.small;
-          began = r.began;
-          state = slot_stays C now s.views later stays r.slot r.state;
+        subst (λ (ws : List ℕ). Rule C record { words = ws; homes = s.homes; views = later }) (sym (set-get_or s.words 0 0)) (inr (views_change s r later record {
+          stays = stays;
           away = away_set r.slot s.views id w refl r.away;
           seats = place_set (Fits C now) s.views id w (inr (live_stage C now id v v.turns Idle l tt)) (λ j u other here. r.seats j u here);
           whole = whole_stays C now s.views id v w at refl refl r.whole;
-          waits = waits_stay C now s.views later stays r.waits;
-          numbers = λ n. set_same (λ (x : V). times n x.mine) s.views id v w at refl ∙ r.numbers n;
-          paths = λ path. set_same (λ (x : V). on_path path x.share) s.views id v w at refl ∙ r.paths path;
-          carriers = set_same (λ (x : V). one x.carries) s.views id v w at refl ∙ r.carriers;
-        },
+          numbers = λ n. set_same (λ (x : V). times n x.mine) s.views id v w at refl;
+          paths = λ path. set_same (λ (x : V). on_path path x.share) s.views id v w at refl;
+          carriers = set_same (λ (x : V). one x.carries) s.views id v w at refl;
+        })),
         λ c d is. let begin = subst (FitsStage C now id) is l.stage in (refl, (now.history, begin.0, begin.1)),
       )

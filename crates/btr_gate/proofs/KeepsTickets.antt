@@ -19,10 +19,10 @@ use Rattle.btr_gate.specs.declared.turn.Turn.{Turn}
 use Rattle.btr_gate.specs.Numbers.{one, times}
 use Rattle.btr_gate.specs.Shares.{on_path}
 use Rattle.btr_gate.specs.Views.{at_stage, is_turn}
-use Rattle.btr_gate.specs.Rule.{Now, IsWaiting, FitsStage, IsLive, Fits, FitsSlot, IsInUse, Rule}
+use Rattle.btr_gate.specs.Rule.{Now, IsWaiting, FitsStage, Fits, FitsSlot, IsInUse, Rule}
 use Rattle.btr_gate.specs.Steps.{Draws}
 use Rattle.btr_gate.proofs.Totals.{set_same}
-use Rattle.btr_gate.proofs.RuleFacts.{in_use, live_at}
+use Rattle.btr_gate.proofs.RuleFacts.{in_use, live_at, live_drawn}
 use Rattle.btr_gate.proofs.Places.{place_set, set_there, has_ticket, no_ticket, apart, in_time, whole_stays, wait_stays}
 
 -- The owners of tickets after one more was drawn.
@@ -58,21 +58,9 @@ module _ {T E X : Type 0} (C : Ghosts T E X) where
   stage_drawn now id j (InTurn t list lent) f = let below = f.1 in (f.0, omega arith, drawn_old now.owner now.tick id t (λ e. omega arith) ∙ f.2, f.3, f.4)
   stage_drawn now id j (Met a b) f = f
 
-  live_drawn : (now : Now E X) (id j : ℕ) (v : V) (stage : Stage E) → IsLive C now j v → FitsStage C (drawn_now now id) j stage → IsLive C (drawn_now now id) j (at_stage v stage)
-  live_drawn now id j v stage l f = record {
-    setting = l.setting;
-    start = l.start;
-    seen = l.seen;
-    stage = f;
-    climbs = l.climbs;
-    word = l.word;
-    still = l.still;
-    since = l.since;
-  }
-
   fits_drawn : (now : Now E X) (id j : ℕ) (v : V) → Fits C now j v → Fits C (drawn_now now id) j v
   fits_drawn now id j v (inl e) = inl e
-  fits_drawn now id j v (inr l) = inr (live_drawn now id j v v.stage l (stage_drawn now id j v.stage l.stage))
+  fits_drawn now id j v (inr l) = inr (live_drawn C now (now.tick + 1) (drawn now.owner now.tick id) j v v.turns v.stage l (stage_drawn now id j v.stage l.stage))
 
   -- The slot goes on to fit if the view with the turn stays at its place.
   pub slot_drawn : (now : Now E X) (tick : ℕ) (owner : ℕ → ℕ) (views next : List (View E X)) (slot : maybe.Option (Option (Turn T E)))
@@ -105,7 +93,7 @@ module _ {T E X : Type 0} (C : Ghosts T E X) where
             let kept = set_else s.views id (now.owner now.serve) w away ∙ there in
             subst (λ j. get_elem? (set s.views id w) j ≡ some u) (sym (drawn_old now.owner now.tick id now.serve (in_time C now (now.owner now.serve) u (k.seats (now.owner now.serve) u there) turn))) kept) k.state;
         away = place_set (λ j (u : V). is_turn u.stage ≡ true → k.slot ≡ maybe.none) s.views id w (λ turn. absurd (true≢false (sym turn))) (λ j u ne there. k.away j u there);
-        seats = place_set (Fits C next) s.views id w (inr (live_drawn now id id v (Waiting now.tick) l (omega arith, omega arith, new))) (λ j u ne there. fits_drawn now id j u (k.seats j u there));
+        seats = place_set (Fits C next) s.views id w (inr (live_drawn C now (now.tick + 1) (drawn now.owner now.tick id) id v v.turns (Waiting now.tick) l (omega arith, omega arith, new))) (λ j u ne there. fits_drawn now id j u (k.seats j u there));
         whole = whole_stays C now s.views id v w at refl refl k.whole;
         waits = λ n from below. dite (ℕ_discrete n now.tick)
             (λ e. subst (λ j. IsWaiting (set s.views id w) j n) (sym (drawn_new now.owner now.tick id n e)) (w, set_there s.views id v w at, sym e))

@@ -79,9 +79,10 @@ module _ {T E X : Type 0} (C : Ghosts T E X) where
   pub live_at : (s : State (Option (Turn T E)) (View E X)) (r : IsInUse C s) (id : ℕ) (v : View E X) → get_elem? s.views id ≡ some v → is_some v.setting ≡ true → IsLive C r.now id v
   live_at s r id v at live = ⊎_elim (λ spent. absurd (not_live v Idle live spent)) (λ l. l) (r.seats id v at)
 
-  -- A live view with another number of turns, at another stage that fits.
-  pub live_stage : (now : Now E X) (id : ℕ) (v : View E X) (turns : ℕ) (stage : Stage E) → IsLive C now id v → FitsStage C now id stage → IsLive C now id (record v { turns = turns; stage = stage })
-  live_stage now id v turns stage l f = record {
+  -- Tickets that are drawn change nothing of a live view but its stage, which fits after them, and its number of turns.
+  pub live_drawn : (now : Now E X) (tick : ℕ) (owner : ℕ → ℕ) (id : ℕ) (v : View E X) (turns : ℕ) (stage : Stage E) → IsLive C now id v
+      → FitsStage C (record now { tick = tick; owner = owner }) id stage → IsLive C (record now { tick = tick; owner = owner }) id (record v { turns = turns; stage = stage })
+  live_drawn now tick owner id v turns stage l f = record {
     setting = l.setting;
     start = l.start;
     seen = l.seen;
@@ -91,6 +92,10 @@ module _ {T E X : Type 0} (C : Ghosts T E X) where
     still = l.still;
     since = l.since;
   }
+
+  -- A live view with another number of turns, at another stage that fits.
+  pub live_stage : (now : Now E X) (id : ℕ) (v : View E X) (turns : ℕ) (stage : Stage E) → IsLive C now id v → FitsStage C now id stage → IsLive C now id (record v { turns = turns; stage = stage })
+  live_stage now = live_drawn now now.tick now.owner
 
   module _ (now : Now E X) (views later : List (View E X)) (stays : Stays views later) where
     pub slot_stays : (slot : maybe.Option (Option (Turn T E))) → FitsSlot C now views slot → FitsSlot C now later slot
