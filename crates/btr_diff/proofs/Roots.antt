@@ -2,6 +2,7 @@
 use Rattle.std.specs.Prelude.{◌≡◌, ℕ, ◌+◌, ◌≤◌, List, [], Option}
 use Rattle.std.proofs.Common.{sym, subst, arith}
 use Rattle.std.proofs.lemmas.Int.{ints}
+use Rattle.btr_base.specs.declared.point.Point.{Point}
 use Rattle.btr_base.specs.Point.{AreInDomain}
 use Rattle.btr_base.specs.declared.limits.TheConstants.{FIRST}
 use Rattle.btr_base.specs.Range.{RangeValue, IsCut}
@@ -9,10 +10,12 @@ use Rattle.btr_base.specs.Changes.{changes}
 use Rattle.btr_base.specs.Span.{SpanValue}
 use Rattle.btr_tree.specs.declared.node.NodeData.{NodeData}
 use Rattle.btr_tree.specs.History.{Past, bag}
-use Rattle.btr_tree.specs.Nodes.{points_of, above_root, is_node, is_inner, up_to}
+use Rattle.btr_tree.specs.Nodes.{above_root, is_node, is_inner, up_to}
 use Rattle.btr_tree.specs.Newer.{newer_nodes}
 use Rattle.btr_tree.specs.Agree.{AgreeSince}
 use Rattle.btr_tree.specs.Change.{IsSomeChild}
+use Rattle.btr_tree.specs.Root.{root_part}
+use Rattle.btr_tree.specs.EachHistory.{points_in}
 use Rattle.btr_tree.proofs.RootLemmas.{root-points, end-root}
 use Rattle.btr_tree.proofs.VersionLemmas.{points-since}
 use Rattle.btr_tree.specs.Shape.{IsChild}
@@ -21,22 +24,18 @@ use Rattle.btr_diff.proofs.ChangedSlots.{adds-all}
 use Rattle.btr_diff.proofs.Slots.{adds-as}
 use Rattle.btr_diff.proofs.Newer.{below-fewer}
 
--- The span of the root, the whole domain.
-abbrev pub root : SpanValue
-root = record { start = FIRST; height = 10 }
-
 root-inside : IsInside 10 FIRST
 root-inside = record {
   begins = omega (arith, ints);
   ends = let end = end-root in omega (arith, ints);
 }
 
-pub root-belongs : (span : SpanValue) (child : Option NodeData) → span ≡ root → IsSomeChild 10 FIRST child 0 → BelongsTo span (IsChildOf span child)
+pub root-belongs : (span : SpanValue) (child : Option NodeData) → span ≡ root_part → IsSomeChild 10 FIRST child 0 → BelongsTo span (IsChildOf span child)
 root-belongs span child e some =
-    let at : BelongsTo root (IsChildOf root child) = record { inside = root-inside; past = some.commits; holds = (some.above, some.holds) } in
+    let at : BelongsTo root_part (IsChildOf root_part child) = record { inside = root-inside; past = some.commits; holds = (some.above, some.holds) } in
     subst (λ s. BelongsTo s (IsChildOf s child)) (sym e) at
 
-pub root-child : (span : SpanValue) (child : Option NodeData) (h : Past) → span ≡ root → IsChild 10 FIRST above_root h child → IsChildOf span child h
+pub root-child : (span : SpanValue) (child : Option NodeData) (h : Past) → span ≡ root_part → IsChild 10 FIRST above_root h child → IsChildOf span child h
 root-child span child h e place = subst (λ s. IsChildOf s child h) (sym e) (above_root, place)
 
 -- A version agrees with the latest one since its number.
@@ -48,15 +47,21 @@ agree-since since h k e =
     } in
     subst (λ x. AgreeSince since x k) (sym e) at
 
+-- What is added in the root's span, by whatever name.
+pub root-adds : (span : SpanValue) (p : ℕ) (was now : List RangeValue) (a b : List Point) → span ≡ root_part → AddsChangedSlots p was now (points_in span a) (points_in span b) → AddsChangedSlots p was now (points_in root_part a) (points_in root_part b)
+root-adds span p was now a b e adds = subst (λ (s : SpanValue). AddsChangedSlots p was now (points_in s a) (points_in s b)) e adds
+
 -- What is added in the root's span are the changes.
-pub root-changes : (span : SpanValue) (p : ℕ) (was now : List RangeValue) (h k : Past) → span ≡ root → p ≤ 62 → was ≡ [] → IsCut now → AreInDomain (bag h) → AreInDomain (bag k) → AddsChangedSlots p was now (points_of span.height span.start (bag h)) (points_of span.height span.start (bag k)) → now ≡ changes p (bag h) (bag k)
-root-changes span p was now h k e low none cut old new adds =
-    let at = subst (λ (s : SpanValue). AddsChangedSlots p was now (points_of s.height s.start (bag h)) (points_of s.height s.start (bag k))) e adds in
-    let whole = adds-as p was now _ _ _ _ (root-points (bag h) old) (root-points (bag k) new) at in
+pub root-changes : (p : ℕ) (was now : List RangeValue) (h k : Past) → p ≤ 62 → was ≡ [] → IsCut now → AreInDomain (bag h) → AreInDomain (bag k) → AddsChangedSlots p was now (points_in root_part (bag h)) (points_in root_part (bag k)) → now ≡ changes p (bag h) (bag k)
+root-changes p was now h k low none cut old new adds =
+    let whole = adds-as p was now _ _ _ _ (root-points (bag h) old) (root-points (bag k) new) adds in
     adds-all p now (bag h) (bag k) low cut (subst (λ x. AddsChangedSlots p x now (bag h) (bag k)) none whole)
 
-pub root-bounded : (span : SpanValue) (first last since : ℕ) (k : Past) → span ≡ root → last ≤ first + 1 + newer_below span.height span.start k since → last ≤ first + 1 + newer_nodes 10 FIRST above_root k since
-root-bounded span first last since k e few =
-    let at = subst (λ (s : SpanValue). last ≤ first + 1 + newer_below s.height s.start k since) e few in
+-- The nodes below the root's span, by whatever name.
+pub root-below : (span : SpanValue) (first last since : ℕ) (k : Past) → span ≡ root_part → last ≤ first + newer_below span.height span.start k since → last ≤ first + newer_below 10 FIRST k since
+root-below span first last since k e few = subst (λ (s : SpanValue). last ≤ first + newer_below s.height s.start k since) e few
+
+pub root-bounded : (first last since : ℕ) (k : Past) → last ≤ first + 1 + newer_below 10 FIRST k since → last ≤ first + 1 + newer_nodes 10 FIRST above_root k since
+root-bounded first last since k few =
     let more = below-fewer 10 FIRST above_root k since in
     omega arith

@@ -1,12 +1,12 @@
 -- Lemmas on what the slots of a span add, one after the other, on what belongs to a slot, and on slots without a point.
-use Rattle.std.specs.Prelude.{◌≡◌, ℕ, zero, suc, ◌+◌, ◌-◌, ◌<◌, ◌≤◌, ℤ, pos, ◌+ℤ◌, List, [], ◌++◌, Option}
+use Rattle.std.specs.Prelude.{◌≡◌, ℕ, zero, suc, ◌+◌, ◌-◌, ◌<◌, ◌≤◌, ℤ, List, [], ◌++◌, Option}
 use Rattle.std.proofs.Common.{sym, ap, ◌∙◌, arith, subst, add-zero, append-nil}
 use Rattle.std.proofs.lemmas.Int.{ints}
 use Rattle.std.proofs.lemmas.List.{nil_from_length}
 use Rattle.btr_base.specs.declared.point.Point.{Point}
 use Rattle.btr_base.specs.Range.{RangeValue}
 use Rattle.btr_base.specs.Bag.{within}
-use Rattle.btr_base.specs.Span.{width, SpanValue, slot_of}
+use Rattle.btr_base.specs.Span.{SpanValue, slot_of}
 use Rattle.btr_base.proofs.AggLemmas.{agg-count}
 use Rattle.btr_tree.specs.declared.node.NodeData.{NodeData}
 use Rattle.btr_tree.specs.declared.node.Slot.{Slot}
@@ -66,10 +66,6 @@ slot-points span below i part h all e place is same =
     let whole : all ≡ points_of (suc below) s (bag h) = same ∙ ap (λ g. points_of g s (bag h)) e in
     ap (points_of part.height part.start) whole
     ∙ subst (λ (u : SpanValue). points_of u.height u.start (points_of (suc below) s (bag h)) ≡ points_of u.height u.start (bag h)) (sym is) (points-slot below s i (bag h) place)
-
--- The points between the bounds of a span.
-pub points-here : (height : ℕ) (s a b : ℤ) (all here : List Point) → a ≡ s → b ≡ s +ℤ pos (width height) → here ≡ within a b all → here ≡ points_of height s all
-points-here height s a b all here begins ends e = e ∙ (λ i. within (begins i) (ends i) all)
 
 -- ---- The slots without a point.
 

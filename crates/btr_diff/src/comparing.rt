@@ -5,16 +5,15 @@ ghost use Rattle.btr_base.specs.Changes.{changes as changes_of};
 ghost use Rattle.btr_tree.specs.History.{Past, bag};
 ghost use Rattle.btr_base.specs.Span.{SpanValue};
 ghost use Rattle.btr_tree.specs.Nodes.{above_root, node_version, up_to};
-ghost use Rattle.btr_tree.specs.Root.{IsTree};
-ghost use Rattle.btr_tree.specs.Slots.{node_of};
-ghost use Rattle.btr_tree.specs.Uncounted.{uncounted_child, uncounted_tree};
+ghost use Rattle.btr_tree.specs.Root.{IsTree, root_part};
+ghost use Rattle.btr_tree.specs.Uncounted.{uncounted_tree};
 ghost use Rattle.btr_tree.specs.Newer.{newer_nodes};
-ghost use Rattle.btr_diff.specs.Comparison.{BelongsTo, IsChildOf, IsNodeOf, Compares, VisitsBelow};
+ghost use Rattle.btr_diff.specs.Comparison.{IsNodeOf, Compares, VisitsBelow};
 
 use crate::comparison::Comparison;
 use crate::tree_walk::{compare_node, compare_with_points};
-use btr_base::{Ranges, Span};
-use btr_tree::{Child, Node, Steps, Tree, Uncounted, UncountedChild, root_span, visit};
+use btr_base::Ranges;
+use btr_tree::{Node, Steps, Tree, Uncounted, root_span, visit};
 use std::alloc::{AllocError, Global};
 
 /// Returns the longest runs of aligned slots of `2^p` ns in which some time has other points in the newer tree than in
@@ -41,36 +40,27 @@ pub fn changes<L>(
 {
     let mut out = Ranges::none(alloc);
     let comparison = Comparison { alloc, since, p };
-    compare_roots(
-        root_span(),
-        old.root(),
-        new.link(),
-        comparison,
-        &mut out,
-        steps,
-    )?;
+    compare_roots(old, new, comparison, &mut out, steps)?;
     Ok(out)
 }
 
-/// Adds to `out` the slots in which the trees differ in a span. Visits the newer node, and continues if its version is
-/// above `since`.
+/// Adds to `out` the slots in which the trees differ. Visits the newer root, and continues if its version is above `since`.
 fn compare_roots<L>(
-    span: Span,
-    old: UncountedChild<'_>,
-    new: Child<'_>,
+    old: Uncounted<'_>,
+    new: &Tree,
     comparison: Comparison,
     out: &mut Ranges,
     steps: &mut Steps<L>,
 ) -> Result<(), AllocError>
-    requires p { comparison.p ≤ 62 }
-    requires old { BelongsTo span (IsChildOf span (uncounted_child old)) }
-    requires new { BelongsTo span (IsChildOf span (node_of new)) }
-    ensures adds { OnOk result (Compares comparison span (IsChildOf span (uncounted_child old.entry)) (IsChildOf span (node_of new.entry))
+    requires { comparison.p ≤ 62 }
+    ensures adds { OnOk result (Compares comparison root_part (λ h. IsTree h (uncounted_tree old.entry)) (λ k. IsTree k new.now)
         out.old out.new) }
-    ensures bounded { VisitsBelow comparison.since span (IsChildOf span (node_of new.entry)) (steps.old + 1) steps.new }
+    ensures bounded { VisitsBelow comparison.since root_part (λ k. IsTree k new.now) (steps.old + 1) steps.new }
     ensures never_falls { steps.old ≤ steps.new }
 {
-    match visit(new, steps) {
+    let span = root_span();
+    let old = old.root();
+    match visit(new.link(), steps) {
         None => compare_with_points(span, old, &[], comparison, out),
         Some(node) => {
             if version_of(node) <= comparison.since {

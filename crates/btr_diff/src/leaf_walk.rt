@@ -1,5 +1,5 @@
 //! The walk over the newer tree beside the points of one leaf of the older tree, or beside no points.
-ghost use Rattle.std.specs.Prelude.{◌≤◌, ◌<◌, ℕ, OnOk};
+ghost use Rattle.std.specs.Prelude.{◌≤◌, OnOk};
 ghost use Rattle.btr_base.specs.Point.{AreInDomain};
 ghost use Rattle.btr_base.specs.Bag.{IsInOrder};
 ghost use Rattle.btr_tree.specs.Slots.{node_of};
@@ -11,36 +11,6 @@ use crate::points::compare_points;
 use btr_base::{FAN_OUT, Point, Ranges, Span, points_between};
 use btr_tree::{Child, Node, Slots, Steps, visit};
 use std::alloc::AllocError;
-
-/// Adds to `out` the slots in which the points of the older tree in a span differ from those of the newer tree.
-#[cycle(leaf_walk)]
-fn compare_points_with_child<L>(
-    span: Span,
-    old: &[Point],
-    new: Child<'_>,
-    comparison: Comparison,
-    out: &mut Ranges,
-    steps: &mut Steps<L>,
-) -> Result<(), AllocError>
-    requires p { comparison.p ≤ 62 }
-    requires order { IsInOrder old.now }
-    requires domain { AreInDomain old.now }
-    requires new { BelongsTo span (IsChildOf span (node_of new)) }
-    ensures adds { OnOk result (Compares comparison span (ArePointsOf span old.now) (IsChildOf span (node_of new.entry)) out.old out.new) }
-    ensures bounded { (v : ℕ) → comparison.since < v
-        → VisitsSlot comparison.since span v (node_of new.entry) steps.old steps.new }
-    ensures never_falls { steps.old ≤ steps.new }
-{
-    match visit(new, steps) {
-        None => compare_points(old, &[], comparison.p, out),
-        Some(node) => match node {
-            Node::Leaf { points, .. } => compare_points(old, points, comparison.p, out),
-            Node::Inner { slots, .. } => {
-                compare_points_with_slots(span, old, slots, comparison, out, steps)
-            }
-        },
-    }
-}
 
 /// Compares the points of the older tree with an inner node of the newer one, slot by slot.
 #[cycle(leaf_walk)]
@@ -75,8 +45,8 @@ pub(crate) fn compare_points_with_slots<L>(
     Ok(())
 }
 
-/// Compares those of the points that are in one slot with the newer tree. It skips the slot if its version is not above
-/// `since`.
+/// Compares those of the points that are in one slot with the newer tree. It visits the newer node, and below it those
+/// that are newer, if the slot's version is above `since`.
 #[cycle(leaf_walk)]
 fn compare_points_with_slot<L>(
     span: Span,
@@ -100,5 +70,13 @@ fn compare_points_with_slot<L>(
         return Ok(());
     }
     let here = points_between(old, span.start, span.end());
-    compare_points_with_child(span, here, new, comparison, out, steps)
+    match visit(new, steps) {
+        None => compare_points(here, &[], comparison.p, out),
+        Some(node) => match node {
+            Node::Leaf { points, .. } => compare_points(here, points, comparison.p, out),
+            Node::Inner { slots, .. } => {
+                compare_points_with_slots(span, here, slots, comparison, out, steps)
+            }
+        },
+    }
 }

@@ -1,5 +1,5 @@
 //! The walk over the newer tree beside the older one, into the spans whose node or slot has a newer version.
-ghost use Rattle.std.specs.Prelude.{◌≤◌, ◌<◌, ℕ, OnOk};
+ghost use Rattle.std.specs.Prelude.{◌≤◌, OnOk};
 ghost use Rattle.btr_base.specs.Point.{AreInDomain};
 ghost use Rattle.btr_base.specs.Bag.{IsInOrder};
 ghost use Rattle.btr_tree.specs.History.{Past, bag};
@@ -19,32 +19,6 @@ use btr_tree::{
     visit_uncounted,
 };
 use std::alloc::AllocError;
-
-/// Adds to `out` the slots in which the trees differ in a span. Visits the newer node, and below it those that are
-/// newer.
-#[cycle(tree_walk)]
-fn compare_child<L>(
-    span: Span,
-    old: UncountedChild<'_>,
-    new: Child<'_>,
-    comparison: Comparison,
-    out: &mut Ranges,
-    steps: &mut Steps<L>,
-) -> Result<(), AllocError>
-    requires p { comparison.p ≤ 62 }
-    requires old { BelongsTo span (IsChildOf span (uncounted_child old)) }
-    requires new { BelongsTo span (IsChildOf span (node_of new)) }
-    ensures adds { OnOk result (Compares comparison span (IsChildOf span (uncounted_child old.entry))
-        (IsChildOf span (node_of new.entry)) out.old out.new) }
-    ensures bounded { (v : ℕ) → comparison.since < v
-        → VisitsSlot comparison.since span v (node_of new.entry) steps.old steps.new }
-    ensures never_falls { steps.old ≤ steps.new }
-{
-    match visit(new, steps) {
-        None => compare_with_points(span, old, &[], comparison, out),
-        Some(node) => compare_node(span, old, node, comparison, out, steps),
-    }
-}
 
 /// Compares the older tree with a node of the newer one that was visited.
 #[cycle(tree_walk)]
@@ -134,7 +108,8 @@ fn compare_slots<L>(
     Ok(())
 }
 
-/// Compares the trees in one slot. It skips the slot if its version is not above `since`.
+/// Compares the trees in one slot. It visits the newer node, and below it those that are newer, if the slot's version is
+/// above `since`.
 #[cycle(tree_walk)]
 fn compare_slot<L>(
     span: Span,
@@ -156,7 +131,10 @@ fn compare_slot<L>(
     if version <= comparison.since {
         return Ok(());
     }
-    compare_child(span, old, new, comparison, out, steps)
+    match visit(new, steps) {
+        None => compare_with_points(span, old, &[], comparison, out),
+        Some(node) => compare_node(span, old, node, comparison, out, steps),
+    }
 }
 
 /// Adds to `out` the slots in which the points of a span in the older tree differ from `new`.

@@ -1,29 +1,39 @@
-use Rattle.std.proofs.Common.{arith}
+use Rattle.std.proofs.Common.{arith, ◌+◌}
 use Rattle.std.proofs.lemmas.Result.{on_ok_weaker}
 use Rattle.btr_tree.specs.History.{bag}
 use Rattle.btr_tree.specs.Nodes.{points_of}
 use Rattle.btr_tree.specs.Slots.{node_of}
+use Rattle.btr_tree.specs.Uncounted.{uncounted_child}
 use Rattle.btr_diff.proofs.ChangedSlots.{adds-none}
 use Rattle.btr_diff.proofs.Nodes.{found-node}
+use Rattle.btr_diff.proofs.Roots.{root-child, root-adds, root-below}
 use Rattle.btr_diff.proofs.Slots.{adds-as}
 use Rattle.btr_diff.proofs.comparing.compare_roots.Goals as goal
 
 pub returns-then-version_of-comparison-clause-adds : goal.returns-then-version_of-comparison-clause-adds
-returns-then-version_of-comparison-clause-adds over c h g was child agree =
-    let k = c.args.span.height in
-    let s = c.args.span.start in
-    let node = found-node c.args.span (node_of c.args.new) c.in-Some.node _ _ c.in-Some.ensures g child in
-    let is = c.version_of.ensures c.args.span g node in
-    let same = agree.nodes node.0 k s (omega arith) in
-    adds-as c.args.comparison.p c.args.out.now c.args.out.now _ _ _ _ (λ i. points_of k s (bag h)) same (adds-none c.args.comparison.p c.args.out.now (points_of k s (bag h)))
+returns-then-version_of-comparison-clause-adds over c h g was now agree =
+    let span = c.root_span-span.result in
+    let is = c.root_span-span.ensures in
+    let child = root-child span (node_of c.link.result) g is (c.link.ensures.child g now) in
+    let node = found-node span (node_of c.link.result) c.in-Some.node _ _ c.in-Some.ensures g child in
+    let version = c.version_of.ensures span g node in
+    let same = agree.nodes node.0 span.height span.start (omega arith) in
+    root-adds span c.args.comparison.p c.args.out.now c.args.out.now (bag h) (bag g) is (adds-as c.args.comparison.p c.args.out.now c.args.out.now _ _ _ _ (λ i. points_of span.height span.start (bag h)) same (adds-none c.args.comparison.p c.args.out.now (points_of span.height span.start (bag h))))
 
 pub returns-else-version_of-comparison-clause-adds : goal.returns-else-version_of-comparison-clause-adds
 returns-else-version_of-comparison-clause-adds over c =
-    on_ok_weaker c.compare_node.result (λ e h g was child agree. e h g was (found-node c.args.span (node_of c.args.new) c.in-Some.node _ _ c.in-Some.ensures g child) agree) c.compare_node.ensures.adds
+    let span = c.root_span-span.result in
+    let is = c.root_span-span.ensures in
+    on_ok_weaker c.compare_node.result (λ e h g was now agree.
+    let child = root-child span (uncounted_child c.root-old.result) h is (c.root-old.ensures.child h was) in
+    let node = found-node span (node_of c.link.result) c.in-Some.node _ _ c.in-Some.ensures g (root-child span (node_of c.link.result) g is (c.link.ensures.child g now)) in
+    root-adds span c.args.comparison.p c.args.out.now c.compare_node.new.out (bag h) (bag g) is (e h g child node agree)) c.compare_node.ensures.adds
 
 pub returns-else-version_of-comparison-clause-bounded : goal.returns-else-version_of-comparison-clause-bounded
-returns-else-version_of-comparison-clause-bounded over c g child =
-    let e = c.compare_node.ensures.bounded in
-    let few = e g (found-node c.args.span (node_of c.args.new) c.in-Some.node _ _ c.in-Some.ensures g child) in
+returns-else-version_of-comparison-clause-bounded over c g now =
+    let span = c.root_span-span.result in
+    let is = c.root_span-span.ensures in
+    let node = found-node span (node_of c.link.result) c.in-Some.node _ _ c.in-Some.ensures g (root-child span (node_of c.link.result) g is (c.link.ensures.child g now)) in
+    let few = c.compare_node.ensures.bounded g node in
     let more = c.visit.ensures.at_most in
-    omega arith
+    root-below span (c.args.steps.now + 1) c.compare_node.new.steps c.args.comparison.since g is (omega arith)

@@ -1,8 +1,7 @@
-use Rattle.std.proofs.Common.{◌<◌, sym, ap, ◌∙◌, subst, arith, w64, to_z, of_z}
-use Rattle.std.proofs.lemmas.Result.{on_ok_weaker}
-use Rattle.std.proofs.lemmas.Int.{ints}
+use Rattle.std.proofs.Common.{◌≡◌, ◌<◌, ℤ, List, sym, subst, arith}
+use Rattle.btr_base.specs.declared.point.Point.{Point}
 use Rattle.btr_base.specs.Point.{InDomain, AreInDomain}
-use Rattle.btr_base.specs.Bag.{IsInOrder, is_within}
+use Rattle.btr_base.specs.Bag.{IsInOrder, is_within, within}
 use Rattle.btr_base.proofs.ListLemmas.{each-filter}
 use Rattle.btr_base.proofs.WithinLemmas.{within-in_order}
 use Rattle.btr_tree.specs.History.{bag}
@@ -11,59 +10,9 @@ use Rattle.btr_tree.proofs.NodeLemmas.{child-at}
 use Rattle.btr_tree.specs.Slots.{node_of}
 use Rattle.btr_diff.proofs.ChangedSlots.{adds-none}
 use Rattle.btr_diff.proofs.Nodes.{found-node, leaf-points, points-order, points-domain, node-some, inner-slots, child-belongs}
-use Rattle.btr_diff.proofs.Slots.{adds-as, adds-first, adds-slot, adds-done, slot-belongs, slot-points, points-here}
+use Rattle.btr_diff.proofs.Slots.{adds-as, adds-first, adds-slot, adds-done, slot-belongs, slot-points}
 use Rattle.btr_diff.proofs.Newer.{newer-slot, below-sum, bounded-slot, bounded-exit}
 use Rattle.btr_diff.proofs.leaf_walk.+leaf_walk.Goals as goal
-
--- ---- One child.
-
-pub compare_points_with_child-compare_points-requires-in-Leaf-clause-new_order : goal.compare_points_with_child-compare_points-requires-in-Leaf-clause-new_order
-compare_points_with_child-compare_points-requires-in-Leaf-clause-new_order over t c =
-    let new = c.requires.new in
-    points-order c.args.span new.past c.in-Leaf.points.now (leaf-points c.args.span new.past c.in-Some.node c.in-Leaf.version c.in-Leaf.points c.in-Leaf.is (found-node c.args.span (node_of c.args.new) c.in-Some.node _ _ c.in-Some.ensures new.past new.holds))
-
-pub compare_points_with_child-compare_points-requires-in-Leaf-clause-new_domain : goal.compare_points_with_child-compare_points-requires-in-Leaf-clause-new_domain
-compare_points_with_child-compare_points-requires-in-Leaf-clause-new_domain over t c =
-    let new = c.requires.new in
-    points-domain c.args.span new.past c.in-Leaf.points.now new.inside (leaf-points c.args.span new.past c.in-Some.node c.in-Leaf.version c.in-Leaf.points c.in-Leaf.is (found-node c.args.span (node_of c.args.new) c.in-Some.node _ _ c.in-Some.ensures new.past new.holds))
-
-pub compare_points_with_child-compare_points_with_slots-requires : goal.compare_points_with_child-compare_points_with_slots-requires
-compare_points_with_child-compare_points_with_slots-requires over t c κs outlives =
-    let new = c.requires.new in
-    let d = c.decreases in
-    let slots = inner-slots c.args.span new.past c.in-Some.node c.in-Inner.version c.in-Inner.slots c.in-Inner.is (found-node c.args.span (node_of c.args.new) c.in-Some.node _ _ c.in-Some.ensures new.past new.holds) in
-    (omega arith, (outlives, (c.requires.p, (c.requires.order, (c.requires.domain, record { inside = new.inside; past = new.past; holds = slots })))))
-
-pub compare_points_with_child-returns-in-Leaf-clause-adds : goal.compare_points_with_child-returns-in-Leaf-clause-adds
-compare_points_with_child-returns-in-Leaf-clause-adds over t c =
-    let span = c.args.span in
-    on_ok_weaker c.compare_points-in-Leaf.result (λ e h g same child agree.
-    adds-as c.args.comparison.p c.args.out.now c.compare_points-in-Leaf.new.out _ _ _ _ same (leaf-points span g c.in-Some.node c.in-Leaf.version c.in-Leaf.points c.in-Leaf.is (found-node span (node_of c.args.new) c.in-Some.node _ _ c.in-Some.ensures g child)) e) c.compare_points-in-Leaf.ensures
-
-pub compare_points_with_child-returns-in-Leaf-clause-bounded : goal.compare_points_with_child-returns-in-Leaf-clause-bounded
-compare_points_with_child-returns-in-Leaf-clause-bounded over t c v newer g slot =
-    let span = c.args.span in
-    let some = node-some span g c.in-Some.node (found-node span (node_of c.args.new) c.in-Some.node _ _ c.in-Some.ensures g (is_inner slot.above slot.begin, slot.holds)) in
-    let one = newer-slot span c.args.comparison.since v (node_of c.args.new) g some newer slot in
-    let more = c.visit.ensures.at_most in
-    omega arith
-
-pub compare_points_with_child-returns-in-Inner-clause-adds : goal.compare_points_with_child-returns-in-Inner-clause-adds
-compare_points_with_child-returns-in-Inner-clause-adds over t c =
-    let span = c.args.span in
-    on_ok_weaker c.compare_points_with_slots.result (λ e h g same child agree.
-    e h g same (inner-slots span g c.in-Some.node c.in-Inner.version c.in-Inner.slots c.in-Inner.is (found-node span (node_of c.args.new) c.in-Some.node _ _ c.in-Some.ensures g child)) agree) c.compare_points_with_slots.ensures.adds
-
-pub compare_points_with_child-returns-in-Inner-clause-bounded : goal.compare_points_with_child-returns-in-Inner-clause-bounded
-compare_points_with_child-returns-in-Inner-clause-bounded over t c v newer g slot =
-    let span = c.args.span in
-    let e = c.compare_points_with_slots.ensures.bounded in
-    let node = found-node span (node_of c.args.new) c.in-Some.node _ _ c.in-Some.ensures g (is_inner slot.above slot.begin, slot.holds) in
-    let slots = inner-slots span g c.in-Some.node c.in-Inner.version c.in-Inner.slots c.in-Inner.is node in
-    let one = newer-slot span c.args.comparison.since v (node_of c.args.new) g (node-some span g c.in-Some.node node) newer slot in
-    let few = e g slots in
-    let more = c.visit.ensures.at_most in
-    omega arith
 
 -- ---- One slot.
 
@@ -73,24 +22,65 @@ compare_points_with_slot-returns-then-version-comparison-clause-adds over t c h 
     let equal = agree.slots slot.above slot.begin span.height span.start (omega (arith, slot.carried, c.if-version-comparison.true)) in
     adds-as c.args.comparison.p c.args.out.now c.args.out.now _ _ _ _ (λ i. points_of span.height span.start (bag h)) equal (adds-none c.args.comparison.p c.args.out.now _)
 
-pub compare_points_with_slot-compare_points_with_child-requires : goal.compare_points_with_slot-compare_points_with_child-requires
-compare_points_with_slot-compare_points_with_child-requires over t c κs outlives =
+-- The points that are found between the bounds of a slot are in order and in the domain.
+found-in_order : (x y : ℤ) (all here : List Point) → here ≡ within x y all → IsInOrder all → IsInOrder here
+found-in_order x y all here e order = subst IsInOrder (sym e) (within-in_order x y all order)
+
+found-in_domain : (x y : ℤ) (all here : List Point) → here ≡ within x y all → AreInDomain all → AreInDomain here
+found-in_domain x y all here e domain = subst AreInDomain (sym e) (each-filter (λ q. InDomain q.time) (is_within x y) all domain)
+
+pub compare_points_with_slot-compare_points-requires-clause-old_order : goal.compare_points_with_slot-compare_points-requires-clause-old_order
+compare_points_with_slot-compare_points-requires-clause-old_order over t c =
+    found-in_order _ _ c.args.old.now c.points_between-here.result.now c.points_between-here.ensures c.requires.order
+
+pub compare_points_with_slot-compare_points-requires-clause-old_domain : goal.compare_points_with_slot-compare_points-requires-clause-old_domain
+compare_points_with_slot-compare_points-requires-clause-old_domain over t c =
+    found-in_domain _ _ c.args.old.now c.points_between-here.result.now c.points_between-here.ensures c.requires.domain
+
+pub compare_points_with_slot-compare_points-requires-in-Leaf-clause-old_order : goal.compare_points_with_slot-compare_points-requires-in-Leaf-clause-old_order
+compare_points_with_slot-compare_points-requires-in-Leaf-clause-old_order over t c =
+    found-in_order _ _ c.args.old.now c.points_between-here.result.now c.points_between-here.ensures c.requires.order
+
+pub compare_points_with_slot-compare_points-requires-in-Leaf-clause-old_domain : goal.compare_points_with_slot-compare_points-requires-in-Leaf-clause-old_domain
+compare_points_with_slot-compare_points-requires-in-Leaf-clause-old_domain over t c =
+    found-in_domain _ _ c.args.old.now c.points_between-here.result.now c.points_between-here.ensures c.requires.domain
+
+pub compare_points_with_slot-compare_points-requires-in-Leaf-clause-new_order : goal.compare_points_with_slot-compare_points-requires-in-Leaf-clause-new_order
+compare_points_with_slot-compare_points-requires-in-Leaf-clause-new_order over t c =
+    let new = c.requires.new in
+    points-order c.args.span new.past c.in-Leaf.points.now (leaf-points c.args.span new.past c.in-Some.node c.in-Leaf.version c.in-Leaf.points c.in-Leaf.is (found-node c.args.span (node_of c.args.new) c.in-Some.node _ _ c.in-Some.ensures new.past new.holds))
+
+pub compare_points_with_slot-compare_points-requires-in-Leaf-clause-new_domain : goal.compare_points_with_slot-compare_points-requires-in-Leaf-clause-new_domain
+compare_points_with_slot-compare_points-requires-in-Leaf-clause-new_domain over t c =
+    let new = c.requires.new in
+    points-domain c.args.span new.past c.in-Leaf.points.now new.inside (leaf-points c.args.span new.past c.in-Some.node c.in-Leaf.version c.in-Leaf.points c.in-Leaf.is (found-node c.args.span (node_of c.args.new) c.in-Some.node _ _ c.in-Some.ensures new.past new.holds))
+
+pub compare_points_with_slot-compare_points_with_slots-requires : goal.compare_points_with_slot-compare_points_with_slots-requires
+compare_points_with_slot-compare_points_with_slots-requires over t c κs outlives =
+    let new = c.requires.new in
     let d = c.decreases in
     let here = c.points_between-here.ensures in
-    (omega arith, (outlives, (c.requires.p, (subst IsInOrder (sym here) (within-in_order _ _ c.args.old.now c.requires.order), (subst AreInDomain (sym here) (each-filter (λ q. InDomain q.time) (is_within _ _) c.args.old.now c.requires.domain), c.requires.new)))))
+    let slots = inner-slots c.args.span new.past c.in-Some.node c.in-Inner.version c.in-Inner.slots c.in-Inner.is (found-node c.args.span (node_of c.args.new) c.in-Some.node _ _ c.in-Some.ensures new.past new.holds) in
+    (omega arith, (outlives, (c.requires.p, (found-in_order _ _ c.args.old.now _ here c.requires.order, (found-in_domain _ _ c.args.old.now _ here c.requires.domain, record { inside = new.inside; past = new.past; holds = slots })))))
 
-pub compare_points_with_slot-returns-clause-adds : goal.compare_points_with_slot-returns-clause-adds
-compare_points_with_slot-returns-clause-adds over t c =
-    let k = c.args.span.height in
-    let s = c.args.span.start in
-    let begin = ap (λ p. p.start) c.span.view_is in
-    let end = c.end.ensures.end in
-    let here = points-here k s (to_z w64 (of_z w64 c.span.inside.start)) (to_z w64 (of_z w64 c.end.result)) c.args.old.now c.points_between-here.result.now (omega (arith, ints)) (omega (arith, ints)) c.points_between-here.ensures in
-    on_ok_weaker c.compare_points_with_child.result (λ e h g same slot agree. e h g (here ∙ same) (is_inner slot.above slot.begin, slot.holds) agree) c.compare_points_with_child.ensures.adds
+pub compare_points_with_slot-returns-in-Leaf-clause-bounded : goal.compare_points_with_slot-returns-in-Leaf-clause-bounded
+compare_points_with_slot-returns-in-Leaf-clause-bounded over t c g slot =
+    let span = c.args.span in
+    let some = node-some span g c.in-Some.node (found-node span (node_of c.args.new) c.in-Some.node _ _ c.in-Some.ensures g (is_inner slot.above slot.begin, slot.holds)) in
+    let one = newer-slot span c.args.comparison.since c.args.version (node_of c.args.new) g some c.if-version-comparison.false slot in
+    let more = c.visit.ensures.at_most in
+    omega arith
 
-pub compare_points_with_slot-returns-clause-bounded : goal.compare_points_with_slot-returns-clause-bounded
-compare_points_with_slot-returns-clause-bounded over t c =
-    c.compare_points_with_child.ensures.bounded c.args.version c.if-version-comparison.false
+pub compare_points_with_slot-returns-in-Inner-clause-bounded : goal.compare_points_with_slot-returns-in-Inner-clause-bounded
+compare_points_with_slot-returns-in-Inner-clause-bounded over t c g slot =
+    let span = c.args.span in
+    let e = c.compare_points_with_slots.ensures.bounded in
+    let node = found-node span (node_of c.args.new) c.in-Some.node _ _ c.in-Some.ensures g (is_inner slot.above slot.begin, slot.holds) in
+    let slots = inner-slots span g c.in-Some.node c.in-Inner.version c.in-Inner.slots c.in-Inner.is node in
+    let one = newer-slot span c.args.comparison.since c.args.version (node_of c.args.new) g (node-some span g c.in-Some.node node) c.if-version-comparison.false slot in
+    let few = e g slots in
+    let more = c.visit.ensures.at_most in
+    omega arith
 
 -- ---- All slots.
 

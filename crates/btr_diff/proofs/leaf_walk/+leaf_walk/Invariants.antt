@@ -16,11 +16,8 @@ invariant-compare_points_with_slots-loop-i g l = record {
   never_falls : l.fn.steps ≤ l.steps;
 }
 
-abbrev pub decreases-compare_points_with_child : goal.decreases-compare_points_with_child
-decreases-compare_points_with_child g l = 3 * l.span.height + 1
-
 abbrev pub decreases-compare_points_with_slots : goal.decreases-compare_points_with_slots
-decreases-compare_points_with_slots g l = 3 * l.span.height
+decreases-compare_points_with_slots g l = 2 * l.span.height
 
 abbrev pub decreases-compare_points_with_slot : goal.decreases-compare_points_with_slot
-decreases-compare_points_with_slot g l = 3 * l.span.height + 2
+decreases-compare_points_with_slot g l = 2 * l.span.height + 1

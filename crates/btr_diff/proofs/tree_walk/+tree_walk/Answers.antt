@@ -8,32 +8,10 @@ use Rattle.btr_tree.proofs.NodeLemmas.{child-at}
 use Rattle.btr_tree.specs.Slots.{node_of}
 use Rattle.btr_tree.specs.Uncounted.{uncounted_child, uncounted_slots, as_counted}
 use Rattle.btr_diff.proofs.ChangedSlots.{adds-none}
-use Rattle.btr_diff.proofs.Nodes.{found-node, found-uncounted, found-none_uncounted, leaf-points, points-order, points-domain, node-some, inner-slots, child-belongs}
+use Rattle.btr_diff.proofs.Nodes.{found-none, found-node, found-uncounted, found-none_uncounted, leaf-points, points-order, points-domain, node-some, inner-slots, child-belongs}
 use Rattle.btr_diff.proofs.Slots.{adds-as, adds-first, adds-slot, adds-done, slot-belongs}
 use Rattle.btr_diff.proofs.Newer.{newer-slot, below-sum, bounded-slot, bounded-exit}
 use Rattle.btr_diff.proofs.tree_walk.+tree_walk.Goals as goal
-
--- ---- One child.
-
-pub compare_child-compare_node-requires : goal.compare_child-compare_node-requires
-compare_child-compare_node-requires over t c κs outlives =
-    let new = c.requires.new in
-    let d = c.decreases in
-    (omega arith, (outlives, (c.requires.p, (c.requires.old, record { inside = new.inside; past = new.past; holds = found-node c.args.span (node_of c.args.new) c.in-Some.node _ _ c.in-Some.ensures new.past new.holds }))))
-
-pub compare_child-returns-in-Some-clause-adds : goal.compare_child-returns-in-Some-clause-adds
-compare_child-returns-in-Some-clause-adds over t c =
-    on_ok_weaker c.compare_node.result (λ e h g was child agree. e h g was (found-node c.args.span (node_of c.args.new) c.in-Some.node _ _ c.in-Some.ensures g child) agree) c.compare_node.ensures.adds
-
-pub compare_child-returns-in-Some-clause-bounded : goal.compare_child-returns-in-Some-clause-bounded
-compare_child-returns-in-Some-clause-bounded over t c v newer g slot =
-    let span = c.args.span in
-    let e = c.compare_node.ensures.bounded in
-    let node = found-node span (node_of c.args.new) c.in-Some.node _ _ c.in-Some.ensures g (is_inner slot.above slot.begin, slot.holds) in
-    let one = newer-slot span c.args.comparison.since v (node_of c.args.new) g (node-some span g c.in-Some.node node) newer slot in
-    let few = e g node in
-    let more = c.visit.ensures.at_most in
-    omega arith
 
 -- ---- One node.
 
@@ -112,13 +90,31 @@ compare_slot-returns-then-version-comparison-clause-adds over t c h g was slot a
     let same = agree.slots slot.above slot.begin span.height span.start (omega (arith, slot.carried, c.if-version-comparison.true)) in
     adds-as c.args.comparison.p c.args.out.now c.args.out.now _ _ _ _ (λ i. points_of span.height span.start (bag h)) same (adds-none c.args.comparison.p c.args.out.now _)
 
-pub compare_slot-returns-clause-adds : goal.compare_slot-returns-clause-adds
-compare_slot-returns-clause-adds over t c =
-    on_ok_weaker c.compare_child.result (λ e h g was slot agree. e h g was (is_inner slot.above slot.begin, slot.holds) agree) c.compare_child.ensures.adds
+pub compare_slot-compare_node-requires : goal.compare_slot-compare_node-requires
+compare_slot-compare_node-requires over t c κs outlives =
+    let new = c.requires.new in
+    let d = c.decreases in
+    (omega arith, (outlives, (c.requires.p, (c.requires.old, record { inside = new.inside; past = new.past; holds = found-node c.args.span (node_of c.args.new) c.in-Some.node _ _ c.in-Some.ensures new.past new.holds }))))
 
-pub compare_slot-returns-clause-bounded : goal.compare_slot-returns-clause-bounded
-compare_slot-returns-clause-bounded over t c =
-    c.compare_child.ensures.bounded c.args.version c.if-version-comparison.false
+pub compare_slot-returns-in-None-clause-adds : goal.compare_slot-returns-in-None-clause-adds
+compare_slot-returns-in-None-clause-adds over t c =
+    let span = c.args.span in
+    on_ok_weaker c.compare_with_points.result (λ e h g was slot agree.
+    adds-as c.args.comparison.p c.args.out.now c.compare_with_points.new.out _ _ _ _ (λ i. points_of span.height span.start (bag h)) (sym (found-none span (node_of c.args.new) _ _ c.in-None.ensures g (is_inner slot.above slot.begin, slot.holds))) (e h was)) c.compare_with_points.ensures
+
+pub compare_slot-returns-in-Some-clause-adds : goal.compare_slot-returns-in-Some-clause-adds
+compare_slot-returns-in-Some-clause-adds over t c =
+    on_ok_weaker c.compare_node.result (λ e h g was slot agree. e h g was (found-node c.args.span (node_of c.args.new) c.in-Some.node _ _ c.in-Some.ensures g (is_inner slot.above slot.begin, slot.holds)) agree) c.compare_node.ensures.adds
+
+pub compare_slot-returns-in-Some-clause-bounded : goal.compare_slot-returns-in-Some-clause-bounded
+compare_slot-returns-in-Some-clause-bounded over t c g slot =
+    let span = c.args.span in
+    let e = c.compare_node.ensures.bounded in
+    let node = found-node span (node_of c.args.new) c.in-Some.node _ _ c.in-Some.ensures g (is_inner slot.above slot.begin, slot.holds) in
+    let one = newer-slot span c.args.comparison.since c.args.version (node_of c.args.new) g (node-some span g c.in-Some.node node) c.if-version-comparison.false slot in
+    let few = e g node in
+    let more = c.visit.ensures.at_most in
+    omega arith
 
 -- ---- All slots.
 

@@ -17,17 +17,14 @@ invariant-compare_slots-loop-i g l = record {
   never_falls : l.fn.steps ≤ l.steps;
 }
 
-abbrev pub decreases-compare_child : goal.decreases-compare_child
-decreases-compare_child g l = 5 * l.span.height + 3
-
 abbrev pub decreases-compare_node : goal.decreases-compare_node
-decreases-compare_node g l = 5 * l.span.height + 2
+decreases-compare_node g l = 4 * l.span.height + 2
 
 abbrev pub decreases-compare_with_slots : goal.decreases-compare_with_slots
-decreases-compare_with_slots g l = 5 * l.span.height + 1
+decreases-compare_with_slots g l = 4 * l.span.height + 1
 
 abbrev pub decreases-compare_slots : goal.decreases-compare_slots
-decreases-compare_slots g l = 5 * l.span.height
+decreases-compare_slots g l = 4 * l.span.height
 
 abbrev pub decreases-compare_slot : goal.decreases-compare_slot
-decreases-compare_slot g l = 5 * l.span.height + 4
+decreases-compare_slot g l = 4 * l.span.height + 3
