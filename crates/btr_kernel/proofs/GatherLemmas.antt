@@ -20,7 +20,7 @@ or-false true b h = refl
 or-false false b h = h
 
 -- Of points in order, those that pass one of two tests, of which the first passes only before a time, and the second only from it on.
-filter-two : (f g : Point → Bool) (m : ℤ) (b : List Point) → IsInOrder b → ((p : Point) → m ≤ℤ p.time → f p ≡ false) → ((p : Point) → p.time <ℤ m → g p ≡ false) → filter (λ p. f p || g p) b ≡ filter f b ++ filter g b
+pub filter-two : (f g : Point → Bool) (m : ℤ) (b : List Point) → IsInOrder b → ((p : Point) → m ≤ℤ p.time → f p ≡ false) → ((p : Point) → p.time <ℤ m → g p ≡ false) → filter (λ p. f p || g p) b ≡ filter f b ++ filter g b
 filter-two f g m [] order h k = refl
 filter-two f g m (p ∷ b) order h k =
     let rest = filter-two f g m b order.1 h k in

@@ -100,6 +100,14 @@ filter-anchors f (p ∷ b) =
       | false ↦ λ e. filter-filter f other (anchors b) ∙ filter-same (λ t. other t && f t) f (anchors b) (λ t. excluded f s t e) ∙ rest
     ] refl
 
+-- The times of the points in ranges are the covered times of all points.
+pub anchors-of_covered : (rs : List RangeValue) (b : List Point) → filter (covered rs) (anchors (filter (λ p. covered rs p.time) b)) ≡ filter (covered rs) (anchors b)
+anchors-of_covered rs b =
+    let inside = λ (p : Point). covered rs p.time in
+    filter-anchors (covered rs) (filter inside b)
+    ∙ ap anchors (filter-all inside (filter inside b) (filter-passes inside b))
+    ∙ sym (filter-anchors (covered rs) b)
+
 pub each-anchors : (P : ℤ → Type 0) (b : List Point) → AllByRecursion (λ p. P p.time) b → AllByRecursion P (anchors b)
 each-anchors P [] h = tt
 each-anchors P (p ∷ b) h = (h.0, each-filter P (λ t. not (int_eq p.time t)) (anchors b) (each-anchors P b h.1))
@@ -180,7 +188,7 @@ enough-earlier lead rs past same = record { enough = λ t u h first low high. sa
 
 -- ---- the part of an output in some ranges, from a part of the inputs
 
-filter-each : {X : Type 0} (f g : X → Bool) (xs : List X) → AllByRecursion (λ x. f x ≡ g x) xs → filter f xs ≡ filter g xs
+pub filter-each : {X : Type 0} (f g : X → Bool) (xs : List X) → AllByRecursion (λ x. f x ≡ g x) xs → filter f xs ≡ filter g xs
 filter-each f g [] h = refl
 filter-each f g (x ∷ xs) h =
     ap (λ t. cond t (x ∷ filter f xs) (filter f xs)) h.0 ∙ ap (λ l. cond (g x) (x ∷ l) l) (filter-each f g xs h.1)

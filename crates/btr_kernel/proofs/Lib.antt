@@ -2,6 +2,7 @@ pub mod LastLemmas
 pub mod PlaceLemmas
 pub mod PartLemmas
 pub mod KernelPointLemmas
+pub mod OneTimeLemmas
 pub mod AnchorLemmas
 pub mod WindowLemmas
 pub mod GatherLemmas

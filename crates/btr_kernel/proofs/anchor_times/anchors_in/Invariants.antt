@@ -2,7 +2,7 @@ use Rattle.std.proofs.Common.{◌≡◌, ◌++◌, drop}
 use Rattle.std.specs.List.{filter}
 use Rattle.btr_base.specs.Range.{covered}
 use Rattle.btr_hist.specs.Kernel.{anchors}
-use Rattle.btr_kernel.proofs.anchors.anchors_in.Given as goal
+use Rattle.btr_kernel.proofs.anchor_times.anchors_in.Given as goal
 
 -- The anchors so far, and those of the points from here on.
 abbrev pub invariant-loop-i : goal.invariant-loop-i

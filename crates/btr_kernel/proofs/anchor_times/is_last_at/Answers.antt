@@ -2,7 +2,7 @@ use Rattle.std.proofs.Common.{◌≡◌, pos, sym, ap, ◌∙◌, rules, get_or,
 use Rattle.std.proofs.lemmas.List.{get_or_default}
 use Rattle.btr_base.specs.declared.point.Point.{Point}
 use Rattle.btr_kernel.proofs.AnchorLemmas.{other-words, same-words, step-last, step-again}
-use Rattle.btr_kernel.proofs.anchors.is_last_at.Goals as goal
+use Rattle.btr_kernel.proofs.anchor_times.is_last_at.Goals as goal
 
 pub returns-in-Some-clause-last : goal.returns-in-Some-clause-last
 returns-in-Some-clause-last c d h =
