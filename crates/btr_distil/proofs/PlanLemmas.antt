@@ -14,8 +14,9 @@ use Rattle.btr_base.proofs.RangeLemmas.{covered-append}
 use Rattle.btr_base.proofs.ChangesLemmas.{changes-cut}
 use Rattle.btr_base.proofs.CutLemmas.{union-cut, union-covered, union-is}
 use Rattle.btr_hist.specs.declared.kernel.Spec.{Spec}
-use Rattle.btr_hist.specs.Kernel.{is_good}
-use Rattle.btr_hist.specs.Distil.{Inputs, AreBags, output_points, looks_at, widened, affected, distillate}
+use Rattle.btr_hist.specs.Kernel.{is_good, anchors}
+use Rattle.btr_hist.specs.Distil.{Inputs, AreBags, value_of, points_from, output_points, looks_at, widened, affected, distillate}
+use Rattle.btr_hist.proofs.KernelLemmas.{filter-points_from}
 use Rattle.btr_hist.proofs.LocalityLemmas.{widened-each}
 use Rattle.btr_hist.proofs.DistilLemmas.{good-is, widened-is, output-in_order}
 
@@ -57,3 +58,7 @@ pub plan-is : (spec : Spec) (old new : Inputs) (cut : List RangeValue) (added : 
 plan-is spec old new cut added c a =
     let inside : added ≡ filter (λ p. covered (affected spec old new) p.time) (output_points spec new) = a ∙ ap (λ rs. filter (λ p. covered rs p.time) (output_points spec new)) c in
     λ i. record { cut = c i; added = inside i }
+
+-- The points in the cut are those that the kernel has at the anchors in it.
+pub mapped-is : (spec : Spec) (i : Inputs) (cut : List RangeValue) (added : List Point) → added ≡ filter (λ p. covered cut p.time) (output_points spec i) → added ≡ points_from (value_of spec i) (filter (covered cut) (anchors i.first))
+mapped-is spec i cut added is = is ∙ filter-points_from (value_of spec i) (covered cut) (anchors i.first)

@@ -1,7 +1,9 @@
 -- Lemmas on the inputs that a plan sees.
 use Rattle.std.specs.Prelude.{◌≡◌, ℕ, List, Option, Some, None}
-use Rattle.std.specs.List.{filter}
-use Rattle.std.proofs.Common.{sym, subst}
+use Rattle.std.specs.List.{filter, flat_map, AllZip}
+use Rattle.std.specs.declared.vec.Vec.{Vec}
+use Rattle.std.proofs.Common.{sym, ◌∙◌, subst}
+use Rattle.rayon.proofs.ListFacts.{AllZip-weaken}
 use Rattle.btr_base.specs.declared.point.Point.{Point}
 use Rattle.btr_base.specs.Range.{RangeValue, covered}
 use Rattle.btr_base.specs.Point.{AreInDomain}
@@ -13,7 +15,10 @@ use Rattle.btr_hist.specs.Distil.{Inputs, AreBags, output_points}
 use Rattle.btr_kernel.specs.Sources.{IsSecond, second_past_points, AtEachInputs}
 use Rattle.btr_kernel.proofs.SourceLemmas.{second-in_domain}
 use Rattle.btr_distil.specs.Sight.{SightValue, IsInput, IsSecondInput, IsSightOf}
+use Rattle.btr_hist.proofs.DistilLemmas.{output-in_order}
+use Rattle.btr_distil.specs.Parts.{ArePartsOf}
 use Rattle.btr_distil.proofs.PlanLemmas.{added-is}
+use Rattle.btr_distil.proofs.PartLemmas.{points_in, joined-points}
 
 -- A second input has a past with these points, if there is a second input.
 record HasPast (new : Option TreeValue) (after : List Point) : Type 0 where
@@ -63,3 +68,12 @@ sight-bags s old new h =
 pub computed-is : (s : SightValue) (cut : List RangeValue) (points : List Point) (old new : Inputs) → IsSightOf s old new → AtEachInputs s.new_first s.new_second (λ i. points ≡ filter (λ p. covered cut p.time) (output_points s.spec i)) → sort points ≡ filter (λ p. covered cut p.time) (output_points s.spec new)
 computed-is s cut points old new h each =
     added-is s.spec new cut points (sight-bags s old new h) (at-new_inputs (λ i. points ≡ filter (λ p. covered cut p.time) (output_points s.spec i)) s old new h each)
+
+-- The lists of the points over the new trees in each of the parts, one after the other and sorted, are the points of the output over
+-- the new inputs in the cut.
+pub shared-is : {A : Type 0} (s : SightValue) (cut : List RangeValue) (parts : List (List RangeValue)) (lists : List (Vec Point A)) (points : List Point) (old new : Inputs) → IsSightOf s old new → ArePartsOf cut parts → AllZip (λ r l. AtEachInputs s.new_first s.new_second (λ i. l.items ≡ points_in (output_points s.spec i) r)) parts lists → points ≡ flat_map (λ l. l.items) lists → sort points ≡ points_in (output_points s.spec new) cut
+shared-is s cut parts lists points old new h are each is =
+    let bags = sight-bags s old new h in
+    let all = output_points s.spec new in
+    let at_new = AllZip-weaken (λ r l. AtEachInputs s.new_first s.new_second (λ i. l.items ≡ points_in (output_points s.spec i) r)) (λ r l. l.items ≡ points_in all r) (λ r l k. at-new_inputs (λ i. l.items ≡ points_in (output_points s.spec i) r) s old new h k) parts lists each in
+    added-is s.spec new cut points bags (is ∙ joined-points cut all parts lists are (output-in_order s.spec new bags) at_new)

@@ -2,3 +2,5 @@
 pub mod Sight
 -- what it is
 pub mod Plan
+-- what the private functions promise
+pub mod Parts

@@ -1,12 +1,14 @@
 -- Plans: the next commits of outputs, before they are in the history.
 use Rattle.std.specs.Prelude.{◌≡◌, ℕ, List, [], None}
+use Rattle.std.specs.List.{filter}
 use Rattle.btr_base.specs.declared.point.Point.{Point}
-use Rattle.btr_base.specs.Range.{RangeValue}
+use Rattle.btr_base.specs.Range.{RangeValue, covered}
 use Rattle.btr_base.specs.Commit.{Change}
 use Rattle.btr_hist.specs.declared.entry.Entry.{Entry}
 use Rattle.btr_hist.specs.declared.entry.Entry.TheVariants.{Create, Commit, Define, Distillate}
 use Rattle.btr_hist.specs.declared.kernel.Reads.{Reads}
-use Rattle.btr_hist.specs.Distil.{Inputs, distillate}
+use Rattle.btr_hist.specs.Kernel.{anchors}
+use Rattle.btr_hist.specs.Distil.{Inputs, value_of, points_from, distillate}
 use Rattle.btr_distil.specs.Sight.{SightValue, IsSightOf}
 
 -- A commit of an output, which follows this version of it, and the versions of the inputs that it reads.
@@ -54,3 +56,9 @@ pub record IsPlanFor (s : SightValue) (p : PlanValue) : Type 0 where
 -- The plan is the distillate that brings the output from the old inputs to the new, whatever inputs have these trees.
 abbrev pub IsDistillateOf : SightValue → PlanValue → Type 0
 IsDistillateOf s p = (old new : Inputs) → IsSightOf s old new → change p ≡ distillate s.spec old new
+
+-- The plan adds, in order, the points that the kernel has over the new inputs at those of its anchors that the cut covers.
+abbrev pub IsMapped : SightValue → PlanValue → Type 0
+IsMapped s p =
+    (old new : Inputs) → IsSightOf s old new
+    → p.added ≡ points_from (value_of s.spec new) (filter (covered p.cut) (anchors new.first))

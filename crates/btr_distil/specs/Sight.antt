@@ -32,9 +32,9 @@ pub record HasInputs (spec : Spec) (old_reads new_reads : Reads) (old_second new
   pub new_tree : is_some new_second ≡ is_some spec.second
 
 -- The spec is good, and has these inputs.
-pub record IsSight (s : SightValue) : Type 0 where
-  pub good : is_good s.spec ≡ true
-  pub shape : HasInputs s.spec s.old_reads s.new_reads s.old_second s.new_second
+pub record IsSight (spec : Spec) (old_reads new_reads : Reads) (old_second new_second : Option TreeValue) : Type 0 where
+  pub good : is_good spec ≡ true
+  pub shape : HasInputs spec old_reads new_reads old_second new_second
 
 -- The trees of an input: the new one is of a stream with the points `after`, and the old one is that of the stream at this
 -- version, with the points `before`.

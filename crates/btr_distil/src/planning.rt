@@ -1,17 +1,20 @@
 //! The next commit of an output.
-ghost use Rattle.std.specs.Prelude.{◌≡◌, ◌↔◌, IsNone, IfOk, IfSome, filter};
+ghost use Rattle.std.specs.Prelude.{◌≡◌, ◌↔◌, IsNone, IsTrue, IfOk, IfSome, filter};
 ghost use Rattle.btr_base.specs.Range.{covered};
 ghost use Rattle.btr_hist.specs.Distil.{Inputs, output_points};
 ghost use Rattle.btr_distil.specs.Sight.{IsSightOf};
-ghost use Rattle.btr_distil.specs.Plan.{IsPlanFor, IsDistillateOf};
+ghost use Rattle.btr_distil.specs.Plan.{IsPlanFor, IsDistillateOf, IsMapped};
 
 use crate::changed::affected;
 use crate::commit::Plan;
+use crate::shared::output_shared;
 use crate::sight::Sight;
 use btr_base::{Bag, Ranges};
 use btr_hist::Entry;
 use btr_kernel::run_over;
 use std::alloc::{AllocError, Global};
+use std::marker::Sync;
+use std::thread::Threads;
 
 /// The commit that brings an output up to date, or `None` if the versions to be read are those that it has read. It removes the
 /// output's points at the times at which the output may differ, and adds those that it has there over the new inputs.
@@ -24,13 +27,61 @@ pub fn plan(alloc: Global, sight: &Sight<'_>) -> Result<Option<Plan>, AllocError
     ensures none { IfOk result (λ p. IsNone p ↔ (sight.now.old_reads ≡ sight.now.new_reads)) }
     ensures made { IfOk result (λ p. IfSome p (IsPlanFor sight.now)) }
     ensures distillate { IfOk result (λ p. IfSome p (IsDistillateOf sight.now)) }
+    ensures mapped { IfOk result (λ p. IfSome p (IsMapped sight.now)) }
 {
-    if sight.old_reads == sight.new_reads {
+    if is_current(sight) {
         return Ok(None);
     }
     let cut = affected(alloc, sight)?;
-    let added = computed(alloc, sight, &cut)?;
-    Ok(Some(Plan {
+    let added = output_over(alloc, sight, &cut)?;
+    Ok(Some(planned(sight, cut, added)))
+}
+
+/// Returns what [`plan`] returns, and computes the points in several threads: the cut is parted by time, and each part is computed
+/// by itself. `threads` is the greatest number of threads that work on it at once, the calling one among them.
+///
+/// If `threads` is at most 1, or the first input has fewer than 10,000 points in the cut, it starts no thread. Otherwise each part
+/// has about the same number of points. The cost is that of `plan`, and for each part that of reading once more the points for as
+/// long before it as the kernel looks back. Before that it counts points, in time logarithmic in the points of the input for each
+/// range of the cut, and for each part some sixty times this at most. It takes memory for the added points twice. An `Err` means
+/// out of memory, in any of the threads.
+pub fn plan_shared<R: Threads + Sync>(
+    rt: &R,
+    alloc: Global,
+    sight: &Sight<'_>,
+    threads: usize,
+) -> Result<Option<Plan>, AllocError>
+    ensures none { IfOk result (λ p. IsNone p ↔ (sight.now.old_reads ≡ sight.now.new_reads)) }
+    ensures made { IfOk result (λ p. IfSome p (IsPlanFor sight.now)) }
+    ensures distillate { IfOk result (λ p. IfSome p (IsDistillateOf sight.now)) }
+    ensures mapped { IfOk result (λ p. IfSome p (IsMapped sight.now)) }
+{
+    if is_current(sight) {
+        return Ok(None);
+    }
+    let cut = affected(alloc, sight)?;
+    let added = output_shared(rt, alloc, sight, &cut, threads)?;
+    Ok(Some(planned(sight, cut, added)))
+}
+
+/// Whether the output has read the versions that are to be read.
+fn is_current(sight: &Sight<'_>) -> bool
+    ensures { IsTrue result ↔ (sight.now.old_reads ≡ sight.now.new_reads) }
+{
+    sight.old_reads == sight.new_reads
+}
+
+/// The plan that removes the points of the cut, and adds these. It takes no memory.
+fn planned(sight: &Sight<'_>, cut: Ranges, added: Bag) -> Plan
+    ensures { result ≡ record {
+      stream = sight.now.stream;
+      base = sight.now.base;
+      reads = sight.now.new_reads;
+      cut = cut;
+      added = added;
+    } }
+{
+    Plan {
         base: sight.base,
         entry: Entry::Distillate {
             stream: sight.stream,
@@ -38,11 +89,15 @@ pub fn plan(alloc: Global, sight: &Sight<'_>) -> Result<Option<Plan>, AllocError
             added,
             reads: sight.new_reads,
         },
-    }))
+    }
 }
 
-/// The points of the output over the new inputs at the times of the ranges.
-fn computed(alloc: Global, sight: &Sight<'_>, ranges: &Ranges) -> Result<Bag, AllocError>
+/// The points of the output over the new inputs at the times of the ranges, computed by the calling thread.
+pub(crate) fn output_over(
+    alloc: Global,
+    sight: &Sight<'_>,
+    ranges: &Ranges,
+) -> Result<Bag, AllocError>
     ensures { IfOk result (λ b. (old new : Inputs) → IsSightOf sight.now old new
         → b ≡ filter (λ p. covered ranges.now p.time) (output_points sight.now.spec new)) }
 {

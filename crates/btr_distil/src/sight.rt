@@ -44,17 +44,8 @@ impl<'a> Model for Sight<'a> {
       new_second = option_map (λ t. t.now) s.new_second;
     } };
 
-    ghost invariant = { λ s. IsSight (record {
-      spec = s.spec;
-      stream = s.stream;
-      base = s.base;
-      old_reads = s.old_reads;
-      new_reads = s.new_reads;
-      old_first = s.old_first.now;
-      new_first = s.new_first.now;
-      old_second = option_map (λ t. t.now) s.old_second;
-      new_second = option_map (λ t. t.now) s.new_second;
-    }) };
+    ghost invariant = { λ s.
+        IsSight s.spec s.old_reads s.new_reads (option_map (λ t. t.now) s.old_second) (option_map (λ t. t.now) s.new_second) };
 }
 
 impl<'a> Sight<'a> {

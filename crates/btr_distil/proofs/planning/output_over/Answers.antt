@@ -5,7 +5,7 @@ use Rattle.btr_hist.specs.Distil.{output_points}
 use Rattle.btr_kernel.specs.Sources.{AtEachInputs}
 use Rattle.btr_distil.specs.Sight.{SightValue}
 use Rattle.btr_distil.proofs.SightLemmas.{computed-is}
-use Rattle.btr_distil.proofs.planning.computed.Goals as goal
+use Rattle.btr_distil.proofs.planning.output_over.Goals as goal
 
 pub returns : goal.returns
 returns c old new of =
