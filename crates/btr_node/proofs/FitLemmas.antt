@@ -20,20 +20,20 @@ IsBytes bytes = (i : ℕ) → get_or bytes i 0 < 256
 
 -- ---- numbers
 
-IsBytes-take : (n : ℕ) (bytes : List ℕ) → IsBytes bytes → IsBytes (take n bytes)
+pub IsBytes-take : (n : ℕ) (bytes : List ℕ) → IsBytes bytes → IsBytes (take n bytes)
 IsBytes-take n bytes h i =
     elim (cases_lt i n) [
       | inl lt ↦ rw (get_or-take n bytes i 0 lt) (h i)
       | inr le ↦ rw (get_or_past (take n bytes) i 0 (omega (arith, length-take n bytes))) (omega arith)
     ]
 
-IsBytes-drop : (n : ℕ) (bytes : List ℕ) → IsBytes bytes → IsBytes (drop n bytes)
+pub IsBytes-drop : (n : ℕ) (bytes : List ℕ) → IsBytes bytes → IsBytes (drop n bytes)
 IsBytes-drop n bytes h i = rw get_or-drop (h (n + i))
 
 below32 : (bytes : List ℕ) → IsBytes bytes → from_be_bytes w32 bytes < 2 ^ 32
 below32 bytes h = omega (arith, h 0, h 1, h 2, h 3)
 
-below64 : (bytes : List ℕ) → IsBytes bytes → from_be_bytes w64 bytes < 2 ^ 64
+pub below64 : (bytes : List ℕ) → IsBytes bytes → from_be_bytes w64 bytes < 2 ^ 64
 below64 bytes h = omega (arith, h 0, h 1, h 2, h 3, h 4, h 5, h 6, h 7)
 
 below128 : (bytes : List ℕ) → IsBytes bytes → from_be_bytes w128 bytes < 2 ^ 128
@@ -44,10 +44,10 @@ module _ (bytes : List ℕ) (h : IsBytes bytes) where
   u32-fits : (at : ℕ) → u32_in at bytes < 2 ^ 32
   u32-fits at = below32 (take 4 (drop at bytes)) (IsBytes-take 4 (drop at bytes) (IsBytes-drop at bytes h))
 
-  u64-fits : (at : ℕ) → u64_in at bytes < 2 ^ 64
+  pub u64-fits : (at : ℕ) → u64_in at bytes < 2 ^ 64
   u64-fits at = below64 (take 8 (drop at bytes)) (IsBytes-take 8 (drop at bytes) (IsBytes-drop at bytes h))
 
-  u128-fits : (at : ℕ) → u128_in at bytes < 2 ^ 128
+  pub u128-fits : (at : ℕ) → u128_in at bytes < 2 ^ 128
   u128-fits at = below128 (take 16 (drop at bytes)) (IsBytes-take 16 (drop at bytes) (IsBytes-drop at bytes h))
 
   i64-fits : (at : ℕ) → FitsSigned w64 (cast_signed w64 (u64_in at bytes))
@@ -56,7 +56,7 @@ module _ (bytes : List ℕ) (h : IsBytes bytes) where
   i128-fits : (at : ℕ) → FitsSigned w128 (cast_signed w128 (u128_in at bytes))
   i128-fits at = sfits_to_z {w = w128} {n = u128_in at bytes} (record { fits = u128-fits at })
 
-  front-fits : FitsFront (front_in bytes)
+  pub front-fits : FitsFront (front_in bytes)
   unfolding front_in
   front-fits = record {
     start = i64-fits 8;
@@ -131,7 +131,7 @@ unfolding items_in
 items-fit item Fit w bytes each zero at = tt
 items-fit item Fit w bytes each (suc n) at = (each at, items-fit item Fit w bytes each n (at + w))
 
-length-items : {X : Type 0} (item : ℕ → List ℕ → X) (w : ℕ) (bytes : List ℕ) (n at : ℕ) → length (items_in item w n at bytes) ≡ n
+pub length-items : {X : Type 0} (item : ℕ → List ℕ → X) (w : ℕ) (bytes : List ℕ) (n at : ℕ) → length (items_in item w n at bytes) ≡ n
 unfolding items_in
 length-items item w bytes zero at = refl
 length-items item w bytes (suc n) at = ap suc (length-items item w bytes n (at + w))

@@ -1,6 +1,8 @@
 mod Pieces
+mod Spelled
 mod Places
 mod FitLemmas
 mod SpanLemmas
 mod TableLemmas
+mod Tests
 pub mod PageLemmas

@@ -15,7 +15,7 @@ use Rattle.btr_node.specs.Laws.{PageOnce}
 use Rattle.btr_node.proofs.Places.{front-again, length-front, point-again, point-moved, length-point, slot-again, slot-moved, length-slot, items-again}
 
 -- What follows the fields of both kinds.
-behind : (mark body : List ℕ) (f : Front) → length mark ≡ 8 → drop 64 (mark ++ front_bytes f ++ body) ≡ body
+pub behind : (mark body : List ℕ) (f : Front) → length mark ≡ 8 → drop 64 (mark ++ front_bytes f ++ body) ≡ body
 behind mark body f eight =
     drop_at (mark ++ front_bytes f) body 64 (omega (arith, length-append mark (front_bytes f), length-front f))
 

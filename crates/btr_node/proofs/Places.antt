@@ -1,10 +1,11 @@
 -- What is read at the places of bytes that were spelled.
 use Rattle.std.specs.Prelude.{◌≡◌, ℕ, zero, suc, ◌+◌, ◌*◌, ◌^◌, ◌<◌, ℤ, pos, ◌*ℤ◌, ◌≤ℤ◌, int_le, nat_lt, true}
 use Rattle.std.specs.Prelude.{List, [], ◌∷◌, ◌++◌, length, take, drop, slice_set, Option, Some, None}
-use Rattle.std.proofs.Common.{refl, sym, ap, ◌∙◌, arith, rules, append_assoc}
+use Rattle.std.proofs.Common.{inl, inr, refl, sym, subst, ap, ◌∙◌, arith, rules, append_assoc}
 use Rattle.std.specs.Int.{w32, w64, w128, from_be_bytes, cast_unsigned, cast_signed}
 use Rattle.std.specs.Int.RustNames.{FitsSigned}
 use Rattle.std.specs.List.{flat_map, AllByRecursion}
+use Rattle.std.proofs.lemmas.Bool.{cases_lt}
 use Rattle.std.proofs.lemmas.Bool.Decides.{nat_tests}
 use Rattle.std.proofs.lemmas.Int.{ints, to_z-of_z}
 use Rattle.std.proofs.lemmas.List.{drop_at, drop-drop, take_all, take_more_set, length-set}
@@ -15,7 +16,7 @@ use Rattle.btr_base.specs.Agg.{EndsFit}
 use Rattle.btr_node.specs.declared.page.Front.{Front}
 use Rattle.btr_node.specs.declared.page.PageSlot.{PageSlot}
 use Rattle.btr_node.specs.Page.{number, signed, zeros, front_bytes, point_bytes, slot_bytes, ends_or, FitsFront, FitsPoint, FitsSlot}
-use Rattle.btr_node.specs.Reading.{front_in, point_in, agg_from, agg_in, slot_in, items_in}
+use Rattle.btr_node.specs.Reading.{front_in, point_in, agg_from, agg_in, slot_in, items_in, IsExact, IsExactAt, AreExact}
 
 -- ---- numbers
 
@@ -103,6 +104,15 @@ agg-again n total (Some e) fit =
     let c = le-true total (pos n *ℤ e.1) fit.2 in
     rw (a, b, c) refl
 
+-- The numbers of points are those of their aggregate.
+pub agg-exact : (n : ℕ) (total least greatest : ℤ) → 0 < n → (pos n *ℤ least) ≤ℤ total → total ≤ℤ (pos n *ℤ greatest) → IsExact n total least greatest
+unfolding agg_from
+agg-exact n total least greatest some low high =
+    let a = lt-true n some in
+    let b = le-true (pos n *ℤ least) total low in
+    let c = le-true total (pos n *ℤ greatest) high in
+    rw (a, b, c) (refl, refl, refl, refl)
+
 ends-fit : (n : ℕ) (total : ℤ) (ends : Option (ℤ × ℤ)) → EndsFit n total ends → FitsSigned w64 (ends_or ends).0 × FitsSigned w64 (ends_or ends).1
 ends-fit n total None fit = (search rules, search rules)
 ends-fit n total (Some e) fit =
@@ -181,3 +191,54 @@ pub all-read : {X : Type 0} (item : ℕ → List ℕ → X) (w n : ℕ) (bytes :
 all-read item w n bytes i xs done read =
     let len = read.1 in
     sym (take_all i xs (omega arith)) ∙ read.0 ∙ ap (λ k. items_in item w k 64 bytes) done
+
+-- ---- the numbers of slots
+
+pub exact-more : (i : ℕ) (bytes : List ℕ) → AreExact i bytes → IsExactAt (64 + 56 * i) bytes → AreExact (i + 1) bytes
+exact-more i bytes so_far here k lt =
+    elim (cases_lt k i) [
+      | inl before ↦ so_far k before
+      | inr last ↦ let e : i ≡ k = omega arith in subst (λ m. IsExactAt (64 + 56 * m) bytes) e here
+    ]
+
+pub exact-again : (s : PageSlot) (rest : List ℕ) → FitsSlot s → IsExactAt 0 (slot_bytes s ++ rest)
+unfolding IsExactAt slot_bytes number
+exact-again s rest fits =
+    let ends = ends-fit s.agg.count s.agg.total s.agg.ends fits.summary in
+    let count = again64 s.agg.count fits.count in
+    let total = sum-again s.agg.total fits.total in
+    let least = signed-again (ends_or s.agg.ends).0 ends.0 in
+    let greatest = signed-again (ends_or s.agg.ends).1 ends.1 in
+    let agg = (λ i. agg_from (count i) (total i) (least i) (greatest i)) ∙ agg-again s.agg.count s.agg.total s.agg.ends fits.summary in (
+      ap (λ a. a.count) agg ∙ sym count,
+      ap (λ a. a.total) agg ∙ sym total,
+      ap (λ a. (ends_or a.ends).0) agg ∙ sym least,
+      ap (λ a. (ends_or a.ends).1) agg ∙ sym greatest,
+    )
+
+abbrev IsExactOf : List ℕ → List ℕ → List ℕ → List ℕ → Type 0
+IsExactOf count total least greatest =
+    IsExact (from_be_bytes w64 (take 8 count)) (cast_signed w128 (from_be_bytes w128 (take 16 total))) (cast_signed w64 (from_be_bytes w64 (take 8 least))) (cast_signed w64 (from_be_bytes w64 (take 8 greatest)))
+
+exact-moved : (at : ℕ) (bytes : List ℕ) → IsExactAt 0 (drop at bytes) → IsExactAt at bytes
+unfolding IsExactAt
+exact-moved at bytes h =
+    let here = drop at bytes in
+    let e8 = drop-more at 8 bytes in
+    let e24 = drop-more at 24 bytes in
+    let e32 = drop-more at 32 bytes in
+    subst (λ l. IsExactOf here l (drop (at + 24) bytes) (drop (at + 32) bytes)) (sym e8)
+    (subst (λ l. IsExactOf here (drop 8 here) l (drop (at + 32) bytes)) (sym e24)
+    (subst (λ l. IsExactOf here (drop 8 here) (drop 24 here) l) (sym e32) h))
+
+pub exact-places : (xs : List PageSlot) (at : ℕ) (bytes rest : List ℕ) → AllByRecursion FitsSlot xs → drop at bytes ≡ flat_map slot_bytes xs ++ rest → (k : ℕ) → k < length xs → IsExactAt (at + 56 * k) bytes
+exact-places [] at bytes rest fits is k lt = absurd (omega arith)
+exact-places (x ∷ xs) at bytes rest fits is zero lt =
+    let here : drop at bytes ≡ slot_bytes x ++ (flat_map slot_bytes xs ++ rest) = is ∙ ap (λ l. l ++ rest) (flat_map-cons slot_bytes x xs) ∙ append_assoc (slot_bytes x) (flat_map slot_bytes xs) rest in
+    let e : at ≡ at + 56 * 0 = omega arith in
+    subst (λ m. IsExactAt m bytes) e (exact-moved at bytes (subst (λ l. IsExactAt 0 l) (sym here) (exact-again x (flat_map slot_bytes xs ++ rest) fits.0)))
+exact-places (x ∷ xs) at bytes rest fits is (suc k) lt =
+    let here : drop at bytes ≡ slot_bytes x ++ (flat_map slot_bytes xs ++ rest) = is ∙ ap (λ l. l ++ rest) (flat_map-cons slot_bytes x xs) ∙ append_assoc (slot_bytes x) (flat_map slot_bytes xs) rest in
+    let next : drop (at + 56) bytes ≡ flat_map slot_bytes xs ++ rest = drop-more at 56 bytes ∙ ap (drop 56) here ∙ drop_at (slot_bytes x) (flat_map slot_bytes xs ++ rest) 56 (length-slot x) in
+    let e : at + 56 + 56 * k ≡ at + 56 * suc k = omega arith in
+    subst (λ m. IsExactAt m bytes) e (exact-places xs (at + 56) bytes rest fits.1 next k (omega arith))

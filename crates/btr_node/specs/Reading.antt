@@ -1,5 +1,5 @@
 -- What the private functions promise: the values that stand at places of a page's bytes, whatever the bytes are.
-use Rattle.std.specs.Prelude.{ℕ, ◌+◌, ◌==◌, ◌&&◌, nat_lt, ℤ, pos, ◌*ℤ◌, int_le, if◌then◌else◌}
+use Rattle.std.specs.Prelude.{◌≡◌, ℕ, ◌+◌, ◌*◌, ◌<◌, ◌==◌, ◌&&◌, nat_lt, ℤ, pos, ◌*ℤ◌, int_le, if◌then◌else◌}
 use Rattle.std.specs.Prelude.{zero, suc, List, [], ◌∷◌, take, drop, slice_index, Some}
 use Rattle.std.specs.Int.{w32, w64, w128, from_be_bytes, cast_signed}
 use Rattle.btr_base.specs.declared.point.Point.{Point}
@@ -8,6 +8,7 @@ use Rattle.btr_node.specs.declared.page.Front.{Front}
 use Rattle.btr_node.specs.declared.page.PageSlot.{PageSlot}
 use Rattle.btr_node.specs.declared.page.NodePage.{NodePage}
 use Rattle.btr_node.specs.declared.page.NodePage.TheVariants.{Leaf, Inner}
+use Rattle.btr_node.specs.Page.{ends_or}
 
 -- The number of four, eight or sixteen bytes from an index on.
 abbrev pub u32_in : ℕ → List ℕ → ℕ
@@ -39,6 +40,12 @@ agg_from count total least greatest =
     if nat_lt 0 count && int_le (pos count *ℤ least) total && int_le total (pos count *ℤ greatest)
     then record { count = count; total = total; ends = Some (least, greatest) } else no_points
 
+-- These numbers are those of the aggregate of them.
+abbrev pub IsExact : ℕ → ℤ → ℤ → ℤ → Type 0
+IsExact count total least greatest =
+    let a = agg_from count total least greatest in
+    (a.count ≡ count) × (a.total ≡ total) × ((ends_or a.ends).0 ≡ least) × ((ends_or a.ends).1 ≡ greatest)
+
 unfoldable pub agg_in : ℕ → List ℕ → AggValue
 agg_in at bytes =
     agg_from (u64_in at bytes)
@@ -52,6 +59,18 @@ slot_in at bytes = record {
   version = u64_in (at + 40) bytes;
   child = u64_in (at + 48) bytes;
 }
+
+-- The numbers of the slot that stand at an index are those of an aggregate.
+unfoldable pub IsExactAt : ℕ → List ℕ → Type 0
+IsExactAt at bytes =
+    IsExact (u64_in at bytes)
+    (cast_signed w128 (u128_in (at + 8) bytes))
+    (cast_signed w64 (u64_in (at + 24) bytes))
+    (cast_signed w64 (u64_in (at + 32) bytes))
+
+-- So are those of the first `number` slots.
+abbrev pub AreExact : ℕ → List ℕ → Type 0
+AreExact number bytes = (k : ℕ) → k < number → IsExactAt (64 + 56 * k) bytes
 
 -- `number` items of one width from an index on, each read at its own.
 unfoldable pub items_in : {X : Type 0} → (ℕ → List ℕ → X) → ℕ → ℕ → ℕ → List ℕ → List X

@@ -1,20 +1,27 @@
 //! The two directions: from a page to its bytes, and back.
-ghost use Rattle.std.specs.Prelude.{◌≡◌, ◌↔◌, IsTrue, IfSome};
+ghost use Rattle.std.specs.Prelude.{◌≡◌, IfSome, take, codes};
 ghost use Rattle.btr_node.specs.declared.page.NodePage.{NodePage as PageValue};
 ghost use Rattle.btr_node.specs.Page.{page_bytes, Keeps, Spells, Fits, front};
 
 use crate::fields::put;
 use crate::inner_table::is_inner;
 use crate::leaf_table::is_leaf;
-use crate::page::{Front, NodePage, PAGE};
-use crate::reading::read_page;
+use crate::page::{Front, NodePage, PAGE, PLACES, PageSlot, SLOTS};
+use crate::reading::{read_front, read_points, read_slots};
 use crate::writing::{put_front, put_points, put_slots};
+use btr_base::{Agg, Point};
 
 /// The first eight bytes of a leaf's page.
 const LEAF_MARK: [u8; 8] = *b"BTR-LEAF";
 
 /// The first eight bytes of an inner node's page.
 const NODE_MARK: [u8; 8] = *b"BTR-NODE";
+
+/// The zeros behind the fields of both kinds.
+const GAP: [u8; 24] = [0; 24];
+
+/// The zeros behind the slots of an inner node.
+const TAIL: [u8; 448] = [0; 448];
 
 /// Writes the bytes of a page that keeps the table: [`decode`] turns them into the page again. It takes constant time and no
 /// memory.
@@ -55,24 +62,69 @@ pub fn decode(bytes: &[u8; PAGE]) -> Option<NodePage>
     // A page is returned wherever the bytes are those of one.
     ensures only { (page : PageValue) → Fits page → Spells bytes.now page → result ≡ Some page }
 {
-    let page = read_page(bytes);
-    if !keeps_table(&page) {
-        return None;
+    if bytes[..8] == LEAF_MARK[..] {
+        leaf_of(bytes)
+    } else if bytes[..8] == NODE_MARK[..] {
+        inner_of(bytes)
+    } else {
+        None
     }
-    let mut again = [0; PAGE];
-    spell(&page, &mut again);
-    if *bytes == again { Some(page) } else { None }
 }
 
-/// Whether a page keeps the table.
-fn keeps_table(page: &NodePage) -> bool
-    ensures { IsTrue result ↔ Keeps page.now }
+/// The leaf that a block with the mark of a leaf is, or `None` if it is damaged. No byte is spelled a second time: what is read
+/// of points is other for other bytes, and the places that are not read are compared with zeros.
+fn leaf_of(bytes: &[u8; PAGE]) -> Option<NodePage>
+    requires { take 8 bytes.now ≡ codes "BTR-LEAF" }
+    ensures found { IfSome result (λ page. Spells bytes.now page) }
+    ensures fits { IfSome result (λ page. Fits page) }
+    ensures only { (page : PageValue) → Fits page → Spells bytes.now page → result ≡ Some page }
 {
-    let front = front_of(page);
-    match page {
-        NodePage::Leaf { points, .. } => is_leaf(&front, points),
-        NodePage::Inner { slots, .. } => is_inner(&front, slots),
+    if bytes[40..64] != GAP[..] {
+        return None;
     }
+    let front = read_front(bytes);
+    let mut points = [Point { time: 0, value: 0 }; PLACES];
+    read_points(bytes, &mut points);
+    if !is_leaf(&front, &points) {
+        return None;
+    }
+    Some(NodePage::Leaf {
+        start: front.start,
+        height: front.height,
+        stream: front.stream,
+        version: front.version,
+        count: front.count,
+        points,
+    })
+}
+
+/// The inner node that a block with the mark of an inner node is, or `None` if it is damaged.
+fn inner_of(bytes: &[u8; PAGE]) -> Option<NodePage>
+    requires { take 8 bytes.now ≡ codes "BTR-NODE" }
+    ensures found { IfSome result (λ page. Spells bytes.now page) }
+    ensures fits { IfSome result (λ page. Fits page) }
+    ensures only { (page : PageValue) → Fits page → Spells bytes.now page → result ≡ Some page }
+{
+    if bytes[40..64] != GAP[..] || bytes[3648..] != TAIL[..] {
+        return None;
+    }
+    let front = read_front(bytes);
+    let mut slots = [PageSlot {
+        agg: Agg::none(),
+        version: 0,
+        child: 0,
+    }; SLOTS];
+    if !read_slots(bytes, &mut slots) || !is_inner(&front, &slots) {
+        return None;
+    }
+    Some(NodePage::Inner {
+        start: front.start,
+        height: front.height,
+        stream: front.stream,
+        version: front.version,
+        count: front.count,
+        slots,
+    })
 }
 
 /// The fields that both kinds have.

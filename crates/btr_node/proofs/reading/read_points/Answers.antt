@@ -5,7 +5,7 @@ use Rattle.btr_node.proofs.reading.read_points.Goals as goal
 
 pub loop-i-init : goal.loop-i-init
 unfolding items_in
-loop-i-init c = (refl, refl)
+loop-i-init c = (refl, c.told-points)
 
 pub loop-i-preserved : goal.loop-i-preserved
 loop-i-preserved c =

@@ -1,15 +1,16 @@
-use Rattle.std.proofs.Common.{refl, arith}
-use Rattle.btr_node.specs.Reading.{slot_in, items_in}
-use Rattle.btr_node.proofs.Places.{one-read, all-read}
+use Rattle.std.proofs.Common.{◌≡◌, refl, subst, arith}
+use Rattle.btr_node.specs.Reading.{slot_in, items_in, AreExact}
+use Rattle.btr_node.proofs.Places.{one-read, all-read, exact-more}
 use Rattle.btr_node.proofs.reading.read_slots.Goals as goal
 
 pub loop-i-init : goal.loop-i-init
 unfolding items_in
-loop-i-init c = (refl, refl)
+loop-i-init c = ((refl, c.told-slots), λ k lt. absurd (omega arith))
 
 pub loop-i-preserved : goal.loop-i-preserved
 loop-i-preserved c =
-    one-read slot_in 56 64 c.args.bytes.now c.loop-i.i c.loop-i.slots c.slot_at.result c.loop-i-test.true c.slot_at.ensures c.loop-i.invariant
-
-pub returns : goal.returns
-returns c = all-read slot_in 56 64 c.args.bytes.now c.loop-i.i c.loop-i.slots (omega (arith, c.loop-i-test.false, c.loop-i.auto.i-end)) c.loop-i.invariant
+    let bytes = c.args.bytes.now in
+    let i = c.loop-i.i in (
+      one-read slot_in 56 64 bytes i c.loop-i.slots c.in-Some.slot c.loop-i-test.true c.in-Some.ensures.some c.loop-i.invariant.0,
+      exact-more i bytes c.loop-i.invariant.1 c.in-Some.ensures.exact,
+    )
