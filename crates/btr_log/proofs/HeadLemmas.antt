@@ -1,10 +1,10 @@
 -- Lemmas on the bytes of a head: they give the head back, so no other head has them.
-use Rattle.std.specs.Prelude.{◌≡◌, ℕ, ◌^◌, ◌<◌, ◌≤◌, List, length}
+use Rattle.std.specs.Prelude.{◌≡◌, ℕ, ◌+◌, ◌^◌, ◌<◌, ◌≤◌, List, length}
 use Rattle.std.proofs.Common.{refl, sym, ap, ◌∙◌, arith, inl, ⊎_elim}
 use Rattle.std.proofs.lemmas.Nat.{from_be_bytes-to_be_bytes_4, from_be_bytes-to_be_bytes_8}
 use Rattle.btr_disk.specs.Gate.{zeros}
 use Rattle.btr_log.specs.declared.head.Head.{Head}
-use Rattle.btr_log.specs.Head.{head_bytes, head_at, entry_head, IsHead, Spells}
+use Rattle.btr_log.specs.Head.{content_blocks, head_bytes, head_at, entry_head, IsHead, Spells}
 
 pub length-head_bytes : (head : Head) → length (head_bytes head) ≡ 64
 unfolding head_bytes zeros
@@ -36,10 +36,11 @@ Spells-one bytes first second one other =
     head_bytes-one first second one.is_head other.is_head (sym one.spelling ∙ other.spelling)
 
 -- the head of an entry keeps the grammar
-pub IsHead-entry_head : (number length : ℕ) → 1 ≤ number → number < 2 ^ 64 → length < 2 ^ 64 → IsHead (entry_head number length)
-IsHead-entry_head number length least most few = record {
+pub IsHead-entry_head : (number length nodes root : ℕ) → 1 ≤ number → number < 2 ^ 64 → length < 2 ^ 64
+    → content_blocks length + nodes < 2 ^ 64 → root < 2 ^ 64 → IsHead (entry_head number length nodes root)
+IsHead-entry_head number length nodes root least most few fit low = record {
   kind = inl (refl, least);
   format = refl;
-  blocks = omega arith;
-  fits = record { number = most; n = omega arith; length = few; nodes = omega arith; root = omega arith };
+  blocks = refl;
+  fits = record { number = most; n = fit; length = few; nodes = omega (arith, fit); root = low };
 }

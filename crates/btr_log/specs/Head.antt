@@ -36,16 +36,16 @@ pub record IsHead (head : Head) : Type 0 where
   pub blocks : head.n ≡ content_blocks head.length + head.nodes
   pub fits : FitsFields head
 
--- The head of the entry with this number and a content of `length` bytes, in a body without node blocks.
-abbrev pub entry_head : ℕ → ℕ → Head
-entry_head number length = record {
+-- The head of the entry with this number and a content of `length` bytes, in a body with this many node blocks and this root.
+abbrev pub entry_head : ℕ → ℕ → ℕ → ℕ → Head
+entry_head number length nodes root = record {
   kind = 1;
   format = 1;
   number = number;
-  n = content_blocks length;
+  n = content_blocks length + nodes;
   length = length;
-  nodes = 0;
-  root = 0;
+  nodes = nodes;
+  root = root;
 }
 
 -- The 64 bytes of a head: the mark, the fields with the highest byte first, and zeros.

@@ -1,5 +1,5 @@
 //! The first 64 bytes of an extent's body: what the body is, and how many blocks it has.
-ghost use Rattle.std.specs.Prelude.{◌≡◌, ◌↔◌, length, IfSome, IsNone, IsTrue};
+ghost use Rattle.std.specs.Prelude.{◌≡◌, ◌↔◌, ◌+◌, ◌<◌, ◌^◌, length, IfSome, IsNone, IsTrue};
 ghost use Rattle.btr_log.specs.Head.{head_at, head_bytes, content_blocks, entry_head, IsHead, IsNoHead, Spells};
 
 use btr_disk::bytes::{put, u32_at, u64_at};
@@ -40,18 +40,19 @@ pub struct Head {
 }
 
 impl Head {
-    /// The head of the entry with this number and a content of `length` bytes, in a body without node blocks.
-    pub fn for_entry(number: u64, length: u64) -> Head
-        ensures { result ≡ entry_head number length }
+    /// The head of the entry with this number and a content of `length` bytes, in a body with this many node blocks and this root.
+    pub fn for_entry(number: u64, length: u64, nodes: u64, root: u64) -> Head
+        requires { content_blocks length + nodes < 2 ^ 64 }
+        ensures { result ≡ entry_head number length nodes root }
     {
         Head {
             kind: 1,
             format: 1,
             number,
-            n: blocks_of_content(length),
+            n: blocks_of_content(length) + nodes,
             length,
-            nodes: 0,
-            root: 0,
+            nodes,
+            root,
         }
     }
 
@@ -100,8 +101,8 @@ fn keeps_grammar(head: Head) -> bool
     head.format == 1 && is_kind && head.n >= content && head.n - content == head.nodes
 }
 
-/// The number of blocks that the head and a content of `length` bytes fill.
-fn blocks_of_content(length: u64) -> u64
+/// The number of blocks that the head and a content of `length` bytes fill, the last one filled up.
+pub fn blocks_of_content(length: u64) -> u64
     ensures { result ≡ content_blocks length }
 {
     length / 4096 + (length % 4096 + 63) / 4096 + 1

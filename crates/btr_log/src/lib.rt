@@ -13,6 +13,6 @@ mod read;
 
 pub use append::AppendFault;
 pub use found::{ExtentFault, Found};
-pub use head::{HEAD_BYTES, HEAD_MARK, Head};
+pub use head::{HEAD_BYTES, HEAD_MARK, Head, blocks_of_content};
 pub use log::Log;
 pub use read::find_extent;
