@@ -1,0 +1,391 @@
+-- Lemmas on trees that were made of pages: the trees with one more are those of the pages with one more.
+use Rattle.std.specs.Prelude.{◌≡◌, ℕ, ◌+◌, ◌-◌, ◌<◌, ◌≤◌, nat_eq, nat_lt, ℤ, List, [], ◌∷◌, ◌++◌, length, take, map, get_or, slice_get, Option, Some, None, IfSome, IsSome, option_map, cond, true, false}
+use Rattle.std.specs.Option.{option_and_then}
+use Rattle.std.specs.List.{AllByRecursion, sum_by}
+use Rattle.std.proofs.Common.{zero, suc, refl, sym, ap, ◌∙◌, subst, arith, inl, inr}
+use Rattle.std.proofs.lemmas.Bool.{cases_lt}
+use Rattle.std.proofs.lemmas.Bool.Decides.{nat_tests}
+use Rattle.std.proofs.lemmas.List.{length-take-le}
+use Rattle.std.proofs.lemmas.Option.{slice_get-map}
+use Rattle.btr_base.specs.declared.point.Point.{Point}
+use Rattle.btr_base.specs.Agg.{AggValue}
+use Rattle.btr_base.specs.Span.{SpanValue, slot_of}
+use Rattle.btr_base.proofs.AggLemmas.{agg-count}
+use Rattle.btr_tree.specs.declared.node.Link.{Link}
+use Rattle.btr_tree.specs.declared.node.NodeData.{NodeData, out-NodeData}
+use Rattle.btr_tree.specs.declared.node.NodeData.TheOpen.{NodeData-F}
+use Rattle.btr_tree.specs.declared.slots.Kept.{Kept}
+use Rattle.btr_tree.specs.declared.slots.Slots.{Slots}
+use Rattle.btr_tree.specs.Change.{IsLeafOf, IsInnerOf}
+use Rattle.btr_tree.specs.Leads.{IsRead}
+use Rattle.btr_tree.specs.NewNodes.{NewNodeValue}
+use Rattle.btr_tree.specs.Opened.{part_at, part_node}
+use Rattle.btr_tree.specs.Root.{TreeValue, version_of, version_of_kind}
+use Rattle.btr_tree.specs.Shape.{ByKind, slot_start}
+use Rattle.btr_tree.specs.Slots.{block_of, AreSameSlots}
+use Rattle.btr_tree.specs.Stored.{Store, leaf_node}
+use Rattle.btr_tree.proofs.NodeLemmas.{slot-part}
+use Rattle.btr_tree.proofs.ReadLemmas.{read-along, leaf-read, inner-read, IsSlotOf}
+use Rattle.btr_node.specs.Page.{front, Keeps, Fits, IsSlot, IsLeafPage, IsInnerPage}
+use Rattle.btr_node.specs.declared.page.Front.{Front}
+use Rattle.btr_node.specs.declared.page.NodePage.{NodePage}
+use Rattle.btr_node.specs.declared.page.NodePage.TheVariants.{Leaf, Inner}
+use Rattle.btr_node.specs.declared.page.PageSlot.{PageSlot}
+use Rattle.btr_pages.specs.Pages.{Pages, with_pages, span_of_page, slot_of_page, slots_of_page, node_of_page, node_of_stream, nodes_in, IsChildPage, HasChildPage, IsPageAt}
+use Rattle.btr_pages.specs.Known.{KnownValue, NodesValue, node_at, IsMadeOf, IsKnown, AreKnown}
+use Rattle.btr_pages.specs.Made.{IsReadTree, IsKnownChild, HasKnownChild, MayHaveChild, IsBuildable, part_of, ArePartsTo, versions_of, AreLeafPoints, IsLeafMade, IsInnerMade, IsMadeAt}
+use Rattle.btr_pages.proofs.LeafLemmas.{leaf-points}
+use Rattle.btr_pages.proofs.NumberLemmas.{added-here, added-other, none-above}
+use Rattle.btr_pages.proofs.PartLemmas.{parts-count, all-have, version-at, at-slot, no-slot}
+
+-- No tree is of this block, nor of one above.
+abbrev pub IsAbove : ℕ → NodesValue → Type 0
+IsAbove block nodes = (k : ℕ) → IsSome (node_at nodes k) → k < block
+
+-- The tree of a block is of that block.
+block-at : (nodes : NodesValue) (b : ℕ) (k : KnownValue) → node_at nodes b ≡ Some k → k.block ≡ b
+block-at [] b k e = absurd (cc)
+block-at (n ∷ ns) b k at =
+    elim (nat_eq n.block b) as (λ t. nat_eq n.block b ≡ t → cond t (Some n) (node_at ns b) ≡ Some k → k.block ≡ b) [
+      | true ↦ λ t e.
+          let same : n.block ≡ b = grind (arith, nat_tests) in
+          let it : n ≡ k = cc in
+          ap (λ (m : KnownValue). m.block) (sym it) ∙ same
+      | false ↦ λ t e. block-at ns b k e
+    ] refl at
+
+-- What is known of a tree that was made.
+known-at : (pages : Pages) (nodes : NodesValue) (b : ℕ) (k : KnownValue) → AreKnown pages nodes → node_at nodes b ≡ Some k → IsKnown pages k
+known-at pages nodes b k are at = subst (λ o. IfSome o (IsKnown pages)) at (are.each b)
+
+-- ---- a page stands rightly exactly if the trees of its children were made
+
+child-right : (pages : Pages) (nodes : NodesValue) (block : ℕ) (page : NodePage) (i : ℕ) (slot : PageSlot) → AreKnown pages nodes → IsAbove block nodes → HasKnownChild nodes (slot_of (span_of_page page) i) (front page).stream slot → HasChildPage pages block page i slot
+child-right pages nodes block page i slot are above has =
+    let known = known-at pages nodes slot.child has.known are has.is in
+    let at = block-at nodes slot.child has.known has.is in
+    record {
+      lower = above slot.child (subst IsSome (sym has.is) refl);
+      child = known.page;
+      is = ap pages (sym at) ∙ known.is;
+      fits = record {
+        stream = sym known.made.stream ∙ has.fits.stream;
+        span = sym known.made.span ∙ has.fits.span;
+        version = sym known.made.version ∙ has.fits.version;
+        count = sym known.made.count ∙ has.fits.count;
+      };
+    }
+
+slot-right : (pages : Pages) (nodes : NodesValue) (block : ℕ) (page : NodePage) (i : ℕ) (o : Option PageSlot) → AreKnown pages nodes → IsAbove block nodes → IfSome o (MayHaveChild nodes (slot_of (span_of_page page) i) (front page).stream) → IfSome o (λ slot. 0 < slot.agg.count → HasChildPage pages block page i slot)
+slot-right pages nodes block page i None are above may = may
+slot-right pages nodes block page i (Some slot) are above may = λ some.
+    child-right pages nodes block page i slot are above (may some)
+
+pub page-right : (pages : Pages) (nodes : NodesValue) (block : ℕ) (page : NodePage) → AreKnown pages nodes → IsAbove block nodes → Keeps page → IsBuildable nodes page → IsPageAt pages block page
+page-right pages nodes block page are above keeps may =
+    record {
+      keeps = keeps;
+      children = λ i. slot-right pages nodes block page i (slice_get (slots_of_page page) i) are above (may i);
+    }
+
+-- A tree that was made, where there is one.
+some-known : (nodes : NodesValue) (b : ℕ) → IsSome (node_at nodes b) → (k : KnownValue) × (node_at nodes b ≡ Some k)
+some-known nodes b =
+    elim (node_at nodes b) as (λ o. node_at nodes b ≡ o → IsSome o → (k : KnownValue) × (node_at nodes b ≡ Some k)) [
+      | None ↦ λ e some. absurd (cc)
+      | Some k ↦ λ e some. (k, e)
+    ] refl
+
+child-known : (pages : Pages) (nodes : NodesValue) (block : ℕ) (page : NodePage) (i : ℕ) (slot : PageSlot) → AreKnown pages nodes → HasChildPage pages block page i slot → HasKnownChild nodes (slot_of (span_of_page page) i) (front page).stream slot
+child-known pages nodes block page i slot are has =
+    let found = some-known nodes slot.child (are.all slot.child (subst IsSome (sym has.is) refl)) in
+    let known = known-at pages nodes slot.child found.0 are found.1 in
+    let at = block-at nodes slot.child found.0 found.1 in
+    let two : Some known.page ≡ Some has.child = sym known.is ∙ ap pages at ∙ has.is in
+    let same : known.page ≡ has.child = cc in
+    let fits = subst (λ p. IsChildPage page i slot p) (sym same) has.fits in
+    record {
+      known = found.0;
+      is = found.1;
+      fits = record {
+        stream = known.made.stream ∙ fits.stream;
+        span = known.made.span ∙ fits.span;
+        version = known.made.version ∙ fits.version;
+        count = known.made.count ∙ fits.count;
+        opened = known.made.opened;
+      };
+    }
+
+slot-known : (pages : Pages) (nodes : NodesValue) (block : ℕ) (page : NodePage) (i : ℕ) (o : Option PageSlot) → AreKnown pages nodes → IfSome o (λ slot. 0 < slot.agg.count → HasChildPage pages block page i slot) → IfSome o (MayHaveChild nodes (slot_of (span_of_page page) i) (front page).stream)
+slot-known pages nodes block page i None are has = has
+slot-known pages nodes block page i (Some slot) are has = λ some.
+    child-known pages nodes block page i slot are (has some)
+
+pub page-known : (pages : Pages) (nodes : NodesValue) (block : ℕ) (page : NodePage) → AreKnown pages nodes → IsPageAt pages block page → IsBuildable nodes page
+page-known pages nodes block page are right i =
+    slot-known pages nodes block page i (slice_get (slots_of_page page) i) are (right.children i)
+
+-- ---- one page more
+
+pub pages-below : (pages : Pages) (block b : ℕ) (new : List NodePage) → b < block → with_pages pages block new b ≡ pages b
+pages-below pages block b new less =
+    let yes : nat_lt b block ≡ true = grind (arith, nat_tests) in ap (λ t. cond t (pages b) (slice_get new (b - block))) yes
+
+pub pages-from : (pages : Pages) (block b : ℕ) (new : List NodePage) → block ≤ b → with_pages pages block new b ≡ slice_get new (b - block)
+pages-from pages block b new le =
+    let no : nat_lt b block ≡ false = grind (arith, nat_tests) in ap (λ t. cond t (pages b) (slice_get new (b - block))) no
+
+page-here : (pages : Pages) (block : ℕ) (page : NodePage) → with_pages pages block (page ∷ []) block ≡ Some page
+page-here pages block page =
+    pages-from pages block block (page ∷ []) (omega arith) ∙ ap (slice_get (page ∷ [])) (let e : block - block ≡ 0 = omega arith in e)
+
+-- Each block that has a page is below one that is above all trees.
+page-below : (pages : Pages) (nodes : NodesValue) (block b : ℕ) (p : NodePage) → AreKnown pages nodes → IsAbove block nodes → pages b ≡ Some p → b < block
+page-below pages nodes block b p are above at = above b (are.all b (subst IsSome (sym at) refl))
+
+-- The nodes of a stream stay in their blocks.
+store-along : (pages : Pages) (nodes : NodesValue) (block : ℕ) (new : List NodePage) → AreKnown pages nodes → IsAbove block nodes → (s b : ℕ) (n : NewNodeValue) → nodes_in pages s b ≡ Some n → nodes_in (with_pages pages block new) s b ≡ Some n
+store-along pages nodes block new are above s b n at =
+    elim (pages b) as (λ o. pages b ≡ o → option_and_then (node_of_stream s) o ≡ Some n → nodes_in (with_pages pages block new) s b ≡ Some n) [
+      | None ↦ λ e none. absurd (cc)
+      | Some p ↦ λ e is.
+          ap (option_and_then (node_of_stream s)) (pages-below pages block b new (page-below pages nodes block b p are above e) ∙ e) ∙ is
+    ] refl at
+
+node-here : (pages : Pages) (block : ℕ) (page : NodePage) (s : ℕ) → s ≡ (front page).stream → nodes_in (with_pages pages block (page ∷ [])) s block ≡ Some (node_of_page page)
+node-here pages block page s e =
+    let yes : nat_eq (front page).stream s ≡ true = grind (arith, nat_tests) in
+    ap (option_and_then (node_of_stream s)) (page-here pages block page) ∙ ap (λ t. cond t (Some (node_of_page page)) None) yes
+
+-- A tree that was made of one of the pages was made of one of those with more.
+made-along : (pages : Pages) (nodes : NodesValue) (block : ℕ) (new : List NodePage) (page : NodePage) (k : KnownValue) → AreKnown pages nodes → IsAbove block nodes → IsMadeOf pages page k → IsMadeOf (with_pages pages block new) page k
+made-along pages nodes block new page k are above m =
+    record {
+      keeps = m.keeps;
+      stream = m.stream;
+      span = m.span;
+      version = m.version;
+      count = m.count;
+      opened = m.opened;
+      its_block = m.its_block;
+      read = read-along (nodes_in pages k.stream) (nodes_in (with_pages pages block new) k.stream) (store-along pages nodes block new are above k.stream) k.tree.span.height k.tree.span.start k.tree.node m.read;
+    }
+
+known-along : (pages : Pages) (nodes : NodesValue) (block : ℕ) (new : List NodePage) (k : KnownValue) → AreKnown pages nodes → IsAbove block nodes → IsKnown pages k → IsKnown (with_pages pages block new) k
+known-along pages nodes block new k are above is =
+    record {
+      page = is.page;
+      is = pages-below pages block k.block new (page-below pages nodes block k.block is.page are above is.is) ∙ is.is;
+      made = made-along pages nodes block new is.page k are above is.made;
+    }
+
+-- ---- the tree of a page
+
+version-of_leaf_kind : (v : ℕ) (ps : List Point) (d : NodeData-F NodeData Link Kept Slots) → ByKind (λ w qs. (w ≡ v) × (qs ≡ ps)) (λ w x. ⊥) d → version_of_kind d ≡ v
+version-of_leaf_kind v ps (NodeData-F.Leaf b w qs) is = is.0
+version-of_leaf_kind v ps (NodeData-F.Inner b w x) is = absurd is
+
+version-of_leaf : (v : ℕ) (ps : List Point) (o : Option NodeData) → IsLeafOf v ps o → version_of o ≡ v
+version-of_leaf v ps None is = absurd is
+version-of_leaf v ps (Some d) is = version-of_leaf_kind v ps (out-NodeData d) is
+
+version-of_inner_kind : (v : ℕ) (x : Slots) (d : NodeData-F NodeData Link Kept Slots) → ByKind (λ w qs. ⊥) (λ w y. (w ≡ v) × AreSameSlots x y) d → version_of_kind d ≡ v
+version-of_inner_kind v x (NodeData-F.Leaf b w qs) is = absurd is
+version-of_inner_kind v x (NodeData-F.Inner b w y) is = is.0
+
+version-of_inner : (v : ℕ) (x : Slots) (o : Option NodeData) → IsInnerOf v x o → version_of o ≡ v
+version-of_inner v x None is = absurd is
+version-of_inner v x (Some d) is = version-of_inner_kind v x (out-NodeData d) is
+
+pub leaf-count : (block version : ℕ) (span : SpanValue) (points : List Point) (t : TreeValue) → IsLeafMade block span version points t → t.total.count ≡ length points
+leaf-count block version span points t m = ap (λ (a : AggValue). a.count) m.is.total ∙ agg-count points
+
+pub inner-count : (nodes : NodesValue) (block : ℕ) (span : SpanValue) (number version : ℕ) (slots : List PageSlot) (t : TreeValue) → IsInnerMade nodes block span number version slots t → length slots ≡ 64 → t.total.count ≡ sum_by (λ s. s.agg.count) slots
+inner-count nodes block span number version slots t m full =
+    ap (λ (a : AggValue). a.count) m.is.total ∙ parts-count nodes span number slots m.parts full m.are
+
+-- ---- the slots of a page, as they were read
+
+slot-keeps : (slots : List PageSlot) (version i : ℕ) (slot : PageSlot) → AllByRecursion (IsSlot version) slots → slice_get slots i ≡ Some slot → IsSlot version slot
+slot-keeps [] version i slot all at = absurd (cc)
+slot-keeps (s ∷ ss) version zero slot all at = let same : s ≡ slot = cc in subst (IsSlot version) same all.0
+slot-keeps (s ∷ ss) version (suc i) slot all at = slot-keeps ss version i slot all.1 at
+
+-- What the slot's part has of the slot.
+record IsPartRead (store : Store) (below : ℕ) (start : ℤ) (slot : PageSlot) (part : Option TreeValue) : Type 0 where
+  child : slot.child ≡ block_of (part_node part)
+  read : IfSome part (λ t. IsRead store below start t.node)
+
+part-known : (pages : Pages) (nodes : NodesValue) (block : ℕ) (new : List NodePage) (span : SpanValue) (below number s i : ℕ) (slot : PageSlot) (k : KnownValue) → AreKnown pages nodes → IsAbove block nodes → span.height ≡ suc below → s ≡ number → node_at nodes slot.child ≡ Some k → IsKnownChild (slot_of span i) number slot k → IsPartRead (nodes_in (with_pages pages block new) s) below (slot_start below span.start i) slot (Some k.tree)
+part-known pages nodes block new span below number s i slot k are above high e at fits =
+    let known = known-along pages nodes block new k are above (known-at pages nodes slot.child k are at) in
+    let place : k.tree.span ≡ record { start = slot_start below span.start i; height = below } = fits.span ∙ slot-part span below i high in
+    record {
+      child = sym (known.made.its_block ∙ block-at nodes slot.child k at);
+      read =
+          subst (λ (u : SpanValue). IsRead (nodes_in (with_pages pages block new) s) u.height u.start k.tree.node) place (subst (λ n. IsRead (nodes_in (with_pages pages block new) n) k.tree.span.height k.tree.span.start k.tree.node) (fits.stream ∙ sym e) known.made.read);
+    }
+
+part-read_of : (pages : Pages) (nodes : NodesValue) (block : ℕ) (new : List NodePage) (span : SpanValue) (below number s i version : ℕ) (slot : PageSlot) → AreKnown pages nodes → IsAbove block nodes → span.height ≡ suc below → s ≡ number → IsSlot version slot → MayHaveChild nodes (slot_of span i) number slot → IsPartRead (nodes_in (with_pages pages block new) s) below (slot_start below span.start i) slot (part_of nodes (Some slot))
+part-read_of pages nodes block new span below number s i version slot are above high e keeps may =
+    elim (nat_eq slot.agg.count 0) as (λ b. nat_eq slot.agg.count 0 ≡ b → IsPartRead (nodes_in (with_pages pages block new) s) below (slot_start below span.start i) slot (cond b None (option_map (λ k. k.tree) (node_at nodes slot.child)))) [
+      | true ↦ λ t. record { child = keeps.no_child (grind (arith, nat_tests)); read = tt }
+      | false ↦ λ t.
+          let some : 0 < slot.agg.count = grind (arith, nat_tests) in
+          let has = may some in
+          subst (λ o. IsPartRead (nodes_in (with_pages pages block new) s) below (slot_start below span.start i) slot (option_map (λ k. k.tree) o)) (sym has.is) (part-known pages nodes block new span below number s i slot has.known are above high e has.is has.fits)
+    ] refl
+
+part-read_at : (pages : Pages) (nodes : NodesValue) (block : ℕ) (new : List NodePage) (span : SpanValue) (below number s version : ℕ) (slots : List PageSlot) (parts : List (ℕ × TreeValue)) → AreKnown pages nodes → IsAbove block nodes → span.height ≡ suc below → s ≡ number → length slots ≡ 64 → AllByRecursion (IsSlot version) slots → ArePartsTo 64 nodes span number slots parts → (i : ℕ) → i < 64 → IsPartRead (nodes_in (with_pages pages block new) s) below (slot_start below span.start i) (get_or slots i no-slot) (part_at parts i)
+part-read_at pages nodes block new span below number s version slots parts are above high e full all a i lt =
+    let at = at-slot slots i (omega arith) in
+    let slot = get_or slots i no-slot in
+    subst (IsPartRead (nodes_in (with_pages pages block new) s) below (slot_start below span.start i) slot) (sym (a.are i lt ∙ ap (part_of nodes) at)) (part-read_of pages nodes block new span below number s i version slot are above high e (slot-keeps slots version i slot all at) (subst (λ o. IfSome o (MayHaveChild nodes (slot_of span i) number)) at (a.have i lt)))
+
+-- ---- the tree of the page in a block was made of it
+
+leaf-known : (pages : Pages) (block : ℕ) (page : NodePage) (s version : ℕ) (span : SpanValue) (points : List Point) (t : TreeValue) → 1 ≤ block → AreLeafPoints span points → s ≡ (front page).stream → node_of_page page ≡ leaf_node span version points → IsLeafMade block span version points t → IsRead (nodes_in (with_pages pages block (page ∷ [])) s) t.span.height t.span.start t.node
+leaf-known pages block page s version span points t some are e node m =
+    let f = nodes_in (with_pages pages block (page ∷ [])) s in
+    subst (λ (u : SpanValue). IsRead f u.height u.start t.node) (sym m.is.its_span) (leaf-read f span version block points t m.is some are.some are.few (node-here pages block page s e ∙ ap Some node))
+
+slot-of_part : (slots : List PageSlot) (below i : ℕ) (start : ℤ) (store : Store) (part : Option TreeValue) → i < length slots → IsPartRead store below start (get_or slots i no-slot) part → IsSlotOf (slice_get (map slot_of_page slots) i) (get_or (versions_of slots) i 0) (part_node part)
+slot-of_part slots below i start store part lt r =
+    let at = at-slot slots i lt in
+    subst (λ o. IsSlotOf o (get_or (versions_of slots) i 0) (part_node part)) (sym (slice_get-map slot_of_page slots i ∙ ap (option_map slot_of_page) at)) (sym (version-at slots i (get_or slots i no-slot) at), r.child)
+
+inner-known : (pages : Pages) (nodes : NodesValue) (block : ℕ) (page : NodePage) (s number version : ℕ) (span : SpanValue) (slots : List PageSlot) (t : TreeValue) → AreKnown pages nodes → IsAbove block nodes → 1 ≤ block → 1 ≤ span.height → s ≡ (front page).stream → s ≡ number → length slots ≡ 64 → AllByRecursion (IsSlot version) slots → node_of_page page ≡ record { span = span; version = version; points = []; slots = map slot_of_page slots } → IsInnerMade nodes block span number version slots t → IsRead (nodes_in (with_pages pages block (page ∷ [])) s) t.span.height t.span.start t.node
+inner-known pages nodes block page s number version span slots t are above some high e f full all node m =
+    let store = nodes_in (with_pages pages block (page ∷ [])) s in
+    let below = span.height - 1 in
+    let up : span.height ≡ suc below = omega arith in
+    let read = part-read_at pages nodes block (page ∷ []) span below number s version slots m.parts are above up f full all m.are in
+    subst (λ (u : SpanValue). IsRead store u.height u.start t.node) (sym m.is.its_span) (inner-read store span below version block m.parts (versions_of slots) (record { span = span; version = version; points = []; slots = map slot_of_page slots }) t m.fit m.is (record {
+      height = up;
+      some = some;
+      is = node-here pages block page s e ∙ ap Some node;
+      its_span = refl;
+      its_version = refl;
+      its_points = refl;
+      its_slots = λ i lt. slot-of_part slots below i (slot_start below span.start i) store (part_at m.parts i) (omega arith) (read i lt);
+      each = λ i lt. (read i lt).read;
+    }))
+
+-- The tree that was made was made of the page, with all below it.
+pub made-of_page : (pages : Pages) (nodes : NodesValue) (block : ℕ) (page : NodePage) (k : KnownValue) → AreKnown pages nodes → IsAbove block nodes → 1 ≤ block → Keeps page → Fits page → IsMadeAt nodes block page k → IsMadeOf (with_pages pages block (page ∷ [])) page k
+made-of_page pages nodes block (Leaf start height stream version count points) k are above some keeps fits m =
+    let page = Leaf start height stream version count points in
+    let span : SpanValue = record { start = start; height = height } in
+    let points_are = leaf-points (front page) points keeps fits.1 in
+    let to = keeps.count_to in
+    let full = fits.1 in
+    record {
+      keeps = keeps;
+      stream = m.stream;
+      span = m.tree.is.its_span;
+      version = version-of_leaf version (take count points) k.tree.node m.tree.is.node;
+      count = leaf-count block version span (take count points) k.tree m.tree ∙ length-take-le count points (omega arith);
+      opened = m.tree.opened;
+      its_block = m.tree.is.its_block ∙ sym m.its_block;
+      read = leaf-known pages block page k.stream version span (take count points) k.tree some points_are m.stream refl m.tree;
+    }
+made-of_page pages nodes block (Inner start height stream version count slots) k are above some keeps fits m =
+    let page = Inner start height stream version count slots in
+    let span : SpanValue = record { start = start; height = height } in
+    record {
+      keeps = keeps;
+      stream = m.stream;
+      span = m.tree.is.its_span;
+      version = version-of_inner version m.tree.is.slots k.tree.node m.tree.is.node;
+      count = inner-count nodes block span stream version slots k.tree m.tree fits.1 ∙ keeps.total;
+      opened = m.tree.opened;
+      its_block = m.tree.is.its_block ∙ sym m.its_block;
+      read = inner-known pages nodes block page k.stream stream version span slots k.tree are above some keeps.height_from m.stream m.stream fits.1 keeps.each refl m.tree;
+    }
+
+-- ---- the trees with one more
+
+each-still : (pages : Pages) (nodes : NodesValue) (block : ℕ) (new : List NodePage) → AreKnown pages nodes → IsAbove block nodes → (c : ℕ) → IfSome (node_at nodes c) (IsKnown (with_pages pages block new))
+each-still pages nodes block new are above c =
+    elim (node_at nodes c) as (λ o. node_at nodes c ≡ o → IfSome o (IsKnown (with_pages pages block new))) [
+      | None ↦ λ e. tt
+      | Some k ↦ λ e. known-along pages nodes block new k are above (known-at pages nodes c k are e)
+    ] refl
+
+pub added-some : (nodes : NodesValue) (k : KnownValue) (c : ℕ) → IsAbove k.block nodes → IsSome (node_at nodes c) → IsSome (node_at (nodes ++ k ∷ []) c)
+added-some nodes k c above some =
+    let less = above c some in
+    subst IsSome (sym (added-other nodes k c (λ same. absurd (omega arith)))) some
+
+pub added-itself : (nodes : NodesValue) (k : KnownValue) → IsAbove k.block nodes → node_at (nodes ++ k ∷ []) k.block ≡ Some k
+added-itself nodes k above = added-here nodes k (none-above nodes k.block above k.block (omega arith))
+
+from-page : (page : NodePage) (n : ℕ) → IsSome (slice_get (page ∷ []) n) → n ≡ 0
+from-page page zero some = refl
+from-page page (suc n) some = absurd (cc)
+
+pub known-more : (pages : Pages) (nodes : NodesValue) (page : NodePage) (k : KnownValue) → AreKnown pages nodes → IsAbove k.block nodes → IsMadeOf (with_pages pages k.block (page ∷ [])) page k → AreKnown (with_pages pages k.block (page ∷ [])) (nodes ++ k ∷ [])
+known-more pages nodes page k are above made =
+    let block = k.block in
+    let more = with_pages pages block (page ∷ []) in
+    record {
+      each = λ c.
+          elim (nat_eq k.block c) as (λ u. nat_eq k.block c ≡ u → IfSome (node_at (nodes ++ k ∷ []) c) (IsKnown more)) [
+            | true ↦ λ e.
+                let same : k.block ≡ c = grind (arith, nat_tests) in
+                subst (λ c. IfSome (node_at (nodes ++ k ∷ []) c) (IsKnown more)) same (subst (λ o. IfSome o (IsKnown more)) (sym (added-itself nodes k above)) (record { page = page; is = page-here pages block page; made = made }))
+            | false ↦ λ e.
+                let ne : k.block ≡ c → ⊥ = grind (arith, nat_tests) in
+                subst (λ o. IfSome o (IsKnown more)) (sym (added-other nodes k c ne)) (each-still pages nodes block (page ∷ []) are above c)
+          ] refl;
+      all = λ c some.
+          elim (cases_lt c block) [
+            | inl less ↦ added-some nodes k c above (are.all c (subst IsSome (pages-below pages block c (page ∷ []) less) some))
+            | inr le ↦
+                let last = from-page page (c - block) (subst IsSome (pages-from pages block c (page ∷ []) le) some) in
+                let same : block ≡ c = omega arith in
+                subst (λ c. IsSome (node_at (nodes ++ k ∷ []) c)) same (subst IsSome (sym (added-itself nodes k above)) refl)
+          ];
+    }
+
+pub above-more : (nodes : NodesValue) (k : KnownValue) → IsAbove k.block nodes → IsAbove (k.block + 1) (nodes ++ k ∷ [])
+above-more nodes k above c some =
+    elim (cases_lt c (k.block + 1)) [
+      | inl less ↦ less
+      | inr le ↦ (let before = above c (subst IsSome (added-other nodes k c (λ same. absurd (omega arith))) some) in absurd (omega arith))
+    ]
+
+-- The trees of a page's children were made, where its own was.
+pub made-buildable : (nodes : NodesValue) (block : ℕ) (page : NodePage) (k : KnownValue) → Fits page → IsMadeAt nodes block page k → IsBuildable nodes page
+made-buildable nodes block (Leaf start height stream version count points) k fits m i = tt
+made-buildable nodes block (Inner start height stream version count slots) k fits m i =
+    all-have nodes (record { start = start; height = height }) stream slots m.tree.parts fits.1 m.tree.are i
+
+-- What a tree more means for the trees and the pages.
+pub record IsAddition (old new : NodesValue) (block : ℕ) (page : NodePage) : Type 0 where
+  pub added : (pages : Pages) → AreKnown pages old → AreKnown (with_pages pages block (page ∷ [])) new
+  pub rightly : (pages : Pages) → AreKnown pages old → IsPageAt pages block page
+  pub above : IsAbove (block + 1) new
+  pub stands : IsSome (node_at new block)
+
+pub addition : (old new : NodesValue) (block : ℕ) (page : NodePage) (k : KnownValue) → 1 ≤ block → IsAbove block old → Keeps page → Fits page → IsMadeAt old block page k → new ≡ old ++ k ∷ [] → IsAddition old new block page
+addition old new block page k some above keeps fits m is =
+    let here : IsAbove k.block old = subst (λ b. IsAbove b old) (sym m.its_block) above in
+    subst (λ xs. IsAddition old xs block page) (sym is) (record {
+      added = λ pages are.
+          let made = made-of_page pages old block page k are above some keeps fits m in
+          subst (λ b. AreKnown (with_pages pages b (page ∷ [])) (old ++ k ∷ [])) m.its_block (known-more pages old page k are here (subst (λ b. IsMadeOf (with_pages pages b (page ∷ [])) page k) (sym m.its_block) made));
+      rightly = λ pages are. page-right pages old block page are above keeps (made-buildable old block page k fits m);
+      above = subst (λ b. IsAbove (b + 1) (old ++ k ∷ [])) m.its_block (above-more old k here);
+      stands = subst (λ b. IsSome (node_at (old ++ k ∷ []) b)) m.its_block (subst IsSome (sym (added-itself old k here)) refl);
+    })
+
+-- The count of a page is that of the tree that was made of it.
+pub leaf-counted : (block version : ℕ) (span : SpanValue) (f : Front) (points : List Point) (t : TreeValue) → IsLeafPage f points → length points ≡ 252 → IsLeafMade block span version (take f.count points) t → IsReadTree f.count t
+leaf-counted block version span f points t keeps full m =
+    let to = keeps.count_to in
+    record { opened = m.opened; is = sym (leaf-count block version span (take f.count points) t m ∙ length-take-le f.count points (omega arith)) }
+
+pub inner-counted : (nodes : NodesValue) (block number version : ℕ) (span : SpanValue) (f : Front) (slots : List PageSlot) (t : TreeValue) → IsInnerPage f slots → length slots ≡ 64 → IsInnerMade nodes block span number version slots t → IsReadTree f.count t
+inner-counted nodes block number version span f slots t keeps full m =
+    record { opened = m.opened; is = sym (inner-count nodes block span number version slots t m full ∙ keeps.total) }

@@ -1,0 +1,30 @@
+use Rattle.std.proofs.Common.{subst}
+use Rattle.std.specs.Option.{MatchOption}
+use Rattle.btr_pages.specs.Made.{IsBuildable, IsMadeAt}
+use Rattle.btr_pages.proofs.KnownLemmas.{addition, page-known}
+use Rattle.btr_pages.proofs.nodes.Nodes.add.Goals as goal
+
+pub returns-in_default-clause-refused : goal.returns-in_default-clause-refused
+returns-in_default-clause-refused g c e pages are right =
+    let none = subst (λ o. MatchOption o (IsBuildable c.args.self.now c.args.page.now → ⊥) (IsMadeAt c.args.self.now c.args.block c.args.page.now)) c.in_default.is c.in_ok-known.ensures in
+    none (page-known pages c.args.self.now c.args.block c.args.page.now are right)
+
+pub returns-clause-added : goal.returns-clause-added
+returns-clause-added g c e =
+    let made = subst (λ o. MatchOption o (IsBuildable c.args.self.now c.args.page.now → ⊥) (IsMadeAt c.args.self.now c.args.block c.args.page.now)) c.in-Some.is c.in_ok-known.ensures in
+    (addition c.args.self.now c.push.new.self c.args.block c.args.page.now c.in-Some.known c.requires.some c.requires.above c.requires.keeps c.requires.fits made c.in_ok-push.ensures.pushed).added
+
+pub returns-clause-rightly : goal.returns-clause-rightly
+returns-clause-rightly g c e =
+    let made = subst (λ o. MatchOption o (IsBuildable c.args.self.now c.args.page.now → ⊥) (IsMadeAt c.args.self.now c.args.block c.args.page.now)) c.in-Some.is c.in_ok-known.ensures in
+    (addition c.args.self.now c.push.new.self c.args.block c.args.page.now c.in-Some.known c.requires.some c.requires.above c.requires.keeps c.requires.fits made c.in_ok-push.ensures.pushed).rightly
+
+pub returns-clause-above : goal.returns-clause-above
+returns-clause-above g c =
+    let made = subst (λ o. MatchOption o (IsBuildable c.args.self.now c.args.page.now → ⊥) (IsMadeAt c.args.self.now c.args.block c.args.page.now)) c.in-Some.is c.in_ok-known.ensures in
+    (addition c.args.self.now c.push.new.self c.args.block c.args.page.now c.in-Some.known c.requires.some c.requires.above c.requires.keeps c.requires.fits made c.in_ok-push.ensures.pushed).above
+
+pub returns-clause-stands : goal.returns-clause-stands
+returns-clause-stands g c e =
+    let made = subst (λ o. MatchOption o (IsBuildable c.args.self.now c.args.page.now → ⊥) (IsMadeAt c.args.self.now c.args.block c.args.page.now)) c.in-Some.is c.in_ok-known.ensures in
+    (addition c.args.self.now c.push.new.self c.args.block c.args.page.now c.in-Some.known c.requires.some c.requires.above c.requires.keeps c.requires.fits made c.in_ok-push.ensures.pushed).stands

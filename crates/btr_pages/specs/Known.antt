@@ -1,0 +1,50 @@
+-- Trees that were made of pages: which block each one is of, and what was read from there.
+use Rattle.std.specs.Prelude.{◌≡◌, ℕ, ◌+◌, ◌≤◌, nat_eq, List, [], ◌∷◌, Option, Some, None, IfSome, IsSome, if◌then◌else◌}
+use Rattle.btr_tree.specs.Leads.{IsRead}
+use Rattle.btr_tree.specs.Root.{TreeValue, WasOpened, version_of}
+use Rattle.btr_tree.specs.Slots.{block_of}
+use Rattle.btr_node.specs.Page.{front, Keeps}
+use Rattle.btr_node.specs.declared.page.NodePage.{NodePage}
+use Rattle.btr_pages.specs.Pages.{Pages, span_of_page, nodes_in}
+
+-- The tree that was made of the page in a block, and the stream of the page.
+pub record KnownValue : Type 0 where
+  pub block : ℕ
+  pub stream : ℕ
+  pub tree : TreeValue
+
+-- The trees that were made, in the order of their blocks.
+abbrev pub NodesValue : Type 0
+NodesValue = List KnownValue
+
+-- The tree of a block, if one was made.
+abbrev pub node_at : NodesValue → ℕ → Option KnownValue
+node_at [] block = None
+node_at (known ∷ nodes) block = if nat_eq known.block block then Some known else node_at nodes block
+
+-- Each tree is of a block from one on and below another, and no later tree is of the same block or of a lower one.
+abbrev pub AreBetween : ℕ → ℕ → NodesValue → Type 0
+AreBetween from to [] = from ≤ to
+AreBetween from to (known ∷ nodes) = (from ≤ known.block) × AreBetween (known.block + 1) to nodes
+
+-- What a tree has of the page that it was made of, and that it was read from there with all below it.
+pub record IsMadeOf (pages : Pages) (page : NodePage) (known : KnownValue) : Type 0 where
+  pub keeps : Keeps page
+  pub stream : known.stream ≡ (front page).stream
+  pub span : known.tree.span ≡ span_of_page page
+  pub version : version_of known.tree.node ≡ (front page).version
+  pub count : known.tree.total.count ≡ (front page).count
+  pub opened : WasOpened known.tree
+  pub its_block : block_of known.tree.node ≡ known.block
+  pub read : IsRead (nodes_in pages known.stream) known.tree.span.height known.tree.span.start known.tree.node
+
+-- The block has a page, and the tree was made of it.
+pub record IsKnown (pages : Pages) (known : KnownValue) : Type 0 where
+  pub page : NodePage
+  pub is : pages known.block ≡ Some page
+  pub made : IsMadeOf pages page known
+
+-- The trees are those of the pages: each tree was made of the page in its block, and each block that has a page has a tree.
+pub record AreKnown (pages : Pages) (nodes : NodesValue) : Type 0 where
+  pub each : (block : ℕ) → IfSome (node_at nodes block) (IsKnown pages)
+  pub all : (block : ℕ) → IsSome (pages block) → IsSome (node_at nodes block)

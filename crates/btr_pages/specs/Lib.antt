@@ -1,0 +1,8 @@
+-- The pages of a stream's nodes, block by block.
+pub mod Pages
+-- The pages of the nodes that a commit writes.
+pub mod Told
+-- Trees that were made of pages.
+pub mod Known
+-- What the private functions promise.
+pub mod Made

@@ -1,0 +1,126 @@
+-- What the private functions promise of the trees that are made of pages, and of the table that finds them.
+use Rattle.std.specs.Prelude.{◌≡◌, ℕ, zero, suc, ◌-◌, ◌<◌, ◌≤◌, nat_eq, nat_lt, List, length, take, map, get_or, slice_get}
+use Rattle.std.specs.Prelude.{Option, Some, None, IfSome, IsSome, if◌then◌else◌, option_map}
+use Rattle.std.specs.List.{AllByRecursion}
+use Rattle.btr_base.specs.Bag.{IsInOrder}
+use Rattle.btr_base.specs.Span.{SpanValue, slot_of}
+use Rattle.btr_base.specs.declared.point.Point.{Point}
+use Rattle.btr_tree.specs.Opened.{part_at, AreParts, IsLeafTree, IsInnerTree}
+use Rattle.btr_tree.specs.Root.{TreeValue, WasOpened, version_of}
+use Rattle.btr_node.specs.Page.{front, IsInside}
+use Rattle.btr_node.specs.declared.page.Front.{Front}
+use Rattle.btr_node.specs.declared.page.NodePage.{NodePage}
+use Rattle.btr_node.specs.declared.page.NodePage.TheVariants.{Leaf, Inner}
+use Rattle.btr_node.specs.declared.page.PageSlot.{PageSlot}
+use Rattle.btr_pages.specs.Pages.{span_of_page, slots_of_page}
+use Rattle.btr_pages.specs.Known.{KnownValue, NodesValue, node_at, AreBetween}
+
+-- ---- a tree that was made, and the table
+
+-- The tree was made of nodes that were read, and it has this number of points.
+pub record IsReadTree (count : ℕ) (t : TreeValue) : Type 0 where
+  pub opened : WasOpened t
+  pub is : count ≡ t.total.count
+
+-- What the table has for a block: the number of a tree of the list, counted from 1, or 0 for none.
+abbrev pub table_number : ℕ → List ℕ → ℕ → ℕ
+table_number first table block = if nat_lt block first then 0 else get_or table (block - first) 0
+
+-- The tree of a number, counted from 1.
+abbrev pub numbered : NodesValue → ℕ → Option KnownValue
+numbered nodes zero = None
+numbered nodes (suc place) = slice_get nodes place
+
+-- The blocks of the trees rise. The table has the number of each tree, at the place of its block from a first block on, and 0 for
+-- each other block.
+pub record IsTable (nodes : NodesValue) (first : ℕ) (table : List ℕ) : Type 0 where
+  pub each : (block : ℕ) → node_at nodes block ≡ numbered nodes (table_number first table block)
+  pub within : (block : ℕ) → table_number first table block ≤ length nodes
+  pub begins : 0 < length nodes → IsSome (node_at nodes first)
+  pub rises : (to : ℕ) × AreBetween 0 to nodes
+
+-- ---- the children of a page
+
+-- A tree that was made is that of a slot's child: of the stream, of the slot's span, and with the slot's version and count.
+pub record IsKnownChild (place : SpanValue) (number : ℕ) (slot : PageSlot) (known : KnownValue) : Type 0 where
+  pub stream : known.stream ≡ number
+  pub span : known.tree.span ≡ place
+  pub version : version_of known.tree.node ≡ slot.version
+  pub count : known.tree.total.count ≡ slot.agg.count
+  pub opened : WasOpened known.tree
+
+-- The tree of the slot's child was made.
+pub record HasKnownChild (nodes : NodesValue) (place : SpanValue) (number : ℕ) (slot : PageSlot) : Type 0 where
+  pub known : KnownValue
+  pub is : node_at nodes slot.child ≡ Some known
+  pub fits : IsKnownChild place number slot known
+
+-- If the slot has a point, the tree of its child was made.
+abbrev pub MayHaveChild : NodesValue → SpanValue → ℕ → PageSlot → Type 0
+MayHaveChild nodes place number slot = 0 < slot.agg.count → HasKnownChild nodes place number slot
+
+-- The trees of the children of all slots of a span were made.
+abbrev pub HaveKnownChildren : NodesValue → SpanValue → ℕ → List PageSlot → Type 0
+HaveKnownChildren nodes span number slots =
+    (i : ℕ) → IfSome (slice_get slots i) (MayHaveChild nodes (slot_of span i) number)
+
+-- The trees of the children of a page were made.
+abbrev pub IsBuildable : NodesValue → NodePage → Type 0
+IsBuildable nodes page = HaveKnownChildren nodes (span_of_page page) (front page).stream (slots_of_page page)
+
+-- The tree of a slot's child, if the slot has a point.
+abbrev pub part_of : NodesValue → Option PageSlot → Option TreeValue
+part_of nodes None = None
+part_of nodes (Some slot) = if nat_eq slot.agg.count 0 then None else option_map (λ k. k.tree) (node_at nodes slot.child)
+
+-- The parts are the trees of the children of the first n slots.
+pub record ArePartsTo (n : ℕ) (nodes : NodesValue) (span : SpanValue) (number : ℕ) (slots : List PageSlot) (parts : List (ℕ × TreeValue))
+    : Type 0 where
+  pub have : (i : ℕ) → i < n → IfSome (slice_get slots i) (MayHaveChild nodes (slot_of span i) number)
+  pub are : (i : ℕ) → i < n → part_at parts i ≡ part_of nodes (slice_get slots i)
+  pub no_more : (i : ℕ) → n ≤ i → part_at parts i ≡ None
+
+-- ---- the tree of a page
+
+-- The versions of slots.
+abbrev pub versions_of : List PageSlot → List ℕ
+versions_of slots = map (λ s. s.version) slots
+
+-- The fields of a page of this span.
+abbrev pub page_front : SpanValue → ℕ → ℕ → ℕ → Front
+page_front span number version count =
+    record { start = span.start; height = span.height; stream = number; version = version; count = count }
+
+-- The points of a leaf's page: at least one and at most 252, in order and in the span.
+pub record AreLeafPoints (span : SpanValue) (points : List Point) : Type 0 where
+  pub some : 0 < length points
+  pub few : length points ≤ 252
+  pub in_order : IsInOrder points
+  pub inside : AllByRecursion (IsInside span.start span.height) points
+
+-- A tree was made of the points of a leaf's page.
+pub record IsLeafMade (block : ℕ) (span : SpanValue) (version : ℕ) (points : List Point) (t : TreeValue) : Type 0 where
+  pub is : IsLeafTree span version block points t
+  pub opened : WasOpened t
+
+-- A tree was made of an inner node's page and of the trees of its children.
+pub record IsInnerMade (nodes : NodesValue) (block : ℕ) (span : SpanValue) (number version : ℕ) (slots : List PageSlot) (t : TreeValue)
+    : Type 0 where
+  pub parts : List (ℕ × TreeValue)
+  pub are : ArePartsTo 64 nodes span number slots parts
+  pub fit : AreParts span version parts (versions_of slots)
+  pub is : IsInnerTree span version block parts (versions_of slots) t
+  pub opened : WasOpened t
+
+-- The tree was made of a page.
+abbrev pub IsTreeOfPage : NodesValue → ℕ → NodePage → TreeValue → Type 0
+IsTreeOfPage nodes block (Leaf start height stream version count points) t =
+    IsLeafMade block (record { start = start; height = height }) version (take count points) t
+IsTreeOfPage nodes block (Inner start height stream version count slots) t =
+    IsInnerMade nodes block (record { start = start; height = height }) stream version slots t
+
+-- The page in a block, its stream and the tree that was made of it.
+pub record IsMadeAt (nodes : NodesValue) (block : ℕ) (page : NodePage) (known : KnownValue) : Type 0 where
+  pub its_block : known.block ≡ block
+  pub stream : known.stream ≡ (front page).stream
+  pub tree : IsTreeOfPage nodes block page known.tree

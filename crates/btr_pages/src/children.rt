@@ -1,0 +1,95 @@
+//! The trees of the children of a page's slots.
+ghost use Rattle.std.specs.Prelude.{◌≡◌, ◌↔◌, ◌<◌, ◌≤◌, IfOk, IfSome, IfNone, IsTrue, MatchOption, option_map};
+ghost use Rattle.btr_base.specs.Span.{slot_of};
+ghost use Rattle.btr_pages.specs.Known.{node_at};
+ghost use Rattle.btr_pages.specs.Made.{ArePartsTo, HasKnownChild, HaveKnownChildren, IsKnownChild, part_of, versions_of};
+
+use crate::known::Known;
+use crate::nodes::Nodes;
+use btr_base::{Agg, FAN_OUT, Span};
+use btr_node::PageSlot;
+use btr_tree::Tree;
+use std::alloc::{AllocError, Global};
+
+/// The trees of the children of a span's slots, each with the number of its slot. `None` is that a slot has a point and the tree
+/// of its child was not made. An `Err` is out of memory.
+pub(crate) fn parts_of(
+    alloc: Global,
+    nodes: &Nodes,
+    span: Span,
+    stream: u32,
+    slots: &[PageSlot; 64],
+) -> Result<Option<Vec<(u8, Tree)>>, AllocError>
+    requires height { 1 ≤ span.height }
+    ensures { IfOk result (λ r. MatchOption r (HaveKnownChildren nodes.now span stream slots.now → ⊥)
+        (λ parts. ArePartsTo 64 nodes.now span stream slots.now parts.items)) }
+{
+    let mut parts = Vec::new(alloc);
+    for i in 0..FAN_OUT {
+        let slot = &slots[usize::from(i)];
+        if count_of(&slot.agg) > 0 {
+            let Some(tree) = part(nodes, span.slot(i), stream, slot)? else {
+                return Ok(None);
+            };
+            parts.push((i, tree))?;
+        }
+    }
+    Ok(Some(parts))
+}
+
+/// The tree of a slot's child, if it was made. An `Err` is out of memory.
+fn part(
+    nodes: &Nodes,
+    place: Span,
+    stream: u32,
+    slot: &PageSlot,
+) -> Result<Option<Tree>, AllocError>
+    requires some { 0 < slot.now.agg.count }
+    ensures { IfOk result (λ r. MatchOption r (HasKnownChild nodes.now place stream slot.now → ⊥)
+        (λ t. HasKnownChild nodes.now place stream slot.now × (part_of nodes.now (Some slot.now) ≡ Some t))) }
+{
+    match child(nodes, place, stream, slot) {
+        None => Ok(None),
+        Some(known) => Ok(Some(known.tree.share()?)),
+    }
+}
+
+/// The child of a slot, if its tree was made.
+fn child<'a>(nodes: &'a Nodes, place: Span, stream: u32, slot: &PageSlot) -> Option<&'a Known>
+    ensures is { IfSome result (λ k. (node_at nodes.now slot.now.child ≡ Some k.now) × IsKnownChild place stream slot.now k.now) }
+    ensures none { IfNone result (HasKnownChild nodes.now place stream slot.now → ⊥) }
+{
+    match nodes.get(slot.child) {
+        Some(known) if fits(known, place, stream, slot) => Some(known),
+        _ => None,
+    }
+}
+
+/// Whether a tree is that of a slot's child.
+fn fits(known: &Known, place: Span, stream: u32, slot: &PageSlot) -> bool
+    ensures { IsTrue result ↔ IsKnownChild place stream slot.now known.now }
+{
+    let tree = &known.tree;
+    known.stream == stream
+        && tree.span() == place
+        && tree.version() == slot.version
+        && known.count == count_of(&slot.agg)
+}
+
+/// The versions of slots.
+pub(crate) fn versions(slots: &[PageSlot; 64]) -> [u64; 64]
+    ensures { result ≡ versions_of slots.now }
+{
+    let mut versions = [0; 64];
+    for i in 0..64 {
+        versions[i] = slots[i].version;
+    }
+    versions
+}
+
+/// The count of an aggregate.
+fn count_of(agg: &Agg) -> u64
+    ensures { result ≡ agg.now.count }
+{
+    agg.count
+}

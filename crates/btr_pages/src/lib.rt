@@ -1,0 +1,26 @@
+//! The pages of a stream's nodes in the blocks of a device, children before their parents (the node blocks of BTrDB, FAST 2016).
+//!
+//! [`page_of`] gives the page of a node that a commit wrote. [`Nodes`] makes the tree of each page, in the order of their blocks,
+//! and finds the trees of a page's children by their blocks. It refuses a page that has a child which is not among the pages
+//! before it, or not the child that the page says.
+//!
+//! The definitions say over blocks and pages as plain data which nodes of a stream there are, and which pages stand rightly where
+//! they stand. The crate knows no device.
+#![tactic(auto)]
+
+// the page of a node that a commit wrote
+mod new_page;
+// the trees that were made of pages, and where they are found
+mod known;
+mod nodes;
+mod table;
+// how a tree is made of a page
+mod children;
+mod making;
+// theorems on the definitions
+mod laws;
+
+pub use known::Known;
+pub use laws::told_pages_stand;
+pub use new_page::page_of;
+pub use nodes::Nodes;

@@ -1,0 +1,120 @@
+//! How a tree is made of a page.
+ghost use Rattle.std.specs.Prelude.{◌≡◌, ℕ, IfOk, MatchOption};
+ghost use Rattle.btr_base.specs.Span.{IsSpan};
+ghost use Rattle.btr_node.specs.Page.{Keeps, Fits, IsInnerPage};
+ghost use Rattle.btr_pages.specs.Made.{AreLeafPoints, HaveKnownChildren, IsBuildable, IsInnerMade, IsLeafMade, IsMadeAt, page_front};
+
+use crate::children::{parts_of, versions};
+use crate::known::Known;
+use crate::nodes::Nodes;
+use btr_base::{Bag, Point, Span};
+use btr_node::{NodePage, PageSlot};
+use btr_tree::{Steps, Tree};
+use std::alloc::{AllocError, Global};
+
+/// Makes the tree of a page. `None` is that the page has a child of which no tree was made. An `Err` is out of memory.
+pub(crate) fn make<L>(
+    alloc: Global,
+    nodes: &Nodes,
+    block: u64,
+    page: &NodePage,
+    steps: &mut Steps<L>,
+) -> Result<Option<Known>, AllocError>
+    requires keeps { Keeps page.now }
+    requires fits { Fits page.now }
+    ensures { IfOk result (λ r. MatchOption r (IsBuildable nodes.now page.now → ⊥) (IsMadeAt nodes.now block page.now)) }
+{
+    match page {
+        NodePage::Leaf {
+            start,
+            height,
+            stream,
+            version,
+            count,
+            points,
+        } => {
+            let span = span_of(*start, *height);
+            let points = &points[..*count as usize];
+            let tree = make_leaf(alloc, block, span, *version, points, steps)?;
+            Ok(Some(Known {
+                block,
+                stream: *stream,
+                count: *count,
+                tree,
+            }))
+        }
+        NodePage::Inner {
+            start,
+            height,
+            stream,
+            version,
+            count,
+            slots,
+        } => {
+            let span = span_of(*start, *height);
+            let Some(tree) = make_inner(
+                alloc, nodes, block, span, *stream, *version, *count, slots, steps,
+            )?
+            else {
+                return Ok(None);
+            };
+            Ok(Some(Known {
+                block,
+                stream: *stream,
+                count: *count,
+                tree,
+            }))
+        }
+    }
+}
+
+/// The span of this start and this height.
+fn span_of(start: i64, height: u32) -> Span
+    requires { IsSpan (record { start = start; height = height }) }
+    ensures { result ≡ record { start = start; height = height } }
+{
+    Span {
+        start,
+        height: height as u8,
+    }
+}
+
+/// Makes the tree of the points of a leaf's page. An `Err` is out of memory.
+fn make_leaf<L>(
+    alloc: Global,
+    block: u64,
+    span: Span,
+    version: u64,
+    points: &[Point],
+    steps: &mut Steps<L>,
+) -> Result<Tree, AllocError>
+    requires { AreLeafPoints span points.now }
+    ensures { IfOk result (IsLeafMade block span version points.now) }
+{
+    let bag = Bag::from_points(Vec::from_slice(alloc, points)?);
+    Tree::leaf(alloc, span, version, block, &bag, steps)
+}
+
+/// Makes the tree of an inner node's page. `None` is that the page has a child of which no tree was made. An `Err` is out of
+/// memory.
+fn make_inner<L>(
+    alloc: Global,
+    nodes: &Nodes,
+    block: u64,
+    span: Span,
+    stream: u32,
+    version: u64,
+    count: u64,
+    slots: &[PageSlot; 64],
+    steps: &mut Steps<L>,
+) -> Result<Option<Tree>, AllocError>
+    requires keeps { IsInnerPage (page_front span stream version count) slots.now }
+    ensures { IfOk result (λ r. MatchOption r (HaveKnownChildren nodes.now span stream slots.now → ⊥)
+        (IsInnerMade nodes.now block span stream version slots.now)) }
+{
+    let Some(parts) = parts_of(alloc, nodes, span, stream, slots)? else {
+        return Ok(None);
+    };
+    let tree = Tree::inner(alloc, span, version, block, &parts, &versions(slots), steps)?;
+    Ok(Some(tree))
+}
