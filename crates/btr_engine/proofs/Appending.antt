@@ -1,5 +1,6 @@
 -- What a step makes of the result of its append: why it fails, and what the device holds then and at each moment before.
-use Rattle.std.specs.Prelude.{◌≡◌, ℕ, ◌+◌, ◌*◌, ◌<◌, ◌≤◌, List, [], ◌∷◌, ◌++◌, length, Result, Err, None, IsFalse}
+use Rattle.std.specs.Prelude.{◌≡◌, ℕ, ◌+◌, ◌*◌, ◌<◌, ◌≤◌, ◌^◌, List, [], ◌∷◌, ◌++◌, length, Result, Err, None, IsFalse}
+use Rattle.std.specs.List.{AllByRecursion}
 use Rattle.std.proofs.Common.{refl, sym, ◌∙◌, ap, subst, ⊎_elim, arith}
 use Rattle.std.proofs.lemmas.Bool.{cases_lt}
 use Rattle.btr_disk.specs.declared.disk.Disk.{Ghosts}
@@ -10,7 +11,7 @@ use Rattle.btr_disk.proofs.MomentLemmas.{weakens}
 use Rattle.btr_log.specs.declared.log.Log.{Log}
 use Rattle.btr_log.specs.declared.append.AppendFault.{AppendFault}
 use Rattle.btr_log.specs.declared.append.AppendFault.TheVariants.{Full, Fault, Stopped as AlreadyStopped}
-use Rattle.btr_log.specs.Extents.{need, IsLog, first_gate}
+use Rattle.btr_log.specs.Extents.{need, IsLog}
 use Rattle.btr_log.proofs.ExtentLemmas.{AtRest-IsLog}
 use Rattle.btr_log.specs.Append as append
 use Rattle.btr_log.specs.Log as log
@@ -22,8 +23,11 @@ use Rattle.btr_engine.specs.declared.board.Receipt.{Receipt}
 use Rattle.btr_engine.specs.declared.step.Pending.{Pending}
 use Rattle.btr_engine.specs.declared.step.StepFault.{StepFault}
 use Rattle.btr_engine.specs.declared.step.StepFault.TheVariants.{DeviceFull, DeviceFault}
-use Rattle.btr_engine.specs.Body.{body_of, IsBodyOf, need_of}
-use Rattle.btr_engine.proofs.BodyLemmas.{need-IsBodyOf}
+use Rattle.btr_node.specs.Page.{Fits}
+use Rattle.btr_node.specs.declared.page.NodePage.{NodePage}
+use Rattle.btr_pages.specs.Pages.{Pages, ArePages}
+use Rattle.btr_engine.specs.Body.{body_of, Prefix, prefix_to, first_page, pages_after, IsBodyOf, HasNoNodes, commits_before, nodes_of, need_of}
+use Rattle.btr_engine.proofs.BodyLemmas.{need-body_of, no_nodes}
 use Rattle.btr_engine.specs.Holds.{HoldsHistoryTo}
 use Rattle.btr_engine.specs.Engine.{device, board_of, blocks_of, tail_of, room_of, is_stopped, IsEngineOf, IsAtRest}
 use Rattle.btr_engine.specs.Stage.{IsReceipt}
@@ -36,21 +40,37 @@ use Rattle.btr_engine.proofs.Stepping.{same_engine, no_moment, brings, needs_two
 abbrev pub Answer : Type 0
 Answer = Result (Unit {0}) AppendFault
 
--- The run is the extent of the entry, which may follow the history as the next one.
-pub record IsExtentOf (h : List Entry) (e : Entry) (run : List ℕ) : Type 0 where
+-- The run is the extent of the entry, which may follow the history as the next one, with this root and these pages. They are as many as
+-- the entry has nodes.
+pub record IsExtentOf (h : List Entry) (e : Entry) (root : ℕ) (pages : List NodePage) (run : List ℕ) : Type 0 where
   pub allowed : rejection h e ≡ None
   pub spelled : IsSpelled e
-  pub bytes : run ≡ body_of (length h + 1) e ++ zeros 4096
+  pub fits : AllByRecursion Fits pages
+  pub low : root < 2 ^ 64
+  pub nodes : length pages ≡ nodes_of (commits_before h e) e
+  pub bytes : run ≡ body_of (length h + 1) e root pages ++ zeros 4096
+
+-- The pages of the next entry stand rightly after the prefix, and with its root they keep the rule.
+pub record StandAfter (before : Prefix) (e : Entry) (root : ℕ) (pages : List NodePage) : Type 0 where
+  pub rightly : ArePages before.pages (first_page before.gate e) pages
+  pub keeps : HasNoNodes (pages_after before e pages) before.entries e root pages
 
 -- The extent of a pending entry.
-pub extent_of_pending : (h : List Entry) (e : Entry) (p : Pending) (number : ℕ) (run : List ℕ) → number ≡ length h + 1 → IsMade number e p → IsPending h e p → run ≡ p.extent.items → IsExtentOf h e run
+pub extent_of_pending : (h : List Entry) (e : Entry) (p : Pending) (number : ℕ) (run : List ℕ) → number ≡ length h + 1 → IsMade number e p → IsPending h e p → run ≡ p.extent.items → IsExtentOf h e 0 [] run
 extent_of_pending h e p number run at made is same = record {
   allowed = is.allowed;
   spelled = made.spelled;
-  bytes = same ∙ made.bytes ∙ ap (λ n. body_of n e ++ zeros 4096) at;
+  fits = tt;
+  low = omega arith;
+  nodes = sym (no_nodes (commits_before h e) e);
+  bytes = same ∙ made.bytes ∙ ap (λ n. body_of n e 0 [] ++ zeros 4096) at;
 }
 
-module _ {D : Type 0} {disk : Ghosts D} (h : List Entry) (old : Engine D disk) (e : Entry) (run : List ℕ) (is : IsExtentOf h e run) where
+-- No pages stand rightly after any prefix.
+pub none_stand : (before : Prefix) (e : Entry) → StandAfter before e 0 []
+none_stand before e = record { rightly = λ i. tt; keeps = (refl, refl) }
+
+module _ {D : Type 0} {disk : Ghosts D} (h : List Entry) (old : Engine D disk) (e : Entry) (root : ℕ) (pages : List NodePage) (run : List ℕ) (is : IsExtentOf h e root pages run) where
   -- The result of an append of the run to a log that has too little room for it.
   abbrev pub full : Answer
   full = Err (Full (need (append.body_in_run run)) (room_of old))
@@ -60,11 +80,19 @@ module _ {D : Type 0} {disk : Ghosts D} (h : List Entry) (old : Engine D disk) (
   AnswersFull answer = IsFalse (is_stopped old) → append.IsTooLong old.log run → answer ≡ full
 
   -- The body of the run is the entry's.
-  its_body : IsBodyOf h e (append.body_in_run run)
-  its_body = record { spelled = is.spelled; bytes = brings (length h + 1) e run is.bytes }
+  its_body : (gate : ℕ) (known : Pages) → ArePages known (first_page gate e) pages → IsBodyOf (prefix_to gate h known) e root pages (append.body_in_run run)
+  its_body gate known rightly = record {
+    spelled = is.spelled;
+    fits = is.fits;
+    rightly = rightly;
+    low = is.low;
+    bytes = brings (length h + 1) e root pages run is.bytes;
+  }
 
   needed : need (append.body_in_run run) ≡ need_of h e
-  needed = need-IsBodyOf h e (append.body_in_run run) its_body
+  needed =
+      let same : need (append.body_in_run run) ≡ need (body_of (length h + 1) e root pages) = ap need (brings (length h + 1) e root pages run is.bytes) in
+      omega (arith, same, need-body_of (length h + 1) e root pages is.fits, is.nodes)
 
   -- An append with another result had room.
   pub fits_unless_full : (answer : Answer) → IsFalse (is_stopped old) → AnswersFull answer → (answer ≡ full → ⊥) → need_of h e ≤ room_of old
@@ -89,26 +117,30 @@ module _ {D : Type 0} {disk : Ghosts D} (h : List Entry) (old : Engine D disk) (
 
   -- ---- each moment of an append
 
+  -- What is before the tail of an engine at rest.
+  abbrev pub before_tail : IsAtRest h old → Prefix
+  before_tail rest = prefix_to (tail_of old) h rest.holds.leads.pages
+
   -- A block is left after it for the next gate.
   inside : need_of h e ≤ room_of old → tail_of old + need_of h e < blocks_of old
   inside fits =
       let below : tail_of old < blocks_of old = old.log.tail_inside in
       omega arith
 
-  pub moments : (after : Log D disk) → need_of h e ≤ room_of old → (rest : IsAtRest h old) → log.LogLeaves old.log after (append.IsMoment (disk.contents (device old)) (tail_of old) rest.holds.bodies (append.body_in_run run)) → log.LogLeaves old.log after (IsBeforeOrAfter (disk.size (device old)) h e)
-  moments after fits rest leaves =
+  pub moments : (after : Log D disk) → need_of h e ≤ room_of old → (rest : IsAtRest h old) → StandAfter (before_tail rest) e root pages → log.LogLeaves old.log after (append.IsMoment (disk.contents (device old)) (tail_of old) rest.holds.bodies (append.body_in_run run)) → log.LogLeaves old.log after (IsBeforeOrAfter (disk.size (device old)) h e)
+  moments after fits rest stand leaves =
       let contents = disk.contents (device old) in
       weakens disk.calls disk.images_since (device old) (log.log_device after) (append.IsMoment contents (tail_of old) rest.holds.bodies (append.body_in_run run)) (IsBeforeOrAfter (disk.size (device old)) h e)
-      (before_or_after (disk.size (device old)) contents (blocks_of old) (tail_of old) h rest.holds e (append.body_in_run run) its_body is.allowed (inside fits))
+      (before_or_after (disk.size (device old)) contents (blocks_of old) (tail_of old) h rest.holds e root pages (append.body_in_run run) (its_body (tail_of old) rest.holds.leads.pages stand.rightly) stand.keeps is.allowed (inside fits))
       leaves
 
   -- An append that fails made no call of the device, or the device failed.
-  pub moments_of_fault : (after : Log D disk) (fault : AppendFault) → IsFalse (is_stopped old) → AnswersFull (Err fault) → append.AppendCause old.log after run fault → ((c : Image) → disk.images_since (device old) (disk.calls (device old)) c → disk.images_now (device old) c) → (rest : IsAtRest h old) → log.LogLeaves old.log after (append.IsMoment (disk.contents (device old)) (tail_of old) rest.holds.bodies (append.body_in_run run)) → log.LogLeaves old.log after (IsBeforeOrAfter (disk.size (device old)) h e)
-  moments_of_fault after (Full n room) runs answers_full cause only_now rest leaves =
+  pub moments_of_fault : (after : Log D disk) (fault : AppendFault) → IsFalse (is_stopped old) → AnswersFull (Err fault) → append.AppendCause old.log after run fault → ((c : Image) → disk.images_since (device old) (disk.calls (device old)) c → disk.images_now (device old) c) → (rest : IsAtRest h old) → StandAfter (before_tail rest) e root pages → log.LogLeaves old.log after (append.IsMoment (disk.contents (device old)) (tail_of old) rest.holds.bodies (append.body_in_run run)) → log.LogLeaves old.log after (IsBeforeOrAfter (disk.size (device old)) h e)
+  moments_of_fault after (Full n room) runs answers_full cause only_now rest stand leaves =
       subst (λ l. log.LogLeaves old.log l (IsBeforeOrAfter (disk.size (device old)) h e)) (sym cause.4) (no_moment h old e only_now rest)
-  moments_of_fault after Fault runs answers_full cause only_now rest leaves =
-      moments after (fits_unless_full (Err Fault) runs answers_full (λ no. absurd (cc))) rest leaves
-  moments_of_fault after (AlreadyStopped n) runs answers_full cause only_now rest leaves =
+  moments_of_fault after Fault runs answers_full cause only_now rest stand leaves =
+      moments after (fits_unless_full (Err Fault) runs answers_full (λ no. absurd (cc))) rest stand leaves
+  moments_of_fault after (AlreadyStopped n) runs answers_full cause only_now rest stand leaves =
       let stopped = cause.0 in absurd (cc)
 
   -- ---- an append that succeeds
@@ -127,13 +159,13 @@ module _ {D : Type 0} {disk : Ghosts D} (h : List Entry) (old : Engine D disk) (
       is_receipt = is_receipt;
     }
 
-    pub at_rest : need_of h e ≤ room_of old → log.KeepsBounds old.log new.log → (rest : IsAtRest h old) → Published (disk.contents (device old)) (4096 * (tail_of old + 1)) run (4096 * tail_of old) gate_block (disk.contents (device new)) → log.IsLogAtRest new.log (rest.holds.bodies ++ append.body_in_run run ∷ []) → IsAtRest (h ++ e ∷ []) new
-    at_rest fits kept rest written log_rests =
+    pub at_rest : need_of h e ≤ room_of old → log.KeepsBounds old.log new.log → (rest : IsAtRest h old) → StandAfter (before_tail rest) e root pages → Published (disk.contents (device old)) (4096 * (tail_of old + 1)) run (4096 * tail_of old) gate_block (disk.contents (device new)) → log.IsLogAtRest new.log (rest.holds.bodies ++ append.body_in_run run ∷ []) → IsAtRest (h ++ e ∷ []) new
+    at_rest fits kept rest stand written log_rests =
         let size = disk.size (device old) in
         let now = disk.contents (device new) in
         let below : (k : ℕ) → k < 4096 * tail_of old → now k ≡ disk.contents (device old) k = λ k lt. written.elsewhere k (λ le. absurd (omega arith)) (λ le. absurd (omega arith)) in
         let its_log = AtRest-IsLog now (disk.images_now (device new)) (tail_of new) (rest.holds.bodies ++ append.body_in_run run ∷ []) log_rests in
-        let holds : HoldsHistoryTo size now (blocks_of old) (tail_of old + need_of h e) (h ++ e ∷ []) = holds_with size (disk.contents (device old)) (blocks_of old) (tail_of old) h rest.holds e (append.body_in_run run) its_body is.allowed (inside fits) now below its_log in
+        let holds : HoldsHistoryTo size now (blocks_of old) (tail_of old + need_of h e) (h ++ e ∷ []) = holds_with size (disk.contents (device old)) (blocks_of old) (tail_of old) h rest.holds e root pages (append.body_in_run run) (its_body (tail_of old) rest.holds.leads.pages stand.rightly) stand.keeps is.allowed (inside fits) now below its_log in
         let sized = subst (λ n. HoldsHistoryTo n now (blocks_of old) (tail_of old + need_of h e) (h ++ e ∷ [])) (sym kept.device_kept.same_size) holds in
         let blocked = subst (λ n. HoldsHistoryTo (disk.size (device new)) now n (tail_of old + need_of h e) (h ++ e ∷ [])) (sym kept.blocks) sized in
         let tailed = subst (λ n. HoldsHistoryTo (disk.size (device new)) now (blocks_of new) n (h ++ e ∷ [])) (sym tail_after) blocked in
@@ -153,10 +185,10 @@ effect_of_fault old new run (AlreadyStopped n) answer cause same began synced is
     let stopped = cause.0 in absurd (cc)
 
 -- The numbers of the engine with the new log and the new board.
-module _ {D : Type 0} {disk : Ghosts D} (old : Engine D disk) (e : Entry) (run : List ℕ) (number : ℕ) (bytes : run ≡ body_of number e ++ zeros 4096) (after : Log D disk) (appended : append.IsAppended old.log after run) where
+module _ {D : Type 0} {disk : Ghosts D} (old : Engine D disk) (e : Entry) (root : ℕ) (pages : List NodePage) (fits : AllByRecursion Fits pages) (run : List ℕ) (number : ℕ) (bytes : run ≡ body_of number e root pages ++ zeros 4096) (after : Log D disk) (appended : append.IsAppended old.log after run) where
   pub ends_after : 2 * log.extents_of after + 4 ≤ log.log_tail after
   ends_after =
-      omega (arith, appended.tail, needs_two number e run bytes, appended.extents, old.ends)
+      omega (arith, appended.tail, needs_two number e root pages run bytes fits, appended.extents, old.ends)
 
   pub began_after : old.opened_with ≤ log.extents_of after
   began_after = omega (arith, appended.extents, old.began)

@@ -25,7 +25,8 @@ use Rattle.btr_hist.specs.Legal.{first_some, when, first_out_of_domain, change_r
 use Rattle.btr_hist.proofs.HistoryLemmas.{each-after}
 use Rattle.btr_hist.proofs.RejectionLemmas.{first_none, map_none, none_out_of_domain}
 use Rattle.btr_engine.specs.declared.board.PushFault.{PushFault}
-use Rattle.btr_engine.specs.Board.{HasPast, HasTrees, commits_to}
+use Rattle.btr_engine.specs.Past.{commits_to}
+use Rattle.btr_engine.specs.Board.{HasPast, HasTrees}
 use Rattle.btr_engine.specs.Stage.{PushCause, IsNextTree, change, version_rejection}
 use Rattle.btr_engine.proofs.BoardTrees.{made_by, bag-commits_to}
 use Rattle.btr_engine.proofs.Crowded.{room-allowed}

@@ -18,7 +18,8 @@ use Rattle.btr_hist.specs.declared.kernel.Reads.{Reads}
 use Rattle.btr_hist.specs.History.{ids, kinds, spec_of, commits, latest, recorded}
 use Rattle.btr_hist.specs.Legal.{rejection}
 use Rattle.btr_hist.proofs.HistoryLemmas.{length-kinds, length-recorded, follows-push, unknown}
-use Rattle.btr_engine.specs.Board.{Versions, Kept, HasPast, with_commits, commits_to, HasTrees, reads_count, read_at, HasReads, IsStreamOf, IsBoardOf, IsGrown, IsWellFormed, place_of, ids_of}
+use Rattle.btr_engine.specs.Past.{with_commits, commits_to}
+use Rattle.btr_engine.specs.Board.{Versions, Kept, HasPast, HasTrees, reads_count, read_at, HasReads, IsStreamOf, IsBoardOf, IsGrown, IsWellFormed, place_of, ids_of}
 use Rattle.btr_engine.specs.Stage.{MakesStream, MakesVersion, IsNextTree, with_version}
 use Rattle.btr_engine.proofs.BoardStreams.{place-low, places-push, ids-more, kinds-more, commits-still, recorded-still, ids-still, kinds-still, commits-more, recorded-more, commits-other, recorded-other, unknown-recorded, read-none}
 use Rattle.btr_engine.proofs.BoardTrees.{made_by, with_commits-push}

@@ -10,7 +10,8 @@ use Rattle.btr_hist.specs.declared.entry.Entry.{Entry}
 use Rattle.btr_hist.specs.declared.kernel.Spec.{Spec}
 use Rattle.btr_hist.specs.declared.kernel.Reads.{Reads}
 use Rattle.btr_hist.specs.History.{ids, spec_of, latest, read_by, nothing_read, reads}
-use Rattle.btr_engine.specs.Board.{Versions, Kept, HasVersion, IsTreeOf, IsStreamOf, IsBoardOf, latest_of, reads_count, read_at, commits_to}
+use Rattle.btr_engine.specs.Past.{commits_to}
+use Rattle.btr_engine.specs.Board.{Versions, Kept, HasVersion, IsTreeOf, IsStreamOf, IsBoardOf, latest_of, reads_count, read_at}
 use Rattle.btr_hist.proofs.HistoryLemmas.{unknown}
 use Rattle.btr_engine.proofs.BoardStreams.{unknown-spec, unknown-read}
 use Rattle.btr_engine.proofs.BoardNext.{kept-stream}

@@ -11,7 +11,7 @@ use Rattle.btr_hist.specs.declared.entry.Entry.{Entry}
 use Rattle.btr_base.specs.Commit.{Change}
 use Rattle.btr_hist.specs.History.{replay}
 use Rattle.btr_hist.specs.History.{commits, latest, bag}
-use Rattle.btr_engine.specs.Board.{with_commits, commits_to}
+use Rattle.btr_engine.specs.Past.{with_commits, commits_to}
 
 -- The commit that made a version.
 abbrev pub made_by : ℕ → Change → tree.Commit

@@ -1,6 +1,8 @@
--- Lemmas on the bodies of entries: their lengths, that they are bodies, one more after others, and which history bodies lead to.
+-- Lemmas on the bodies of entries: their lengths, that they are bodies, which entry a body is of, one more after others, and which
+-- history bodies lead to.
 use Rattle.std.specs.Prelude.{◌≡◌, ℕ, ◌+◌, ◌*◌, ◌<◌, ◌≤◌, ◌^◌, List, [], ◌∷◌, ◌++◌, length, take}
-use Rattle.std.proofs.Common.{suc, refl, sym, ◌∙◌, ap, subst, arith, length-append}
+use Rattle.std.specs.List.{flat_map, AllByRecursion}
+use Rattle.std.proofs.Common.{refl, sym, ◌∙◌, ap, subst, arith, length-append}
 use Rattle.std.proofs.lemmas.List.{take_at}
 use Rattle.btr_disk.specs.Gate.{zeros}
 use Rattle.btr_disk.proofs.GateLemmas.{length-zeros}
@@ -8,44 +10,167 @@ use Rattle.btr_log.specs.declared.head.Head.{Head}
 use Rattle.btr_log.specs.Head.{content_blocks, head_bytes, IsHead, entry_head}
 use Rattle.btr_log.proofs.HeadLemmas.{length-head_bytes, head_bytes-one, IsHead-entry_head}
 use Rattle.btr_log.specs.Extents.{IsBody, need}
+use Rattle.btr_node.specs.Page.{page_bytes, Fits}
+use Rattle.btr_node.specs.declared.page.NodePage.{NodePage}
 use Rattle.btr_base.specs.Commit.{Change}
 use Rattle.btr_hist.specs.declared.entry.Entry.{Entry}
 use Rattle.btr_hist.specs.declared.entry.Entry.TheVariants.{Create, Define, Commit, Distillate}
 use Rattle.btr_entry.specs.Grammar.{spelling, IsSpelled}
 use Rattle.btr_entry.proofs.SpellingLemmas.{length-spelling, same_entry}
-use Rattle.btr_engine.specs.Body.{padding, body_of, IsBodyOf, LeadTo, commits_before, node_blocks, nodes_of, need_of}
+use Rattle.btr_engine.specs.Body.{padding, body_of, Prefix, pages_after, with_extent, IsBodyOf}
+use Rattle.btr_engine.specs.Body.{RootRule, HasNoNodes, LeadTo, commits_before, node_blocks, nodes_of, need_of}
+use Rattle.btr_engine.proofs.PageBytes.{parts-one, length-pages, pages-one}
 
 -- ---- the length of a body, and that it is a body
 
-pub length-body_of : (number : ℕ) (e : Entry) → length (body_of number e) ≡ 4096 * content_blocks (length (spelling e))
+-- The spelling of an entry, and zeros up to the end of the last block of the content.
+abbrev pub filled : Entry → List ℕ
+filled e = spelling e ++ zeros (padding (length (spelling e)))
+
+-- The head of the body of an entry.
+abbrev pub head_of : ℕ → Entry → ℕ → List NodePage → Head
+head_of number e root pages = entry_head number (length (spelling e)) (length pages) root
+
+pub length-body_of : (number : ℕ) (e : Entry) (root : ℕ) (pages : List NodePage) → AllByRecursion Fits pages → length (body_of number e root pages) ≡ 4096 * (content_blocks (length (spelling e)) + length pages)
 unfolding body_of
-length-body_of number e =
-    let head = entry_head number (length (spelling e)) in
-    omega (arith, length-append (head_bytes head) (spelling e ++ zeros (padding (length (spelling e)))), length-append (spelling e) (zeros (padding (length (spelling e)))), length-head_bytes head, length-zeros (padding (length (spelling e))))
+length-body_of number e root pages fits =
+    let head = head_of number e root pages in
+    omega (arith, length-append (head_bytes head) (filled e ++ flat_map page_bytes pages), length-append (filled e) (flat_map page_bytes pages), length-append (spelling e) (zeros (padding (length (spelling e)))), length-head_bytes head, length-zeros (padding (length (spelling e))), length-pages pages fits)
 
--- The head of a body keeps the grammar.
-pub IsHead-head_of : (number : ℕ) (e : Entry) → 1 ≤ number → number < 2 ^ 64 → IsSpelled e → IsHead (entry_head number (length (spelling e)))
-IsHead-head_of number e some few is =
-    IsHead-entry_head number (length (spelling e)) some few (omega (arith, length-spelling e is))
+-- The numbers of a body fit their fields, its entry can be spelled, and its pages can be written.
+pub record FitsBody (number : ℕ) (e : Entry) (root : ℕ) (pages : List NodePage) : Type 0 where
+  pub some : 1 ≤ number
+  pub few : number < 2 ^ 64
+  pub spelled : IsSpelled e
+  pub low : root < 2 ^ 64
+  pub fits : AllByRecursion Fits pages
+  pub room : content_blocks (length (spelling e)) + length pages < 2 ^ 64
 
-take-head : (number : ℕ) (e : Entry) → take 64 (body_of number e) ≡ head_bytes (entry_head number (length (spelling e)))
+-- A body without pages fits.
+pub fits-plain : (number : ℕ) (e : Entry) → 1 ≤ number → number < 2 ^ 64 → IsSpelled e → FitsBody number e 0 []
+fits-plain number e some few is =
+    record { some = some; few = few; spelled = is; low = omega arith; fits = tt; room = omega (arith, length-spelling e is) }
+
+module _ (number : ℕ) (e : Entry) (root : ℕ) (pages : List NodePage) where
+  -- The head of a body keeps the grammar.
+  pub IsHead-head_of : FitsBody number e root pages → IsHead (head_of number e root pages)
+  IsHead-head_of is =
+      IsHead-entry_head number (length (spelling e)) (length pages) root is.some is.few (omega (arith, length-spelling e is.spelled)) is.room is.low
+
+  take-head : take 64 (body_of number e root pages) ≡ head_bytes (head_of number e root pages)
+  unfolding body_of
+  take-head =
+      let head = head_of number e root pages in
+      take_at (head_bytes head) (filled e ++ flat_map page_bytes pages) 64 (length-head_bytes head)
+
+  pub IsBody-body_of : FitsBody number e root pages → IsBody (body_of number e root pages) (head_of number e root pages)
+  IsBody-body_of is = record {
+    spells = record { is_head = IsHead-head_of is; spelling = take-head };
+    whole = length-body_of number e root pages is.fits;
+  }
+
+  -- The blocks of a body and of the gate after it.
+  pub need-body_of : AllByRecursion Fits pages → need (body_of number e root pages) ≡ content_blocks (length (spelling e)) + length pages + 1
+  need-body_of fits = omega (arith, length-body_of number e root pages fits)
+
+module _ (before : Prefix) (e : Entry) (root : ℕ) (pages : List NodePage) (body : List ℕ) (is : IsBodyOf before e root pages body) where
+  needed : need body ≡ content_blocks (length (spelling e)) + length pages + 1
+  needed = ap need is.bytes ∙ need-body_of (length before.entries + 1) e root pages is.fits
+
+  -- A body and the gate after it are at least two blocks.
+  pub least-IsBodyOf : 2 ≤ need body
+  least-IsBodyOf = omega (arith, needed)
+
+  -- A body that is not too long fits.
+  pub FitsBody-of : length before.entries + 1 < 2 ^ 64 → need body ≤ 2 ^ 64 → FitsBody (length before.entries + 1) e root pages
+  FitsBody-of few short = record {
+    some = omega arith;
+    few = few;
+    spelled = is.spelled;
+    low = is.low;
+    fits = is.fits;
+    room = omega (arith, short, needed);
+  }
+
+-- ---- the entry of a body
+
+-- Two bodies with the same number are of the same entry, with the same root and the same pages.
+abbrev pub SameBody : Entry → ℕ → List NodePage → Entry → ℕ → List NodePage → Type 0
+SameBody e root pages f other others = (e ≡ f) × (root ≡ other) × (pages ≡ others)
+
+pub body_of-one : (number : ℕ) (e f : Entry) (root other : ℕ) (pages others : List NodePage) → FitsBody number e root pages → FitsBody number f other others → body_of number e root pages ≡ body_of number f other others → SameBody e root pages f other others
 unfolding body_of
-take-head number e =
-    let head = entry_head number (length (spelling e)) in
-    take_at (head_bytes head) (spelling e ++ zeros (padding (length (spelling e)))) 64 (length-head_bytes head)
+body_of-one number e f root other pages others is is_too same =
+    let first = head_of number e root pages in
+    let second = head_of number f other others in
+    let pads = λ (x : Entry). length-append (spelling x) (zeros (padding (length (spelling x)))) in
+    let parts = parts-one (head_bytes first) (head_bytes second) (filled e ++ flat_map page_bytes pages) (filled f ++ flat_map page_bytes others) (length-head_bytes first ∙ sym (length-head_bytes second)) same in
+    let heads : first ≡ second = head_bytes-one first second (IsHead-head_of number e root pages is) (IsHead-head_of number f other others is_too) parts.0 in
+    let size : length (spelling e) ≡ length (spelling f) = ap (λ (h : Head). h.length) heads in
+    let long : length (filled e) ≡ length (filled f) =
+    pads e ∙ ap (λ n. n + length (zeros (padding n))) size ∙ sym (pads f) in
+    let contents = parts-one (filled e) (filled f) (flat_map page_bytes pages) (flat_map page_bytes others) long parts.1 in
+    let spellings = parts-one (spelling e) (spelling f) (zeros (padding (length (spelling e)))) (zeros (padding (length (spelling f)))) size contents.0 in (
+      same_entry e f is.spelled is_too.spelled spellings.0,
+      ap (λ (h : Head). h.root) heads,
+      pages-one pages others is.fits is_too.fits contents.1,
+    )
 
-pub IsBody-body_of : (number : ℕ) (e : Entry) → 1 ≤ number → number < 2 ^ 64 → IsSpelled e → IsBody (body_of number e) (entry_head number (length (spelling e)))
-IsBody-body_of number e some few is = record {
-  spells = record { is_head = IsHead-head_of number e some few is; spelling = take-head number e };
-  whole = length-body_of number e;
-}
+-- A body that is not too long is that of one entry at most, with one root and one list of pages.
+pub IsBodyOf-one : (before : Prefix) (e f : Entry) (root other : ℕ) (pages others : List NodePage) (body : List ℕ) → length before.entries + 1 < 2 ^ 64 → need body ≤ 2 ^ 64 → IsBodyOf before e root pages body → IsBodyOf before f other others body → SameBody e root pages f other others
+IsBodyOf-one before e f root other pages others body few short is is_too =
+    body_of-one (length before.entries + 1) e f root other pages others (FitsBody-of before e root pages body is few short) (FitsBody-of before f other others body is_too few short) (sym is.bytes ∙ is_too.bytes)
 
--- The blocks of a body and of the gate after it.
-pub need-body_of : (number : ℕ) (e : Entry) → need (body_of number e) ≡ content_blocks (length (spelling e)) + 1
-need-body_of number e = omega (arith, length-body_of number e)
+-- ---- bodies that lead from one prefix to another
+
+module _ (Rule : RootRule) where
+  -- Bodies, and then others.
+  pub LeadTo-append : (before : Prefix) (bodies : List (List ℕ)) (mid : Prefix) (more : List (List ℕ)) (after : Prefix) → LeadTo Rule before bodies mid → LeadTo Rule mid more after → LeadTo Rule before (bodies ++ more) after
+  LeadTo-append before [] mid more after leads rest = subst (λ p. LeadTo Rule p more after) (sym leads) rest
+  LeadTo-append before (body ∷ bodies) mid more after leads rest = (
+    leads.0,
+    leads.1,
+    leads.2,
+    leads.3,
+    leads.4,
+    LeadTo-append (with_extent before leads.0 leads.2 body) bodies mid more after leads.5 rest,
+  )
+
+  -- One more after others.
+  pub LeadTo-push : (before : Prefix) (bodies : List (List ℕ)) (at : Prefix) (e : Entry) (root : ℕ) (pages : List NodePage) (body : List ℕ) → LeadTo Rule before bodies at → IsBodyOf at e root pages body → Rule (pages_after at e pages) at.entries e root pages → LeadTo Rule before (bodies ++ body ∷ []) (with_extent at e pages body)
+  LeadTo-push before bodies at e root pages body leads is keeps =
+      LeadTo-append before bodies at (body ∷ []) (with_extent at e pages body) leads (e, root, pages, is, keeps, refl)
+
+  -- Each body is that of one entry.
+  pub LeadTo-length : (before : Prefix) (bodies : List (List ℕ)) (after : Prefix) → LeadTo Rule before bodies after → length after.entries ≡ length before.entries + length bodies
+  LeadTo-length before [] after leads =
+      let same : length before.entries ≡ length after.entries = ap (λ (p : Prefix). length p.entries) leads in
+      omega (arith, same)
+  LeadTo-length before (body ∷ bodies) after leads =
+      omega (arith, LeadTo-length (with_extent before leads.0 leads.2 body) bodies after leads.5, length-append before.entries (leads.0 ∷ []))
+
+  -- Each body has at least two blocks, with the gate after it.
+  pub LeadTo-gate : (before : Prefix) (bodies : List (List ℕ)) (after : Prefix) → LeadTo Rule before bodies after → before.gate + 2 * length bodies ≤ after.gate
+  LeadTo-gate before [] after leads =
+      let same : before.gate ≡ after.gate = ap (λ (p : Prefix). p.gate) leads in
+      omega (arith, same)
+  LeadTo-gate before (body ∷ bodies) after leads =
+      omega (arith, LeadTo-gate (with_extent before leads.0 leads.2 body) bodies after leads.5, least-IsBodyOf before leads.0 leads.1 leads.2 body leads.3)
+
+  -- The same bodies lead to one prefix, if its gate and its entries have numbers of 64 bits.
+  pub LeadTo-one : (before : Prefix) (bodies : List (List ℕ)) (after other : Prefix) → length before.entries + length bodies < 2 ^ 64 → after.gate < 2 ^ 64 → LeadTo Rule before bodies after → LeadTo Rule before bodies other → after ≡ other
+  LeadTo-one before [] after other few short first second = sym first ∙ second
+  LeadTo-one before (body ∷ bodies) after other few short first second =
+      let next = with_extent before first.0 first.2 body in
+      let size : need body ≤ 2 ^ 64 = omega (arith, short, LeadTo-gate next bodies after first.5) in
+      let same = IsBodyOf-one before first.0 second.0 first.1 second.1 first.2 second.2 body (omega (arith, few)) size first.3 second.3 in
+      let here : with_extent before second.0 second.2 body ≡ next = λ i. with_extent before (sym same.0 i) (sym same.2 i) body in
+      LeadTo-one next bodies after other (omega (arith, few, length-append before.entries (first.0 ∷ []))) short first.5 (subst (λ p. LeadTo Rule p bodies other) here second.5)
+
+-- ---- in this format: without nodes
 
 -- No extent has node blocks.
-no_nodes : (past : List Change) (e : Entry) → nodes_of past e ≡ 0
+pub no_nodes : (past : List Change) (e : Entry) → nodes_of past e ≡ 0
 unfolding node_blocks
 no_nodes past (Create id) = refl
 no_nodes past (Define id spec) = refl
@@ -53,72 +178,12 @@ no_nodes past (Commit stream cut added) = refl
 no_nodes past (Distillate stream cut added reads) = refl
 
 -- The body of an entry has the blocks that the entry needs.
-pub need-IsBodyOf : (before : List Entry) (e : Entry) (body : List ℕ) → IsBodyOf before e body → need body ≡ need_of before e
-need-IsBodyOf before e body is =
-    let same : need body ≡ need (body_of (length before + 1) e) = ap need is.bytes in
-    omega (arith, same, need-body_of (length before + 1) e, no_nodes (commits_before before e) e)
+pub need-IsBodyOf : (before : Prefix) (e : Entry) (root : ℕ) (pages : List NodePage) (body : List ℕ) → IsBodyOf before e root pages body → HasNoNodes (pages_after before e pages) before.entries e root pages → need body ≡ need_of before.entries e
+need-IsBodyOf before e root pages body is keeps =
+    let none : length pages ≡ 0 = ap (length {A = NodePage}) keeps.1 in
+    omega (arith, needed before e root pages body is, none, no_nodes (commits_before before.entries e) e)
 
--- A body and the gate after it are at least two blocks.
-pub least-IsBodyOf : (before : List Entry) (e : Entry) (body : List ℕ) → IsBodyOf before e body → 2 ≤ need body
-least-IsBodyOf before e body is =
-    let same : need body ≡ need (body_of (length before + 1) e) = ap need is.bytes in
-    omega (arith, same, need-body_of (length before + 1) e)
-
--- ---- one more after others
-
-pub LeadTo-push : (before : List Entry) (bodies : List (List ℕ)) (h : List Entry) (e : Entry) (body : List ℕ) → LeadTo before bodies h → IsBodyOf h e body → LeadTo before (bodies ++ body ∷ []) (h ++ e ∷ [])
-LeadTo-push before [] h e body leads is =
-    (e, subst (λ k. IsBodyOf k e body) (sym leads) is, ap (λ k. k ++ e ∷ []) leads)
-LeadTo-push before (first ∷ bodies) h e body leads is =
-    (leads.0, leads.1, LeadTo-push (before ++ leads.0 ∷ []) bodies h e body leads.2 is)
-
--- ---- the entry of a body
-
--- If two lists are equal and their first parts have the same length, their parts are equal.
-parts-one : (a b x y : List ℕ) → length a ≡ length b → a ++ x ≡ b ++ y → (a ≡ b) × (x ≡ y)
-parts-one [] [] x y size same = (refl, same)
-parts-one [] (d ∷ b) x y size same = absurd (omega arith)
-parts-one (c ∷ a) [] x y size same = absurd (omega arith)
-parts-one (c ∷ a) (d ∷ b) x y size same =
-    let tails : a ++ x ≡ b ++ y = cc in
-    let rest = parts-one a b x y (omega arith) tails in
-    let heads : c ≡ d = cc in
-    let prefixes : a ≡ b = rest.0 in
-    (cc, rest.1)
-
--- If two bodies with the same number are equal, their spellings are.
-pub body_of-spelling : (number : ℕ) (e f : Entry) → 1 ≤ number → number < 2 ^ 64 → IsSpelled e → IsSpelled f → body_of number e ≡ body_of number f → spelling e ≡ spelling f
-unfolding body_of
-body_of-spelling number e f some few is is_too same =
-    let first = entry_head number (length (spelling e)) in
-    let second = entry_head number (length (spelling f)) in
-    let parts = parts-one (head_bytes first) (head_bytes second) (spelling e ++ zeros (padding (length (spelling e)))) (spelling f ++ zeros (padding (length (spelling f)))) (length-head_bytes first ∙ sym (length-head_bytes second)) same in
-    let heads : first ≡ second = head_bytes-one first second (IsHead-head_of number e some few is) (IsHead-head_of number f some few is_too) parts.0 in
-    let size : length (spelling e) ≡ length (spelling f) = ap (λ (h : Head). h.length) heads in
-    (parts-one (spelling e) (spelling f) (zeros (padding (length (spelling e)))) (zeros (padding (length (spelling f)))) size parts.1).0
-
--- If two bodies with the same number are equal, their entries are.
-pub body_of-one : (number : ℕ) (e f : Entry) → 1 ≤ number → number < 2 ^ 64 → IsSpelled e → IsSpelled f → body_of number e ≡ body_of number f → e ≡ f
-body_of-one number e f some few is is_too same =
-    same_entry e f is is_too (body_of-spelling number e f some few is is_too same)
-
--- A body is that of one entry at most.
-pub IsBodyOf-one : (before : List Entry) (e f : Entry) (body : List ℕ) → length before + 1 < 2 ^ 64 → IsBodyOf before e body → IsBodyOf before f body → e ≡ f
-IsBodyOf-one before e f body few is other =
-    body_of-one (length before + 1) e f (omega arith) few is.spelled other.spelled (sym is.bytes ∙ other.bytes)
-
--- The bodies of a history are as many as its entries.
-pub LeadTo-length : (before : List Entry) (bodies : List (List ℕ)) (h : List Entry) → LeadTo before bodies h → length h ≡ length before + length bodies
-LeadTo-length before [] h leads =
-    let same : length before ≡ length h = ap (length {A = Entry}) leads in
-    omega (arith, same)
-LeadTo-length before (body ∷ bodies) h leads =
-    omega (arith, LeadTo-length (before ++ leads.0 ∷ []) bodies h leads.2, length-append before (leads.0 ∷ []))
-
--- The same bodies lead to one history.
-pub LeadTo-one : (before : List Entry) (bodies : List (List ℕ)) (h k : List Entry) → length before + length bodies < 2 ^ 64 → LeadTo before bodies h → LeadTo before bodies k → h ≡ k
-LeadTo-one before [] h k few first second = sym first ∙ second
-LeadTo-one before (body ∷ bodies) h k few first second =
-    let same : first.0 ≡ second.0 = IsBodyOf-one before first.0 second.0 body (omega (arith, few)) first.1 second.1 in
-    let other : LeadTo (before ++ first.0 ∷ []) bodies k = subst (λ e. LeadTo (before ++ e ∷ []) bodies k) (sym same) second.2 in
-    LeadTo-one (before ++ first.0 ∷ []) bodies h k (omega (arith, few, length-append before (first.0 ∷ []))) first.2 other
+-- A body without a root and without pages.
+pub IsBodyOf-plain : (before : Prefix) (e : Entry) (body : List ℕ) → IsSpelled e → body ≡ body_of (length before.entries + 1) e 0 [] → IsBodyOf before e 0 [] body
+IsBodyOf-plain before e body is same =
+    record { spelled = is; fits = tt; rightly = λ i. tt; low = omega arith; bytes = same }

@@ -14,7 +14,8 @@ use Rattle.btr_super.specs.Choose.{HasSuper, IsChosen}
 use Rattle.btr_hist.specs.declared.entry.Entry.{Entry}
 use Rattle.btr_hist.specs.Legal.{rejection}
 use Rattle.btr_hist.proofs.HistoryLemmas.{follows-push}
-use Rattle.btr_engine.specs.Body.{IsBodyOf, need_of}
+use Rattle.btr_node.specs.declared.page.NodePage.{NodePage}
+use Rattle.btr_engine.specs.Body.{Prefix, prefix_to, no_extents, pages_after, IsBodyOf, HasNoNodes, LeadTo, need_of}
 use Rattle.btr_engine.proofs.BodyLemmas.{LeadTo-push, need-IsBodyOf}
 use Rattle.btr_engine.specs.Holds.{HoldsHistoryTo}
 use Rattle.btr_engine.specs.Step.{IsBeforeOrAfter}
@@ -60,6 +61,10 @@ tails-push first second gate (f ∷ list) body tail other x y =
     tails-push first second (gate + need f) list body tail other x.1 y.1
 
 module _ (size : ℕ) (old : Image) (blocks tail : ℕ) (h : List Entry) (at : HoldsHistoryTo size old blocks tail h) where
+  -- The prefix up to the tail.
+  abbrev pub held : Prefix
+  held = prefix_to tail h at.leads.pages
+
   behind_prefix : 4 ≤ tail
   behind_prefix = Extents-le old first_gate at.bodies tail at.extents
 
@@ -85,11 +90,14 @@ module _ (size : ℕ) (old : Image) (blocks tail : ℕ) (h : List Entry) (at : H
   holds_still new same =
       holds_as_before new (λ k lt. same k) (IsLog-Same old new first_gate at.bodies same (tail, at.extents, at.closed))
 
-  module _ (e : Entry) (body : List ℕ) (is : IsBodyOf h e body) (allowed : rejection h e ≡ None) (fits : tail + need_of h e < blocks) where
+  module _ (e : Entry) (root : ℕ) (pages : List NodePage) (body : List ℕ) (is : IsBodyOf held e root pages body) (keeps : HasNoNodes (pages_after held e pages) h e root pages) (allowed : rejection h e ≡ None) (fits : tail + need_of h e < blocks) where
+    end_of : tail + need body ≡ tail + need_of h e
+    end_of = ap (λ n. tail + n) (need-IsBodyOf held e root pages body is keeps)
+
     -- If all below the tail is the same and the log has this entry too, the image holds the history with it.
     pub holds_with : (new : Image) → ((k : ℕ) → k < 4096 * tail → new k ≡ old k) → IsLog new first_gate (at.bodies ++ body ∷ []) → HoldsHistoryTo size new blocks (tail + need_of h e) (h ++ e ∷ [])
     holds_with new below log =
-        let end : log.0 ≡ tail + need_of h e = tails-push old new first_gate at.bodies body tail log.0 at.extents log.1 ∙ ap (λ n. tail + n) (need-IsBodyOf h e body is) in
+        let end : log.0 ≡ tail + need_of h e = tails-push old new first_gate at.bodies body tail log.0 at.extents log.1 ∙ end_of in
         let prefix : 4 ≤ tail = behind_prefix in
         record {
           super = at.super;
@@ -97,7 +105,11 @@ module _ (size : ℕ) (old : Image) (blocks tail : ℕ) (h : List Entry) (at : H
           same_blocks = at.same_blocks;
           bodies = at.bodies ++ body ∷ [];
           extents = subst (Extents new first_gate (at.bodies ++ body ∷ [])) end log.1;
-          leads = LeadTo-push [] at.bodies h e body at.leads is;
+          leads = record {
+            pages = pages_after held e pages;
+            lead = subst (λ g. LeadTo HasNoNodes no_extents (at.bodies ++ body ∷ []) (prefix_to g (h ++ e ∷ []) (pages_after held e pages))) end_of
+                (LeadTo-push HasNoNodes no_extents at.bodies held e root pages body at.leads.lead is keeps);
+          };
           closed = subst (IsClosed new) end log.2;
           inside = fits;
           follows = follows-push h e at.follows allowed;

@@ -1,3 +1,4 @@
+mod PageBytes
 pub mod BodyLemmas
 pub mod NeedLemmas
 pub mod EngineLemmas

@@ -21,7 +21,8 @@ use Rattle.btr_hist.specs.declared.answer.StreamRow.{StreamRow}
 use Rattle.btr_hist.specs.declared.kernel.Spec.{Spec}
 use Rattle.btr_hist.specs.History.{ids, is_output, latest, bag}
 use Rattle.btr_hist.specs.Answer.{answer_at, is_range, is_power, is_width, rows_from}
-use Rattle.btr_engine.specs.Board.{Versions, Kept, commits_to, IsBoardOf}
+use Rattle.btr_engine.specs.Past.{commits_to}
+use Rattle.btr_engine.specs.Board.{Versions, Kept, IsBoardOf}
 use Rattle.btr_engine.specs.Answering.{IsVersion, IsAskedRange}
 use Rattle.btr_engine.proofs.BoardTrees.{bag-commits_to}
 use Rattle.btr_engine.proofs.BoardNext.{kept-stream}

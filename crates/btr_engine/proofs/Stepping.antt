@@ -1,5 +1,6 @@
 -- What a step leaves of an engine: at each moment, and after a refusal.
-use Rattle.std.specs.Prelude.{◌≡◌, ℕ, ◌+◌, ◌*◌, ◌<◌, ◌≤◌, ◌^◌, List, ◌++◌, length, Result, Ok, Err, IsFalse, IfErr, IsErr}
+use Rattle.std.specs.Prelude.{◌≡◌, ℕ, ◌+◌, ◌*◌, ◌≤◌, List, ◌++◌, Result, Ok, Err, IsFalse, IfErr, IsErr}
+use Rattle.std.specs.List.{AllByRecursion}
 use Rattle.std.specs.Result.{IsErrAnd}
 use Rattle.std.specs.Coded.{le_prop}
 use Rattle.std.proofs.Common.{refl, sym, ◌∙◌, ap, subst, inl, arith}
@@ -10,20 +11,20 @@ use Rattle.btr_disk.specs.Bytes.{Image}
 use Rattle.btr_disk.specs.Gate.{zeros}
 use Rattle.btr_disk.proofs.MomentLemmas.{begins}
 use Rattle.btr_log.specs.Extents.{need}
-use Rattle.btr_log.specs.Head.{entry_head}
 use Rattle.btr_log.specs.Append as append
 use Rattle.btr_log.proofs.AppendLemmas.{body_in_run-append, IsAppendRun-from}
 use Rattle.btr_log.specs.Log as log
 use Rattle.btr_hist.specs.declared.entry.Entry.{Entry}
 use Rattle.btr_hist.specs.Legal.{rejection}
-use Rattle.btr_entry.specs.Grammar.{spelling, IsSpelled}
+use Rattle.btr_node.specs.Page.{Fits}
+use Rattle.btr_node.specs.declared.page.NodePage.{NodePage}
 use Rattle.btr_engine.specs.declared.engine.Engine.{Engine}
 use Rattle.btr_engine.specs.declared.step.Pending.{Pending}
 use Rattle.btr_engine.specs.declared.step.StepFault.{StepFault}
 use Rattle.btr_engine.specs.declared.board.PushFault.{PushFault}
 use Rattle.btr_engine.specs.declared.board.PushFault.TheVariants.{Rejected, Want}
 use Rattle.btr_engine.specs.Body.{body_of}
-use Rattle.btr_engine.proofs.BodyLemmas.{IsBody-body_of, need-body_of}
+use Rattle.btr_engine.proofs.BodyLemmas.{head_of, FitsBody, IsBody-body_of, need-body_of}
 use Rattle.btr_engine.specs.Engine.{device, is_stopped, IsAtRest, EngineLeaves}
 use Rattle.btr_engine.specs.Stage.{PushCause}
 use Rattle.btr_engine.specs.Pending.{fault_of_push}
@@ -32,20 +33,20 @@ use Rattle.btr_engine.proofs.EngineLemmas.{holds_in}
 
 -- ---- the extent of an entry
 
-module _ (number : ℕ) (e : Entry) (run : List ℕ) (is : run ≡ body_of number e ++ zeros 4096) where
+module _ (number : ℕ) (e : Entry) (root : ℕ) (pages : List NodePage) (run : List ℕ) (is : run ≡ body_of number e root pages ++ zeros 4096) where
   -- The body of the run is the entry's.
-  pub brings : append.body_in_run run ≡ body_of number e
-  brings = ap append.body_in_run is ∙ body_in_run-append (body_of number e)
+  pub brings : append.body_in_run run ≡ body_of number e root pages
+  brings = ap append.body_in_run is ∙ body_in_run-append (body_of number e root pages)
 
   -- It has two blocks or more, with the gate after it.
-  pub needs_two : 2 ≤ need (append.body_in_run run)
-  needs_two =
-      let same : need (append.body_in_run run) ≡ need (body_of number e) = ap need brings in
-      omega (arith, same, need-body_of number e)
+  pub needs_two : AllByRecursion Fits pages → 2 ≤ need (append.body_in_run run)
+  needs_two fits =
+      let same : need (append.body_in_run run) ≡ need (body_of number e root pages) = ap need brings in
+      omega (arith, same, need-body_of number e root pages fits)
 
-  pub is_append_run : 1 ≤ number → number < 2 ^ 64 → IsSpelled e → append.IsAppendRun run
-  is_append_run some few spelled =
-      subst append.IsAppendRun (sym is) (IsAppendRun-from (body_of number e) (entry_head number (length (spelling e))) (IsBody-body_of number e some few spelled))
+  pub is_append_run : FitsBody number e root pages → append.IsAppendRun run
+  is_append_run fits =
+      subst append.IsAppendRun (sym is) (IsAppendRun-from (body_of number e root pages) (head_of number e root pages) (IsBody-body_of number e root pages fits))
 
 module _ {D : Type 0} {disk : Ghosts D} where
   -- ---- a step that changes nothing

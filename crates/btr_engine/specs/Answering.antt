@@ -10,7 +10,7 @@ use Rattle.btr_hist.specs.declared.answer.Rows.{Rows}
 use Rattle.btr_hist.specs.declared.query.At.{At}
 use Rattle.btr_hist.specs.History.{ids, latest}
 use Rattle.btr_hist.specs.Answer.{answer_at, version_of, is_range}
-use Rattle.btr_engine.specs.Board.{commits_to}
+use Rattle.btr_engine.specs.Past.{commits_to}
 
 -- The version that is asked, which the stream has, and its tree.
 pub record IsVersion (h : List Entry) (stream asked version : ℕ) (t : TreeValue) : Type 0 where

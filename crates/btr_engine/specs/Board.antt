@@ -1,18 +1,17 @@
 -- What a board keeps of a history: of each stream the id, the spec, the trees of its versions and what they have read; and the
 -- number of entries.
-use Rattle.std.specs.Prelude.{◌≡◌, ℕ, zero, suc, ◌+◌, ◌-◌, ◌<◌, ◌≤◌, nat_eq, nat_le, List, []}
-use Rattle.std.specs.Prelude.{◌∷◌, length, map, take, slice_get, slice_index_or, Option, Some, None}
-use Rattle.std.specs.Prelude.{if◌then◌else◌}
+use Rattle.std.specs.Prelude.{◌≡◌, ℕ, zero, suc, ◌+◌, ◌-◌, ◌<◌, ◌≤◌, nat_eq, nat_le, List, length}
+use Rattle.std.specs.Prelude.{map, slice_get, slice_index_or, Option, Some, None, if◌then◌else◌}
 use Rattle.std.specs.List.{position_from, AllByRecursion}
 use Rattle.btr_base.specs.declared.limits.TheConstants.{MAX_STREAMS, MAX_VERSIONS}
-use Rattle.btr_tree.specs.History.{Past, nothing, ◌▷◌}
+use Rattle.btr_tree.specs.History.{Past}
 use Rattle.btr_tree.specs.Root.{TreeValue, IsTree}
 use Rattle.btr_hist.specs.declared.entry.Entry.{Entry}
 use Rattle.btr_hist.specs.declared.kernel.Spec.{Spec}
 use Rattle.btr_hist.specs.declared.kernel.Reads.{Reads}
-use Rattle.btr_base.specs.Commit.{Change}
-use Rattle.btr_hist.specs.History.{ids, spec_of, commits, latest, read_by}
+use Rattle.btr_hist.specs.History.{ids, spec_of, latest, read_by}
 use Rattle.btr_hist.specs.Legal.{Follows}
+use Rattle.btr_engine.specs.Past.{commits_to}
 
 -- A stream: its id, the spec of an output, the trees of its versions, from version 0 on, and what the versions of an output have
 -- read, from version 1 on. A plain stream has no spec and no reads.
@@ -51,16 +50,6 @@ pub record IsWellFormed (streams : List Versions) (number : ℕ → Option ℕ) 
   pub few : length streams ≤ MAX_STREAMS
   pub each : (place : ℕ) (d : Versions) → place < length streams → IsGrown (slice_index_or streams place d)
   pub numbered : (id : ℕ) → number id ≡ place_of (ids_of streams) id
-
--- The past of a tree with these commits after `before`, each with the version that it makes. `made` versions were made before.
-abbrev pub with_commits : ℕ → Past → List Change → Past
-with_commits made before [] = before
-with_commits made before (c ∷ cs) =
-    with_commits (made + 1) (record { version = made + 1; cut = c.cut; added = c.added } ▷ before) cs
-
--- The past of the tree of a version of a stream: the stream's commits up to the version.
-abbrev pub commits_to : List Entry → ℕ → ℕ → Past
-commits_to h stream version = with_commits 0 nothing (take version (commits h stream))
 
 -- The trees of a stream's versions, from version 0 on.
 pub record HasTrees (h : List Entry) (stream : ℕ) (trees : List TreeValue) : Type 0 where

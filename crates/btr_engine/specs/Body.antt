@@ -1,8 +1,13 @@
 -- The bytes of an entry's extent: the body of the entry with its number; and the blocks that entries need.
-use Rattle.std.specs.Prelude.{◌≡◌, ℕ, ◌+◌, ◌-◌, ◌*◌, List, [], ◌∷◌, ◌++◌, length}
+use Rattle.std.specs.Prelude.{◌≡◌, ℕ, ◌+◌, ◌-◌, ◌*◌, ◌^◌, ◌<◌, List, [], ◌∷◌, ◌++◌, length}
+use Rattle.std.specs.List.{flat_map, AllByRecursion}
 use Rattle.btr_base.specs.Commit.{Change}
 use Rattle.btr_disk.specs.Gate.{zeros}
+use Rattle.btr_log.specs.Extents.{need, first_gate}
 use Rattle.btr_log.specs.Head.{content_blocks, head_bytes, entry_head}
+use Rattle.btr_node.specs.Page.{page_bytes, Fits}
+use Rattle.btr_node.specs.declared.page.NodePage.{NodePage}
+use Rattle.btr_pages.specs.Pages.{Pages, no_pages, with_pages, ArePages}
 use Rattle.btr_hist.specs.declared.entry.Entry.{Entry}
 use Rattle.btr_hist.specs.declared.entry.Entry.TheVariants.{Create, Define, Commit, Distillate}
 use Rattle.btr_hist.specs.History.{commits}
@@ -14,20 +19,73 @@ use Rattle.btr_entry.specs.Grammar.{spelling, IsSpelled}
 abbrev pub padding : ℕ → ℕ
 padding length = 4096 * content_blocks length - (64 + length)
 
--- The body of the entry with this number: its head, its spelling, and zeros up to the end of the last block.
-unfoldable pub body_of : ℕ → Entry → List ℕ
-body_of number e =
-    head_bytes (entry_head number (length (spelling e))) ++ (spelling e ++ zeros (padding (length (spelling e))))
+-- The body of the entry with this number, with this root and these pages: its head, its spelling, zeros up to the end of the last
+-- block of the content, and the pages, one in each block.
+unfoldable pub body_of : ℕ → Entry → ℕ → List NodePage → List ℕ
+body_of number e root pages =
+    head_bytes (entry_head number (length (spelling e)) (length pages) root)
+    ++ ((spelling e ++ zeros (padding (length (spelling e)))) ++ flat_map page_bytes pages)
 
--- The body is that of this entry, which is the next one after the entries `before`.
-pub record IsBodyOf (before : List Entry) (e : Entry) (body : List ℕ) : Type 0 where
+-- ---- the part of a log before a gate
+
+-- What is before a gate of a log: the entries of the extents, and the pages in their blocks.
+pub record Prefix : Type 0 where
+  pub gate : ℕ
+  pub entries : List Entry
+  pub pages : Pages
+
+-- The prefix up to this gate, with these entries and these pages.
+abbrev pub prefix_to : ℕ → List Entry → Pages → Prefix
+prefix_to gate h pages = record { gate = gate; entries = h; pages = pages }
+
+-- Before the first gate there is no extent.
+abbrev pub no_extents : Prefix
+no_extents = prefix_to first_gate [] no_pages
+
+-- The block of the first page of an entry's extent, whose gate is this one.
+abbrev pub first_page : ℕ → Entry → ℕ
+first_page gate e = gate + 1 + content_blocks (length (spelling e))
+
+-- The pages that stand after the extent of an entry with these pages, if its gate is the one after the prefix.
+abbrev pub pages_after : Prefix → Entry → List NodePage → Pages
+pages_after before e pages = with_pages before.pages (first_page before.gate e) pages
+
+-- The prefix with the extent of an entry more, with these pages and this body.
+abbrev pub with_extent : Prefix → Entry → List NodePage → List ℕ → Prefix
+with_extent before e pages body =
+    prefix_to (before.gate + need body) (before.entries ++ e ∷ []) (pages_after before e pages)
+
+-- The body is that of this entry, which is the next one after the prefix, with this root and these pages. The pages stand rightly
+-- behind the gate, among those that stand before it.
+pub record IsBodyOf (before : Prefix) (e : Entry) (root : ℕ) (pages : List NodePage) (body : List ℕ) : Type 0 where
   pub spelled : IsSpelled e
-  pub bytes : body ≡ body_of (length before + 1) e
+  pub fits : AllByRecursion Fits pages
+  pub rightly : ArePages before.pages (first_page before.gate e) pages
+  pub low : root < 2 ^ 64
+  pub bytes : body ≡ body_of (length before.entries + 1) e root pages
 
--- After the entries `before` these bodies lead to the history: each is that of the next entry.
-abbrev pub LeadTo : List Entry → List (List ℕ) → List Entry → Type 0
-LeadTo before [] h = before ≡ h
-LeadTo before (body ∷ bodies) h = (e : Entry) × IsBodyOf before e body × LeadTo (before ++ e ∷ []) bodies h
+-- ---- the history to which bodies lead
+
+-- A rule on the root of the next entry after others, and on the pages that its extent adds to those that stand.
+abbrev pub RootRule : Type 1
+RootRule = Pages → List Entry → Entry → ℕ → List NodePage → Type 0
+
+-- In this format no commit writes pages, and no entry has a root.
+abbrev pub HasNoNodes : RootRule
+HasNoNodes known before e root pages = (root ≡ 0) × (pages ≡ [])
+
+-- The extents with these bodies lead from one prefix to another: each body is that of the next entry, and its root and its pages keep
+-- the rule.
+abbrev pub LeadTo : RootRule → Prefix → List (List ℕ) → Prefix → Type 0
+LeadTo Rule before [] after = before ≡ after
+LeadTo Rule before (body ∷ bodies) after =
+    (e : Entry) × (root : ℕ) × (pages : List NodePage) × IsBodyOf before e root pages body
+    × Rule (pages_after before e pages) before.entries e root pages × LeadTo Rule (with_extent before e pages body) bodies after
+
+-- From the first gate of a log to this one the extents with these bodies lead to this history, and to some pages.
+pub record LeadToHistory (Rule : RootRule) (bodies : List (List ℕ)) (gate : ℕ) (h : List Entry) : Type 0 where
+  pub pages : Pages
+  pub lead : LeadTo Rule no_extents bodies (prefix_to gate h pages)
 
 -- ---- the blocks of an entry
 

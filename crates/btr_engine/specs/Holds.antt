@@ -1,5 +1,5 @@
 -- Which history a device holds: what its bytes have to be.
-use Rattle.std.specs.Prelude.{◌≡◌, ℕ, ◌<◌, List, []}
+use Rattle.std.specs.Prelude.{◌≡◌, ℕ, ◌<◌, List}
 use Rattle.btr_disk.specs.Bytes.{Image}
 use Rattle.btr_disk.specs.Gate.{IsClosed}
 use Rattle.btr_log.specs.Extents.{Extents, first_gate}
@@ -7,7 +7,7 @@ use Rattle.btr_super.specs.declared.superblock.Super.{Super}
 use Rattle.btr_super.specs.Choose.{IsChosen}
 use Rattle.btr_hist.specs.declared.entry.Entry.{Entry}
 use Rattle.btr_hist.specs.Legal.{Follows}
-use Rattle.btr_engine.specs.Body.{LeadTo}
+use Rattle.btr_engine.specs.Body.{HasNoNodes, LeadToHistory}
 
 -- A device of `size` blocks with these bytes holds a store of `blocks` blocks with this history. A superblock is chosen that
 -- gives this number of blocks. From block 4 on extents with these bodies follow open gates, and the bodies lead to the history: each
@@ -19,7 +19,7 @@ pub record HoldsHistoryTo (size : ℕ) (image : Image) (blocks tail : ℕ) (h : 
   pub same_blocks : super.blocks ≡ blocks
   pub bodies : List (List ℕ)
   pub extents : Extents image first_gate bodies tail
-  pub leads : LeadTo [] bodies h
+  pub leads : LeadToHistory HasNoNodes bodies tail h
   pub closed : IsClosed image tail
   pub inside : tail < blocks
   pub follows : Follows h

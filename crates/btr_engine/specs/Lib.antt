@@ -1,3 +1,5 @@
+-- the commits that a version has
+pub mod Past
 -- the bytes of an entry's extent
 pub mod Body
 -- which history a device holds

@@ -16,7 +16,7 @@ use Rattle.btr_engine.specs.Stage.{IsReceipt}
 -- The extent is the entry's, with this number. The board has this number of entries, and the receipt says it.
 pub record IsMade (number : ℕ) (e : Entry) (p : Pending) : Type 0 where
   pub spelled : IsSpelled e
-  pub bytes : p.extent.items ≡ body_of number e ++ zeros 4096
+  pub bytes : p.extent.items ≡ body_of number e 0 [] ++ zeros 4096
   pub counted : p.staged.next.entries ≡ number
   pub numbered : p.staged.receipt.number ≡ number
 

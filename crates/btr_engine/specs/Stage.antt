@@ -18,7 +18,8 @@ use Rattle.btr_hist.specs.Machine as machine
 use Rattle.btr_engine.specs.declared.board.Receipt.{Receipt}
 use Rattle.btr_engine.specs.declared.board.PushFault.{PushFault}
 use Rattle.btr_engine.specs.declared.board.PushFault.TheVariants.{Rejected, Want}
-use Rattle.btr_engine.specs.Board.{Versions, HasTrees, commits_to}
+use Rattle.btr_engine.specs.Past.{commits_to}
+use Rattle.btr_engine.specs.Board.{Versions, HasTrees}
 
 -- Memory may run out before the entry is rejected only while the points are tested that the stream would have. All other tests
 -- come first and take no memory.

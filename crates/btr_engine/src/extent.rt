@@ -1,5 +1,5 @@
 //! The bytes of the extent of an entry.
-ghost use Rattle.std.specs.Prelude.{◌≡◌, ◌≤◌, ◌++◌, IfOk};
+ghost use Rattle.std.specs.Prelude.{◌≡◌, ◌≤◌, ◌++◌, [], IfOk};
 ghost use Rattle.btr_disk.specs.Gate.{zeros};
 ghost use Rattle.btr_entry.specs.Grammar.{IsSpelled, IsWithinBounds};
 ghost use Rattle.btr_engine.specs.Body.{body_of};
@@ -19,11 +19,11 @@ pub(crate) fn encode_extent(
 ) -> Result<Vec<u8>, AllocError>
     requires bounds { IsWithinBounds entry.now }
     requires number { 1 ≤ number }
-    ensures bytes { IfOk result (λ v. v.items ≡ body_of number entry.now ++ zeros 4096) }
+    ensures bytes { IfOk result (λ v. v.items ≡ body_of number entry.now 0 [] ++ zeros 4096) }
     ensures spelled { IfOk result (λ v. IsSpelled entry.now) }
 {
     let content = encode(alloc, entry)?;
-    let head = Head::for_entry(number, content.len() as u64);
+    let head = Head::for_entry(number, content.len() as u64, 0, 0);
     let mut bytes = [0; HEAD_BYTES];
     head.encode(&mut bytes);
     let length = (head.n as usize + 1) * BLOCK;

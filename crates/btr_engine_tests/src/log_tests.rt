@@ -36,7 +36,7 @@ fn a_head_is_spelled_as_by_hand(rt: HostRuntime) {
         nodes: 0,
         root: 0,
     };
-    assert!(rt; Head::for_entry(1, 5) == head);
+    assert!(rt; Head::for_entry(1, 5, 0, 0) == head);
     let mut bytes = [7; HEAD_BYTES];
     head.encode(&mut bytes);
     assert!(rt; bytes == ENTRY);

@@ -1,16 +1,19 @@
--- The parts of the body of an entry: the head, the content after it, and zeros.
-use Rattle.std.specs.Prelude.{◌≡◌, ℕ, ◌+◌, ◌-◌, ◌*◌, ◌<◌, ◌≤◌, ◌^◌, List, ◌++◌, length, take, drop, EachIndex, slice_index, Option, Some, None, IfNone}
-use Rattle.std.proofs.Common.{refl, sym, ◌∙◌, ap, subst, arith, get_or, replicate}
-use Rattle.std.proofs.lemmas.List.{take_at, drop_at, drop-drop, length-take-le, length-drop, take-append-drop, take_rest, ext_get_or, length-replicate, get_or-replicate}
+-- The parts of the body of an entry: the head, the content after it, zeros, and pages.
+use Rattle.std.specs.Prelude.{◌≡◌, ℕ, ◌+◌, ◌-◌, ◌*◌, ◌<◌, ◌≤◌, ◌^◌, List, [], ◌++◌, length, take, drop, EachIndex, slice_index, Option, Some, None, IfNone}
+use Rattle.std.specs.List.{flat_map}
+use Rattle.std.proofs.Common.{refl, sym, ◌∙◌, ap, subst, arith, append_assoc, get_or, replicate}
+use Rattle.std.proofs.lemmas.List.{append-nil, take_at, drop_at, drop-drop, length-take-le, length-drop, take-append-drop, take_rest, ext_get_or, length-replicate, get_or-replicate}
 use Rattle.btr_disk.specs.Gate.{zeros}
 use Rattle.btr_log.specs.declared.head.Head.{Head}
 use Rattle.btr_log.specs.Head.{content_blocks, head_bytes, IsHead, entry_head}
 use Rattle.btr_log.proofs.HeadLemmas.{length-head_bytes, Spells-one}
 use Rattle.btr_log.specs.Extents.{IsBody}
+use Rattle.btr_node.specs.Page.{page_bytes}
+use Rattle.btr_node.specs.declared.page.NodePage.{NodePage}
 use Rattle.btr_hist.specs.declared.entry.Entry.{Entry}
 use Rattle.btr_entry.specs.Grammar.{spelling, IsSpelled, IsEntry}
 use Rattle.btr_engine.specs.Body.{padding, body_of}
-use Rattle.btr_engine.proofs.BodyLemmas.{IsBody-body_of}
+use Rattle.btr_engine.proofs.BodyLemmas.{filled, head_of, FitsBody, fits-plain, IsBody-body_of}
 
 -- ---- zeros
 
@@ -34,59 +37,61 @@ content long body = take long (drop 64 body)
 abbrev pub behind : ℕ → List ℕ → List ℕ
 behind long body = drop (64 + long) body
 
--- Number and length determine the head of an entry.
-pub head_is : (number : ℕ) (head : Head) → IsHead head → head.kind ≡ 1 → head.number ≡ number → head.nodes ≡ 0 → head.root ≡ 0 → head ≡ entry_head number head.length
-head_is number head is kind same none nowhere =
+-- Number, length, node blocks and root determine the head of an entry.
+pub head_is : (number : ℕ) (head : Head) → IsHead head → head.kind ≡ 1 → head.number ≡ number → head ≡ entry_head number head.length head.nodes head.root
+head_is number head is kind same =
     let format = is.format in
-    let n : head.n ≡ content_blocks head.length = omega (arith, is.blocks) in
-    λ i. record { kind = kind i; format = format i; number = same i; n = n i; length = head.length; nodes = none i; root = nowhere i }
+    let n = is.blocks in
+    λ i. record { kind = kind i; format = format i; number = same i; n = n i; length = head.length; nodes = head.nodes; root = head.root }
 
 parts_of : (long : ℕ) (body : List ℕ) → take 64 body ++ (content long body ++ behind long body) ≡ body
 parts_of long body =
     let rest : content long body ++ behind long body ≡ drop 64 body = ap (λ l. content long body ++ l) (sym (drop-drop long 64 body)) ∙ take-append-drop long (drop 64 body) in
     ap (λ l. take 64 body ++ l) rest ∙ take-append-drop 64 body
 
--- A body of these parts is the entry's.
-pub body_from_parts : (number : ℕ) (body : List ℕ) (head : Head) (e : Entry) → IsBody body head → head ≡ entry_head number head.length → content head.length body ≡ spelling e → behind head.length body ≡ zeros (length (behind head.length body)) → body ≡ body_of number e
-unfolding body_of
-body_from_parts number body head e is same spelled zero =
-    let whole : length body ≡ 4096 * content_blocks head.length = is.whole ∙ ap (λ (h : Head). 4096 * h.n) same in
-    let le : head.length ≤ length (drop 64 body) = omega (arith, length-drop 64 body) in
-    let long : head.length ≡ length (spelling e) = sym (length-take-le head.length (drop 64 body) le) ∙ ap length spelled in
-    let pad : length (behind head.length body) ≡ padding (length (spelling e)) = length-drop (64 + head.length) body ∙ ap (λ n. n - (64 + head.length)) whole ∙ ap padding long in
-    let heads : take 64 body ≡ head_bytes (entry_head number (length (spelling e))) = is.spells.spelling ∙ ap head_bytes same ∙ ap (λ n. head_bytes (entry_head number n)) long in
-    let tails : behind head.length body ≡ zeros (padding (length (spelling e))) = zero ∙ ap zeros pad in
-    sym (parts_of head.length body) ∙ ap (λ l. l ++ (content head.length body ++ behind head.length body)) heads ∙ ap (λ l. head_bytes (entry_head number (length (spelling e))) ++ (l ++ behind head.length body)) spelled ∙ ap (λ l. head_bytes (entry_head number (length (spelling e))) ++ (spelling e ++ l)) tails
+-- The bytes after the spelling of an entry, in a body with these pages.
+abbrev pub after_content : Entry → List NodePage → List ℕ
+after_content e pages = zeros (padding (length (spelling e))) ++ flat_map page_bytes pages
 
 -- The body of an entry has these parts.
-pub record Parts (number : ℕ) (body : List ℕ) (head : Head) (e : Entry) : Type 0 where
-  pub heads : head ≡ entry_head number (length (spelling e))
+pub record Parts (number : ℕ) (body : List ℕ) (head : Head) (e : Entry) (root : ℕ) (pages : List NodePage) : Type 0 where
+  pub heads : head ≡ head_of number e root pages
   pub contents : content head.length body ≡ spelling e
-  pub zero : behind head.length body ≡ zeros (padding (length (spelling e)))
+  pub rest : behind head.length body ≡ after_content e pages
 
-content_of : (number : ℕ) (e : Entry) → content (length (spelling e)) (body_of number e) ≡ spelling e
+-- A body of these parts is the entry's.
+pub body_from_parts : (number : ℕ) (body : List ℕ) (head : Head) (e : Entry) (root : ℕ) (pages : List NodePage) → IsBody body head → Parts number body head e root pages → body ≡ body_of number e root pages
 unfolding body_of
-content_of number e =
-    let head = head_bytes (entry_head number (length (spelling e))) in
-    let rest = spelling e ++ zeros (padding (length (spelling e))) in
-    ap (take (length (spelling e))) (drop_at head rest 64 (length-head_bytes (entry_head number (length (spelling e))))) ∙ take_at (spelling e) (zeros (padding (length (spelling e)))) (length (spelling e)) refl
+body_from_parts number body head e root pages is parts =
+    let front = head_bytes (head_of number e root pages) in
+    let heads : take 64 body ≡ front = is.spells.spelling ∙ ap head_bytes parts.heads in
+    let whole : spelling e ++ after_content e pages ≡ filled e ++ flat_map page_bytes pages = sym (append_assoc (spelling e) (zeros (padding (length (spelling e)))) (flat_map page_bytes pages)) in
+    sym (parts_of head.length body) ∙ ap (λ l. l ++ (content head.length body ++ behind head.length body)) heads ∙ ap (λ l. front ++ (l ++ behind head.length body)) parts.contents ∙ ap (λ l. front ++ (spelling e ++ l)) parts.rest ∙ ap (λ l. front ++ l) whole
 
-behind_of : (number : ℕ) (e : Entry) → behind (length (spelling e)) (body_of number e) ≡ zeros (padding (length (spelling e)))
+-- The bytes after the head of a body.
+after_head : (number : ℕ) (e : Entry) (root : ℕ) (pages : List NodePage) → drop 64 (body_of number e root pages) ≡ spelling e ++ after_content e pages
 unfolding body_of
-behind_of number e =
-    let head = head_bytes (entry_head number (length (spelling e))) in
-    let rest = spelling e ++ zeros (padding (length (spelling e))) in
-    sym (drop-drop (length (spelling e)) 64 (head ++ rest)) ∙ ap (drop (length (spelling e))) (drop_at head rest 64 (length-head_bytes (entry_head number (length (spelling e))))) ∙ drop_at (spelling e) (zeros (padding (length (spelling e)))) (length (spelling e)) refl
+after_head number e root pages =
+    let head = head_of number e root pages in
+    drop_at (head_bytes head) (filled e ++ flat_map page_bytes pages) 64 (length-head_bytes head) ∙ append_assoc (spelling e) (zeros (padding (length (spelling e)))) (flat_map page_bytes pages)
 
-pub parts_from_body : (number : ℕ) (body : List ℕ) (head : Head) (e : Entry) → 1 ≤ number → number < 2 ^ 64 → IsBody body head → IsSpelled e → body ≡ body_of number e → Parts number body head e
-parts_from_body number body head e some few is spelled same =
-    let made : IsBody body (entry_head number (length (spelling e))) = subst (λ b. IsBody b (entry_head number (length (spelling e)))) (sym same) (IsBody-body_of number e some few spelled) in
-    let heads : head ≡ entry_head number (length (spelling e)) = Spells-one (take 64 body) head (entry_head number (length (spelling e))) is.spells made.spells in
+content_of : (number : ℕ) (e : Entry) (root : ℕ) (pages : List NodePage) → content (length (spelling e)) (body_of number e root pages) ≡ spelling e
+content_of number e root pages =
+    ap (take (length (spelling e))) (after_head number e root pages) ∙ take_at (spelling e) (after_content e pages) (length (spelling e)) refl
+
+behind_of : (number : ℕ) (e : Entry) (root : ℕ) (pages : List NodePage) → behind (length (spelling e)) (body_of number e root pages) ≡ after_content e pages
+behind_of number e root pages =
+    sym (drop-drop (length (spelling e)) 64 (body_of number e root pages)) ∙ ap (drop (length (spelling e))) (after_head number e root pages) ∙ drop_at (spelling e) (after_content e pages) (length (spelling e)) refl
+
+pub parts_from_body : (number : ℕ) (body : List ℕ) (head : Head) (e : Entry) (root : ℕ) (pages : List NodePage) → FitsBody number e root pages → IsBody body head → body ≡ body_of number e root pages → Parts number body head e root pages
+parts_from_body number body head e root pages fits is same =
+    let made : IsBody body (head_of number e root pages) = subst (λ b. IsBody b (head_of number e root pages)) (sym same) (IsBody-body_of number e root pages fits) in
+    let heads : head ≡ head_of number e root pages = Spells-one (take 64 body) head (head_of number e root pages) is.spells made.spells in
     let long : head.length ≡ length (spelling e) = ap (λ (h : Head). h.length) heads in
     record {
       heads = heads;
-      contents = ap (λ n. content n body) long ∙ ap (content (length (spelling e))) same ∙ content_of number e;
-      zero = ap (λ n. behind n body) long ∙ ap (behind (length (spelling e))) same ∙ behind_of number e;
+      contents = ap (λ n. content n body) long ∙ ap (content (length (spelling e))) same ∙ content_of number e root pages;
+      rest = ap (λ n. behind n body) long ∙ ap (behind (length (spelling e))) same ∙ behind_of number e root pages;
     }
 
 -- ---- slices of a body
@@ -111,27 +116,39 @@ BehindAreZeros head body =
     let rest = take (length body - (64 + head.length)) (drop (64 + head.length) body) in EachIndex rest (λ k. slice_index rest k ≡ 0)
 
 module _ (number : ℕ) (body : List ℕ) (head : Head) (some : 1 ≤ number) (few : number < 2 ^ 64) (is : IsBody body head) where
-  pub body_of_found : IsEntryHead head number → BehindAreZeros head body → (e : Entry) → IsEntry (take (64 + head.length - 64) (drop 64 body)) e → IsSpelled e × (body ≡ body_of number e)
+  pub body_of_found : IsEntryHead head number → BehindAreZeros head body → (e : Entry) → IsEntry (take (64 + head.length - 64) (drop 64 body)) e → IsSpelled e × (body ≡ body_of number e 0 [])
   body_of_found fields each e entry =
-      let same = head_is number head is.spells.is_head fields.0 fields.1 fields.2 fields.3 in
-      let rest = behind_slice head.length body in
-      let zero = subst (λ l. l ≡ zeros (length l)) rest (zeros_from_each (take (length body - (64 + head.length)) (drop (64 + head.length) body)) each) in
-      (entry.is_spelled, body_from_parts number body head e is same (sym (content_slice head.length body) ∙ entry.bytes_are) zero)
+      let contents : content head.length body ≡ spelling e = sym (content_slice head.length body) ∙ entry.bytes_are in
+      let n : head.n ≡ content_blocks head.length + head.nodes = is.spells.is_head.blocks in
+      let none : head.nodes ≡ 0 = fields.2 in
+      let whole : length body ≡ 4096 * content_blocks head.length = omega (arith, is.whole, n, none) in
+      let le : head.length ≤ length (drop 64 body) = omega (arith, length-drop 64 body) in
+      let long : head.length ≡ length (spelling e) = sym (length-take-le head.length (drop 64 body) le) ∙ ap length contents in
+      let pad : length (behind head.length body) ≡ padding (length (spelling e)) = length-drop (64 + head.length) body ∙ ap (λ n. n - (64 + head.length)) whole ∙ ap padding long in
+      let zero = subst (λ l. l ≡ zeros (length l)) (behind_slice head.length body) (zeros_from_each (take (length body - (64 + head.length)) (drop (64 + head.length) body)) each) in
+      let parts : Parts number body head e 0 [] = record {
+        heads = head_is number head is.spells.is_head fields.0 fields.1 ∙ (λ i. entry_head number (long i) (fields.2 i) (fields.3 i));
+        contents = contents;
+        rest = zero ∙ ap zeros pad ∙ sym (append-nil (zeros (padding (length (spelling e)))));
+      } in
+      (entry.is_spelled, body_from_parts number body head e 0 [] is parts)
 
-  pub fields_of : (e : Entry) → IsSpelled e → body ≡ body_of number e → IsEntryHead head number
+  plain_parts : (e : Entry) → IsSpelled e → body ≡ body_of number e 0 [] → Parts number body head e 0 []
+  plain_parts e spelled same = parts_from_body number body head e 0 [] (fits-plain number e some few spelled) is same
+
+  pub fields_of : (e : Entry) → IsSpelled e → body ≡ body_of number e 0 [] → IsEntryHead head number
   fields_of e spelled same =
-      let heads = (parts_from_body number body head e some few is spelled same).heads in
+      let heads = (plain_parts e spelled same).heads in
       (ap (λ (h : Head). h.kind) heads, ap (λ (h : Head). h.number) heads, ap (λ (h : Head). h.nodes) heads, ap (λ (h : Head). h.root) heads)
 
-  pub zeros_of : (e : Entry) → IsSpelled e → body ≡ body_of number e → BehindAreZeros head body
+  pub zeros_of : (e : Entry) → IsSpelled e → body ≡ body_of number e 0 [] → BehindAreZeros head body
   zeros_of e spelled same =
-      let parts = parts_from_body number body head e some few is spelled same in
-      each_from_zeros (padding (length (spelling e))) (take (length body - (64 + head.length)) (drop (64 + head.length) body)) (behind_slice head.length body ∙ parts.zero)
+      let pad = padding (length (spelling e)) in
+      each_from_zeros pad (take (length body - (64 + head.length)) (drop (64 + head.length) body)) (behind_slice head.length body ∙ (plain_parts e spelled same).rest ∙ append-nil (zeros pad))
 
-  pub content_of_body : (e : Entry) → IsSpelled e → body ≡ body_of number e → IsEntry (take (64 + head.length - 64) (drop 64 body)) e
+  pub content_of_body : (e : Entry) → IsSpelled e → body ≡ body_of number e 0 [] → IsEntry (take (64 + head.length - 64) (drop 64 body)) e
   content_of_body e spelled same =
-      let parts = parts_from_body number body head e some few is spelled same in
-      record { is_spelled = spelled; bytes_are = content_slice head.length body ∙ parts.contents }
+      record { is_spelled = spelled; bytes_are = content_slice head.length body ∙ (plain_parts e spelled same).contents }
 
 -- What holds of `None`, weakened.
 pub IfNone_then : {X : Type 0} (o : Option X) (P Q : Type 0) → (P → Q) → IfNone o P → IfNone o Q

@@ -1,5 +1,5 @@
 -- Why an opening fails: what the faults of a log and of a choice mean for a store.
-use Rattle.std.specs.Prelude.{◌≡◌, ℕ, ◌+◌, ◌*◌, ◌<◌, ◌≤◌, ◌↔◌, List, length, Some, None, Result, Err}
+use Rattle.std.specs.Prelude.{◌≡◌, ℕ, ◌+◌, ◌*◌, ◌<◌, ◌≤◌, ◌↔◌, List, [], length, Some, None, Result, Err}
 use Rattle.std.proofs.Common.{refl, sym, ◌∙◌, ap, subst, arith, inl, inr}
 use Rattle.btr_disk.specs.Bytes.{Image, Has}
 use Rattle.btr_disk.specs.Gate.{IsOpen}
@@ -20,7 +20,8 @@ use Rattle.btr_hist.specs.Legal.{rejection, Follows}
 use Rattle.btr_entry.specs.Grammar.{IsSpelled}
 use Rattle.btr_open.specs.declared.opening.OpenCause.{OpenCause}
 use Rattle.btr_open.specs.declared.opening.OpenCause.TheVariants.{NotAStore, Damaged, Fault, Want}
-use Rattle.btr_engine.specs.Body.{body_of}
+use Rattle.btr_engine.specs.Body.{body_of, Prefix, HasNoNodes}
+use Rattle.btr_engine.proofs.BodyLemmas.{IsBodyOf-plain}
 use Rattle.btr_open.specs.Outline.{MayFollow}
 use Rattle.btr_open.specs.Walk.{IsWalk, IsNoEntryBody, IsDamagedEntry, IsDamagedLog}
 use Rattle.btr_open.specs.Damage.{IsDamaged}
@@ -29,49 +30,51 @@ use Rattle.btr_open.specs.Opening.{OpenCauseHolds}
 use Rattle.btr_engine.specs.Board.{Kept, IsBoardOf}
 use Rattle.btr_open.specs.Reading.{IsStoreOf, MayNotAdd}
 
-module _ (size : ℕ) (image : Image) (blocks gate : ℕ) (h : List Entry) where
+module _ (size : ℕ) (image : Image) (blocks : ℕ) (log : Prefix) where
   -- The next extent is damaged in this block.
-  pub damaged_next : (block : ℕ) → IsDamagedEntry MayFollow image blocks gate h block → IsWalk MayFollow image gate h → IsStoreOf size image blocks → IsDamaged size image block
+  pub damaged_next : (block : ℕ) → IsDamagedEntry HasNoNodes MayFollow image blocks log block → IsWalk HasNoNodes MayFollow image log → IsStoreOf size image blocks → IsDamaged size image block
   damaged_next block damage walk store =
-      let log : IsDamagedLog MayFollow image blocks block = record { entries = h; gate = gate; walk = walk; damage = damage } in
-      inr (store.0, store.1, subst (λ b. IsDamagedLog MayFollow image b block) (sym store.2) log)
+      let damaged : IsDamagedLog HasNoNodes MayFollow image blocks block = record { log = log; walk = walk; damage = damage } in
+      inr (store.0, store.1, subst (λ b. IsDamagedLog HasNoNodes MayFollow image b block) (sym store.2) damaged)
 
-  module _ (number : ℕ) (at : number ≡ length h + 1) (head : Head) (body : List ℕ) (next : ℕ) (whole : IsWholeExtent blocks gate head body next) (stands : IsOpen image gate × Has image (4096 * (gate + 1)) body) where
-    inside : gate + need body < blocks
-    inside = omega (arith, whole.inside, next-IsWholeExtent image blocks gate head body next whole)
+  module _ (number : ℕ) (at : number ≡ length log.entries + 1) (head : Head) (body : List ℕ) (next : ℕ) (whole : IsWholeExtent blocks log.gate head body next) (stands : IsOpen image log.gate × Has image (4096 * (log.gate + 1)) body) where
+    inside : log.gate + need body < blocks
+    inside = omega (arith, whole.inside, next-IsWholeExtent image blocks log.gate head body next whole)
 
     -- The next extent holds no entry.
-    no_entry_next : IsNoEntryBody number body → IsDamagedEntry MayFollow image blocks gate h (gate + 1)
+    no_entry_next : IsNoEntryBody number body → IsDamagedEntry HasNoNodes MayFollow image blocks log (log.gate + 1)
     no_entry_next none = inr (inl (record {
       head = head;
       body = body;
-      extent = IsExtent-found image blocks gate head body next whole stands;
+      extent = IsExtent-found image blocks log.gate head body next whole stands;
       inside = inside;
-      no_entry = subst (λ n. IsNoEntryBody n body) at none;
+      no_entry = λ e root pages is keeps. none e is.spelled (is.bytes ∙ (λ i. body_of (sym at i) e (keeps.0 i) (keeps.1 i)));
       first = refl;
     }))
 
     -- The next extent holds an entry that may not follow.
-    refused_next : Follows h → (e : Entry) (why : Rejection) → IsSpelled e → body ≡ body_of number e → rejection h e ≡ Some why → IsDamagedEntry MayFollow image blocks gate h (gate + 1)
+    refused_next : Follows log.entries → (e : Entry) (why : Rejection) → IsSpelled e → body ≡ body_of number e 0 [] → rejection log.entries e ≡ Some why → IsDamagedEntry HasNoNodes MayFollow image blocks log (log.gate + 1)
     refused_next follows e why spelled same refused =
         inr (inr (record {
           entry = e;
+          root = 0;
+          pages = [];
           body = body;
           head = head;
-          extent = IsExtent-found image blocks gate head body next whole stands;
-          is = record { spelled = spelled; bytes = same ∙ ap (λ n. body_of n e) at };
+          extent = IsExtent-found image blocks log.gate head body next whole stands;
+          is = IsBodyOf-plain log e body spelled (same ∙ ap (λ n. body_of n e 0 []) at);
           inside = inside;
           forbidden = λ may.
-              let none : rejection h e ≡ None = (decide h e follows).1.0 may in
+              let none : rejection log.entries e ≡ None = (decide log.entries e follows).1.0 may in
               absurd (cc);
           first = refl;
         }))
 
     -- The next extent holds no entry that may follow.
-    pub not_added_next : (board : Kept) → IsBoardOf h board → MayNotAdd board number body → IsDamagedEntry MayFollow image blocks gate h (gate + 1)
+    pub not_added_next : (board : Kept) → IsBoardOf log.entries board → MayNotAdd board number body → IsDamagedEntry HasNoNodes MayFollow image blocks log (log.gate + 1)
     not_added_next board of is = elim is [
       | inl none ↦ no_entry_next none
-      | inr held ↦ let why = held.3 h of in refused_next of.follows held.0 why.0 held.1 held.2 why.1
+      | inr held ↦ let why = held.3 log.entries of in refused_next of.follows held.0 why.0 held.1 held.2 why.1
     ]
 
 module _ (is_observable read : Type 0) (size : ℕ) (image : Image) (blocks gate before after : ℕ) (told : read → is_observable) (damages : read → (block : ℕ) → IsDamagedExtent image blocks gate block → IsDamaged size image block) where

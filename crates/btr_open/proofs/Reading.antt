@@ -13,7 +13,8 @@ use Rattle.btr_log.specs.Extents.{need, IsExtent, Extents, first_gate}
 use Rattle.btr_log.proofs.ExtentLemmas.{Extents-push}
 use Rattle.btr_hist.specs.declared.entry.Entry.{Entry}
 use Rattle.btr_open.specs.declared.opening.OpenCause.{OpenCause}
-use Rattle.btr_engine.specs.Body.{LeadTo}
+use Rattle.btr_pages.specs.Pages.{no_pages}
+use Rattle.btr_engine.specs.Body.{prefix_to, no_extents, pages_after, HasNoNodes, LeadTo, LeadToHistory}
 use Rattle.btr_engine.proofs.BodyLemmas.{least-IsBodyOf, LeadTo-push}
 use Rattle.btr_engine.specs.Board.{Kept, IsBoardOf}
 use Rattle.btr_open.specs.Reading.{IsStoreOf, IsReadTo, CauseBetween, LogCause, OnlyReads, ReadsLog, AddsEntry, IsReadLog}
@@ -54,7 +55,7 @@ module _ {D : Type 0} {disk : Ghosts D} where
     pub ends : 2 * entries + 4 ≤ gate
     pub inside : gate < log_blocks old
     pub bodies : List (List ℕ)
-    pub leads : LeadTo [] bodies h
+    pub leads : LeadToHistory HasNoNodes bodies gate h
     pub extents : disk.is_observable → Extents (disk.contents (log_device old)) first_gate bodies gate
 
   -- The entries of some history were read.
@@ -78,7 +79,7 @@ module _ {D : Type 0} {disk : Ghosts D} where
       ends = omega arith;
       inside = least;
       bodies = [];
-      leads = refl;
+      leads = record { pages = no_pages; lead = refl };
       extents = λ told. refl;
     },
   )
@@ -91,17 +92,23 @@ module _ {D : Type 0} {disk : Ghosts D} where
     -- One entry more was read.
     pub read_more : (new : Log D disk) → ReadsLog mid new → (e : Entry) (next : ℕ) (more : Kept) → AddsEntry mid gate board more e next → HasRead old new more next (entries + 1)
     read_more new reads e next more added =
-        let of = (added h so_far.of).0 in
-        let found = (added h so_far.of).1 in (
+        let before = prefix_to gate h so_far.leads.pages in
+        let of = (added h so_far.leads.pages so_far.of).0 in
+        let found = (added h so_far.leads.pages so_far.of).1 in
+        let behind = pages_after before e found.pages in (
           h ++ e ∷ [],
           record {
             of = of;
             reads = ReadsLog-trans old mid new so_far.reads reads;
             counted = omega (arith, of.entries, length-append h (e ∷ []), so_far.of.entries, so_far.counted);
-            ends = omega (arith, found.after, least-IsBodyOf h e found.body found.is, so_far.ends);
+            ends = omega (arith, found.after, least-IsBodyOf before e found.root found.pages found.body found.is, so_far.ends);
             inside = omega (arith, found.inside, so_far.reads.kept.blocks);
             bodies = so_far.bodies ++ found.body ∷ [];
-            leads = LeadTo-push [] so_far.bodies h e found.body so_far.leads found.is;
+            leads = record {
+              pages = behind;
+              lead = subst (λ g. LeadTo HasNoNodes no_extents (so_far.bodies ++ found.body ∷ []) (prefix_to g (h ++ e ∷ []) behind)) (sym found.after)
+                  (LeadTo-push HasNoNodes no_extents so_far.bodies before e found.root found.pages found.body so_far.leads.lead found.is found.keeps);
+            };
             extents = λ told.
                 let extent = found.extent told in
                 extents-push (disk.contents (log_device old)) gate next so_far.bodies found.body extent.0 (so_far.extents told)
@@ -136,12 +143,15 @@ module _ {D : Type 0} {disk : Ghosts D} where
         (disk.size d1) (disk.size d0) (disk.contents d1) (disk.contents d0) (disk.faults d0) (disk.faults d1) (disk.faults (log_device new)) (disk.faults (log_device new)) cause
         (λ r. (
           r.0,
-          record {
-            bodies = so_far.bodies;
-            extents = subst (λ i. Extents i first_gate so_far.bodies gate) (sym (same_so_far r.0)) (so_far.extents r.0);
-            leads = so_far.leads;
-            may = follows-may h so_far.of.follows;
-          },
+          (
+            so_far.leads.pages,
+            record {
+              bodies = so_far.bodies;
+              extents = subst (λ i. Extents i first_gate so_far.bodies gate) (sym (same_so_far r.0)) (so_far.extents r.0);
+              leads = so_far.leads.lead;
+              may = follows-may h so_far.of.follows;
+            },
+          ),
           subst (λ n. IsStoreOf n (disk.contents d1) (log_blocks mid)) (sym size)
               (subst (λ i. IsStoreOf (disk.size d0) i (log_blocks mid)) (sym (same_so_far r.0)) (subst (IsStoreOf (disk.size d0) (disk.contents d0)) (sym so_far.reads.kept.blocks) r.1)),
         ))

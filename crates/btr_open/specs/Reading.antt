@@ -12,13 +12,15 @@ use Rattle.btr_log.specs.Extents.{need, IsExtent, Extents, first_gate}
 use Rattle.btr_log.specs.Log as log
 use Rattle.btr_super.specs.declared.superblock.Super.{Super}
 use Rattle.btr_super.specs.Choose.{IsChosen}
+use Rattle.btr_node.specs.declared.page.NodePage.{NodePage}
+use Rattle.btr_pages.specs.Pages.{Pages}
 use Rattle.btr_hist.specs.declared.entry.Entry.{Entry}
 use Rattle.btr_hist.specs.declared.rejection.Rejection.{Rejection}
 use Rattle.btr_hist.specs.Legal.{rejection}
 use Rattle.btr_entry.specs.Grammar.{IsSpelled}
 use Rattle.btr_engine.specs.declared.engine.Engine.{Engine}
 use Rattle.btr_open.specs.declared.opening.OpenCause.{OpenCause}
-use Rattle.btr_engine.specs.Body.{body_of, IsBodyOf, LeadTo}
+use Rattle.btr_engine.specs.Body.{body_of, Prefix, prefix_to, pages_after, IsBodyOf, HasNoNodes, LeadToHistory}
 use Rattle.btr_engine.specs.Board.{Kept, IsBoardOf}
 use Rattle.btr_engine.specs.Engine.{device, entries_of, is_stopped, synced_of, entries_at_open, IsEngineOf, IsAtRest}
 use Rattle.btr_open.specs.Outline.{MayFollow}
@@ -32,19 +34,19 @@ IsStoreOf size image blocks = (s : Super) × IsChosen size image s × (s.blocks 
 -- What is known of a device while its log is read: it is observable, and from the first gate to this one it has these entries.
 abbrev pub IsReadTo : Type 0 → ℕ → Image → ℕ → ℕ → List Entry → Type 0
 IsReadTo is_observable size image blocks gate h =
-    is_observable × IsWalk MayFollow image gate h × IsStoreOf size image blocks
+    is_observable × ((pages : Pages) × IsWalk HasNoNodes MayFollow image (prefix_to gate h pages)) × IsStoreOf size image blocks
 
 -- The body with this number is that of an entry, which may follow, and with which the new board is.
 abbrev pub HasAdded : Kept → Kept → ℕ → List ℕ → Type 0
 HasAdded old new number body =
-    (e : Entry) × IsSpelled e × (body ≡ body_of number e)
+    (e : Entry) × IsSpelled e × (body ≡ body_of number e 0 [])
     × ((h : List Entry) → IsBoardOf h old → (rejection h e ≡ None) × IsBoardOf (h ++ e ∷ []) new)
 
 -- The body with this number is that of no entry, or of one that may not follow.
 abbrev pub MayNotAdd : Kept → ℕ → List ℕ → Type 0
 MayNotAdd board number body =
     IsNoEntryBody number body
-    ⊎ ((e : Entry) × IsSpelled e × (body ≡ body_of number e)
+    ⊎ ((e : Entry) × IsSpelled e × (body ≡ body_of number e 0 [])
     × ((h : List Entry) → IsBoardOf h board → (why : Rejection) × (rejection h e ≡ Some why)))
 
 module _ {D : Type 0} (disk : Ghosts D) where
@@ -79,19 +81,23 @@ module _ {D : Type 0} {disk : Ghosts D} where
     pub kept : log.KeepsLog old new
     pub reads : OnlyReads disk (log.log_device old) (log.log_device new)
 
-  -- The entry that was read at this gate: it may follow these entries, and the next gate is after it.
-  pub record IsNextEntry (l : Log D disk) (gate : ℕ) (h : List Entry) (e : Entry) (next : ℕ) : Type 0 where
+  -- The entry that was read at the gate after the prefix: it may follow, and the next gate is after it.
+  pub record IsNextEntry (l : Log D disk) (before : Prefix) (e : Entry) (next : ℕ) : Type 0 where
+    pub root : ℕ
+    pub pages : List NodePage
     pub body : List ℕ
-    pub is : IsBodyOf h e body
-    pub allowed : rejection h e ≡ None
-    pub after : next ≡ gate + need body
+    pub is : IsBodyOf before e root pages body
+    pub keeps : HasNoNodes (pages_after before e pages) before.entries e root pages
+    pub allowed : rejection before.entries e ≡ None
+    pub after : next ≡ before.gate + need body
     pub inside : next < log.log_blocks l
-    pub extent : disk.is_observable → (head : Head) × IsExtent (disk.contents (log.log_device l)) gate body head
+    pub extent : disk.is_observable → (head : Head) × IsExtent (disk.contents (log.log_device l)) before.gate body head
 
   -- For each history that the old board is of, the entry is the next one, and the new board is of the history with it.
   abbrev pub AddsEntry : Log D disk → ℕ → Kept → Kept → Entry → ℕ → Type 0
   AddsEntry l gate old new e next =
-      (h : List Entry) → IsBoardOf h old → IsBoardOf (h ++ e ∷ []) new × IsNextEntry l gate h e next
+      (h : List Entry) (known : Pages) → IsBoardOf h old
+      → IsBoardOf (h ++ e ∷ []) new × IsNextEntry l (prefix_to gate h known) e next
 
   -- The log has the entries of a history that the board is of, and the gate at its end is closed.
   pub record IsReadLog (l : Log D disk) (board : Kept) (tail entries : ℕ) : Type 0 where
@@ -101,6 +107,6 @@ module _ {D : Type 0} {disk : Ghosts D} where
     pub ends : 2 * entries + 4 ≤ tail
     pub inside : tail < log.log_blocks l
     pub bodies : List (List ℕ)
-    pub leads : LeadTo [] bodies history
+    pub leads : LeadToHistory HasNoNodes bodies tail history
     pub extents : disk.is_observable → Extents (disk.contents (log.log_device l)) first_gate bodies tail
     pub closed : disk.is_observable → IsClosed (disk.contents (log.log_device l)) tail

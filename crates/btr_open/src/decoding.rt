@@ -1,5 +1,5 @@
 //! The entry that the bytes of an extent hold.
-ghost use Rattle.std.specs.Prelude.{◌≡◌, ◌≤◌, ◌↔◌, IfOk, IfSome, IfNone, IsTrue, EachIndex, slice_index};
+ghost use Rattle.std.specs.Prelude.{◌≡◌, ◌≤◌, ◌↔◌, [], IfOk, IfSome, IfNone, IsTrue, EachIndex, slice_index};
 ghost use Rattle.btr_log.specs.Extents.{IsBody};
 ghost use Rattle.btr_entry.specs.Grammar.{IsSpelled};
 ghost use Rattle.btr_engine.specs.Body.{body_of};
@@ -10,8 +10,8 @@ use btr_hist::Entry;
 use btr_log::{HEAD_BYTES, Head};
 use std::alloc::{AllocError, Global};
 
-/// Returns the entry whose body with this number, at least 1, these bytes are, or `None` if there is no such entry. The bytes
-/// begin with the head and are as many blocks as it says: this is the caller's condition.
+/// Returns the entry whose body with this number, at least 1, these bytes are, without a root and without pages, or `None` if
+/// there is no such entry. The bytes begin with the head and are as many blocks as it says: this is the caller's condition.
 ///
 /// The bytes of an entry are its body only if all bytes after the content, up to the end of the last block, are zeros.
 pub fn decode_extent(
@@ -22,7 +22,7 @@ pub fn decode_extent(
 ) -> Result<Option<Entry>, AllocError>
     requires body { IsBody body.now head.now }
     requires number { 1 ≤ number }
-    ensures found { IfOk result (λ o. IfSome o (λ e. IsSpelled e × (body.now ≡ body_of number e))) }
+    ensures found { IfOk result (λ o. IfSome o (λ e. IsSpelled e × (body.now ≡ body_of number e 0 []))) }
     ensures none { IfOk result (λ o. IfNone o (IsNoEntryBody number body.now)) }
 {
     if !is_entry_head(head, number) {

@@ -12,7 +12,7 @@ pub encode-requires-2 : goal.encode-requires-2
 encode-requires-2 c =
     let content = c.in_ok-content.content.items in
     let same : length content ≡ length (spelling c.args.entry.now) = ap length c.in_ok-content.ensures.bytes_are in
-    subst IsHead (sym c.for_entry-head.ensures) (IsHead-entry_head c.args.number c.len.result c.requires.number (omega arith) (omega (arith, same, length-spelling c.args.entry.now c.in_ok-content.ensures.is_spelled)))
+    subst IsHead (sym c.for_entry-head.ensures) (IsHead-entry_head c.args.number c.len.result 0 0 c.requires.number (omega arith) (omega (arith, same, length-spelling c.args.entry.now c.in_ok-content.ensures.is_spelled)) (omega (arith, same, length-spelling c.args.entry.now c.in_ok-content.ensures.is_spelled)) (omega arith))
 
 pub returns-clause-bytes : goal.returns-clause-bytes
 returns-clause-bytes c =
@@ -22,9 +22,9 @@ returns-clause-bytes c =
     let written = c.extend_from_slice-2.new.self in
     let size = (head.n + 1) * 4096 in
     let length_is : c.len.result ≡ length content = omega arith in
-    let head_is : head ≡ entry_head c.args.number (length content) = c.for_entry-head.ensures ∙ ap (entry_head c.args.number) length_is in
-    let first : c.extend_from_slice.new.self.items ≡ head_bytes (entry_head c.args.number (length content)) = c.in_ok-extend_from_slice.ensures.items ∙ ap (λ l. l ++ c.encode-2.new.to) c.in_ok-extent.ensures.items ∙ c.encode-2.ensures ∙ ap head_bytes head_is in
-    let both : written.items ≡ head_bytes (entry_head c.args.number (length content)) ++ content = c.in_ok-extend_from_slice-2.ensures.items ∙ ap (λ l. l ++ c.deref.result.now) first ∙ ap (λ l. head_bytes (entry_head c.args.number (length content)) ++ l) c.deref.ensures.value in
+    let head_is : head ≡ entry_head c.args.number (length content) 0 0 = c.for_entry-head.ensures ∙ ap (λ n. entry_head c.args.number n 0 0) length_is in
+    let first : c.extend_from_slice.new.self.items ≡ head_bytes (entry_head c.args.number (length content) 0 0) = c.in_ok-extend_from_slice.ensures.items ∙ ap (λ l. l ++ c.encode-2.new.to) c.in_ok-extent.ensures.items ∙ c.encode-2.ensures ∙ ap head_bytes head_is in
+    let both : written.items ≡ head_bytes (entry_head c.args.number (length content) 0 0) ++ content = c.in_ok-extend_from_slice-2.ensures.items ∙ ap (λ l. l ++ c.deref.result.now) first ∙ ap (λ l. head_bytes (entry_head c.args.number (length content) 0 0) ++ l) c.deref.ensures.value in
     let whole : c.resize.new.self.items ≡ take size written.items ++ replicate (size - written.len) 0 = c.in_ok-resize.ensures.items in
-    let blocks : head.n ≡ content_blocks (length content) = ap (λ (h : Head). h.n) head_is in
+    let blocks : head.n ≡ content_blocks (length content) = omega (arith, ap (λ (h : Head). h.n) head_is) in
     assembled c.args.number e content written.items c.resize.new.self.items size written.len c.in_ok-content.ensures.bytes_are both (ap (λ n. (n + 1) * 4096) blocks) written.ok.0 whole

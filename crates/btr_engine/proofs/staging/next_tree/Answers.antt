@@ -5,7 +5,8 @@ use Rattle.btr_tree.proofs.VersionLemmas.{bag-in_order}
 use Rattle.btr_base.specs.Commit.{Change}
 use Rattle.btr_hist.specs.History.{latest}
 use Rattle.btr_base.specs.declared.limits.TheConstants.{MAX_VERSIONS}
-use Rattle.btr_engine.specs.Board.{HasTrees, commits_to}
+use Rattle.btr_engine.specs.Past.{commits_to}
+use Rattle.btr_engine.specs.Board.{HasTrees}
 use Rattle.btr_engine.specs.Stage.{change}
 use Rattle.btr_engine.proofs.BoardCommits.{latest-is, last-tree, next, next-tree, next-allowed, next-cause, next-times, after-many, past-at}
 use Rattle.btr_engine.proofs.staging.next_tree.Goals.{After-get}

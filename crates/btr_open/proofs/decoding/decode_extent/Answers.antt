@@ -1,4 +1,4 @@
-use Rattle.std.specs.Prelude.{◌≡◌, ◌<◌, ◌^◌, IfSome, IfNone}
+use Rattle.std.specs.Prelude.{◌≡◌, ◌<◌, ◌^◌, [], IfSome, IfNone}
 use Rattle.std.proofs.Common.{sym, ◌∙◌, arith}
 use Rattle.std.proofs.lemmas.Bool.{false≢true}
 use Rattle.std.proofs.lemmas.Result.{IfOk-weaker}
@@ -23,7 +23,7 @@ pub returns-clause-found : goal.returns-clause-found
 returns-clause-found c =
     let few : c.args.number < 2 ^ 64 = omega arith in
     let found = body_of_found c.args.number c.args.body.now c.args.head.now c.requires.number few c.requires.body (c.is_entry_head.ensures.0 c.if-not-is_entry_head.false) (c.are_zeros.ensures.0 c.if-not-are_zeros.false) in
-    IfOk-weaker c.decode.result _ (λ o. IfSome o (λ e. IsSpelled e × (c.args.body.now ≡ body_of c.args.number e)))
+    IfOk-weaker c.decode.result _ (λ o. IfSome o (λ e. IsSpelled e × (c.args.body.now ≡ body_of c.args.number e 0 [])))
     (λ o is. IfSome_then o is found)
     c.decode.ensures.found
 

@@ -17,12 +17,12 @@ returns-in_default-clause-refused c =
 pub returns-in-Ok-clause-added : goal.returns-in-Ok-clause-added
 returns-in-Ok-clause-added c =
     let e = c.in-Some.entry in
-    let found = subst (λ o. IfSome o (λ f. IsSpelled f × (c.args.body.now ≡ body_of c.args.number f))) c.in-Some.is c.in_ok-entry.ensures.found in
+    let found = subst (λ o. IfSome o (λ f. IsSpelled f × (c.args.body.now ≡ body_of c.args.number f 0 []))) c.in-Some.is c.in_ok-entry.ensures.found in
     λ _. (e, found.0, found.1, λ h of. (c.in-Ok.ensures.allowed h of, subst (IsBoardOf (h ++ e ∷ [])) (sym c.accept.ensures.next) (c.in-Ok.ensures.staged h of)))
 
 pub returns-in-Err-Rejected-clause-refused : goal.returns-in-Err-Rejected-clause-refused
 returns-in-Err-Rejected-clause-refused c =
     let e = c.in-Some.entry in
     let why = c.in-Err-Rejected.field-0-0 in
-    let found = subst (λ o. IfSome o (λ f. IsSpelled f × (c.args.body.now ≡ body_of c.args.number f))) c.in-Some.is c.in_ok-entry.ensures.found in
+    let found = subst (λ o. IfSome o (λ f. IsSpelled f × (c.args.body.now ≡ body_of c.args.number f 0 []))) c.in-Some.is c.in_ok-entry.ensures.found in
     λ _. inr (e, found.0, found.1, λ h of. (why, subst (PushCause (rejection h e)) c.in-Err-Rejected.field-0-is (c.in-Err-Rejected.ensures.cause h of)))

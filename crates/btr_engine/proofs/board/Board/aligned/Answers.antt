@@ -6,7 +6,7 @@ use Rattle.btr_base.specs.declared.limits.TheConstants.{MAX_EXPONENT}
 use Rattle.btr_base.specs.Windows.{aligned}
 use Rattle.btr_hist.specs.declared.answer.Rows.TheVariants.{Cells}
 use Rattle.btr_hist.specs.Answer.{version_of, is_range, is_power}
-use Rattle.btr_engine.specs.Board.{commits_to}
+use Rattle.btr_engine.specs.Past.{commits_to}
 use Rattle.btr_engine.proofs.Questions.{asked_range, bad_range, found, refused, power_good}
 use Rattle.btr_engine.proofs.board.Board.aligned.Goals as goal
 

@@ -8,7 +8,7 @@ use Rattle.btr_base.specs.declared.point.Point.{Point}
 use Rattle.btr_hist.specs.declared.answer.Rows.{Rows}
 use Rattle.btr_hist.specs.declared.answer.Rows.TheVariants.{Ranges}
 use Rattle.btr_hist.specs.Answer.{answer_at, is_power}
-use Rattle.btr_engine.specs.Board.{commits_to}
+use Rattle.btr_engine.specs.Past.{commits_to}
 use Rattle.btr_engine.proofs.BoardTrees.{bag-commits_to, up_to-commits_to}
 use Rattle.btr_engine.proofs.Questions.{answer-there, found, power_good}
 use Rattle.btr_engine.proofs.board.Board.changes.Goals as goal

@@ -9,7 +9,7 @@ use Rattle.btr_hist.specs.declared.answer.Rows.TheVariants.{Info}
 use Rattle.btr_hist.specs.History.{is_output, read_by}
 use Rattle.btr_hist.specs.Answer.{version_of}
 use Rattle.std.specs.Prelude.{is_some}
-use Rattle.btr_engine.specs.Board.{commits_to}
+use Rattle.btr_engine.specs.Past.{commits_to}
 use Rattle.btr_engine.proofs.Questions.{found, within_domain}
 use Rattle.btr_engine.proofs.board.Board.info.Goals as goal
 

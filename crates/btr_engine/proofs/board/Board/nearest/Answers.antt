@@ -4,7 +4,7 @@ use Rattle.std.proofs.lemmas.Int.{to_z-of_z}
 use Rattle.btr_base.specs.Nearest.{nearest}
 use Rattle.btr_hist.specs.declared.answer.Rows.TheVariants.{Points}
 use Rattle.btr_hist.specs.Answer.{version_of, list_of}
-use Rattle.btr_engine.specs.Board.{commits_to}
+use Rattle.btr_engine.specs.Past.{commits_to}
 use Rattle.btr_engine.proofs.Questions.{found}
 use Rattle.btr_engine.proofs.board.Board.nearest.Goals as goal
 use Rattle.btr_engine.proofs.board.Board.nearest.Goals.{in-Some+in_ok-push, in_default}

@@ -4,7 +4,7 @@ use Rattle.btr_tree.specs.History as tree
 use Rattle.btr_base.specs.Bag.{within}
 use Rattle.btr_hist.specs.declared.answer.Rows.TheVariants.{Points}
 use Rattle.btr_hist.specs.Answer.{version_of, is_range}
-use Rattle.btr_engine.specs.Board.{commits_to}
+use Rattle.btr_engine.specs.Past.{commits_to}
 use Rattle.btr_engine.proofs.Questions.{asked_range, bad_range, found}
 use Rattle.btr_engine.proofs.board.Board.points.Goals as goal
 

@@ -5,7 +5,7 @@ use Rattle.btr_tree.specs.History as tree
 use Rattle.btr_base.specs.Windows.{windows}
 use Rattle.btr_hist.specs.declared.answer.Rows.TheVariants.{Cells}
 use Rattle.btr_hist.specs.Answer.{version_of, is_range, is_width}
-use Rattle.btr_engine.specs.Board.{commits_to}
+use Rattle.btr_engine.specs.Past.{commits_to}
 use Rattle.btr_engine.proofs.Questions.{asked_range, bad_range, found, width_good}
 use Rattle.btr_engine.proofs.board.Board.windows.Goals as goal
 
