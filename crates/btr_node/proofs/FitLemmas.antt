@@ -11,9 +11,10 @@ use Rattle.std.proofs.lemmas.Bool.Decides.{nat_tests}
 use Rattle.std.proofs.lemmas.Int.{ints}
 use Rattle.std.proofs.lemmas.List.{length-take, get_or-take, get_or-drop, get_or_past}
 use Rattle.btr_base.specs.Agg.{AggValue, IsSummary, no_points}
+use Rattle.btr_node.specs.declared.page.NodePage.{NodePage}
 use Rattle.btr_node.specs.declared.page.NodePage.TheVariants.{Leaf, Inner}
 use Rattle.btr_node.specs.Page.{Fits, FitsFront, FitsPoint, FitsSlot}
-use Rattle.btr_node.specs.Reading.{u32_in, u64_in, u128_in, front_in, point_in, agg_from, agg_in, slot_in, items_in, page_in}
+use Rattle.btr_node.specs.Reading.{u32_in, u64_in, u128_in, front_in, point_in, agg_from, agg_in, slot_in, items_in}
 
 abbrev pub IsBytes : List ℕ → Type 0
 IsBytes bytes = (i : ℕ) → get_or bytes i 0 < 256
@@ -125,6 +126,14 @@ slot-fits bytes h at =
     }
 
 -- ---- a page
+
+-- What the bytes would be, if they are those of a page. The fifth byte tells the kind: `L` of `BTR-LEAF`.
+unfoldable pub page_in : List ℕ → NodePage
+page_in bytes =
+    let f = front_in bytes in
+    if slice_index bytes 4 == 76
+    then Leaf f.start f.height f.stream f.version f.count (items_in point_in 16 252 64 bytes)
+    else Inner f.start f.height f.stream f.version f.count (items_in slot_in 56 64 64 bytes)
 
 items-fit : {X : Type 0} (item : ℕ → List ℕ → X) (Fit : X → Type 0) (w : ℕ) (bytes : List ℕ) → ((at : ℕ) → Fit (item at bytes)) → (n at : ℕ) → AllByRecursion Fit (items_in item w n at bytes)
 unfolding items_in

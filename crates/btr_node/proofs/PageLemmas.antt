@@ -10,8 +10,9 @@ use Rattle.btr_node.specs.declared.page.PageSlot.{PageSlot}
 use Rattle.btr_node.specs.declared.page.NodePage.{NodePage}
 use Rattle.btr_node.specs.declared.page.NodePage.TheVariants.{Leaf, Inner}
 use Rattle.btr_node.specs.Page.{front, front_bytes, point_bytes, slot_bytes, page_bytes, zeros, Fits, FitsPoint, FitsSlot}
-use Rattle.btr_node.specs.Reading.{front_in, point_in, slot_in, items_in, page_in}
+use Rattle.btr_node.specs.Reading.{front_in, point_in, slot_in, items_in}
 use Rattle.btr_node.specs.Laws.{PageOnce}
+use Rattle.btr_node.proofs.FitLemmas.{page_in}
 use Rattle.btr_node.proofs.Places.{front-again, length-front, point-again, point-moved, length-point, slot-again, slot-moved, length-slot, items-again}
 
 -- What follows the fields of both kinds.

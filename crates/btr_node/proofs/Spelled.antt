@@ -1,7 +1,7 @@
 -- The bytes at the places of a page are those of what is read there.
 use Rattle.std.specs.Prelude.{◌≡◌, ℕ, zero, suc, ◌+◌, ◌*◌, ◌/◌, ◌%◌, ◌^◌, ◌<◌, ◌≤◌}
 use Rattle.std.specs.Prelude.{List, [], ◌∷◌, ◌++◌, length, take, drop, codes}
-use Rattle.std.proofs.Common.{refl, sym, ap, ◌∙◌, subst, arith, get_or}
+use Rattle.std.proofs.Common.{refl, sym, ap, ◌∙◌, subst, arith}
 use Rattle.std.proofs.Math.Nat.{div-div-eq-div-mul}
 use Rattle.std.proofs.Math.Seq.{take-add}
 use Rattle.std.specs.Int.{w32, w64, w128, from_be_bytes, cast_unsigned, cast_signed}
@@ -10,7 +10,7 @@ use Rattle.std.proofs.lemmas.Int.{of_z-to_z}
 use Rattle.std.proofs.lemmas.List.{take-append-drop, length-take, length-drop, take_all, get_or-take, get_or-drop}
 use Rattle.std.proofs.lemmas.List.Concat.{flat_map-cons}
 use Rattle.std.proofs.lemmas.Nat.{be_bytes_4, be_bytes_8}
-use Rattle.btr_node.specs.Page.{number, signed, zeros, front_bytes, point_bytes, slot_bytes, ends_or}
+use Rattle.btr_node.specs.Page.{number, signed, zeros, front_bytes, point_bytes, slot_bytes}
 use Rattle.btr_node.specs.Reading.{u32_in, u64_in, u128_in, front_in, point_in, agg_in, slot_in, items_in, IsExactAt, AreExact}
 use Rattle.btr_node.proofs.FitLemmas.{IsBytes, IsBytes-take, IsBytes-drop, u64-fits, u128-fits, below64}
 use Rattle.btr_node.proofs.Places.{drop-more}

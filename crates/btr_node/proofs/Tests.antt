@@ -1,5 +1,5 @@
 -- What the tests of a block find exactly if the block is the bytes of a page.
-use Rattle.std.specs.Prelude.{◌≡◌, ℕ, zero, suc, ◌+◌, ◌*◌, ◌==◌, List, [], ◌∷◌, ◌++◌, length, take, drop, slice_index, codes}
+use Rattle.std.specs.Prelude.{◌≡◌, ℕ, ◌*◌, List, [], ◌∷◌, ◌++◌, length, take, drop, slice_index, codes}
 use Rattle.std.proofs.Common.{inl, inr, refl, sym, ap, ◌∙◌, subst, arith, append_assoc, length-append, ◌⊎◌}
 use Rattle.std.specs.Prelude.{Bool, true, false, not, nat_eq}
 use Rattle.std.specs.Cmp.Lexicographic.{pointwise, same_text, other_text}
@@ -13,8 +13,8 @@ use Rattle.btr_node.specs.declared.page.PageSlot.{PageSlot}
 use Rattle.btr_node.specs.declared.page.NodePage.{NodePage}
 use Rattle.btr_node.specs.declared.page.NodePage.TheVariants.{Leaf, Inner}
 use Rattle.btr_node.specs.Page.{front, number, front_bytes, point_bytes, slot_bytes, page_bytes, zeros, Fits, Spells, IsLeafPage, IsInnerPage}
-use Rattle.btr_node.specs.Reading.{front_in, point_in, slot_in, items_in, page_in, AreExact}
-use Rattle.btr_node.proofs.FitLemmas.{IsBytes, page-fits, length-items}
+use Rattle.btr_node.specs.Reading.{front_in, point_in, slot_in, items_in, AreExact}
+use Rattle.btr_node.proofs.FitLemmas.{IsBytes, page_in, page-fits, length-items}
 use Rattle.btr_node.proofs.PageLemmas.{page-again, leaf-in, inner-in, behind}
 use Rattle.btr_node.proofs.Places.{length-front, length-slot, exact-places}
 use Rattle.btr_node.proofs.Spelled.{leaf-spelled, inner-spelled}

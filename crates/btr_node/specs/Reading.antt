@@ -1,13 +1,11 @@
 -- What the private functions promise: the values that stand at places of a page's bytes, whatever the bytes are.
-use Rattle.std.specs.Prelude.{◌≡◌, ℕ, ◌+◌, ◌*◌, ◌<◌, ◌==◌, ◌&&◌, nat_lt, ℤ, pos, ◌*ℤ◌, int_le, if◌then◌else◌}
-use Rattle.std.specs.Prelude.{zero, suc, List, [], ◌∷◌, take, drop, slice_index, Some}
+use Rattle.std.specs.Prelude.{◌≡◌, ℕ, ◌+◌, ◌*◌, ◌<◌, ◌&&◌, nat_lt, ℤ, pos, ◌*ℤ◌, int_le, if◌then◌else◌}
+use Rattle.std.specs.Prelude.{zero, suc, List, [], ◌∷◌, take, drop, Some}
 use Rattle.std.specs.Int.{w32, w64, w128, from_be_bytes, cast_signed}
 use Rattle.btr_base.specs.declared.point.Point.{Point}
 use Rattle.btr_base.specs.Agg.{AggValue, no_points}
 use Rattle.btr_node.specs.declared.page.Front.{Front}
 use Rattle.btr_node.specs.declared.page.PageSlot.{PageSlot}
-use Rattle.btr_node.specs.declared.page.NodePage.{NodePage}
-use Rattle.btr_node.specs.declared.page.NodePage.TheVariants.{Leaf, Inner}
 use Rattle.btr_node.specs.Page.{ends_or}
 
 -- The number of four, eight or sixteen bytes from an index on.
@@ -68,7 +66,7 @@ IsExactAt at bytes =
     (cast_signed w64 (u64_in (at + 24) bytes))
     (cast_signed w64 (u64_in (at + 32) bytes))
 
--- So are those of the first `number` slots.
+-- The numbers of the first `number` slots are those of aggregates.
 abbrev pub AreExact : ℕ → List ℕ → Type 0
 AreExact number bytes = (k : ℕ) → k < number → IsExactAt (64 + 56 * k) bytes
 
@@ -76,11 +74,3 @@ AreExact number bytes = (k : ℕ) → k < number → IsExactAt (64 + 56 * k) byt
 unfoldable pub items_in : {X : Type 0} → (ℕ → List ℕ → X) → ℕ → ℕ → ℕ → List ℕ → List X
 items_in item width zero at bytes = []
 items_in item width (suc number) at bytes = item at bytes ∷ items_in item width number (at + width) bytes
-
--- What the bytes would be, if they are those of a page. The fifth byte tells the kind: `L` of `BTR-LEAF`.
-unfoldable pub page_in : List ℕ → NodePage
-page_in bytes =
-    let f = front_in bytes in
-    if slice_index bytes 4 == 76
-    then Leaf f.start f.height f.stream f.version f.count (items_in point_in 16 252 64 bytes)
-    else Inner f.start f.height f.stream f.version f.count (items_in slot_in 56 64 64 bytes)

@@ -71,8 +71,10 @@ pub fn decode(bytes: &[u8; PAGE]) -> Option<NodePage>
     }
 }
 
-/// The leaf that a block with the mark of a leaf is, or `None` if it is damaged. No byte is spelled a second time: what is read
-/// of points is other for other bytes, and the places that are not read are compared with zeros.
+/// The leaf that a block with the mark of a leaf is, or `None` if it is damaged. Other bytes are other fields and points, so they
+/// are not compared with the page that is returned. The places that are not read are compared with zeros.
+// It is not inlined, so that the page is made in its place and not copied once more.
+#[inline(never)]
 fn leaf_of(bytes: &[u8; PAGE]) -> Option<NodePage>
     requires { take 8 bytes.now ≡ codes "BTR-LEAF" }
     ensures found { IfSome result (λ page. Spells bytes.now page) }
@@ -98,7 +100,10 @@ fn leaf_of(bytes: &[u8; PAGE]) -> Option<NodePage>
     })
 }
 
-/// The inner node that a block with the mark of an inner node is, or `None` if it is damaged.
+/// The inner node that a block with the mark of an inner node is, or `None` if it is damaged. Other bytes are other fields and
+/// slots, as `read_slots` refuses the numbers of no aggregate. The places that are not read are compared with zeros.
+// It is not inlined, as `leaf_of` is not.
+#[inline(never)]
 fn inner_of(bytes: &[u8; PAGE]) -> Option<NodePage>
     requires { take 8 bytes.now ≡ codes "BTR-NODE" }
     ensures found { IfSome result (λ page. Spells bytes.now page) }

@@ -1,4 +1,4 @@
-use Rattle.std.proofs.Common.{◌≡◌, inl, inr, sym, ap, ◌∙◌, take, codes}
+use Rattle.std.proofs.Common.{inl, inr, sym, ap, ◌∙◌, take, codes}
 use Rattle.std.specs.Cmp.Lexicographic.{other_text}
 use Rattle.btr_node.proofs.Tests.{mark-of}
 use Rattle.btr_node.proofs.codec.decode.Goals as goal

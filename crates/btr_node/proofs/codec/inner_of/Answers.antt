@@ -1,10 +1,10 @@
-use Rattle.std.proofs.Common.{◌≡◌, refl, arith, Some, sym, ap, ◌∙◌, subst, take, drop, rules, FitsSigned, to_z, of_z}
+use Rattle.std.proofs.Common.{refl, arith, Some, sym, ap, ◌∙◌, subst, take, drop, rules, FitsSigned}
 use Rattle.std.specs.Int.{w64}
 use Rattle.std.proofs.lemmas.Bool.{false≢true}
 use Rattle.std.proofs.lemmas.Int.{to_z-of_z}
 use Rattle.std.proofs.lemmas.List.{take_all, length-drop}
 use Rattle.btr_node.specs.declared.page.NodePage.TheVariants.{Inner}
-use Rattle.btr_node.specs.Page.{Keeps, Fits, Spells, page_bytes, zeros}
+use Rattle.btr_node.specs.Page.{Keeps, Fits, Spells, zeros}
 use Rattle.btr_node.proofs.Tests.{inner-is, inner-fits, inner-found, tail-of, exact-of, gap-of, other-bytes, same-bytes}
 use Rattle.btr_node.proofs.codec.inner_of.Goals as goal
 use Rattle.btr_node.proofs.codec.inner_of.Goals.{then-ne-via-then-ne, then-ne-via-else-ne+then-ne-2, then-not-read_slots-via-then-not-read_slots, then-not-read_slots-via-else-not-read_slots+then-not-is_inner}

@@ -1,9 +1,9 @@
-use Rattle.std.proofs.Common.{◌≡◌, refl, Some, sym, ap, ◌∙◌, subst, take, drop, rules, FitsSigned, to_z, of_z}
+use Rattle.std.proofs.Common.{refl, Some, sym, ap, ◌∙◌, subst, take, drop, rules, FitsSigned}
 use Rattle.std.specs.Int.{w64}
 use Rattle.std.proofs.lemmas.Bool.{false≢true}
 use Rattle.std.proofs.lemmas.Int.{to_z-of_z}
 use Rattle.btr_node.specs.declared.page.NodePage.TheVariants.{Leaf}
-use Rattle.btr_node.specs.Page.{Keeps, Fits, Spells, page_bytes, zeros}
+use Rattle.btr_node.specs.Page.{Keeps, Fits, Spells, zeros}
 use Rattle.btr_node.proofs.Tests.{leaf-is, leaf-fits, leaf-found, gap-of, other-bytes, same-bytes}
 use Rattle.btr_node.proofs.codec.leaf_of.Goals as goal
 

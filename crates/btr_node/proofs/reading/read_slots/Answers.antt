@@ -1,6 +1,6 @@
-use Rattle.std.proofs.Common.{◌≡◌, refl, subst, arith}
-use Rattle.btr_node.specs.Reading.{slot_in, items_in, AreExact}
-use Rattle.btr_node.proofs.Places.{one-read, all-read, exact-more}
+use Rattle.std.proofs.Common.{refl, arith}
+use Rattle.btr_node.specs.Reading.{slot_in, items_in}
+use Rattle.btr_node.proofs.Places.{one-read, exact-more}
 use Rattle.btr_node.proofs.reading.read_slots.Goals as goal
 
 pub loop-i-init : goal.loop-i-init
