@@ -1,5 +1,5 @@
-use Rattle.std.proofs.Common.{◌≡◌, sym, ap, subst, ◌∙◌}
-use Rattle.btr_distil.specs.Plan.{PlanValue, change, IsDistillateOf, IsMapped}
+use Rattle.std.proofs.Common.{sym, ap, subst, ◌∙◌}
+use Rattle.btr_distil.specs.Plan.{change, IsMapped}
 use Rattle.btr_distil.proofs.PlanLemmas.{plan-is, mapped-is}
 use Rattle.btr_distil.proofs.planning.plan.Goals as goal
 
