@@ -3,7 +3,8 @@
 //!
 //! [`next_plan`] makes the plan: what brings an output from the versions of its inputs that its latest version has read to their
 //! latest ones. The plan may land later, on a longer history: it says which version of the output it follows, and is still the
-//! distillate of the definition if no other version of the output has followed that one.
+//! distillate of the definition if no other version of the output has followed that one. [`next_plan_shared`] makes the same plan with
+//! several threads.
 #![tactic(auto)]
 
 // what a plan is made from
@@ -11,5 +12,5 @@ mod sighting;
 // the plan
 mod planning;
 
-pub use planning::{Next, next_plan};
+pub use planning::{Next, next_plan, next_plan_shared};
 pub use sighting::sight;

@@ -1,13 +1,18 @@
 //! What is planned for a stream.
-ghost use Rattle.std.specs.Prelude.{List, IfOk};
+ghost use Rattle.std.specs.Prelude.{◌≡◌, ◌↔◌, ℕ, List, IfOk, IsNone, IfSome};
 ghost use Rattle.btr_hist.specs.declared.entry.Entry.{Entry as EntrySpec};
+ghost use Rattle.btr_hist.specs.Legal.{Follows};
 ghost use Rattle.btr_engine.specs.Snapshot.{IsSnapshotOf};
+ghost use Rattle.btr_distil.specs.Plan.{IsPlanFor, IsDistillateOf};
 ghost use Rattle.btr_plan.specs.Next.{IsNext};
+ghost use Rattle.btr_plan.specs.Sight.{IsSightAfter};
 
 use crate::sighting::sight;
-use btr_distil::{Plan, plan};
+use btr_distil::{Plan, Sight, plan, plan_shared};
 use btr_engine::Snapshot;
 use std::alloc::{AllocError, Global};
+use std::marker::Sync;
+use std::thread::Threads;
 
 /// What is planned for a stream.
 #[derive(Drop)]
@@ -32,10 +37,39 @@ pub fn next_plan(alloc: Global, snapshot: &Snapshot, stream: u32) -> Result<Next
     let Some(sight) = sight(snapshot, stream) else {
         return Ok(Next::NotOutput);
     };
-    match plan(alloc, &sight)? {
-        None => Ok(Next::UpToDate {
+    let plan = plan(alloc, &sight)?;
+    Ok(next_of(&sight, plan))
+}
+
+/// Returns what [`next_plan`] does. At most `threads` threads work on the plan at once, the calling one among them; 0 are 1. It costs
+/// what [`plan_shared`] does.
+pub fn next_plan_shared<R: Threads + Sync>(
+    rt: &R,
+    alloc: Global,
+    snapshot: &Snapshot,
+    stream: u32,
+    threads: usize,
+) -> Result<Next, AllocError>
+    ensures { (h : List EntrySpec) → IsSnapshotOf h snapshot.now → IfOk result (IsNext h stream) }
+{
+    let Some(sight) = sight(snapshot, stream) else {
+        return Ok(Next::NotOutput);
+    };
+    let plan = plan_shared(rt, alloc, &sight, threads)?;
+    Ok(next_of(&sight, plan))
+}
+
+/// Returns what is planned for the output of a sight, if that is its plan.
+fn next_of(sight: &Sight<'_>, plan: Option<Plan>) -> Next
+    requires none { IsNone plan ↔ (sight.now.old_reads ≡ sight.now.new_reads) }
+    requires made { IfSome plan (IsPlanFor sight.now) }
+    requires distillate { IfSome plan (IsDistillateOf sight.now) }
+    ensures { (h : List EntrySpec) (stream : ℕ) → Follows h → IsSightAfter h stream sight.now → IsNext h stream result }
+{
+    match plan {
+        None => Next::UpToDate {
             version: sight.base(),
-        }),
-        Some(plan) => Ok(Next::Plan(plan)),
+        },
+        Some(plan) => Next::Plan(plan),
     }
 }
