@@ -14,6 +14,9 @@ use btr_engine::{Board, PushFault, Staged};
 use btr_hist::Entry;
 use std::alloc::{AllocError, Global};
 
+/// The gate that each entry is staged for: the first one of a log. Nothing is written here, so the nodes are dropped.
+const GATE: u64 = 4;
+
 /// What becomes of an entry that is committed or landed. The board is as it was until the entry is accepted.
 #[derive(Drop)]
 pub(crate) enum Outcome {
@@ -33,7 +36,7 @@ pub(crate) fn stage(alloc: Global, board: &Board, entry: &Entry) -> Result<Outco
         // no memory holds a board of so many entries
         return Err(AllocError);
     }
-    match board.stage(alloc, entry) {
+    match board.stage(alloc, entry, GATE) {
         Ok(staged) => Ok(Outcome::Staged(staged)),
         Err(PushFault::Rejected(why)) => Ok(Outcome::Refused(Reply::Rejected(why))),
         Err(PushFault::Want) => Err(AllocError),

@@ -38,13 +38,20 @@ change_bounded c h =
 few_of : (a : ℕ) → nat_lt (2 ^ 34) a ≡ false → a ≤ 2 ^ 34
 few_of a h = grind (arith, nat_tests)
 
+-- A distillate whose change is not rejected has not too many ranges.
+pub distillate_ranges : (c : Change) → distillate_change_rejection c ≡ None → length c.cut ≤ 2 ^ 34
+distillate_ranges c h =
+    let many = when (nat_lt (2 ^ 34) (length c.cut)) (TooMany (length c.cut)) in
+    let outside = option_map (λ (p : Point). OutOfDomain p.time) (first_out_of_domain c.added) in
+    few_of (length c.cut) (when_none (nat_lt (2 ^ 34) (length c.cut)) (TooMany (length c.cut)) (first_none many [] (rest_none outside (many ∷ []) h)))
+
 -- A distillate whose change is not rejected is within bounds, if a version can have its points and streams can have its reads.
 pub distillate_bounded : (c : Change) (r : Reads) → distillate_change_rejection c ≡ None → length c.added ≤ MAX_POINTS → AreVersions r → IsBoundedDistillate c.cut c.added r
 distillate_bounded c r h few versions =
     let many = when (nat_lt (2 ^ 34) (length c.cut)) (TooMany (length c.cut)) in
     let outside = option_map (λ (p : Point). OutOfDomain p.time) (first_out_of_domain c.added) in
     record {
-      few_ranges = few_of (length c.cut) (when_none (nat_lt (2 ^ 34) (length c.cut)) (TooMany (length c.cut)) (first_none many [] (rest_none outside (many ∷ []) h)));
+      few_ranges = distillate_ranges c h;
       few_points = few;
       in_domain = none_out_of_domain c.added (map_none (λ (p : Point). OutOfDomain p.time) (first_out_of_domain c.added) (first_none outside (many ∷ []) h));
       versions = versions;

@@ -1,13 +1,21 @@
--- What the functions promise that stage an entry: why none is staged, and what each stream of the next board has.
-use Rattle.std.specs.Prelude.{◌≡◌, ℕ, ◌+◌, nat_le, List, [], ◌∷◌, ◌++◌, Option, Some, None}
+-- What the functions promise that stage an entry: why none is staged, what each stream of the next board has, and what the entry
+-- writes.
+use Rattle.std.specs.Prelude.{◌≡◌, ℕ, ◌+◌, ◌-◌, ◌*◌, ◌<◌, ◌≤◌, nat_le, List, [], ◌∷◌, ◌++◌, length, slice_get, slice_set, Option, Some, None}
 use Rattle.std.specs.Option.{option_to_list}
-use Rattle.btr_base.specs.declared.limits.TheConstants.{MAX_VERSIONS}
+use Rattle.btr_log.specs.Head.{content_blocks}
+use Rattle.btr_entry.specs.Grammar.{spelling}
+use Rattle.btr_base.specs.declared.limits.TheConstants.{FIRST, MAX_VERSIONS}
 use Rattle.btr_base.specs.declared.point.Point.{Point}
 use Rattle.btr_base.specs.Range.{RangeValue}
 use Rattle.btr_base.specs.Commit.{Change}
-use Rattle.btr_tree.specs.History.{◌▷◌}
-use Rattle.btr_tree.specs.Root.{TreeValue, IsTree}
+use Rattle.btr_tree.specs.History.{Past, nothing, ◌▷◌, IsBefore}
+use Rattle.btr_tree.specs.Nodes.{above_root}
+use Rattle.btr_tree.specs.NewNodes.{NewNodeValue, bare_all, new_nodes}
+use Rattle.btr_tree.specs.Slots.{block_of}
+use Rattle.btr_tree.specs.Stored.{Store, IsBelow, IsLaid}
+use Rattle.btr_tree.specs.Root.{TreeValue, IsTree, AfterCommit}
 use Rattle.btr_hist.specs.declared.entry.Entry.{Entry}
+use Rattle.btr_hist.specs.declared.entry.Entry.TheVariants.{Create, Define, Commit, Distillate}
 use Rattle.btr_hist.specs.declared.kernel.Spec.{Spec}
 use Rattle.btr_hist.specs.declared.kernel.Reads.{Reads}
 use Rattle.btr_hist.specs.declared.rejection.Rejection.{Rejection}
@@ -16,10 +24,11 @@ use Rattle.btr_hist.specs.History.{latest, new_id, new_kind, change_of, read_of}
 use Rattle.btr_hist.specs.Legal.{first_some, when, points_rejection, next_bag}
 use Rattle.btr_hist.specs.Machine as machine
 use Rattle.btr_engine.specs.declared.board.Receipt.{Receipt}
+use Rattle.btr_engine.specs.declared.board.Staged.{Staged}
 use Rattle.btr_engine.specs.declared.board.PushFault.{PushFault}
 use Rattle.btr_engine.specs.declared.board.PushFault.TheVariants.{Rejected, Want}
 use Rattle.btr_engine.specs.Past.{commits_to}
-use Rattle.btr_engine.specs.Board.{Versions, HasTrees}
+use Rattle.btr_engine.specs.Board.{Versions, Kept, HasTrees}
 
 -- Memory may run out before the entry is rejected only while the points are tested that the stream would have. All other tests
 -- come first and take no memory.
@@ -83,3 +92,61 @@ OfEachStream trees P = (h : List Entry) (stream : ℕ) → HasTrees h stream tre
 -- The stream with one version more, which has this tree and has read these versions or none.
 abbrev pub with_version : Versions → TreeValue → Option Reads → Versions
 with_version s t read = record { id = s.id; spec = s.spec; trees = s.trees ++ t ∷ []; reads = s.reads ++ option_to_list read }
+
+-- ---- what an entry writes
+
+-- The block of the first node of an entry, if the gate before its extent is block `tail`: the first one after the gate and the content.
+abbrev pub first_node : ℕ → Entry → ℕ
+first_node tail e = tail + 1 + content_blocks (length (spelling e))
+
+-- What a version writes whose tree is that of `old` after a commit: the new nodes of its tree, one in each block from `first` on, and
+-- the block of its root. It speaks of each past whose tree `old` is, and of each store that holds it below `first`.
+pub record WritesVersion (first version : ℕ) (c : Change) (old new : TreeValue) (nodes : List NewNodeValue) (root : ℕ) : Type 0 where
+  pub tree : AfterCommit old version c.cut c.added (λ h commit. IsTree (commit ▷ h) new)
+  pub new_ones : AfterCommit old version c.cut c.added (λ h commit.
+      0 < version → IsBefore version h → bare_all nodes ≡ new_nodes 10 FIRST above_root (commit ▷ h) version)
+  pub few : AfterCommit old version c.cut c.added (λ h commit.
+      0 < version → IsBefore version h → length nodes ≤ 11 * (253 * length c.added + 2 * length c.cut))
+  pub laid : (store : Store) → IsBelow store first 10 FIRST old.node → IsLaid store first nodes 10 FIRST new.node
+  pub root_is : root ≡ block_of new.node
+
+-- What the next version of a stream writes that has these trees, from version 0 on.
+abbrev pub WritesNext : ℕ → List TreeValue → Change → TreeValue → List NewNodeValue → ℕ → Type 0
+WritesNext first trees c new nodes root =
+    (last : TreeValue) × (slice_get trees (length trees - 1) ≡ Some last)
+    × WritesVersion first (length trees) c last new nodes root
+
+-- The next board has one version more of a stream, which has read these versions or none, and the version writes these nodes.
+pub record WritesCommit (b : Kept) (first stream : ℕ) (c : Change) (read : Option Reads) (next : Kept) (nodes : List NewNodeValue)
+    (root : ℕ) : Type 0 where
+  pub kept : Versions
+  pub there : slice_get b.streams stream ≡ Some kept
+  pub last : TreeValue
+  pub last_is : slice_get kept.trees (length kept.trees - 1) ≡ Some last
+  pub new : TreeValue
+  pub streams : next.streams ≡ slice_set b.streams stream (with_version kept new read)
+  pub writes : WritesVersion first (length kept.trees) c last new nodes root
+
+-- The next board has one stream more, at version 0.
+pub record AddsStream (b : Kept) (id : ℕ) (spec : Option Spec) (next : Kept) : Type 0 where
+  pub tree : TreeValue
+  pub empty : IsTree nothing tree
+  pub streams : next.streams ≡ b.streams ++ record { id = id; spec = spec; trees = tree ∷ []; reads = [] } ∷ []
+
+-- The next board has one stream more, at version 0, which has no node and no root.
+pub record WritesStream (b : Kept) (id : ℕ) (spec : Option Spec) (next : Kept) (nodes : List NewNodeValue) (root : ℕ) : Type 0 where
+  pub adds : AddsStream b id spec next
+  pub none : nodes ≡ []
+  pub no_root : root ≡ 0
+
+-- What an entry makes of a board, and which nodes and which root it writes, if the gate before its extent is block `tail`.
+abbrev pub WritesOn : Kept → Entry → ℕ → Kept → List NewNodeValue → ℕ → Type 0
+WritesOn b (Create id) tail = WritesStream b id None
+WritesOn b (Define id spec) tail = WritesStream b id (Some spec)
+WritesOn b (Commit stream cut added) tail = WritesCommit b (first_node tail (Commit stream cut added)) stream (change cut added) None
+WritesOn b (Distillate stream cut added reads) tail =
+    WritesCommit b (first_node tail (Distillate stream cut added reads)) stream (change cut added) (Some reads)
+
+-- The staged entry has the board that it makes, the nodes that it writes, and the block of the new root.
+abbrev pub WritesEntry : Kept → Entry → ℕ → Staged → Type 0
+WritesEntry b e tail s = WritesOn b e tail s.next s.nodes.items s.root

@@ -8,7 +8,7 @@ ghost use Rattle.btr_engine.specs.Snapshot.{IsSnapshotOf};
 use crate::snapshot::Snapshot;
 use btr_board::{Index, Trail};
 use btr_hist::{Reads, Rejection, Spec};
-use btr_tree::Tree;
+use btr_tree::{NewNode, Tree};
 use std::alloc::AllocError;
 use std::marker::Model;
 
@@ -83,11 +83,17 @@ pub struct Receipt {
     pub version: u64,
 }
 
-/// An entry that may follow the history of a board: the next board, and the receipt. All its memory is taken.
+/// An entry that may follow the history of a board: the next board, the receipt, and what it writes. All its memory is taken.
 #[derive(Drop)]
 pub struct Staged {
     pub(crate) next: Board,
     pub(crate) receipt: Receipt,
+
+    /// The new nodes of its stream's tree, children before parents. An entry that makes a stream has none.
+    pub(crate) nodes: Vec<NewNode>,
+
+    /// The block of the root of its stream's new tree, or 0 if there is none.
+    pub(crate) root: u64,
 }
 
 impl Board {
@@ -121,12 +127,12 @@ impl Board {
         Snapshot::of(self)
     }
 
-    /// Replaces this board by a staged one, and returns the receipt of its entry. It takes no memory.
+    /// Replaces this board by a staged one, and returns the receipt of its entry. The nodes are dropped. It takes no memory.
     pub fn accept(&mut self, staged: Staged) -> Receipt
         ensures next { self.new ≡ staged.next }
         ensures receipt { result ≡ staged.receipt }
     {
-        let Staged { next, receipt } = staged;
+        let Staged { next, receipt, .. } = staged;
         *self = next;
         receipt
     }

@@ -9,6 +9,7 @@ mod extent;
 // the history in memory
 mod answering;
 mod board;
+mod first_node;
 mod snapshot;
 mod staging;
 // the engine

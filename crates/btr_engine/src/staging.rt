@@ -18,14 +18,15 @@ ghost use Rattle.btr_hist.specs.Legal.{rejection, points_rejection, has_inputs, 
 ghost use Rattle.btr_entry.specs.Grammar.{IsWithinBounds, AreVersions};
 ghost use Rattle.btr_engine.specs.Board.{IsBoardOf, IsStreamOf, IsGrown, HasPast, place_of, ids_of};
 ghost use Rattle.btr_engine.specs.Stage.{PushCause, IsReceipt, MakesStream, MakesVersion, IsNextTree, OfEachStream, change};
-ghost use Rattle.btr_engine.specs.Stage.{version_rejection};
-ghost use Rattle.btr_engine.specs.Stage.{with_version};
+ghost use Rattle.btr_engine.specs.Stage.{version_rejection, with_version};
+ghost use Rattle.btr_engine.specs.Stage.{WritesNext, WritesCommit, AddsStream, WritesStream, WritesOn, WritesEntry};
 
 use crate::board::{Board, PushFault, Receipt, Staged, Stream, read_at};
+use crate::first_node::{node_of_commit, node_of_distillate};
 use btr_base::{Bag, MAX_STREAMS, MAX_VERSIONS, Ranges};
 use btr_board::Trail;
 use btr_hist::{Entry, Reads, Rejection, Spec, change_rejection, distillate_change_rejection};
-use btr_tree::{Label, Steps, Tree, TreeFault};
+use btr_tree::{Label, NewNode, Steps, Tree, TreeFault};
 use std::alloc::{AllocError, Global};
 
 /// The label of the counters of the nodes that a staged commit writes.
@@ -33,8 +34,22 @@ struct StageWalk;
 
 impl Label for StageWalk {}
 
-/// The block that the first node of each commit is for, as long as nodes are not on the device.
-const FIRST_NODE: u64 = 4;
+/// The next board, and what its last entry writes: the new nodes of its stream's tree, and the block of the root. An entry that
+/// makes a stream has no nodes, and its root is 0.
+#[derive(Drop)]
+struct NextBoard {
+    board: Board,
+    nodes: Vec<NewNode>,
+    root: u64,
+}
+
+/// The next version of a stream: its tree, the new nodes, and the block of the root, or 0 if it has no point.
+#[derive(Drop)]
+struct NextVersion {
+    tree: Tree,
+    nodes: Vec<NewNode>,
+    root: u64,
+}
 
 impl Board {
     /// Makes the next board, with an entry more, if the entry may follow. This board stays as it is.
@@ -45,8 +60,11 @@ impl Board {
     ///
     /// Of a distillate the stream and the reads are tested, and that its stream may have the points. That its cut and its points
     /// are those of the definition is not tested here: it follows for those that are planned.
-    pub fn stage(&self, alloc: Global, entry: &Entry) -> Result<Staged, PushFault>
+    ///
+    /// The nodes that the entry writes are for the blocks after its gate, which is block `tail`, and its content.
+    pub fn stage(&self, alloc: Global, entry: &Entry, tail: u64) -> Result<Staged, PushFault>
         requires few { self.now.entries < 2 ^ 64 - 1 }
+        requires tail { tail ≤ 2 ^ 32 }
         ensures allowed { (h : List EntrySpec) → IsBoardOf h self.now → OnOk result (rejection h entry.now ≡ None) }
         ensures staged { (h : List EntrySpec) → IsBoardOf h self.now → IfOk result (λ s. IsBoardOf (h ++ entry.now ∷ []) s.next) }
         ensures receipt { (h : List EntrySpec) → IsBoardOf h self.now → IfOk result (λ s. IsReceipt h entry.now s.receipt) }
@@ -54,66 +72,77 @@ impl Board {
         ensures counted { IfOk result (λ s. s.next.entries ≡ self.now.entries + 1) }
         ensures number { IfOk result (λ s. s.receipt.number ≡ self.now.entries + 1) }
         ensures bounds { OnOk result (IsWithinBounds entry.now) }
+        ensures writes { IfOk result (WritesEntry self.now entry.now tail) }
     {
-        let next = self.next_board(alloc, entry)?;
+        let next = self.next_board(alloc, entry, tail)?;
         let receipt = receipt_of(self, entry);
-        Ok(Staged { next, receipt })
+        Ok(Staged {
+            next: next.board,
+            receipt,
+            nodes: next.nodes,
+            root: next.root,
+        })
     }
 
     /// Makes the next board, with an entry more, if the entry may follow.
-    fn next_board(&self, alloc: Global, entry: &Entry) -> Result<Board, PushFault>
+    fn next_board(&self, alloc: Global, entry: &Entry, tail: u64) -> Result<NextBoard, PushFault>
         requires few { self.now.entries < 2 ^ 64 - 1 }
+        requires tail { tail ≤ 2 ^ 32 }
         ensures allowed { (h : List EntrySpec) → IsBoardOf h self.now → OnOk result (rejection h entry.now ≡ None) }
-        ensures staged { (h : List EntrySpec) → IsBoardOf h self.now → IfOk result (IsBoardOf (h ++ entry.now ∷ [])) }
+        ensures staged { (h : List EntrySpec) → IsBoardOf h self.now → IfOk result (λ n. IsBoardOf (h ++ entry.now ∷ []) n.board) }
         ensures cause { (h : List EntrySpec) → IsBoardOf h self.now → IfErr result (PushCause (rejection h entry.now)) }
-        ensures counted { IfOk result (λ b. b.entries ≡ self.now.entries + 1) }
+        ensures counted { IfOk result (λ n. n.board.entries ≡ self.now.entries + 1) }
         ensures bounds { OnOk result (IsWithinBounds entry.now) }
+        ensures writes { IfOk result (λ n. WritesOn self.now entry.now tail n.board n.nodes.items n.root) }
     {
         match entry {
             Entry::Create { id } => self.stage_stream(alloc, *id),
             Entry::Define { id, spec } => self.stage_output(alloc, *id, spec),
             Entry::Commit { stream, cut, added } => {
-                self.stage_commit(alloc, *stream, cut, added)
+                self.stage_commit(alloc, *stream, cut, added, tail)
             }
             Entry::Distillate {
                 stream,
                 cut,
                 added,
                 reads,
-            } => self.stage_distillate(alloc, *stream, cut, added, reads),
+            } => self.stage_distillate(alloc, *stream, cut, added, reads, tail),
         }
     }
 
     /// Makes the next board with a new plain stream, if the stream may follow.
-    fn stage_stream(&self, alloc: Global, id: u128) -> Result<Board, PushFault>
+    fn stage_stream(&self, alloc: Global, id: u128) -> Result<NextBoard, PushFault>
         requires few { self.now.entries < 2 ^ 64 - 1 }
         ensures allowed { (h : List EntrySpec) → IsBoardOf h self.now → OnOk result (rejection h (entry.Create id) ≡ None) }
-        ensures staged { (h : List EntrySpec) → IsBoardOf h self.now → IfOk result (IsBoardOf (h ++ entry.Create id ∷ [])) }
+        ensures staged { (h : List EntrySpec) → IsBoardOf h self.now
+            → IfOk result (λ n. IsBoardOf (h ++ entry.Create id ∷ []) n.board) }
         ensures cause { (h : List EntrySpec) → IsBoardOf h self.now → IfErr result (PushCause (rejection h (entry.Create id))) }
-        ensures counted { IfOk result (λ b. b.entries ≡ self.now.entries + 1) }
+        ensures counted { IfOk result (λ n. n.board.entries ≡ self.now.entries + 1) }
+        ensures writes { IfOk result (λ n. WritesStream self.now id None n.board n.nodes.items n.root) }
     {
         if let Some(why) = self.create_rejection(id) {
             return Err(PushFault::Rejected(why));
         }
-        let next = self.with_stream(alloc, id, None)?;
-        Ok(next)
+        let board = self.with_stream(alloc, id, None)?;
+        Ok(without_nodes(alloc, board))
     }
 
     /// Makes the next board with a new output, if the output may follow.
-    fn stage_output(&self, alloc: Global, id: u128, spec: &Spec) -> Result<Board, PushFault>
+    fn stage_output(&self, alloc: Global, id: u128, spec: &Spec) -> Result<NextBoard, PushFault>
         requires few { self.now.entries < 2 ^ 64 - 1 }
         ensures allowed { (h : List EntrySpec) → IsBoardOf h self.now → OnOk result (rejection h (entry.Define id spec.now) ≡ None) }
         ensures staged { (h : List EntrySpec) → IsBoardOf h self.now
-            → IfOk result (IsBoardOf (h ++ entry.Define id spec.now ∷ [])) }
+            → IfOk result (λ n. IsBoardOf (h ++ entry.Define id spec.now ∷ []) n.board) }
         ensures cause { (h : List EntrySpec) → IsBoardOf h self.now → IfErr result (PushCause (rejection h (entry.Define id spec.now))) }
-        ensures counted { IfOk result (λ b. b.entries ≡ self.now.entries + 1) }
+        ensures counted { IfOk result (λ n. n.board.entries ≡ self.now.entries + 1) }
         ensures bounds { OnOk result (IsWithinBounds (entry.Define id spec.now)) }
+        ensures writes { IfOk result (λ n. WritesStream self.now id (Some spec.now) n.board n.nodes.items n.root) }
     {
         if let Some(why) = self.define_rejection(id, spec) {
             return Err(PushFault::Rejected(why));
         }
-        let next = self.with_stream(alloc, id, Some(*spec))?;
-        Ok(next)
+        let board = self.with_stream(alloc, id, Some(*spec))?;
+        Ok(without_nodes(alloc, board))
     }
 
     /// Makes the next board with a new stream: an output of this spec, or a plain stream.
@@ -124,6 +153,7 @@ impl Board {
         ensures next { (h : List EntrySpec) (e : EntrySpec) → IsBoardOf h self.now → MakesStream e id spec → rejection h e ≡ None
             → IfOk result (IsBoardOf (h ++ e ∷ [])) }
         ensures counted { IfOk result (λ b. b.entries ≡ self.now.entries + 1) }
+        ensures adds { IfOk result (AddsStream self.now id spec) }
     {
         let number = self.streams.len() as u32;
         let first = first_version(alloc, id, spec)?;
@@ -143,16 +173,20 @@ impl Board {
         stream: u32,
         cut: &Ranges,
         added: &Bag,
-    ) -> Result<Board, PushFault>
+        tail: u64,
+    ) -> Result<NextBoard, PushFault>
         requires few { self.now.entries < 2 ^ 64 - 1 }
+        requires tail { tail ≤ 2 ^ 32 }
         ensures allowed { (h : List EntrySpec) → IsBoardOf h self.now
             → OnOk result (rejection h (entry.Commit stream cut.now added.now) ≡ None) }
         ensures staged { (h : List EntrySpec) → IsBoardOf h self.now
-            → IfOk result (IsBoardOf (h ++ entry.Commit stream cut.now added.now ∷ [])) }
+            → IfOk result (λ n. IsBoardOf (h ++ entry.Commit stream cut.now added.now ∷ []) n.board) }
         ensures cause { (h : List EntrySpec) → IsBoardOf h self.now
             → IfErr result (PushCause (rejection h (entry.Commit stream cut.now added.now))) }
-        ensures counted { IfOk result (λ b. b.entries ≡ self.now.entries + 1) }
+        ensures counted { IfOk result (λ n. n.board.entries ≡ self.now.entries + 1) }
         ensures bounds { OnOk result (IsWithinBounds (entry.Commit stream cut.now added.now)) }
+        ensures writes { IfOk result (λ n. WritesOn self.now (entry.Commit stream cut.now added.now) tail
+            n.board n.nodes.items n.root) }
     {
         let place = stream as usize;
         let Some(kept) = self.streams.get(place) else {
@@ -164,7 +198,8 @@ impl Board {
         if let Some(why) = change_rejection(cut.as_slice(), added.as_slice()) {
             return Err(PushFault::Rejected(why));
         }
-        self.stage_version(alloc, place, kept, cut, added, None)
+        let first = node_of_commit(tail, cut, added);
+        self.stage_version(alloc, place, kept, cut, added, None, first)
     }
 
     /// Makes the next board with a distillate, if the distillate may follow, whatever the kernel is.
@@ -175,16 +210,20 @@ impl Board {
         cut: &Ranges,
         added: &Bag,
         reads: &Reads,
-    ) -> Result<Board, PushFault>
+        tail: u64,
+    ) -> Result<NextBoard, PushFault>
         requires few { self.now.entries < 2 ^ 64 - 1 }
+        requires tail { tail ≤ 2 ^ 32 }
         ensures allowed { (h : List EntrySpec) → IsBoardOf h self.now
             → OnOk result (rejection h (entry.Distillate stream cut.now added.now reads.now) ≡ None) }
         ensures staged { (h : List EntrySpec) → IsBoardOf h self.now
-            → IfOk result (IsBoardOf (h ++ entry.Distillate stream cut.now added.now reads.now ∷ [])) }
+            → IfOk result (λ n. IsBoardOf (h ++ entry.Distillate stream cut.now added.now reads.now ∷ []) n.board) }
         ensures cause { (h : List EntrySpec) → IsBoardOf h self.now
             → IfErr result (PushCause (rejection h (entry.Distillate stream cut.now added.now reads.now))) }
-        ensures counted { IfOk result (λ b. b.entries ≡ self.now.entries + 1) }
+        ensures counted { IfOk result (λ n. n.board.entries ≡ self.now.entries + 1) }
         ensures bounds { OnOk result (IsWithinBounds (entry.Distillate stream cut.now added.now reads.now)) }
+        ensures writes { IfOk result (λ n. WritesOn self.now (entry.Distillate stream cut.now added.now reads.now) tail
+            n.board n.nodes.items n.root) }
     {
         let place = stream as usize;
         let Some(kept) = self.streams.get(place) else {
@@ -196,7 +235,8 @@ impl Board {
         if let Some(why) = distillate_change_rejection(cut.as_slice(), added.as_slice()) {
             return Err(PushFault::Rejected(why));
         }
-        self.stage_version(alloc, place, kept, cut, added, Some(*reads))
+        let first = node_of_distillate(tail, cut, added, reads);
+        self.stage_version(alloc, place, kept, cut, added, Some(*reads), first)
     }
 
     /// Makes the next board with one version more of the stream at a place, which is `kept`, if the stream may have it: a commit of
@@ -210,25 +250,33 @@ impl Board {
         cut: &Ranges,
         added: &Bag,
         read: Option<Reads>,
-    ) -> Result<Board, PushFault>
+        first: u64,
+    ) -> Result<NextBoard, PushFault>
         requires few { self.now.entries < 2 ^ 64 - 1 }
         requires there { slice_get self.now.streams place ≡ Some kept.now }
         requires grown { IsGrown kept.now }
         requires of_kind { is_some read ≡ is_some kept.now.spec }
         requires times { AreInDomain added.now }
+        requires first { (1 ≤ first) × (first ≤ 2 ^ 33) }
         ensures allowed { (h : List EntrySpec) → IsBoardOf h self.now
             → OnOk result (version_rejection h place (change cut.now added.now) ≡ None) }
         ensures staged { (h : List EntrySpec) (e : EntrySpec) → IsBoardOf h self.now
             → MakesVersion e place (change cut.now added.now) read → rejection h e ≡ None
-            → IfOk result (IsBoardOf (h ++ e ∷ [])) }
+            → IfOk result (λ n. IsBoardOf (h ++ e ∷ []) n.board) }
         ensures cause { (h : List EntrySpec) → IsBoardOf h self.now
             → IfErr result (PushCause (version_rejection h place (change cut.now added.now))) }
-        ensures counted { IfOk result (λ b. b.entries ≡ self.now.entries + 1) }
+        ensures counted { IfOk result (λ n. n.board.entries ≡ self.now.entries + 1) }
         ensures points { OnOk result (length added.now ≤ MAX_POINTS) }
+        ensures writes { IfOk result (λ n. WritesCommit self.now first place (change cut.now added.now) read
+            n.board n.nodes.items n.root) }
     {
-        let tree = next_tree(alloc, &kept.trees, cut, added)?;
-        let next = self.with_version(alloc, place, kept, tree, read)?;
-        Ok(next)
+        let next = next_tree(alloc, &kept.trees, cut, added, first)?;
+        let board = self.with_version(alloc, place, kept, next.tree, read)?;
+        Ok(NextBoard {
+            board,
+            nodes: next.nodes,
+            root: next.root,
+        })
     }
 
     /// Makes the next board with one version more of the stream at a place, which is `kept`: it has this tree, and has read these
@@ -249,6 +297,7 @@ impl Board {
         ensures next { (h : List EntrySpec) (e : EntrySpec) (c : Change) → IsBoardOf h self.now → MakesVersion e place c read
             → IsNextTree h place c tree → rejection h e ≡ None → IfOk result (IsBoardOf (h ++ e ∷ [])) }
         ensures counted { IfOk result (λ b. b.entries ≡ self.now.entries + 1) }
+        ensures streams { IfOk result (λ b. b.streams ≡ slice_set self.now.streams place (with_version kept.now tree read)) }
     {
         let next = next_stream(alloc, kept, tree, read)?;
         let streams = self.streams.set(alloc, place, next)?;
@@ -380,6 +429,19 @@ fn receipt_of(board: &Board, entry: &Entry) -> Receipt
     }
 }
 
+/// Returns a board whose last entry writes no node.
+fn without_nodes(alloc: Global, board: Board) -> NextBoard
+    ensures board { result.board ≡ board }
+    ensures nodes { result.nodes.items ≡ [] }
+    ensures root { result.root ≡ 0 }
+{
+    NextBoard {
+        board,
+        nodes: Vec::new(alloc),
+        root: 0,
+    }
+}
+
 /// Returns a stream at version 0: an output of this spec, or a plain stream.
 fn first_version(alloc: Global, id: u128, spec: Option<Spec>) -> Result<Stream, AllocError>
     ensures { IfOk result (λ s. (t : TreeValue) × IsTree nothing t
@@ -440,24 +502,27 @@ fn latest_reads(kept: &Stream, spec: &Spec) -> Reads
     }
 }
 
-/// Returns the tree of the next version of a stream with these trees, if the stream may have the version and its points. The
-/// added points lie in the domain.
+/// Returns the tree of the next version of a stream with these trees, if the stream may have the version and its points, and what
+/// the version writes, from the block `first` on. The added points lie in the domain.
 fn next_tree(
     alloc: Global,
     trees: &Trail<Tree>,
     cut: &Ranges,
     added: &Bag,
-) -> Result<Tree, PushFault>
+    first: u64,
+) -> Result<NextVersion, PushFault>
     requires some { 1 ≤ length trees.now }
     requires grown { AllByRecursion HasPast trees.now }
     requires times { AreInDomain added.now }
+    requires first { (1 ≤ first) × (first ≤ 2 ^ 33) }
     ensures allowed { OnOk result (OfEachStream trees.now (λ h stream. version_rejection h stream (change cut.now added.now) ≡ None)) }
-    ensures tree { IfOk result (λ t. OfEachStream trees.now (λ h stream. IsNextTree h stream (change cut.now added.now) t)) }
+    ensures tree { IfOk result (λ v. OfEachStream trees.now (λ h stream. IsNextTree h stream (change cut.now added.now) v.tree)) }
     ensures cause { IfErr result (λ f. OfEachStream trees.now
         (λ h stream. PushCause (version_rejection h stream (change cut.now added.now)) f)) }
-    ensures grown { IfOk result HasPast }
+    ensures grown { IfOk result (λ v. HasPast v.tree) }
     ensures room { OnOk result (length trees.now ≤ MAX_VERSIONS) }
     ensures points { OnOk result (length added.now ≤ MAX_POINTS) }
+    ensures writes { IfOk result (λ v. WritesNext first trees.now (change cut.now added.now) v.tree v.nodes.items v.root) }
 {
     let latest = trees.len() - 1;
     if latest >= MAX_VERSIONS {
@@ -467,9 +532,15 @@ fn next_tree(
         unreachable!()
     };
     let mut steps = Steps::<StageWalk>::new();
-    // Nodes are not on the device yet: what is told of them, with their blocks, is dropped.
-    match last.apply(alloc, cut, added, latest as u64 + 1, FIRST_NODE, &mut steps) {
-        Ok(applied) => Ok(applied.tree),
+    match last.apply(alloc, cut, added, latest as u64 + 1, first, &mut steps) {
+        Ok(applied) => {
+            let root = applied.tree.root();
+            Ok(NextVersion {
+                tree: applied.tree,
+                nodes: applied.nodes,
+                root,
+            })
+        }
         Err(fault) => Err(push_fault(fault)),
     }
 }

@@ -90,7 +90,7 @@ impl<D: Disk> Engine<D> {
         ensures cause { (h : List EntrySpec) → IsEngineOf h self.now → IfErr result (StepCause h self.now self.now entry.now) }
         ensures refused { IfErr result (λ fault. HasResult self.now self.now (Err fault)) }
     {
-        let staged = self.board.stage(alloc, entry)?;
+        let staged = self.board.stage(alloc, entry, self.log.tail())?;
         let extent = encode_extent(alloc, entry, staged.receipt.number)?;
         Ok(Pending { staged, extent })
     }

@@ -26,7 +26,7 @@ fn add(alloc: Global, board: &mut Board, entry: &Entry) -> Result<(), Fail> {
     if board.entries() == u64::MAX {
         return Err("too many entries".into());
     }
-    match board.stage(alloc, entry) {
+    match board.stage(alloc, entry, 4) {
         Ok(staged) => {
             board.accept(staged);
             Ok(())

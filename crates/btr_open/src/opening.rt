@@ -204,30 +204,32 @@ fn read_next<D: Disk>(
     let Found::Extent { head, body, next } = found else {
         return Ok(None);
     };
-    if !add_body(alloc, board, &head, &body, number)? {
+    if !add_body(alloc, board, &head, &body, number, gate)? {
         return Err(OpenCause::Damaged { block: gate + 1 });
     }
     Ok(Some(next))
 }
 
-/// Adds the entry to the board whose body with this number the bytes are. It returns `false`, and the board stays as it is, if there
-/// is no such entry or it may not follow. An `Err` means out of memory.
+/// Adds the entry to the board whose body with this number, after the gate at this block, the bytes are. It returns `false`, and the
+/// board stays as it is, if there is no such entry or it may not follow. An `Err` means out of memory.
 fn add_body(
     alloc: Global,
     board: &mut Board,
     head: &Head,
     body: &[u8],
     number: u64,
+    gate: u64,
 ) -> Result<bool, AllocError>
     requires body { IsBody body.now head.now }
     requires number { number ≡ board.old.entries + 1 }
+    requires gate { gate ≤ 2 ^ 32 }
     ensures added { IfOk result (λ b. IsTrue b → HasAdded board.old board.new number body.now) }
     ensures refused { IfOk result (λ b. IsFalse b → MayNotAdd board.old number body.now) }
 {
     let Some(entry) = decode_extent(alloc, body, head, number)? else {
         return Ok(false);
     };
-    match board.stage(alloc, &entry) {
+    match board.stage(alloc, &entry, gate) {
         Ok(staged) => {
             board.accept(staged);
             Ok(true)

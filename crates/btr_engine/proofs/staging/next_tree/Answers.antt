@@ -1,4 +1,5 @@
 -- The tree of the next version is that of the commits of the last tree and this one, and its faults are why the version is refused.
+use Rattle.std.specs.Prelude.{length, slice_get, Some}
 use Rattle.std.proofs.Common.{◌≡◌, ℕ, ◌+◌, ◌-◌, ◌<◌, ap, subst, arith}
 use Rattle.btr_tree.specs.History.{bag}
 use Rattle.btr_tree.proofs.VersionLemmas.{bag-in_order}
@@ -7,7 +8,7 @@ use Rattle.btr_hist.specs.History.{latest}
 use Rattle.btr_base.specs.declared.limits.TheConstants.{MAX_VERSIONS}
 use Rattle.btr_engine.specs.Past.{commits_to}
 use Rattle.btr_engine.specs.Board.{HasTrees}
-use Rattle.btr_engine.specs.Stage.{change}
+use Rattle.btr_engine.specs.Stage.{change, WritesVersion}
 use Rattle.btr_engine.proofs.BoardCommits.{latest-is, last-tree, next, next-tree, next-allowed, next-cause, next-times, after-many, past-at}
 use Rattle.btr_engine.proofs.staging.next_tree.Goals.{After-get}
 use Rattle.btr_engine.proofs.staging.next_tree.Goals as goal
@@ -55,3 +56,23 @@ returns-in-Ok-clause-points c =
     let was = past-at c.args.trees.now (c.len-latest.result - 1) c.in-Some.last.now c.requires.grown c.in-Some.ensures in
     let few = (c.in-Ok.ensures.tree was.0 was.1).few in
     omega (arith, few, after-many (bag was.0) (change c.args.cut.now c.args.added.now))
+
+pub returns-in-Ok-clause-writes : goal.returns-in-Ok-clause-writes
+returns-in-Ok-clause-writes c =
+    let trees = c.args.trees.now in
+    let latest = c.len-latest.result - 1 in
+    let its_change : Change = change c.args.cut.now c.args.added.now in
+    let applied = c.in-Ok.applied in
+    let before : latest ≡ length trees - 1 = ap (λ n. n - 1) c.len-latest.ensures in
+    let version : latest + 1 ≡ length trees = omega (arith, c.requires.some, c.len-latest.ensures) in
+    let writes : WritesVersion c.args.first (latest + 1) its_change c.in-Some.last.now applied.tree applied.nodes.items c.root-root.result = record {
+      tree = c.in-Ok.ensures.tree;
+      new_ones = c.in-Ok.ensures.nodes;
+      few = c.in-Ok.ensures.few;
+      laid = c.in-Ok.ensures.stored;
+      root_is = c.root-root.ensures;
+    } in (
+      c.in-Some.last.now,
+      subst (λ n. slice_get trees n ≡ Some c.in-Some.last.now) before c.in-Some.ensures,
+      subst (λ n. WritesVersion c.args.first n its_change c.in-Some.last.now applied.tree applied.nodes.items c.root-root.result) version writes,
+    )

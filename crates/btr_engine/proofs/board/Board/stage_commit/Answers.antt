@@ -1,4 +1,4 @@
-use Rattle.std.specs.Prelude.{◌≡◌, ◌<◌, false, List, length, None, IfErr, is_some}
+use Rattle.std.specs.Prelude.{◌≡◌, ◌<◌, false, List, length, None, IfOk, IfErr, is_some}
 use Rattle.std.proofs.Common.{sym, ap, ◌∙◌, subst}
 use Rattle.std.proofs.lemmas.Result.{on_ok_weaker}
 use Rattle.btr_hist.specs.declared.entry.Entry.{Entry}
@@ -7,7 +7,7 @@ use Rattle.btr_hist.specs.declared.kernel.Spec.{Spec}
 use Rattle.btr_hist.specs.History.{ids, is_output}
 use Rattle.btr_hist.specs.Legal.{rejection, change_rejection}
 use Rattle.btr_engine.specs.Board.{Versions, Kept, IsBoardOf}
-use Rattle.btr_engine.specs.Stage.{PushCause, change, version_rejection}
+use Rattle.btr_engine.specs.Stage.{PushCause, WritesCommit, change, version_rejection}
 use Rattle.btr_engine.proofs.BoardStreams.{commit-makes}
 use Rattle.btr_engine.proofs.BoardCommits.{same-change, change-times, commit-tests, if_both}
 use Rattle.btr_engine.proofs.BoardNext.{kept-stream}
@@ -35,8 +35,14 @@ left c h of =
     let is = stream c h of in
     commit-tests h c.args.stream (change c.args.cut.now c.args.added.now) is.0 false is.1 None (passes c)
 
+pub node_of_commit-first-requires-clause-ranges : goal.node_of_commit-first-requires-clause-ranges
+node_of_commit-first-requires-clause-ranges c = (change_bounded (change c.args.cut.now c.args.added.now) (passes (goal.at.node_of_commit-first-requires-clause-ranges c).In_default-change_rejection)).few_ranges
+
+pub node_of_commit-first-requires-clause-points : goal.node_of_commit-first-requires-clause-points
+node_of_commit-first-requires-clause-points c = (change_bounded (change c.args.cut.now c.args.added.now) (passes (goal.at.node_of_commit-first-requires-clause-points c).In_default-change_rejection)).few_points
+
 pub stage_version-requires-clause-times : goal.stage_version-requires-clause-times
-stage_version-requires-clause-times c = change-times (change c.args.cut.now c.args.added.now) (passes c)
+stage_version-requires-clause-times c = change-times (change c.args.cut.now c.args.added.now) (passes (goal.at.stage_version-requires-clause-times c).In_default-change_rejection)
 
 pub returns-clause-allowed : goal.returns-clause-allowed
 returns-clause-allowed c h of =
@@ -55,3 +61,8 @@ returns-clause-cause c h of =
 pub returns-clause-bounds : goal.returns-clause-bounds
 returns-clause-bounds c =
     on_ok_weaker c.stage_version.result (λ few. change_bounded (change c.args.cut.now c.args.added.now) (passes (goal.at.returns-clause-bounds c).In_default-change_rejection)) c.stage_version.ensures.points
+
+pub returns-clause-writes : goal.returns-clause-writes
+returns-clause-writes c =
+    let its_change = change c.args.cut.now c.args.added.now in
+    subst (λ first. IfOk c.stage_version.result (λ n. WritesCommit c.args.self.now first c.args.stream its_change None n.board n.nodes.items n.root)) (c.node_of_commit-first.ensures.block c.args.stream) c.stage_version.ensures.writes

@@ -1,4 +1,4 @@
-use Rattle.std.specs.Prelude.{◌≡◌, ◌<◌, true, List, length, None, IfErr}
+use Rattle.std.specs.Prelude.{◌≡◌, ◌<◌, true, List, length, Some, None, IfOk, IfErr}
 use Rattle.std.proofs.Common.{refl, sym, ◌∙◌, subst}
 use Rattle.std.proofs.lemmas.Result.{on_ok_weaker}
 use Rattle.btr_hist.specs.declared.entry.Entry.{Entry}
@@ -6,11 +6,11 @@ use Rattle.btr_hist.specs.declared.entry.Entry.TheVariants.{Distillate}
 use Rattle.btr_hist.specs.History.{ids, spec_of}
 use Rattle.btr_hist.specs.Legal.{rejection, takes_reads, distillate_change_rejection}
 use Rattle.btr_engine.specs.Board.{Kept, IsBoardOf}
-use Rattle.btr_engine.specs.Stage.{PushCause, change, version_rejection}
+use Rattle.btr_engine.specs.Stage.{PushCause, WritesCommit, change, version_rejection}
 use Rattle.btr_engine.proofs.BoardStreams.{distillate-makes}
 use Rattle.btr_engine.proofs.BoardCommits.{same-change, distillate-times, distillate-tests, if_both}
 use Rattle.btr_engine.proofs.BoardNext.{kept-stream}
-use Rattle.btr_engine.proofs.RejectionBounds.{distillate_bounded}
+use Rattle.btr_engine.proofs.RejectionBounds.{distillate_ranges, distillate_bounded}
 use Rattle.btr_engine.proofs.board.Board.stage_distillate.Goals.{In_default-distillate_change_rejection}
 use Rattle.btr_engine.proofs.board.Board.stage_distillate.Goals as goal
 
@@ -33,6 +33,9 @@ left c h of =
     let is = stream c h of in
     distillate-tests h c.args.stream (change c.args.cut.now c.args.added.now) c.args.reads.now is.0 true is.1 None (passes c)
 
+pub node_of_distillate-first-requires-clause-ranges : goal.node_of_distillate-first-requires-clause-ranges
+node_of_distillate-first-requires-clause-ranges c = distillate_ranges (change c.args.cut.now c.args.added.now) (passes c)
+
 pub stage_version-requires-clause-times : goal.stage_version-requires-clause-times
 stage_version-requires-clause-times c = distillate-times (change c.args.cut.now c.args.added.now) (passes (goal.at.stage_version-requires-clause-times c).In_default-distillate_change_rejection)
 
@@ -53,3 +56,8 @@ returns-clause-cause c h of =
 pub returns-clause-bounds : goal.returns-clause-bounds
 returns-clause-bounds c =
     on_ok_weaker c.stage_version.result (λ few. distillate_bounded (change c.args.cut.now c.args.added.now) c.args.reads.now (passes (goal.at.returns-clause-bounds c).In_default-distillate_change_rejection) few (c.if-not-takes_reads.ensures.few refl)) c.stage_version.ensures.points
+
+pub returns-clause-writes : goal.returns-clause-writes
+returns-clause-writes c =
+    let its_change = change c.args.cut.now c.args.added.now in
+    if_both _ c.stage_version.result (c.node_of_distillate-first.ensures.block c.args.stream) c.stage_version.ensures.points (λ same. subst (λ first. IfOk c.stage_version.result (λ n. WritesCommit c.args.self.now first c.args.stream its_change (Some c.args.reads.now) n.board n.nodes.items n.root)) same c.stage_version.ensures.writes)

@@ -3,7 +3,7 @@ use Rattle.std.proofs.Common.{sym, subst}
 use Rattle.std.proofs.lemmas.Result.{err_from_is_err_and}
 use Rattle.btr_hist.specs.declared.entry.Entry.{Entry}
 use Rattle.btr_engine.specs.Board.{Versions, HasTrees, IsBoardOf}
-use Rattle.btr_engine.specs.Stage.{MayLackMemory, change}
+use Rattle.btr_engine.specs.Stage.{MayLackMemory, WritesNext, change}
 use Rattle.btr_engine.proofs.BoardNext.{kept-stream}
 use Rattle.btr_engine.proofs.board.Board.stage_version.Goals.{After-next_tree}
 use Rattle.btr_engine.proofs.board.Board.stage_version.Goals as goal
@@ -13,20 +13,35 @@ trees : (c : After-next_tree) (h : List Entry) → IsBoardOf h c.args.self.now �
 trees c h of =
     subst (λ (x : Versions). HasTrees h c.args.place x.trees) (sym c.kept.view_is) (kept-stream h c.args.self.now c.args.place c.args.kept.now of c.requires.there).1.kept
 
-pub returns-in_err-tree-clause-cause : goal.returns-in_err-tree-clause-cause
-returns-in_err-tree-clause-cause c h of =
-    let p = err_from_is_err_and c.from_residual.result c.from_residual.ensures.1 in
-    rw (p.1, p.2) (c.in_err-tree.ensures.cause h c.args.place (trees (goal.at.returns-in_err-tree-clause-cause c).After-next_tree h of))
-
 pub returns-in_err-next-clause-cause : goal.returns-in_err-next-clause-cause
 returns-in_err-next-clause-cause c h of =
-    let p = err_from_is_err_and c.from_residual-in_err-next.result c.from_residual-in_err-next.ensures.1 in
-    let none = c.in_ok-tree.ensures.allowed h c.args.place (trees (goal.at.returns-in_err-next-clause-cause c).After-next_tree h of) in
+    let p = err_from_is_err_and c.from_residual.result c.from_residual.ensures.1 in
+    rw (p.1, p.2) (c.in_err-next.ensures.cause h c.args.place (trees (goal.at.returns-in_err-next-clause-cause c).After-next_tree h of))
+
+pub returns-in_err-board-clause-cause : goal.returns-in_err-board-clause-cause
+returns-in_err-board-clause-cause c h of =
+    let p = err_from_is_err_and c.from_residual-in_err-board.result c.from_residual-in_err-board.ensures.1 in
+    let none = c.in_ok-next.ensures.allowed h c.args.place (trees (goal.at.returns-in_err-board-clause-cause c).After-next_tree h of) in
     rw (p.1, p.2) (subst MayLackMemory (sym none) tt)
 
 pub returns-clause-allowed : goal.returns-clause-allowed
-returns-clause-allowed c h of = c.in_ok-tree.ensures.allowed h c.args.place (trees (goal.at.returns-clause-allowed c).After-next_tree h of)
+returns-clause-allowed c h of = c.in_ok-next.ensures.allowed h c.args.place (trees (goal.at.returns-clause-allowed c).After-next_tree h of)
 
 pub returns-clause-staged : goal.returns-clause-staged
 returns-clause-staged c h e of makes allowed =
-    c.in_ok-next.ensures.next h e (change c.args.cut.now c.args.added.now) of makes (c.in_ok-tree.ensures.tree h c.args.place (trees (goal.at.returns-clause-staged c).After-next_tree h of)) allowed
+    c.in_ok-board.ensures.next h e (change c.args.cut.now c.args.added.now) of makes (c.in_ok-next.ensures.tree h c.args.place (trees (goal.at.returns-clause-staged c).After-next_tree h of)) allowed
+
+pub returns-clause-writes : goal.returns-clause-writes
+returns-clause-writes c =
+    let version = c.in_ok-next.next in
+    let its_change = change c.args.cut.now c.args.added.now in
+    let next = subst (λ (x : Versions). WritesNext c.args.first x.trees its_change version.tree version.nodes.items version.root) c.kept.view_is c.in_ok-next.ensures.writes in
+    record {
+      kept = c.args.kept.now;
+      there = c.requires.there;
+      last = next.0;
+      last_is = next.1;
+      new = version.tree;
+      streams = c.in_ok-board.ensures.streams;
+      writes = next.2;
+    }
