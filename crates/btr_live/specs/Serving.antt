@@ -18,7 +18,7 @@ use Rattle.btr_hall.specs.Trace.{history_of, stopped_in}
 use Rattle.btr_hall.specs.Session.{opening_of, seen_of}
 use Rattle.btr_jobs.specs.States.{StoreState, LogState}
 use Rattle.btr_jobs.specs.Jobs.{Does}
-use Rattle.btr_live.specs.Feeds.{Waiting, with_points, feed_of, fed}
+use Rattle.btr_live.specs.Feeds.{Waiting, FeedsValue, waiting_of, with_points, feed_of, fed}
 use Rattle.btr_live.specs.Meaning.{Meaning, Asks, Refuses, feed, refresh}
 use Rattle.btr_live.specs.Replies.{reply_of_answer, model_reply, points_after, waiting_after, Means}
 use Rattle.btr_work.specs.declared.report.Refreshed.{Refreshed}
@@ -96,3 +96,8 @@ module _ {D : Type 0} {disk : Ghosts D} where
   abbrev pub ServesIn : Hall D disk → Session D disk → Session D disk → Asking → LineReply → Type 0
   ServesIn hall old new asking reply =
       Does hall old new (λ start log low own. Serves start log (was_told hall old) low asking reply own)
+
+  -- The line, at what the session had then seen and with the points that waited in the feeds, had this reply.
+  abbrev pub ServesLine : Hall D disk → Session D disk → Session D disk → FeedsValue → FeedsValue → Option Line → LineReply → Type 0
+  ServesLine hall old new feeds after line reply =
+      ServesIn hall old new (LineAsks feeds.batch (waiting_of feeds) line reply (waiting_of after)) reply

@@ -8,7 +8,7 @@ ghost use Rattle.btr_jobs.specs.Jobs.{IsAt};
 ghost use Rattle.btr_live.specs.Feeds.{added_of, KeepsFeeds, waiting_of};
 ghost use Rattle.btr_live.specs.Meaning.{Meaning, insert_points, reason_of_fault};
 ghost use Rattle.btr_live.specs.Replies.{left_over};
-ghost use Rattle.btr_live.specs.Serving.{AddsPoints, LineAsks, RepliesIn, ServesIn};
+ghost use Rattle.btr_live.specs.Serving.{AddsPoints, RepliesIn, ServesLine};
 
 use crate::feeds::Feeds;
 use crate::line::commit;
@@ -33,8 +33,7 @@ pub(crate) fn feed<R: Wait, D: Disk>(
 ) -> LineReply
     requires at { IsAt hall.now session.old }
     ensures at { IsAt hall.now session.new }
-    ensures line { ServesIn hall.now session.old session.new
-        (LineAsks feeds.old.batch (waiting_of feeds.old) (Some (lines.Feed id added.now)) result (waiting_of feeds.new)) result }
+    ensures line { ServesLine hall.now session.old session.new feeds.old feeds.new (Some (lines.Feed id added.now)) result }
     ensures batch { feeds.new.batch ≡ feeds.old.batch }
 {
     match session.find(rt, hall, id) {
@@ -94,8 +93,7 @@ pub(crate) fn flush<R: Wait, D: Disk>(
 ) -> LineReply
     requires at { IsAt hall.now session.old }
     ensures at { IsAt hall.now session.new }
-    ensures line { ServesIn hall.now session.old session.new
-        (LineAsks feeds.old.batch (waiting_of feeds.old) (Some (lines.Flush id)) result (waiting_of feeds.new)) result }
+    ensures line { ServesLine hall.now session.old session.new feeds.old feeds.new (Some (lines.Flush id)) result }
     ensures batch { feeds.new.batch ≡ feeds.old.batch }
 {
     match session.find(rt, hall, id) {
@@ -123,8 +121,7 @@ pub(crate) fn discard<R: Wait, D: Disk>(
 ) -> LineReply
     requires at { IsAt hall.now session.old }
     ensures at { IsAt hall.now session.new }
-    ensures line { ServesIn hall.now session.old session.new
-        (LineAsks feeds.old.batch (waiting_of feeds.old) (Some (lines.Discard id)) result (waiting_of feeds.new)) result }
+    ensures line { ServesLine hall.now session.old session.new feeds.old feeds.new (Some (lines.Discard id)) result }
     ensures batch { feeds.new.batch ≡ feeds.old.batch }
 {
     match session.find(rt, hall, id) {

@@ -7,10 +7,9 @@ ghost use Rattle.btr_hist.specs.Query.{of_stream};
 ghost use Rattle.btr_hall.specs.Found.{IsFound};
 ghost use Rattle.btr_hall.specs.Commit.{is_distillate};
 ghost use Rattle.btr_jobs.specs.Jobs.{IsAt};
-ghost use Rattle.btr_live.specs.Feeds.{waiting_of};
 ghost use Rattle.btr_live.specs.Meaning.{Asks, Commits, delete, on_stream};
 ghost use Rattle.btr_live.specs.Lanes.{reply_of_step};
-ghost use Rattle.btr_live.specs.Serving.{AsksFor, LineAsks, Knows, RepliesIn, ServesIn};
+ghost use Rattle.btr_live.specs.Serving.{AsksFor, Knows, RepliesIn, ServesIn, ServesLine};
 
 use crate::distill_line::{define, refresh};
 use crate::feed_line::{discard, feed, flush};
@@ -37,8 +36,7 @@ pub(crate) fn answer_line<R: Wait, D: Disk>(
 ) -> LineReply
     requires at { IsAt hall.now session.old }
     ensures at { IsAt hall.now session.new }
-    ensures line { ServesIn hall.now session.old session.new
-        (LineAsks feeds.old.batch (waiting_of feeds.old) line result (waiting_of feeds.new)) result }
+    ensures line { ServesLine hall.now session.old session.new feeds.old feeds.new line result }
     ensures batch { feeds.new.batch ≡ feeds.old.batch }
 {
     match line {
