@@ -3,9 +3,11 @@ use crate::fixture::{Pairs, insert, no_wrong};
 use btr_base::{Bag, Ranges};
 use btr_engine::{Board, Snapshot};
 use btr_hist::{Entry, Kernel, Reads, Spec};
-use btr_plan::{Next, next_plan, sight};
+use btr_plan::{Next, next_plan, next_plan_shared, sight};
 use std::alloc::{AllocError, Global};
+use std::marker::Sync;
 use std::test::Fail;
+use std::thread::Threads;
 
 /// An output. Changes of its inputs are looked for in slots of one nanosecond.
 fn output(id: u128, kernel: Kernel, lead: u64, first: u32, second: Option<u32>) -> Entry {
@@ -134,20 +136,47 @@ fn change(alloc: Global, board: &mut Board, act: Act<'_>) -> Result<(), Fail> {
 /// What happens, a stream, and what is then to be planned for it.
 type Row<'a> = (Act<'a>, u32, Wanted<'a>);
 
+/// Returns whether that is what is planned with any of these numbers of threads.
+fn is_shared<R: Threads + Sync>(
+    rt: &R,
+    alloc: Global,
+    snapshot: &Snapshot,
+    stream: u32,
+    wanted: Wanted<'_>,
+) -> Result<bool, AllocError> {
+    for threads in [0, 1, 2, 4, 16] {
+        let next = next_plan_shared(rt, alloc, snapshot, stream, threads)?;
+        if !is_wanted(&next, stream, wanted) {
+            return Ok(false);
+        }
+    }
+    Ok(true)
+}
+
 /// Returns whether what is planned for the stream of a row after its act is what is wanted.
-fn holds(alloc: Global, board: &mut Board, row: &Row<'_>) -> Result<bool, Fail> {
+fn holds<R: Threads + Sync>(
+    rt: &R,
+    alloc: Global,
+    board: &mut Board,
+    row: &Row<'_>,
+) -> Result<bool, Fail> {
     let (act, stream, wanted) = row;
     change(alloc, board, *act)?;
     let snapshot = board.admit()?;
     let next = next_plan(alloc, &snapshot, *stream)?;
-    Ok(is_wanted(&next, *stream, *wanted))
+    let is_shared = is_shared(rt, alloc, &snapshot, *stream, *wanted)?;
+    Ok(is_wanted(&next, *stream, *wanted) && is_shared)
 }
 
 /// Plays the rows of a table, and returns the number of the first one whose stream has another plan.
-fn first_wrong(alloc: Global, rows: &[Row<'_>]) -> Result<Option<usize>, Fail> {
+fn first_wrong<R: Threads + Sync>(
+    rt: &R,
+    alloc: Global,
+    rows: &[Row<'_>],
+) -> Result<Option<usize>, Fail> {
     let mut board = small(alloc)?;
     for (number, row) in rows.iter().enumerate() {
-        if !holds(alloc, &mut board, row)? {
+        if !holds(rt, alloc, &mut board, row)? {
             return Ok(Some(number));
         }
     }
@@ -177,7 +206,7 @@ const LANDED: &[Row<'static>] = &[
 
 #[test]
 fn plans_before_and_after_they_land(rt: HostRuntime) -> Result<(), Fail> {
-    no_wrong(first_wrong(rt.alloc(), LANDED)?)
+    no_wrong(first_wrong(&rt, rt.alloc(), LANDED)?)
 }
 
 /// Plans of an output with two inputs.
@@ -198,7 +227,7 @@ const TWO_INPUTS: &[Row<'static>] = &[
 
 #[test]
 fn plans_of_two_inputs(rt: HostRuntime) -> Result<(), Fail> {
-    no_wrong(first_wrong(rt.alloc(), TWO_INPUTS)?)
+    no_wrong(first_wrong(&rt, rt.alloc(), TWO_INPUTS)?)
 }
 
 /// A stream, and the version of its sight, if it has one.

@@ -196,7 +196,7 @@ fn first_not_landed<R: Threads + Wait + Sync>(
     rt: &R,
     alloc: Global,
 ) -> Result<Option<usize>, Fail> {
-    for (row, workers) in [1, 2, 16].iter().enumerate() {
+    for (row, workers) in [1, 2, 4, 16].iter().enumerate() {
         if !lands_both(rt, alloc, *workers)? {
             return Ok(Some(row));
         }

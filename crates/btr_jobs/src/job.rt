@@ -1,5 +1,6 @@
 //! A piece of work in one session.
 ghost use Rattle.std.specs.Prelude.{◌≡◌, ℕ, List};
+ghost use Rattle.std.specs.Thread.{IsSync};
 ghost use Rattle.btr_hist.specs.declared.entry.Entry.{Entry as EntrySpec};
 ghost use Rattle.btr_gate.specs.Prefixes.{StartsWith};
 ghost use Rattle.btr_jobs.specs.States.{StoreState, LogState, GoesOn};
@@ -18,7 +19,7 @@ pub trait Job {
     // are the numbers of what it added.
     ghost did: { StoreState → LogState → List EntrySpec → Self → Self → List ℕ → Type 0 };
 
-    /// Does the work, in turns of this session, on this thread.
+    /// Does the work, in turns of this session, on this thread. It may share what it has of its own with other threads.
     fn run<R: Threads + Wait + Sync, D: Disk + Send>(
         &mut self,
         rt: &R,
@@ -26,6 +27,7 @@ pub trait Job {
         hall: &Hall<D>,
         session: &mut Session<D>,
     )
+        requires crossing { IsSync R.row }
         requires at { IsAt hall.now session.old }
         ensures at { IsAt hall.now session.new }
         ensures does { Does hall.now session.old session.new (λ start log low own. did start log low self.old self.new own) };

@@ -1,12 +1,16 @@
 //! Plans of distillates by hand, and the entries that they are.
 
-use super::fixture::{Pairs, Row, after, all_hold, are_pairs, bag_of, have_bounds, ranges_of};
-use btr_base::{END, FIRST};
-use btr_distil::{Plan, Sight, plan};
+use super::fixture::{
+    Pairs, Row, after, all_hold, are_pairs, bag_of, have_bounds, points_from, ranges_of,
+};
+use btr_base::{Bag, END, FIRST, Point, Ranges};
+use btr_distil::{Plan, Sight, plan, plan_shared};
 use btr_hist::{Entry, Kernel, Reads, Spec};
 use btr_tree::Tree;
 use std::alloc::Global;
+use std::marker::Sync;
 use std::test::Fail;
+use std::thread::Threads;
 
 /// The cut of a commit, and the points that it adds.
 struct Commit(Pairs, Pairs);
@@ -88,14 +92,8 @@ fn reads_of(versions: Versions) -> Reads {
 /// The trees of the first input before and after, and those of the second.
 type Inputs<'a> = (&'a Tree, &'a Tree, Option<&'a Tree>, Option<&'a Tree>);
 
-/// The plan for an output of stream 7, after its version 3.
-fn plan_over(
-    alloc: Global,
-    spec: Spec,
-    old: Reads,
-    new: Reads,
-    inputs: Inputs<'_>,
-) -> Result<Option<Plan>, Fail> {
+/// The sight of an output of stream 7, at its version 3.
+fn sight_over(spec: Spec, old: Reads, new: Reads, inputs: Inputs<'_>) -> Result<Sight<'_>, Fail> {
     let (old_first, new_first, old_second, new_second) = inputs;
     let has_second = spec.second.is_some();
     if !spec.is_good()
@@ -112,19 +110,29 @@ fn plan_over(
     if sight.base() != 3 {
         return Err("another version of the output".into());
     }
-    Ok(plan(alloc, &sight)?)
+    Ok(sight)
+}
+
+/// The sight of an output of stream 7, at its version 3, from the versions that it had read to others.
+fn sight_of(
+    trees: &[Vec<Tree>],
+    spec: Spec,
+    old: Versions,
+    new: Versions,
+) -> Result<Sight<'_>, Fail> {
+    let inputs = (
+        tree_at(trees, spec.first, old.0)?,
+        tree_at(trees, spec.first, new.0)?,
+        second_at(trees, spec.second, old.1)?,
+        second_at(trees, spec.second, new.1)?,
+    );
+    sight_over(spec, reads_of(old), reads_of(new), inputs)
 }
 
 /// The plan for an output of stream 7, after its version 3, from the versions that it had read to others.
 fn planned(alloc: Global, spec: Spec, old: Versions, new: Versions) -> Result<Option<Plan>, Fail> {
     let trees = streams(alloc)?;
-    let inputs = (
-        tree_at(&trees, spec.first, old.0)?,
-        tree_at(&trees, spec.first, new.0)?,
-        second_at(&trees, spec.second, old.1)?,
-        second_at(&trees, spec.second, new.1)?,
-    );
-    plan_over(alloc, spec, reads_of(old), reads_of(new), inputs)
+    Ok(plan(alloc, &sight_of(&trees, spec, old, new)?)?)
 }
 
 const SUM: Spec = Spec {
@@ -180,16 +188,23 @@ const ENDS: Spec = Spec {
 /// A spec, the versions that were read before, those that are read, and the cut and the points of the plan.
 struct PlanOf(Spec, Versions, Versions, Pairs, Pairs);
 
+impl PlanOf {
+    /// Whether this is the plan of the row.
+    fn is(&self, plan: &Option<Plan>) -> bool {
+        match plan {
+            None => false,
+            Some(plan) => {
+                have_bounds(plan.cut().as_slice(), self.3)
+                    && are_pairs(plan.added().as_slice(), self.4)
+                    && plan.reads() == reads_of(self.2)
+            }
+        }
+    }
+}
+
 impl Row for PlanOf {
     fn holds(&self, alloc: Global) -> Result<bool, Fail> {
-        let Some(plan) = planned(alloc, self.0, self.1, self.2)? else {
-            return Ok(false);
-        };
-        Ok(
-            have_bounds(plan.cut().as_slice(), self.3)
-                && are_pairs(plan.added().as_slice(), self.4)
-                && plan.reads() == reads_of(self.2),
-        )
+        Ok(self.is(&planned(alloc, self.0, self.1, self.2)?))
     }
 }
 
@@ -300,5 +315,171 @@ fn plans_are_entries(rt: HostRuntime) -> Result<(), Fail> {
     assert!(rt; (plan.stream(), plan.base()) == (7, 3));
     assert!(rt; is_second_sum(plan.entry()));
     assert!(rt; is_second_sum(&plan.into_entry()));
+    Ok(())
+}
+
+/// How many threads may work on a plan.
+const THREADS: [usize; 5] = [0, 1, 2, 4, 16];
+
+/// Whether the plan of a row is the same with any number of threads.
+fn is_shared<R: Threads + Sync>(rt: &R, alloc: Global, row: &PlanOf) -> Result<bool, Fail> {
+    let trees = streams(alloc)?;
+    let sight = sight_of(&trees, row.0, row.1, row.2)?;
+    for threads in THREADS {
+        if !row.is(&plan_shared(rt, alloc, &sight, threads)?) {
+            return Ok(false);
+        }
+    }
+    Ok(true)
+}
+
+/// The number of the first row whose plan is another one with some number of threads.
+fn first_not_shared<R: Threads + Sync>(rt: &R, alloc: Global) -> Result<Option<usize>, Fail> {
+    for (number, row) in PLANNED.iter().enumerate() {
+        if !is_shared(rt, alloc, row)? {
+            return Ok(Some(number));
+        }
+    }
+    Ok(None)
+}
+
+#[test]
+fn plans_of_small_changes_are_the_same_with_threads(rt: HostRuntime) -> Result<(), Fail> {
+    match first_not_shared(&rt, rt.alloc())? {
+        None => Ok(()),
+        Some(number) => Err(Fail::new(format_args!("row {number}"))),
+    }
+}
+
+/// Two trees of a long stream: one with the points (10 * i, i) for i from 0 to 29,999, and one that has also (10 * i + 5, 1) for i from
+/// 5,000 to 24,999.
+fn long_stream(alloc: Global) -> Result<(Tree, Tree), Fail> {
+    let early = Bag::from_points(points_from(alloc, 0, 10, 30_000, 0)?);
+    let mut late = points_from(alloc, 50_005, 10, 20_000, 1)?;
+    for point in late.iter_mut() {
+        point.value = 1;
+    }
+    let none = Ranges::none(alloc);
+    let (first, _) = after(alloc, &Tree::empty(), &none, &early, 1)?;
+    let (second, _) = after(alloc, &first, &none, &Bag::from_points(late), 2)?;
+    Ok((first, second))
+}
+
+/// Whether this is a sum of the first tree at 10 * i: of i - 1 and i, and of 0 alone if i is 0.
+fn is_early_sum(point: &Point) -> bool {
+    let i = point.time / 10;
+    point.time % 10 == 0 && point.value == i.wrapping_mul(2).wrapping_sub(1).max(0)
+}
+
+/// Whether this is a sum of the second tree, after the first late point. At 10 * i it is that of i - 1, 1 and i; at 10 * i + 5 that of 1, i
+/// and 1, and of i and 1 alone if it is at the first late point.
+fn is_late_sum(point: &Point) -> bool {
+    let i = point.time / 10;
+    if point.time % 10 == 0 {
+        point.value == i.wrapping_mul(2)
+    } else {
+        point.value == i.wrapping_add(if i == 5_000 { 1 } else { 2 })
+    }
+}
+
+/// Whether the plan over the first tree has a sum for each point.
+fn are_early_sums(plan: &Option<Plan>) -> bool {
+    match plan {
+        None => false,
+        Some(plan) => {
+            let added = plan.added().as_slice();
+            have_bounds(plan.cut().as_slice(), &[(0, 300_001)])
+                && added.len() == 30_000
+                && added.iter().all(|point| is_early_sum(point))
+        }
+    }
+}
+
+/// Whether the plan over the second tree has a sum for each point from the first late one to 10 ns after the last.
+fn are_late_sums(plan: &Option<Plan>) -> bool {
+    match plan {
+        None => false,
+        Some(plan) => {
+            let added = plan.added().as_slice();
+            have_bounds(plan.cut().as_slice(), &[(50_005, 250_006)])
+                && added.len() == 40_000
+                && added.iter().all(|point| is_late_sum(point))
+        }
+    }
+}
+
+/// Whether two plans have the same cut and the same points.
+fn are_same(plan: &Option<Plan>, other: &Option<Plan>) -> bool {
+    match (plan, other) {
+        (Some(plan), Some(other)) => {
+            plan.cut().as_slice() == other.cut().as_slice()
+                && plan.added().as_slice() == other.added().as_slice()
+        }
+        _ => false,
+    }
+}
+
+/// Whether this is the plan of a sight with any number of threads.
+fn is_plan_with_threads<R: Threads + Sync>(
+    rt: &R,
+    alloc: Global,
+    sight: &Sight<'_>,
+    wanted: &Option<Plan>,
+) -> Result<bool, Fail> {
+    for threads in THREADS {
+        if !are_same(&plan_shared(rt, alloc, sight, threads)?, wanted) {
+            return Ok(false);
+        }
+    }
+    Ok(true)
+}
+
+/// A sight of the sums over a long stream from its beginning, and one over its late points.
+fn long_sums<'a>(
+    none: &'a Tree,
+    first: &'a Tree,
+    second: &'a Tree,
+) -> Result<(Sight<'a>, Sight<'a>), Fail> {
+    let versions = (
+        reads_of((0, None)),
+        reads_of((1, None)),
+        reads_of((2, None)),
+    );
+    let early = sight_over(SUM, versions.0, versions.1, (none, first, None, None))?;
+    let late = sight_over(SUM, versions.1, versions.2, (first, second, None, None))?;
+    Ok((early, late))
+}
+
+#[test]
+fn plans_of_many_points_are_the_same_with_threads(rt: HostRuntime) -> Result<(), Fail> {
+    let alloc = rt.alloc();
+    let (first, second) = long_stream(alloc)?;
+    let none = Tree::empty();
+    let (early, late) = long_sums(&none, &first, &second)?;
+    let sums = plan(alloc, &early)?;
+    assert!(rt; are_early_sums(&sums) && is_plan_with_threads(&rt, alloc, &early, &sums)?);
+    let sums = plan(alloc, &late)?;
+    assert!(rt; are_late_sums(&sums) && is_plan_with_threads(&rt, alloc, &late, &sums)?);
+    Ok(())
+}
+
+/// Whether the plan of an output of two inputs has the same points with any number of threads, and how many.
+fn held_with_threads<R: Threads + Sync>(rt: &R, alloc: Global) -> Result<(bool, usize), Fail> {
+    let (first, second) = long_stream(alloc)?;
+    let none = Tree::empty();
+    let (old, new) = (reads_of((0, Some(0))), reads_of((2, Some(1))));
+    let inputs = (&none, &second, Some(&none), Some(&first));
+    let sight = sight_over(HOLD, old, new, inputs)?;
+    let wanted = plan(alloc, &sight)?;
+    let count = wanted
+        .as_ref()
+        .map_or(0, |plan| plan.added().as_slice().len());
+    Ok((is_plan_with_threads(rt, alloc, &sight, &wanted)?, count))
+}
+
+/// The first input has 50,000 points, and the second one has a point at most 10 ns before each.
+#[test]
+fn plans_of_two_long_inputs_are_the_same_with_threads(rt: HostRuntime) -> Result<(), Fail> {
+    assert!(rt; held_with_threads(&rt, rt.alloc())? == (true, 50_000));
     Ok(())
 }

@@ -6,7 +6,7 @@ use Rattle.std.proofs.lemmas.Bool.{eq-eqb, ne_eqb, cases_eq, cases_lt}
 use Rattle.std.proofs.lemmas.List.{get_or-set_same, get_or-set_other, get_or_append_left, get_or-append_right, length-set, append-nil}
 use Rattle.btr_hist.specs.declared.kernel.Spec.{Spec}
 use Rattle.btr_work.specs.Levels.{next_level, levels_from, places_from, streams_at, AreGroups}
-use Rattle.btr_work.specs.Leveling.{PlacesStream, IsBelow}
+use Rattle.btr_work.specs.Leveling.{PlacesStream, AreAtMost}
 
 -- ---- the places of a number
 
@@ -34,7 +34,7 @@ levels-snoc levels [] kind = refl
 levels-snoc levels (k ∷ kinds) kind = levels-snoc (levels ++ next_level levels k ∷ []) kinds kind
 
 -- A list with one more number that is not above the top.
-pub below-snoc : (ns : List ℕ) (n top next : ℕ) → IsBelow ns top → top ≤ next → n ≤ next → IsBelow (ns ++ n ∷ []) next
+pub below-snoc : (ns : List ℕ) (n top next : ℕ) → AreAtMost ns top → top ≤ next → n ≤ next → AreAtMost (ns ++ n ∷ []) next
 below-snoc ns n top next below more low place =
     elim (cases_lt place (length ns)) [
       | inl lt ↦ omega (arith, get_or_append_left ns (n ∷ []) 0 place lt, below place, more)

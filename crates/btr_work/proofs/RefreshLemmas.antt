@@ -22,7 +22,7 @@ use Rattle.btr_hall.specs.Landing.{Lands}
 use Rattle.btr_jobs.specs.States.{StoreState, LogState, log_seen, start_of}
 use Rattle.btr_jobs.specs.Jobs.{IsAt, Does}
 use Rattle.btr_jobs.proofs.StateLemmas.{history_goes_on}
-use Rattle.btr_jobs.proofs.DoesLemmas.{does_then}
+use Rattle.btr_jobs.proofs.DoesLemmas.{goes_none, does_none, does_then}
 use Rattle.btr_jobs.proofs.TurnLemmas.{land_turn, look_turn}
 use Rattle.btr_work.specs.declared.report.Refreshed.{Refreshed}
 use Rattle.btr_work.specs.declared.report.Refreshed.TheVariants as refreshed
@@ -88,26 +88,24 @@ module _ {D : Type 0} {disk : Ghosts D} (hall : Hall D disk) (output : ℕ) wher
         let turn = landed-turn plan (Err fault) same lands planned in
         (turn.0, turn.1, λ h of. refused-by (start_of h hall) (log_seen h new) (log_seen h old).history output fault turn.0 (turn.2 h of))
 
-    -- There was no memory.
-    pub want-refreshed : Looks hall old new → Does hall old new (λ start log low own. IsRefreshed start log low output (refreshed.Refused faults.Want) own)
-    want-refreshed looks =
-        let turn = look_turn hall old new looks (λ _. Unit {0}) (λ h of. tt) in
-        (turn.0, turn.1, λ h of. (turn.2 h of).0)
+  -- There was no memory.
+  pub want-refreshed : (s : Session D disk) → Does hall s s (λ start log low own. IsRefreshed start log low output (refreshed.Refused faults.Want) own)
+  want-refreshed s =
+      does_none hall s (λ start log low own. IsRefreshed start log low output (refreshed.Refused faults.Want) own) (λ start log. refl)
 
-    -- The output was up to date.
-    pub current-refreshed : (version : ℕ) → Looks hall old new → ((h : List Entry) → IsEngineOf h (opening_of hall) → IsUpToDate (history_of h (seen_of new)) output version) → Does hall old new (λ start log low own. IsRefreshed start log low output (refreshed.Current version) own)
-    current-refreshed version looks current =
-        let turn = look_turn hall old new looks (λ h. IsUpToDate h output version) current in (
-          turn.0,
-          turn.1,
-          λ h of. record {
-            at = (log_seen h new).history;
-            after = (turn.2 h of).1;
-            seen = starts_refl (log_seen h new).history;
-            current = (turn.2 h of).2;
-            none = (turn.2 h of).0;
-          },
-        )
+  -- The output was up to date.
+  pub current-refreshed : (s : Session D disk) (version : ℕ) → ((h : List Entry) → IsEngineOf h (opening_of hall) → IsUpToDate (history_of h (seen_of s)) output version) → Does hall s s (λ start log low own. IsRefreshed start log low output (refreshed.Current version) own)
+  current-refreshed s version current = (
+    [],
+    goes_none s,
+    λ h of. record {
+      at = (log_seen h s).history;
+      after = starts_refl (log_seen h s).history;
+      seen = starts_refl (log_seen h s).history;
+      current = current h of;
+      none = refl;
+    },
+  )
 
   -- The output was brought up to date after a look.
   pub look-refreshed : (old mid new : Session D disk) (result : Refreshed) → IsAt hall new → Looks hall old mid → Does hall mid new (λ start log low own. IsRefreshed start log low output result own) → Does hall old new (λ start log low own. IsRefreshed start log low output result own)

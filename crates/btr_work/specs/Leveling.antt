@@ -2,8 +2,8 @@
 use Rattle.std.specs.Prelude.{◌≡◌, ℕ, ◌+◌, ◌≤◌, ◌==◌, max, List, [], ◌∷◌, ◌++◌, length, slice_index_or, if◌then◌else◌}
 
 -- No number is above the top.
-abbrev pub IsBelow : List ℕ → ℕ → Type 0
-IsBelow ns top = (place : ℕ) → slice_index_or ns place 0 ≤ top
+abbrev pub AreAtMost : List ℕ → ℕ → Type 0
+AreAtMost ns top = (place : ℕ) → slice_index_or ns place 0 ≤ top
 
 -- A stream is placed at the end of its level. At level 0 nothing is placed.
 pub record PlacesStream (level stream : ℕ) (old new : List (List ℕ)) : Type 0 where

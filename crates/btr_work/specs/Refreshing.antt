@@ -1,10 +1,12 @@
 -- What the private functions promise that bring outputs up to date.
-use Rattle.std.specs.Prelude.{◌≡◌, ℕ, List, [], ◌∷◌, length, map, slice_set, slice_index_or}
+use Rattle.std.specs.Prelude.{◌≡◌, ℕ, List, [], ◌∷◌, length, map, slice_set, slice_index_or, Result, IfOk}
+use Rattle.std.specs.declared.alloc.AllocError.{AllocError}
 use Rattle.btr_disk.specs.declared.disk.Disk.{Ghosts}
 use Rattle.btr_hist.specs.declared.entry.Entry.{Entry}
 use Rattle.btr_hist.specs.History.{ids}
 use Rattle.btr_distil.specs.Plan.{PlanValue}
-use Rattle.btr_plan.specs.Next.{IsNextPlan}
+use Rattle.btr_plan.specs.declared.planning.Next.{Next}
+use Rattle.btr_plan.specs.Next.{IsNext, IsNextPlan}
 use Rattle.btr_engine.specs.Engine.{IsEngineOf}
 use Rattle.btr_hall.specs.declared.land.LandFault.TheVariants.{Want}
 use Rattle.btr_hall.specs.declared.session.Hall.{Hall}
@@ -27,6 +29,10 @@ pub record IsDone (start : StoreState) (log : LogState) (low : List Entry) (was 
   pub refreshed : IsRefreshed start log low was.output now.result own
 
 module _ {D : Type 0} {disk : Ghosts D} where
+  -- This is planned for the output after all that the session has seen, unless the memory ran out.
+  abbrev pub IsNextAt : Hall D disk → Session D disk → ℕ → Result Next AllocError → Type 0
+  IsNextAt hall s output next = (h : List Entry) → IsEngineOf h (opening_of hall) → IfOk next (IsNext (history_of h (seen_of s)) output)
+
   -- The plan is the one that the model makes for the output after all that the session has seen.
   abbrev pub IsPlannedAt : Hall D disk → Session D disk → ℕ → PlanValue → Type 0
   IsPlannedAt hall s output plan = (h : List Entry) → IsEngineOf h (opening_of hall) → IsNextPlan (history_of h (seen_of s)) output plan

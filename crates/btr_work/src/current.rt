@@ -25,6 +25,10 @@ use std::thread::Threads;
 /// One worker does the outputs of a level one after another, in rising order.
 /// Each output is planned and landed once: if another user's landing comes between, it is refused as superseded.
 ///
+/// If a level has fewer outputs than there are workers, each output has a worker of its own, and its plan may use
+/// `workers / outputs` threads, that of its worker among them. So no more than `workers` threads work at once, 1 if `workers` is 0.
+/// The thread of the caller is one of them; it works or waits for the others.
+///
 /// The turns of `pace` are the outputs, in order of definition. All memory for the jobs and the report is taken before the first
 /// plan. An `Err` means out of memory then; nothing was planned. If the memory runs out later, the output is refused as `Want`.
 ///
@@ -46,17 +50,18 @@ pub fn bring_current<R: Threads + Wait + Sync, D: Disk + Send, P: Pace + Sync>(
     ensures in_turn { workers ≤ 1 → IfOk result (λ report. Does hall.now session.old session.new
         (λ start log low own. RefreshesInTurn start log low report own)) }
 {
-    let mut work = prepare_seen(rt, alloc, hall, session)?;
+    let mut work = prepare_seen(rt, alloc, hall, session, workers)?;
     refresh_levels(rt, alloc, hall, session, workers, &mut work.levels, pace);
     Ok(report_of(work))
 }
 
-/// Makes the work for the outputs of the whole history.
+/// Makes the work for the outputs of the whole history, for so many workers.
 pub(crate) fn prepare_seen<R: Wait, D: Disk>(
     rt: &R,
     alloc: Global,
     hall: &Hall<D>,
     session: &mut Session<D>,
+    workers: u8,
 ) -> Result<Work, AllocError>
     requires at { IsAt hall.now session.old }
     ensures at { IsAt hall.now session.new }
@@ -65,7 +70,7 @@ pub(crate) fn prepare_seen<R: Wait, D: Disk>(
         → IfOk result (IsPrepared (history_of h (seen_of session.new))) }
 {
     let snapshot = session.admit(rt, hall)?;
-    prepare(alloc, &snapshot)
+    prepare(alloc, &snapshot, workers)
 }
 
 /// Does the jobs of all levels, one level after another.

@@ -33,7 +33,7 @@ pub fn bring_current_here<R: Wait, D: Disk>(
     ensures in_turn { IfOk result (λ report. Does hall.now session.old session.new
         (λ start log low own. RefreshesInTurn start log low report own)) }
 {
-    let mut work = prepare_seen(rt, alloc, hall, session)?;
+    let mut work = prepare_seen(rt, alloc, hall, session, 1)?;
     refresh_levels_here(rt, alloc, hall, session, &mut work.levels);
     Ok(report_of(work))
 }

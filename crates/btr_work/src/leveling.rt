@@ -3,7 +3,7 @@ ghost use Rattle.std.specs.Prelude.{◌≡◌, ◌+◌, ◌<◌, ◌≤◌, ◌^
 ghost use Rattle.btr_hist.specs.declared.entry.Entry.{Entry as EntrySpec};
 ghost use Rattle.btr_engine.specs.Snapshot.{IsSnapshotOf};
 ghost use Rattle.btr_work.specs.Levels.{AreLevels, next_level};
-ghost use Rattle.btr_work.specs.Leveling.{PlacesStream, IsBelow};
+ghost use Rattle.btr_work.specs.Leveling.{PlacesStream, AreAtMost};
 
 use btr_engine::Snapshot;
 use btr_hist::Spec;
@@ -28,7 +28,7 @@ pub fn levels(alloc: Global, snapshot: &Snapshot) -> Result<Vec<Vec<u32>>, Alloc
 
 /// Returns the level of the next stream, if those before it have these levels, of which none is above `top`.
 fn next_level(found: &[usize], kind: Option<Spec>, top: usize) -> usize
-    requires below { IsBelow found.now top }
+    requires below { AreAtMost found.now top }
     requires few { top < 2 ^ 32 }
     ensures level { result ≡ next_level found.now kind }
     ensures top { result ≤ top + 1 }

@@ -1,5 +1,5 @@
 //! What is made ready before outputs are brought up to date, so that no memory is taken for it later.
-ghost use Rattle.std.specs.Prelude.{◌≡◌, List, [], ◌∷◌, ◌++◌, length, map, IfOk, OnOk};
+ghost use Rattle.std.specs.Prelude.{◌≡◌, ◌≤◌, ◌*◌, max, List, [], ◌∷◌, ◌++◌, length, map, IfOk, OnOk};
 ghost use Rattle.btr_hist.specs.declared.entry.Entry.{Entry as EntrySpec};
 ghost use Rattle.btr_hist.specs.History.{ids};
 ghost use Rattle.btr_engine.specs.Snapshot.{IsSnapshotOf};
@@ -44,8 +44,8 @@ struct Streams {
 /// What became of an output for which nothing was done: as if there had been no memory.
 const NOTHING: Refreshed = Refreshed::Refused(LandFault::Want);
 
-/// Makes the work for the outputs of a snapshot. An `Err` means out of memory.
-pub(crate) fn prepare(alloc: Global, snapshot: &Snapshot) -> Result<Work, AllocError>
+/// Makes the work for the outputs of a snapshot, for so many workers. An `Err` means out of memory.
+pub(crate) fn prepare(alloc: Global, snapshot: &Snapshot, workers: u8) -> Result<Work, AllocError>
     ensures { (h : List EntrySpec) → IsSnapshotOf h snapshot.now → IfOk result (IsPrepared h) }
 {
     let groups = levels(alloc, snapshot)?;
@@ -54,7 +54,7 @@ pub(crate) fn prepare(alloc: Global, snapshot: &Snapshot) -> Result<Work, AllocE
         results,
         turns,
     } = streams_of(alloc, snapshot)?;
-    let levels = levels_of(alloc, &groups, &turns)?;
+    let levels = levels_of(alloc, &groups, &turns, workers)?;
     Ok(Work {
         levels,
         lines,
@@ -96,32 +96,52 @@ fn push_line(lines: &mut Vec<ReportLine>, stream: u32, kind: Option<Spec>) -> Re
 }
 
 /// Makes the jobs of all levels, if these are their outputs, and these are the numbers of the turns of all streams.
-fn levels_of(alloc: Global, groups: &[Vec<u32>], turns: &[u32]) -> Result<Vec<Level>, AllocError>
+fn levels_of(
+    alloc: Global,
+    groups: &[Vec<u32>],
+    turns: &[u32],
+    workers: u8,
+) -> Result<Vec<Level>, AllocError>
     ensures { IfOk result (λ v. groups_in v.items ≡ map (λ g. g.items) groups.now) }
 {
     let mut levels = Vec::new(alloc);
     for group in groups {
-        levels.push(level_of(alloc, group, turns)?)?;
+        levels.push(level_of(alloc, group, turns, workers)?)?;
     }
     Ok(levels)
 }
 
 /// Makes the jobs of a level.
-fn level_of(alloc: Global, group: &[u32], turns: &[u32]) -> Result<Level, AllocError>
+fn level_of(alloc: Global, group: &[u32], turns: &[u32], workers: u8) -> Result<Level, AllocError>
     ensures { IfOk result (λ l. outputs_in l.jobs.items ≡ group.now) }
 {
     let mut level = Level {
         jobs: Vec::new(alloc),
         turns: Vec::new(alloc),
     };
+    let threads = threads_each(workers, group.len());
     for output in group {
         level.jobs.push(OutputJob {
             output: *output,
+            threads,
             result: NOTHING,
         })?;
         level.turns.push(turn_of(turns, *output))?;
     }
     Ok(level)
+}
+
+/// Returns how many threads each of so many outputs has, if each is brought up to date by a worker of its own: an equal share of the
+/// workers, rounded down, and at least one thread.
+fn threads_each(workers: u8, outputs: usize) -> usize
+    ensures some { 1 ≤ result }
+    ensures few { result * outputs ≤ max workers outputs }
+{
+    let workers = usize::from(workers);
+    if workers <= outputs || outputs == 0 {
+        return 1;
+    }
+    workers / outputs
 }
 
 /// Returns the number of the turn of a stream.

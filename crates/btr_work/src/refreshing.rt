@@ -9,14 +9,14 @@ ghost use Rattle.btr_plan.specs.Next.{IsNext};
 ghost use Rattle.btr_jobs.specs.States.{StoreState, LogState, GoesOn};
 ghost use Rattle.btr_jobs.specs.Jobs.{IsAt, Does};
 ghost use Rattle.btr_work.specs.Report.{IsRefreshed, IsOfStopped, KnowsStopped};
-ghost use Rattle.btr_work.specs.Refreshing.{IsDone, IsPlannedAt};
+ghost use Rattle.btr_work.specs.Refreshing.{IsDone, IsPlannedAt, IsNextAt};
 
 use crate::report::Refreshed;
 use btr_disk::Disk;
 use btr_distil::Plan;
 use btr_hall::{Hall, LandFault, Session};
 use btr_jobs::Job;
-use btr_plan::{Next, next_plan};
+use btr_plan::{Next, next_plan, next_plan_shared};
 use std::alloc::{AllocError, Global};
 use std::marker::{Send, Sync};
 use std::sync::Wait;
@@ -26,11 +26,15 @@ use std::thread::Threads;
 #[derive(Drop)]
 pub(crate) struct OutputJob {
     pub(crate) output: u32,
+
+    /// The greatest number of threads that work on the plan at once.
+    pub(crate) threads: usize,
+
     pub(crate) result: Refreshed,
 }
 
 impl OutputJob {
-    /// Brings the output up to date, and keeps what became of it.
+    /// Brings the output up to date on this thread alone, and keeps what became of it.
     pub(crate) fn bring<R: Wait, D: Disk>(
         &mut self,
         rt: &R,
@@ -59,7 +63,7 @@ impl Job for OutputJob {
         hall: &Hall<D>,
         session: &mut Session<D>,
     ) {
-        self.bring(rt, alloc, hall, session);
+        self.result = refresh_output_shared(rt, alloc, hall, session, self.output, self.threads);
     }
 
     ghost lasts = { done_lasts };
@@ -68,7 +72,7 @@ impl Job for OutputJob {
 }
 
 /// Brings one output up to date: one admission, a plan from its snapshot, after the turn, and its landing in another turn. If the stream
-/// is no output, that is as if there had been no memory.
+/// is no output, that is as if there had been no memory. It starts no thread.
 ///
 /// It costs what the plan and the landing cost, which follows what has changed in the inputs since the latest version of the output.
 pub fn refresh_output<R: Wait, D: Disk>(
@@ -83,12 +87,25 @@ pub fn refresh_output<R: Wait, D: Disk>(
     ensures refreshed { Does hall.now session.old session.new (λ start log low own. IsRefreshed start log low output result own) }
     ensures stopped { KnowsStopped hall.now session.old → IsOfStopped result }
 {
-    match plan_output(rt, alloc, hall, session, output) {
-        Ok(Next::UpToDate { version }) => Refreshed::Current { version },
-        Ok(Next::Plan(plan)) => land(rt, alloc, hall, session, output, &plan),
-        // An output stays one: it has a plan or is up to date, unless there is no memory.
-        Ok(Next::NotOutput) | Err(_) => Refreshed::Refused(LandFault::Want),
-    }
+    let next = plan_output(rt, alloc, hall, session, output);
+    land_next(rt, alloc, hall, session, output, next)
+}
+
+/// Brings one output up to date as [`refresh_output`] does. At most `threads` threads work on the plan at once, this one among them.
+fn refresh_output_shared<R: Threads + Wait + Sync, D: Disk>(
+    rt: &R,
+    alloc: Global,
+    hall: &Hall<D>,
+    session: &mut Session<D>,
+    output: u32,
+    threads: usize,
+) -> Refreshed
+    requires at { IsAt hall.now session.old }
+    ensures at { IsAt hall.now session.new }
+    ensures refreshed { Does hall.now session.old session.new (λ start log low own. IsRefreshed start log low output result own) }
+{
+    let next = plan_output_shared(rt, alloc, hall, session, output, threads);
+    land_next(rt, alloc, hall, session, output, next)
 }
 
 /// Returns what is planned for an output after the whole history.
@@ -102,11 +119,51 @@ fn plan_output<R: Wait, D: Disk>(
     requires at { IsAt hall.now session.old }
     ensures at { IsAt hall.now session.new }
     ensures looks { Looks hall.now session.old session.new }
-    ensures next { (h : List EntrySpec) → IsEngineOf h (opening_of hall.now)
-        → IfOk result (IsNext (history_of h (seen_of session.new)) output) }
+    ensures next { IsNextAt hall.now session.new output result }
 {
     let snapshot = session.admit(rt, hall)?;
     next_plan(alloc, &snapshot, output)
+}
+
+/// Returns what is planned for an output after the whole history. At most `threads` threads work on it at once, this one among them.
+fn plan_output_shared<R: Threads + Wait + Sync, D: Disk>(
+    rt: &R,
+    alloc: Global,
+    hall: &Hall<D>,
+    session: &mut Session<D>,
+    output: u32,
+    threads: usize,
+) -> Result<Next, AllocError>
+    requires at { IsAt hall.now session.old }
+    ensures at { IsAt hall.now session.new }
+    ensures looks { Looks hall.now session.old session.new }
+    ensures next { IsNextAt hall.now session.new output result }
+{
+    let snapshot = session.admit(rt, hall)?;
+    next_plan_shared(rt, alloc, &snapshot, output, threads)
+}
+
+/// Lands what is planned for an output, if that is a plan.
+fn land_next<R: Wait, D: Disk>(
+    rt: &R,
+    alloc: Global,
+    hall: &Hall<D>,
+    session: &mut Session<D>,
+    output: u32,
+    next: Result<Next, AllocError>,
+) -> Refreshed
+    requires at { IsAt hall.now session.old }
+    requires next { IsNextAt hall.now session.old output next }
+    ensures at { IsAt hall.now session.new }
+    ensures refreshed { Does hall.now session.old session.new (λ start log low own. IsRefreshed start log low output result own) }
+    ensures stopped { KnowsStopped hall.now session.old → IsOfStopped result }
+{
+    match next {
+        Ok(Next::UpToDate { version }) => Refreshed::Current { version },
+        Ok(Next::Plan(plan)) => land(rt, alloc, hall, session, output, &plan),
+        // An output stays one: it has a plan or is up to date, unless there is no memory.
+        Ok(Next::NotOutput) | Err(_) => Refreshed::Refused(LandFault::Want),
+    }
 }
 
 /// Lands the plan of an output.

@@ -26,13 +26,13 @@ loop-job-preserved g c =
     let i = c.loop-job.job-index in
     let jobs = c.args.jobs.now in
     let now = c.loop-job.jobs in
-    let was : OutputJob = get_or now i (record { output = 0; result = Landed 0 }) in
+    let was : OutputJob = get_or now i (record { output = 0; threads = 0; result = Landed 0 }) in
     let done : OutputJob = c.bring.new.self in
     let long = c.loop-job.invariant.1 in
     let rest = c.loop-job.invariant.2 in
     let inside : i < length now = omega arith in
     let more = in_turn_more IsDone hall done_lowers c.args.session.now mid new (take i jobs) (take i now) was done c.bring.ensures.at c.loop-job.invariant.3 c.bring.ensures.done in
-    let same : was ≡ get_or now i was = get_or-same now i (record { output = 0; result = Landed 0 }) was inside in
+    let same : was ≡ get_or now i was = get_or-same now i (record { output = 0; threads = 0; result = Landed 0 }) was inside in
     let before = items_more jobs now i was done inside long rest same in
     let after = now_more jobs now i was done inside long rest same in
     let all = subst (λ l. Does hall c.args.session.now new (InTurn IsDone (take (i + 1) jobs) l)) after (subst (λ l. Does hall c.args.session.now new (InTurn IsDone l (take i now ++ done ∷ []))) before more) in

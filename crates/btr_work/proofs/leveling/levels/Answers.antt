@@ -3,7 +3,7 @@ use Rattle.std.proofs.lemmas.List.{take_more, take_all, length-map, length-appen
 use Rattle.btr_hist.specs.History.{kinds, spec_of}
 use Rattle.btr_hist.proofs.HistoryLemmas.{length-kinds}
 use Rattle.btr_work.specs.Levels.{AreGroups, next_level, levels_from}
-use Rattle.btr_work.specs.Leveling.{PlacesStream, IsBelow}
+use Rattle.btr_work.specs.Leveling.{PlacesStream, AreAtMost}
 use Rattle.btr_work.proofs.LevelLemmas.{levels-snoc, below-snoc, groups-more}
 use Rattle.btr_work.proofs.leveling.levels.Goals as goal
 
@@ -25,7 +25,7 @@ loop-stream-preserved c =
       groups = subst (λ l. AreGroups l new) (sym pushed) (groups-more c.loop-stream.found.items level old new so_far.groups low placed);
       counted = omega (arith, ap (λ l. length l) pushed, length-append c.loop-stream.found.items (level ∷ []), so_far.counted);
       below =
-          subst (λ l. IsBelow l (length c.place.new.groups.items)) (sym pushed)
+          subst (λ l. AreAtMost l (length c.place.new.groups.items)) (sym pushed)
           (below-snoc c.loop-stream.found.items level (length c.loop-stream.groups.items) (length c.place.new.groups.items) so_far.below (omega (arith, counted, was, is)) (omega (arith, counted, was, is)));
       few = omega (arith, counted, was, is, low, so_far.few);
       found = λ h of.
