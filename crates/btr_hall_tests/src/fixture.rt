@@ -1,4 +1,4 @@
-//! What the tests of several modules share: halls over devices in memory, a pace by which turns meet, and the end of a table.
+//! What the tests of several modules share: halls over devices in memory, paces by which turns meet, and the end of a table.
 ghost use Rattle.std.specs.Prelude.{◌≤◌, IfOk};
 ghost use Rattle.btr_hall.specs.Session.{IsSessionOf, IsAlone};
 ghost use Rattle.btr_jobs.specs.Jobs.{IsAt};
@@ -32,11 +32,8 @@ pub(crate) fn no_wrong(row: Option<usize>) -> Result<(), Fail> {
 /// Returns points with these times and values.
 pub(crate) fn points_of(alloc: Global, pairs: &[(i64, i64)]) -> Result<Vec<Point>, AllocError> {
     let mut points = Vec::new(alloc);
-    for (time, value) in pairs {
-        points.push(Point {
-            time: *time,
-            value: *value,
-        })?;
+    for &(time, value) in pairs {
+        points.push(Point { time, value })?;
     }
     Ok(points)
 }
@@ -95,6 +92,17 @@ pub(crate) fn close(hall: Place, user: User) -> Engine<MemDisk>
     hall.close(user)
 }
 
+/// Waits for at most a million tries until a count has come to a number. Returns whether it has.
+pub(crate) fn wait_for(count: &AtomicU32, number: u32) -> bool {
+    for _ in 0..1_000_000u32 {
+        if count.load(Ordering::SeqCst) >= number {
+            return true;
+        }
+        yield_now();
+    }
+    false
+}
+
 /// Counts the turns that begin, adds up the numbers of those that end, and keeps the number of the last of them. The turn 0 waits until
 /// another one has begun.
 #[derive(Drop)]
@@ -132,24 +140,13 @@ impl Meeting {
             beside: self.beside.load(Ordering::SeqCst),
         }
     }
-
-    /// Waits for at most a million tries until a second turn has begun.
-    fn wait(&self) {
-        for _ in 0..1_000_000u32 {
-            if self.begun.load(Ordering::SeqCst) > 1 {
-                self.beside.store(1, Ordering::SeqCst);
-                return;
-            }
-            yield_now();
-        }
-    }
 }
 
 impl Pace for Meeting {
     fn begun(&self, turn: u32) {
         self.begun.fetch_add(1, Ordering::SeqCst);
-        if turn == 0 {
-            self.wait();
+        if turn == 0 && wait_for(&self.begun, 2) {
+            self.beside.store(1, Ordering::SeqCst);
         }
     }
 

@@ -152,23 +152,6 @@ fn define<R: Wait>(rt: &R, alloc: Global, hall: &Place, user: &mut User) -> Resu
     Ok(is_created && is_added && is_defined)
 }
 
-/// Plans what the output needs now, and lands it. Returns whether a plan was made and landed.
-fn plan_and_land<R: Wait>(
-    rt: &R,
-    alloc: Global,
-    hall: &Place,
-    user: &mut User,
-) -> Result<bool, AllocError>
-    requires { IsSessionOf hall.now user.old }
-    ensures own { IsSessionOf hall.now user.new }
-    ensures share { share_of user.new ≡ share_of user.old }
-{
-    let Some(plan) = plan_now(rt, alloc, hall, user, 1)? else {
-        return Ok(false);
-    };
-    Ok(land(rt, alloc, hall, user, &plan).is_ok())
-}
-
 /// Makes a plain stream, and an output with its first version, and adds a point to the plain stream. Returns whether all was accepted.
 fn prepare<R: Wait>(
     rt: &R,
@@ -181,7 +164,10 @@ fn prepare<R: Wait>(
     ensures share { share_of user.new ≡ share_of user.old }
 {
     let is_defined = define(rt, alloc, hall, user)?;
-    let is_landed = plan_and_land(rt, alloc, hall, user)?;
+    let Some(plan) = plan_now(rt, alloc, hall, user, 1)? else {
+        return Ok(false);
+    };
+    let is_landed = land(rt, alloc, hall, user, &plan).is_ok();
     let is_changed = add_points(rt, alloc, hall, user, &[(5, 1)])?;
     Ok(is_defined && is_landed && is_changed)
 }
@@ -458,81 +444,27 @@ fn both(first: List, second: List) -> List {
     Some(all)
 }
 
-/// Two threads commit 1250 points each to the streams `first` and `first + 1`.
-fn two_tell<R: Threads + Wait + Sync>(
+/// Lets so many threads commit 1250 points each, to as many streams from `first` on.
+#[cycle(tell_by_threads)]
+fn tell_by_threads<R: Threads + Wait + Sync>(
     rt: &R,
     alloc: Global,
     hall: &Place,
     user: User,
     first: u32,
+    threads: u32,
 ) -> (User, List)
-    requires { IsSessionOf hall.now user }
+    requires crossing { IsSync R.row }
+    requires own { IsSessionOf hall.now user }
     ensures own { IsSessionOf hall.now result.0 }
     ensures share { (path : ℕ → Bool) → on_path path (share_of result.0) ≡ on_path path (share_of user) }
 {
-    let mut user = user;
-    let other = user.split(hall);
-    let second = first | 1;
-    let ((mut user, here), (other, there)) = join(
-        rt,
-        || -> (User, List)
-            requires { IsSessionOf hall.now user }
-            ensures own { IsSessionOf hall.entry.now result.0 }
-            ensures share { share_of result.0 ≡ share_of user }
-        { tell_often(rt, alloc, hall, user, first, 1250) },
-        || -> (User, List)
-            requires { IsSessionOf hall.now other }
-            ensures own { IsSessionOf hall.entry.now result.0 }
-            ensures share { share_of result.0 ≡ share_of other }
-        { tell_often(rt, alloc, hall, other, second, 1250) },
-    );
-    user.meet(hall, other);
-    (user, both(here, there))
-}
-
-/// Four threads commit to four streams from `first` on.
-fn four_tell<R: Threads + Wait + Sync>(
-    rt: &R,
-    alloc: Global,
-    hall: &Place,
-    user: User,
-    first: u32,
-) -> (User, List)
-    requires { IsSessionOf hall.now user }
-    ensures own { IsSessionOf hall.now result.0 }
-    ensures share { (path : ℕ → Bool) → on_path path (share_of result.0) ≡ on_path path (share_of user) }
-{
-    let mut user = user;
-    let other = user.split(hall);
-    let second = first | 2;
-    let ((mut user, here), (other, there)) = join(
-        rt,
-        || -> (User, List)
-            requires { IsSync R.row × IsSessionOf hall.now user }
-            ensures own { IsSessionOf hall.entry.now result.0 }
-            ensures share { (path : ℕ → Bool) → on_path path (share_of result.0) ≡ on_path path (share_of user) }
-        { two_tell(rt, alloc, hall, user, first) },
-        || -> (User, List)
-            requires { IsSync R.row × IsSessionOf hall.now other }
-            ensures own { IsSessionOf hall.entry.now result.0 }
-            ensures share { (path : ℕ → Bool) → on_path path (share_of result.0) ≡ on_path path (share_of other) }
-        { two_tell(rt, alloc, hall, other, second) },
-    );
-    user.meet(hall, other);
-    (user, both(here, there))
-}
-
-/// Eight threads commit to eight streams.
-fn eight_tell<R: Threads + Wait + Sync>(
-    rt: &R,
-    alloc: Global,
-    hall: &Place,
-    user: User,
-) -> (User, List)
-    requires { IsSessionOf hall.now user }
-    ensures own { IsSessionOf hall.now result.0 }
-    ensures share { (path : ℕ → Bool) → on_path path (share_of result.0) ≡ on_path path (share_of user) }
-{
+    if threads <= 1 {
+        return tell_often(rt, alloc, hall, user, first, 1250);
+    }
+    let half = threads / 2;
+    let rest = threads - half;
+    let second = first.wrapping_add(half);
     let mut user = user;
     let other = user.split(hall);
     let ((mut user, here), (other, there)) = join(
@@ -541,12 +473,12 @@ fn eight_tell<R: Threads + Wait + Sync>(
             requires { IsSync R.row × IsSessionOf hall.now user }
             ensures own { IsSessionOf hall.entry.now result.0 }
             ensures share { (path : ℕ → Bool) → on_path path (share_of result.0) ≡ on_path path (share_of user) }
-        { four_tell(rt, alloc, hall, user, 0) },
+        { tell_by_threads(rt, alloc, hall, user, first, half) },
         || -> (User, List)
             requires { IsSync R.row × IsSessionOf hall.now other }
             ensures own { IsSessionOf hall.entry.now result.0 }
             ensures share { (path : ℕ → Bool) → on_path path (share_of result.0) ≡ on_path path (share_of other) }
-        { four_tell(rt, alloc, hall, other, 4) },
+        { tell_by_threads(rt, alloc, hall, other, second, rest) },
     );
     user.meet(hall, other);
     (user, both(here, there))
@@ -616,7 +548,7 @@ fn told_to_eight<R: Threads + Wait + Sync>(
 ) -> Result<(u32, List, Engine<MemDisk>), Fail> {
     let (hall, user) = begun_empty(alloc, 30_000, &[])?;
     let (user, made) = create(rt, alloc, &hall, user, 8);
-    let (user, told) = eight_tell(rt, alloc, &hall, user);
+    let (user, told) = tell_by_threads(rt, alloc, &hall, user, 0, 8);
     let engine = close(hall, user);
     Ok((made, told, engine))
 }

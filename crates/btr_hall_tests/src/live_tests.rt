@@ -2,7 +2,7 @@
 ghost use Rattle.std.specs.Prelude.{◌≤◌, IfOk};
 ghost use Rattle.btr_text.specs.Input.{HaveLanes};
 
-use crate::fixture::{begun_empty, close, no_wrong};
+use crate::fixture::{begun_empty, close, no_wrong, wait_for};
 use btr_jobs::{NoPace, Pace};
 use btr_live::*;
 use btr_text::{LineReply, ScriptLine, read_script, write_reply};
@@ -12,7 +12,7 @@ use std::marker::Sync;
 use std::sync::Wait;
 use std::sync::atomic::{AtomicU32, Ordering};
 use std::test::Fail;
-use std::thread::{Threads, yield_now};
+use std::thread::Threads;
 
 /// Adds a line to a text. In place of each letter U, V or W it gets an id.
 fn add_line(text: &mut Vec<u8>, line: &[u8]) -> Result<(), AllocError> {
@@ -280,7 +280,7 @@ fn one_lane_sees_the_device_fail(rt: HostRuntime) -> Result<(), Fail> {
     Ok(())
 }
 
-/// Waits in the first turn, for at most a million tries, until another turn has begun.
+/// The first turn ends when another turn has begun, or after waiting in vain.
 #[derive(Drop)]
 struct Beside {
     other: u32,
@@ -296,16 +296,6 @@ impl Beside {
             beside: AtomicU32::new(0),
         }
     }
-
-    fn wait(&self) {
-        for _ in 0..1_000_000u32 {
-            if self.begun.load(Ordering::SeqCst) > 0 {
-                self.beside.store(1, Ordering::SeqCst);
-                return;
-            }
-            yield_now();
-        }
-    }
 }
 
 impl Pace for Beside {
@@ -316,8 +306,8 @@ impl Pace for Beside {
     }
 
     fn ended(&self, turn: u32) {
-        if turn == 0 {
-            self.wait();
+        if turn == 0 && wait_for(&self.begun, 1) {
+            self.beside.store(1, Ordering::SeqCst);
         }
     }
 }
@@ -375,7 +365,7 @@ fn lanes_and_rounds_run_beside_each_other(rt: HostRuntime) -> Result<(), Fail> {
     no_wrong(first_wrong_meeting(&rt, rt.alloc())?)
 }
 
-/// Begins the lanes after the rounds have ended, or the rounds after all lanes have ended: it waits for at most a million tries.
+/// Begins the lanes after the rounds have ended, or the rounds after all lanes have ended. It may wait in vain.
 #[derive(Drop)]
 struct InOrder {
     are_rounds_first: bool,
@@ -390,16 +380,6 @@ impl InOrder {
             lanes: AtomicU32::new(0),
             rounds: AtomicU32::new(0),
         }
-    }
-}
-
-/// Waits until this many turns have ended.
-fn wait_for(ended: &AtomicU32, count: u32) {
-    for _ in 0..1_000_000u32 {
-        if ended.load(Ordering::SeqCst) >= count {
-            return;
-        }
-        yield_now();
     }
 }
 

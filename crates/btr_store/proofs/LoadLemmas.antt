@@ -1,5 +1,6 @@
 -- Lemmas on loads: what is said of them, and that what they add is allowed.
-use Rattle.std.specs.Prelude.{◌≡◌, ℕ, ◌<◌, ◌≤◌, List, [], ◌∷◌, ◌++◌, Option, Some, None, Result, Ok, Err, IfOk, IfSome}
+use Rattle.std.specs.Prelude.{◌≡◌, ℕ, ◌<◌, ◌≤◌, List, [], ◌∷◌, ◌++◌, Option, Some, None, Result, Ok, Err, IfOk, OnErr, IfSome}
+use Rattle.std.specs.Result.{result_ok}
 use Rattle.std.specs.declared.alloc.AllocError.{AllocError}
 use Rattle.std.proofs.Common.{ap, ◌∙◌, subst, arith, ⊎_elim}
 use Rattle.btr_disk.specs.declared.disk.Disk.{Ghosts}
@@ -43,46 +44,35 @@ use Rattle.btr_store.proofs.WorkLemmas.{works_run}
 
 -- ---- what is said
 
-says_loaded : (loaded : LoadedValue) (said : Result Transcript AllocError) → IfOk said (SaysLoad loaded) → SaysLoaded (Some loaded) said
+-- What was said of rows that were loaded.
+pub says_loaded : (loaded : LoadedValue) (said : Result Transcript AllocError) → IfOk said (SaysLoad loaded) → SaysLoaded (Some loaded) said
 says_loaded loaded (Ok transcript) is = is
 says_loaded loaded (Err error) is = tt
 
-module _ {D : Type 0} {disk : Ghosts D} where
-  -- What was said of rows was said of what became of them.
-  pub loads_said : (hall : Hall D disk) (old new : Session D disk) (rows : RowListValue) (batch : ℕ) (loaded : LoadedValue) (said : Result Transcript AllocError) → Does hall old new (λ start log low own. Loads start log low rows batch loaded own) → IfOk said (SaysLoad loaded) → Does hall old new (λ start log low own. LoadsRows start log low rows batch said own)
-  loads_said hall old new rows batch loaded said does says =
+module _ {D : Type 0} {disk : Ghosts D} (hall : Hall D disk) (old new : Session D disk) (rows : RowListValue) (batch : ℕ) where
+  -- Rows were loaded, or memory ran out before any entry, and this was said of it.
+  pub loads_said : (done : Result LoadedValue AllocError) (said : Result Transcript AllocError) → IfOk done (λ loaded. Does hall old new (λ start log low own. Loads start log low rows batch loaded own)) → OnErr done (Does hall old new (λ start log low own. own ≡ [])) → SaysLoaded (result_ok done) said → Does hall old new (λ start log low own. LoadsRows start log low rows batch said own)
+  loads_said (Ok loaded) said does refused says =
       does_implied hall old new (λ start log low own. Loads start log low rows batch loaded own) (λ start log low own. LoadsRows start log low rows batch said own)
-      (λ start log low own is. record { loaded = Some loaded; loads = is; says = says_loaded loaded said says }) does
+      (λ start log low own is. record { loaded = Some loaded; loads = is; says = says }) does
+  loads_said (Err error) said does refused says =
+      does_implied hall old new (λ start log low own. own ≡ []) (λ start log low own. LoadsRows start log low rows batch said own)
+      (λ start log low own is. record { loaded = None; loads = is; says = says }) refused
 
-  -- Memory ran out before any entry.
-  pub loads_none : (hall : Hall D disk) (old new : Session D disk) (rows : RowListValue) (batch : ℕ) (error : AllocError) → Does hall old new (λ start log low own. own ≡ []) → Does hall old new (λ start log low own. LoadsRows start log low rows batch (Err error) own)
-  loads_none hall old new rows batch error does =
-      does_implied hall old new (λ start log low own. own ≡ []) (λ start log low own. LoadsRows start log low rows batch (Err error) own)
-      (λ start log low own is. record { loaded = None; loads = is; says = tt }) does
-
--- The same of one worker.
-says_turn : (start : StoreState) (log : LogState) (low : List Entry) (rows : RowListValue) (batch : ℕ) (loaded : LoadedValue) (said : Result Transcript AllocError) (own : List ℕ) → IfOk said (SaysLoad loaded) → LoadsInTurn start log low rows batch loaded own → LoadsRowsInTurn start log low rows batch said own
-says_turn start log low rows batch loaded said own says turn = record {
-  did = record { loaded = Some loaded; loads = turn.loads; says = says_loaded loaded said says };
-  in_turn = turn;
-}
-
-says_none : (start : StoreState) (log : LogState) (low : List Entry) (rows : RowListValue) (batch : ℕ) (error : AllocError) (own : List ℕ) → own ≡ [] → LoadsRowsInTurn start log low rows batch (Err error) own
-says_none start log low rows batch error own is = record {
-  did = record { loaded = None; loads = is; says = tt };
-  in_turn = tt;
-}
-
-module _ {D : Type 0} {disk : Ghosts D} where
-  pub turn_said : (hall : Hall D disk) (old new : Session D disk) (rows : RowListValue) (batch : ℕ) (loaded : LoadedValue) (said : Result Transcript AllocError) → Does hall old new (λ start log low own. LoadsInTurn start log low rows batch loaded own) → IfOk said (SaysLoad loaded) → Does hall old new (λ start log low own. LoadsRowsInTurn start log low rows batch said own)
-  turn_said hall old new rows batch loaded said does says =
+  -- The same of one worker.
+  pub turn_said : (done : Result LoadedValue AllocError) (said : Result Transcript AllocError) → IfOk done (λ loaded. Does hall old new (λ start log low own. LoadsInTurn start log low rows batch loaded own)) → OnErr done (Does hall old new (λ start log low own. own ≡ [])) → SaysLoaded (result_ok done) said → Does hall old new (λ start log low own. LoadsRowsInTurn start log low rows batch said own)
+  turn_said (Ok loaded) said does refused says =
       does_implied hall old new (λ start log low own. LoadsInTurn start log low rows batch loaded own) (λ start log low own. LoadsRowsInTurn start log low rows batch said own)
-      (λ start log low own is. says_turn start log low rows batch loaded said own says is) does
-
-  pub turn_none : (hall : Hall D disk) (old new : Session D disk) (rows : RowListValue) (batch : ℕ) (error : AllocError) → Does hall old new (λ start log low own. own ≡ []) → Does hall old new (λ start log low own. LoadsRowsInTurn start log low rows batch (Err error) own)
-  turn_none hall old new rows batch error does =
-      does_implied hall old new (λ start log low own. own ≡ []) (λ start log low own. LoadsRowsInTurn start log low rows batch (Err error) own)
-      (λ start log low own is. says_none start log low rows batch error own is) does
+      (λ start log low own is. record {
+        did = record { loaded = Some loaded; loads = is.loads; says = says };
+        in_turn = is;
+      }) does
+  turn_said (Err error) said does refused says =
+      does_implied hall old new (λ start log low own. own ≡ []) (λ start log low own. LoadsRowsInTurn start log low rows batch said own)
+      (λ start log low own is. record {
+        did = record { loaded = None; loads = is; says = says };
+        in_turn = tt;
+      }) refused
 
 -- What was said holds of what is said in the end: the same, or that memory ran out.
 still_says : (loaded : Option LoadedValue) (said told : Result Transcript AllocError) → IfOk told (λ t. said ≡ Ok t) → SaysLoaded loaded said → SaysLoaded loaded told

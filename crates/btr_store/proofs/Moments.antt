@@ -21,7 +21,7 @@ use Rattle.btr_hall.specs.declared.item.Item.TheVariants.{Earlier, Added, Halted
 use Rattle.btr_hall.specs.Trace.{IsTrace, engine_after, entries_in}
 use Rattle.btr_hall.specs.StoreLaws.{ends_stopped}
 use Rattle.btr_jobs.specs.States.{LogState, failed_in}
-use Rattle.btr_store.specs.Work.{HoldsPrefix, HoldsLog, Keeps, EndsAt, KeepsEach}
+use Rattle.btr_store.specs.Work.{HoldsPrefix, HoldsLog, KeepsHistory, EndsAt, KeepsEach}
 use Rattle.btr_jobs.proofs.StateLemmas.{log_at}
 
 -- A history is a prefix of one that begins with it.
@@ -145,7 +145,7 @@ module _ {D : Type 0} (disk : Ghosts D) (told : disk.is_observable) (only_now : 
   abbrev size : ℕ
   size = disk.size new
 
-  keeps_here : (h : List Entry) (x : Engine D disk) (l : List (Item D disk)) → IsAtRest h x → disk.size (device x) ≡ size → IsTrace x l → new ≡ device (engine_after x l) → log ≡ log_at h l → Keeps disk log new (device x) h
+  keeps_here : (h : List Entry) (x : Engine D disk) (l : List (Item D disk)) → IsAtRest h x → disk.size (device x) ≡ size → IsTrace x l → new ≡ device (engine_after x l) → log ≡ log_at h l → KeepsHistory disk log new (device x) h
   keeps_here h x l rest same trace ends is = record {
     now = λ c left. subst (λ (n : ℕ). HoldsHistory n c h) same (holds_in h x rest c (rest.only.each c left));
     since = subst (λ (k : LogState). Leaves disk.calls disk.images_since (device x) new (HoldsPrefix size (length h) k)) (sym is)

@@ -12,7 +12,7 @@ use Rattle.btr_hist.specs.Legal.{Legal}
 use Rattle.btr_engine.specs.declared.engine.Engine.{Engine}
 use Rattle.btr_engine.specs.Engine.{device, blocks_of, tail_of, entries_of, faults_at_open, IsEngineOf, IsAtRest, KeepsOpening}
 use Rattle.btr_engine.specs.Holds.{HoldsHistoryTo}
-use Rattle.btr_open.specs.Opening.{IsOpened}
+use Rattle.btr_open.specs.Opening.{IsOpenedEngine}
 use Rattle.btr_gate.proofs.PrefixLemmas.{starts_append}
 use Rattle.btr_hall.specs.declared.item.Item.{Item}
 use Rattle.btr_hall.specs.declared.item.Item.TheVariants.{Earlier}
@@ -56,7 +56,7 @@ module _ {D : Type 0} {disk : Ghosts D} where
 -- ---- the device
 
 -- The history that the device held before the opening.
-pub held_before : {D : Type 0} (disk : Ghosts D) (old : D) (first : Engine D disk) → IsOpened disk old first → (h : List Entry) → IsAtRest h first → disk.is_observable → HoldsHistoryTo (disk.size old) (disk.contents old) (blocks_of first) (tail_of first) h
+pub held_before : {D : Type 0} (disk : Ghosts D) (old : D) (first : Engine D disk) → IsOpenedEngine disk old first → (h : List Entry) → IsAtRest h first → disk.is_observable → HoldsHistoryTo (disk.size old) (disk.contents old) (blocks_of first) (tail_of first) h
 held_before {D} disk old first opened h rest told =
     let bytes : disk.contents (device first) ≡ disk.contents old = Same-is (disk.contents old) (disk.contents (device first)) (opened.kept.unwritten told).same in
     let sized = subst (λ (n : ℕ). HoldsHistoryTo n (disk.contents (device first)) (blocks_of first) (tail_of first) h) opened.kept.counts.same_size rest.holds in
@@ -67,7 +67,7 @@ pub rose_from : (before old new : ℕ) → before ≤ old → Rose old new → R
 rose_from before old new le rose = omega (arith, le, rose)
 
 -- What holds of each device: the last engine goes on from the one that was opened, and the status is said of it.
-pub plain_on : {D : Type 0} (disk : Ghosts D) (old new : D) (x y : Engine D disk) → IsOpened disk old x → KeepsOpening x y → new ≡ device y → (said : Result Transcript AllocError) (failed : Bool) → (failed ≡ true → Rose (faults_at_open y) (disk.faults (device y))) → IfOk said (λ t. t.status ≡ DeviceFault → failed ≡ true) → IsPlainWork disk old said new
+pub plain_on : {D : Type 0} (disk : Ghosts D) (old new : D) (x y : Engine D disk) → IsOpenedEngine disk old x → KeepsOpening x y → new ≡ device y → (said : Result Transcript AllocError) (failed : Bool) → (failed ≡ true → Rose (faults_at_open y) (disk.faults (device y))) → IfOk said (λ t. t.status ≡ DeviceFault → failed ≡ true) → IsPlainWork disk old said new
 plain_on {D} disk old new x y opened kept out said failed rose asks =
     subst (λ (d : D). IsPlainWork disk old said d) (sym out) (record {
       same_size = kept.device_kept.same_size ∙ opened.kept.counts.same_size;

@@ -18,7 +18,7 @@ use Rattle.btr_engine.specs.Engine.{device, blocks_of, tail_of, room_of, entries
 use Rattle.btr_engine.specs.Body.{needs_of, needs_after}
 use Rattle.btr_engine.proofs.EngineLemmas.{stopped_by_fault}
 use Rattle.btr_engine.proofs.NeedLemmas.{needs-append}
-use Rattle.btr_open.specs.Opening.{IsOpened, IsOpenedOn}
+use Rattle.btr_open.specs.Opening.{IsOpenedEngine, IsOpenedOn}
 use Rattle.btr_gate.specs.Numbers.{one, times, given}
 use Rattle.btr_gate.specs.Prefixes.{StartsWith}
 use Rattle.btr_gate.proofs.PrefixLemmas.{starts_length, starts_more}
@@ -102,7 +102,7 @@ none_failed : {A : Type 0} (o : Option A) → o ≡ None → is_some o ≡ false
 none_failed None is = refl
 none_failed (Some x) is = absurd (cc)
 
-module _ {D : Type 0} (disk : Ghosts D) (only_now : disk.is_observable → (d : D) (c : Image) → disk.images_since d (disk.calls d) c → disk.images_now d c) (counts_now : disk.is_observable → (d : D) (t : ℕ) (c : Image) → t ≤ disk.calls d → disk.images_now d c → disk.images_since d t c) (old : D) (x : Engine D disk) (opened : IsOpened disk old x) (h : List Entry) (on : IsOpenedOn disk h x) where
+module _ {D : Type 0} (disk : Ghosts D) (only_now : disk.is_observable → (d : D) (c : Image) → disk.images_since d (disk.calls d) c → disk.images_now d c) (counts_now : disk.is_observable → (d : D) (t : ℕ) (c : Image) → t ≤ disk.calls d → disk.images_now d c → disk.images_since d t c) (old : D) (x : Engine D disk) (opened : IsOpenedEngine disk old x) (h : List Entry) (on : IsOpenedOn disk h x) where
   rest : IsAtRest h x
   rest = on.at_rest
 

@@ -77,7 +77,7 @@ module _ {D : Type 0} (disk : Ghosts D) where
 
   -- The device was `d` when the history was `h`, and work went on to the device `new` and to this state of the log. A crash at `d` leaves
   -- just the history `h`. A crash at any moment from `d` to `new` leaves a prefix of the last history that has all entries of `h`.
-  pub record Keeps (log : LogState) (new d : D) (h : List Entry) : Type 0 where
+  pub record KeepsHistory (log : LogState) (new d : D) (h : List Entry) : Type 0 where
     pub now : (c : Image) → disk.images_now d c → HoldsHistory (disk.size new) c h
     pub since : Leaves disk.calls disk.images_since d new (HoldsPrefix (disk.size new) (length h) log)
 
@@ -92,9 +92,9 @@ module _ {D : Type 0} (disk : Ghosts D) where
   -- There is a device after each of these entries, which were added after the history `h` and the device `d`. The calls of a
   -- step commit an entry. A crash in them leaves the history without the entry, or with it. From then on a crash keeps the entry.
   abbrev pub KeepsEach : LogState → D → D → List Entry → List Entry → Type 0
-  KeepsEach log new d h [] = Keeps log new d h × EndsAt log.failed new d h
+  KeepsEach log new d h [] = KeepsHistory log new d h × EndsAt log.failed new d h
   KeepsEach log new d h (e ∷ more) =
-      Keeps log new d h × (c : D) × CountedTimes calls_of_step (disk.calls d) (disk.calls c)
+      KeepsHistory log new d h × (c : D) × CountedTimes calls_of_step (disk.calls d) (disk.calls c)
       × Leaves disk.calls disk.images_since d c (IsBeforeOrAfter (disk.size new) h e) × KeepsEach log new c (h ++ e ∷ []) more
 
   -- What a crash leaves of work from the device `old` to the device `new`, which began with `first` and went on to this state of the log.

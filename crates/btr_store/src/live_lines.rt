@@ -79,28 +79,12 @@ fn say_last<R: Wait, D: Disk>(
         → IfOk result (SaysLines (round_lines (history_of h (seen_of session.old)) last.now)) }
 {
     match last {
-        Some(Ok(report)) => say_round(rt, alloc, hall, session, report),
+        Some(Ok(report)) => {
+            let snapshot = session.admit(rt, hall)?;
+            refused_lines(alloc, &snapshot, report)
+        }
         _ => Ok(Transcript::new(alloc)),
     }
-}
-
-/// Says a line for each output that a round refused, by the ids of the store as it is now. An `Err` means out of memory.
-fn say_round<R: Wait, D: Disk>(
-    rt: &R,
-    alloc: Global,
-    hall: &Hall<D>,
-    session: &mut Session<D>,
-    report: &Report,
-) -> Result<Transcript, AllocError>
-    requires at { IsAt hall.now session.old }
-    requires alone { IsAlone session.old }
-    ensures at { IsAt hall.now session.new }
-    ensures stays { Stays session.old session.new }
-    ensures says { (h : List EntrySpec) → IsEngineOf h (opening_of hall.now)
-        → IfOk result (SaysLines (flat_map (refused_line (history_of h (seen_of session.old))) report.now)) }
-{
-    let snapshot = session.admit(rt, hall)?;
-    refused_lines(alloc, &snapshot, report)
 }
 
 /// Says a line for each output that a round refused, by the ids of a snapshot. An `Err` means out of memory.

@@ -1,18 +1,16 @@
 //! The work of `load`: rows are committed to a store.
-ghost use Rattle.std.specs.Prelude.{◌≡◌, ◌≤◌, ℕ, List, IfErr, IfOk};
+ghost use Rattle.std.specs.Prelude.{◌≤◌, IfErr, IfOk};
+ghost use Rattle.std.specs.Result.{result_ok};
 ghost use Rattle.btr_open.specs.Opening.{IsNotOpened};
-ghost use Rattle.btr_hall.specs.Session.{IsAlone};
-ghost use Rattle.btr_jobs.specs.Jobs.{IsAt, Does};
 ghost use Rattle.btr_store.specs.Work.{DoesRightly, IfHolds, IsPlainWork};
-ghost use Rattle.btr_store.specs.Load.{LoadsRows, LoadsRowsInTurn, LoadsStore};
+ghost use Rattle.btr_store.specs.Load.{LoadsStore, SaysLoaded};
 
 use crate::load_lines::load_lines;
 use crate::transcript::Transcript;
 use crate::work::{Worked, close_hall, open_hall};
 use btr_disk::Disk;
-use btr_hall::{Hall, Session};
 use btr_jobs::Pace;
-use btr_load::load;
+use btr_load::{Loaded, load};
 use btr_open::OpenFault;
 use btr_rows::RowList;
 use std::alloc::{AllocError, Global};
@@ -53,31 +51,16 @@ pub fn load_store<R: Threads + Wait + Sync, D: Disk + Send, P: Pace + Sync>(
     ensures refused { IfErr result (IsNotOpened ⟦<D as Disk>⟧ disk) }
 {
     let (hall, mut session) = open_hall(alloc, disk)?;
-    let said = load_rows(rt, alloc, &hall, &mut session, rows, batch, workers, pace);
+    let loaded = load(rt, alloc, &hall, &mut session, rows, batch, workers, pace);
+    let said = say_loaded(alloc, loaded);
     Ok(close_hall(hall, session, said))
 }
 
-/// Loads rows, and says what became of them. An `Err` means out of memory.
-fn load_rows<R: Threads + Wait + Sync, D: Disk + Send, P: Pace + Sync>(
-    rt: &R,
-    alloc: Global,
-    hall: &Hall<D>,
-    session: &mut Session<D>,
-    rows: RowList,
-    batch: u32,
-    workers: u8,
-    pace: &P,
-) -> Result<Transcript, AllocError>
-    requires at { IsAt hall.now session.old }
-    requires alone { IsAlone session.old }
-    requires batch { 1 ≤ batch }
-    ensures at { IsAt hall.now session.new }
-    ensures alone { IsAlone session.new }
-    ensures does { Does hall.now session.old session.new (λ start log low own. LoadsRows start log low rows batch result own) }
-    ensures in_turn { workers ≤ 1 → Does hall.now session.old session.new
-        (λ start log low own. LoadsRowsInTurn start log low rows batch result own) }
+/// Says what became of rows, if they were loaded. An `Err` means out of memory.
+fn say_loaded(alloc: Global, loaded: Result<Loaded, AllocError>) -> Result<Transcript, AllocError>
+    ensures { SaysLoaded (result_ok loaded) result }
 {
-    match load(rt, alloc, hall, session, rows, batch, workers, pace) {
+    match loaded {
         Ok(loaded) => load_lines(alloc, &loaded),
         Err(error) => Err(error),
     }

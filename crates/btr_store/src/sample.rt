@@ -36,6 +36,19 @@ const WORKERS: u8 = 4;
 /// The number of points in a batch.
 const BATCH: u32 = 4096;
 
+/// Which sample a store is filled with.
+#[derive(Clone, Copy)]
+struct SampleParameters {
+    /// The number with which the generator begins.
+    number: u32,
+
+    /// How many streams there are.
+    streams: u32,
+
+    /// How many points each stream has.
+    points: u32,
+}
+
 /// What was done to an empty store.
 #[derive(Drop)]
 pub(crate) struct Filled {
@@ -81,16 +94,12 @@ pub fn sample_store<R: Threads + Wait + Sync, D: Disk + Send, P: Pace + Sync>(
     ensures refused { IfErr result (IsNotOpened ⟦<D as Disk>⟧ disk) }
 {
     let (hall, mut session) = open_hall(alloc, disk)?;
-    let said = sample(
-        rt,
-        alloc,
-        &hall,
-        &mut session,
+    let parameters = SampleParameters {
         number,
         streams,
         points,
-        pace,
-    );
+    };
+    let said = sample(rt, alloc, &hall, &mut session, parameters, pace);
     Ok(close_hall(hall, session, said))
 }
 
@@ -100,9 +109,7 @@ fn sample<R: Threads + Wait + Sync, D: Disk + Send, P: Pace + Sync>(
     alloc: Global,
     hall: &Hall<D>,
     session: &mut Session<D>,
-    number: u32,
-    streams: u32,
-    points: u32,
+    parameters: SampleParameters,
     pace: &P,
 ) -> Result<Transcript, AllocError>
     requires at { IsAt hall.now session.old }
@@ -110,12 +117,12 @@ fn sample<R: Threads + Wait + Sync, D: Disk + Send, P: Pace + Sync>(
     ensures at { IsAt hall.now session.new }
     ensures alone { IsAlone session.new }
     ensures does { Does hall.now session.old session.new
-        (λ start log low own. Samples number streams points start log low result own) }
+        (λ start log low own. Samples parameters.number parameters.streams parameters.points start log low result own) }
 {
     let snapshot = session.admit(rt, hall)?;
     match snapshot.entries() {
         0 => {
-            let filled = fill(rt, alloc, hall, session, number, streams, points, pace)?;
+            let filled = fill(rt, alloc, hall, session, parameters, pace)?;
             say_filled(rt, alloc, hall, session, &filled)
         }
         entries => used_line(alloc, entries),
@@ -137,9 +144,7 @@ fn fill<R: Threads + Wait + Sync, D: Disk + Send, P: Pace + Sync>(
     alloc: Global,
     hall: &Hall<D>,
     session: &mut Session<D>,
-    number: u32,
-    streams: u32,
-    points: u32,
+    parameters: SampleParameters,
     pace: &P,
 ) -> Result<Filled, AllocError>
     requires at { IsAt hall.now session.old }
@@ -147,11 +152,11 @@ fn fill<R: Threads + Wait + Sync, D: Disk + Send, P: Pace + Sync>(
     ensures at { IsAt hall.now session.new }
     ensures alone { IsAlone session.new }
     ensures does { Does hall.now session.old session.new
-        (λ start log low own. IsFilledInPart number streams points start log low result own) }
+        (λ start log low own. IsFilledInPart parameters.number parameters.streams parameters.points start log low result own) }
 {
-    let rows = sample_rows(alloc, number, streams, points)?;
+    let rows = sample_rows(alloc, parameters)?;
     let loaded = load(rt, alloc, hall, session, rows, BATCH, WORKERS, pace)?;
-    let outputs = define_outputs(rt, alloc, hall, session, streams)?;
+    let outputs = define_outputs(rt, alloc, hall, session, parameters.streams)?;
     let report = bring_current(rt, alloc, hall, session, WORKERS, pace)?;
     Ok(Filled {
         loaded,
@@ -161,10 +166,15 @@ fn fill<R: Threads + Wait + Sync, D: Disk + Send, P: Pace + Sync>(
 }
 
 /// Returns the rows of a sample, as they are read from its text. An `Err` means out of memory.
-fn sample_rows(alloc: Global, number: u32, streams: u32, points: u32) -> Result<RowList, AllocError>
-    ensures { IfOk result (λ rows. rows ≡ rows_of_sample number streams points) }
+fn sample_rows(alloc: Global, parameters: SampleParameters) -> Result<RowList, AllocError>
+    ensures { IfOk result (λ rows. rows ≡ rows_of_sample parameters.number parameters.streams parameters.points) }
 {
-    let text = sample_csv(alloc, number, streams, points)?;
+    let text = sample_csv(
+        alloc,
+        parameters.number,
+        parameters.streams,
+        parameters.points,
+    )?;
     read_rows(alloc, text.as_slice())
 }
 

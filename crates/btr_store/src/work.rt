@@ -2,7 +2,7 @@
 ghost use Rattle.std.specs.Prelude.{◌≡◌, ℕ, true, List, Ok, IfErr, IfOk};
 ghost use Rattle.btr_hist.specs.declared.entry.Entry.{Entry as EntrySpec};
 ghost use Rattle.btr_open.specs.declared.opening.OpenCause.TheVariants.{Want};
-ghost use Rattle.btr_open.specs.Opening.{IsNotOpened, IsOpened, IsOpenedOn, KeepsDisk};
+ghost use Rattle.btr_open.specs.Opening.{IsNotOpened, IsOpenedEngine, IsOpenedOn, KeepsDisk};
 ghost use Rattle.btr_hall.specs.declared.session.Session.{Session as SessionSpec};
 ghost use Rattle.btr_hall.specs.Session.{Begins, IsAlone, opening_of};
 ghost use Rattle.btr_jobs.specs.States.{log_seen, start_of};
@@ -48,7 +48,7 @@ fn begin_hall<D: Disk>(
 ) -> Result<(Hall<D>, Session<D>), OpenFault<D>>
     ensures begun { IfOk result (λ r. Begins engine r.0 r.1) }
     ensures cause { IfErr result (λ fault. fault.cause ≡ Want) }
-    ensures kept { (old : D) → IsOpened ⟦<D as Disk>⟧ old engine → IfErr result (λ fault. KeepsDisk ⟦<D as Disk>⟧ old fault.disk) }
+    ensures kept { (old : D) → IsOpenedEngine ⟦<D as Disk>⟧ old engine → IfErr result (λ fault. KeepsDisk ⟦<D as Disk>⟧ old fault.disk) }
 {
     match Hall::begin(alloc, engine) {
         Ok((hall, session)) => Ok((hall, session)),
@@ -75,9 +75,9 @@ pub fn close_hall<D: Disk>(
     requires at { IsAt hall session }
     requires alone { IsAlone session }
     ensures said { IfOk result.said (λ t. said ≡ Ok t) }
-    ensures plain { (old : D) → IsOpened ⟦<D as Disk>⟧ old (opening_of hall) → IsPlainWork ⟦<D as Disk>⟧ old result.said result.disk }
-    ensures works { (old : D) (opened : IsOpened ⟦<D as Disk>⟧ old (opening_of hall)) (begun : SessionSpec D ⟦<D as Disk>⟧) (own : List ℕ)
-        → Begins (opening_of hall) hall begun → Goes begun session own
+    ensures plain { (old : D) → IsOpenedEngine ⟦<D as Disk>⟧ old (opening_of hall) → IsPlainWork ⟦<D as Disk>⟧ old result.said result.disk }
+    ensures works { (old : D) (opened : IsOpenedEngine ⟦<D as Disk>⟧ old (opening_of hall)) (begun : SessionSpec D ⟦<D as Disk>⟧)
+        (own : List ℕ) → Begins (opening_of hall) hall begun → Goes begun session own
         → (h : List EntrySpec) → IsOpenedOn ⟦<D as Disk>⟧ h (opening_of hall)
         → Works ⟦<D as Disk>⟧ (start_of h hall) (log_seen h session) own old result.disk }
 {

@@ -8,7 +8,7 @@ use Rattle.btr_text.specs.declared.reply.LineReply.{LineReply}
 use Rattle.btr_engine.specs.declared.engine.Engine.{Engine}
 use Rattle.btr_engine.specs.Engine.{device, IsEngineOf}
 use Rattle.btr_engine.specs.Holds.{HoldsHistory}
-use Rattle.btr_open.specs.Opening.{IsOpenedOn, IsOpened}
+use Rattle.btr_open.specs.Opening.{IsOpenedOn, IsOpenedEngine}
 use Rattle.btr_store.specs.declared.status.Status.TheVariants.{DeviceFault}
 use Rattle.btr_store.specs.declared.transcript.Transcript.{Transcript}
 use Rattle.btr_top.specs.declared.ending.Ending.{Ending}
@@ -36,7 +36,7 @@ HasAnswered-push h lines line t u has one = record {
   is_transcript = one.2 has.replies has.is_transcript;
 }
 
-module _ {D : Type 0} (disk : Ghosts D) (old : D) (engine : Engine D disk) (opened : IsOpened disk old engine) where
+module _ {D : Type 0} (disk : Ghosts D) (old : D) (engine : Engine D disk) (opened : IsOpenedEngine disk old engine) where
   -- The lines were answered from a history that the device holds.
   answers_all : (lines : List ScriptLine) (transcript : Transcript) (h : List Entry) → HoldsHistory (disk.size old) (disk.contents old) h → IsOpenedOn disk h engine → HasAnswered h lines transcript → AnswersAll disk lines old (device engine) transcript
   answers_all lines transcript h held on has = record {

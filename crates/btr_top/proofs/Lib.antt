@@ -23,4 +23,5 @@ mod StoreCompletes
 mod LiveCompletes
 mod WorkCompletes
 mod AskCompletes
+mod FormatCompletes
 mod RunCompletes

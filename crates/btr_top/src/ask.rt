@@ -6,7 +6,7 @@ ghost use Rattle.btr_text.specs.Input.{questions_of};
 ghost use Rattle.btr_text.specs.declared.reply.LineReply.{LineReply as ReplySpec};
 ghost use Rattle.btr_engine.specs.Engine.{IsEngineOf};
 ghost use Rattle.btr_engine.specs.Snapshot.{IsSnapshotOf};
-ghost use Rattle.btr_open.specs.Opening.{IsOpened};
+ghost use Rattle.btr_open.specs.Opening.{IsOpenedEngine};
 ghost use Rattle.btr_top.specs.declared.command.TheConstants.{MAX_INPUT};
 ghost use Rattle.btr_live.specs.Meaning.{question};
 ghost use Rattle.btr_top.specs.Command.{IsKept};
@@ -74,10 +74,10 @@ fn ask_lines<D: Disk>(alloc: Global, lines: Vec<ScriptLine>, disk: D) -> Command
 
 /// Answers lines from a store that was opened.
 fn ask_opened<D: Disk>(alloc: Global, lines: Vec<ScriptLine>, engine: Engine<D>) -> CommandResult<D>
-    ensures size { (old : D) → IsOpened ⟦<D as Disk>⟧ old engine → D.size result.disk ≡ D.size old }
-    ensures cause { (old : D) → IsOpened ⟦<D as Disk>⟧ old engine
+    ensures size { (old : D) → IsOpenedEngine ⟦<D as Disk>⟧ old engine → D.size result.disk ≡ D.size old }
+    ensures cause { (old : D) → IsOpenedEngine ⟦<D as Disk>⟧ old engine
         → QuestionsCause ⟦<D as Disk>⟧ lines.items old result.disk result.ending }
-    ensures kept { (old : D) → IsOpened ⟦<D as Disk>⟧ old engine → IsKept ⟦<D as Disk>⟧ old result.disk }
+    ensures kept { (old : D) → IsOpenedEngine ⟦<D as Disk>⟧ old engine → IsKept ⟦<D as Disk>⟧ old result.disk }
 {
     let answered = answer_all(alloc, &engine, lines);
     let disk = engine.into_disk();

@@ -1,13 +1,12 @@
 //! The whole run of a command.
-ghost use Rattle.std.specs.Prelude.{◌≡◌, ◌⊎◌, ℕ, ◌+◌, ◌≤◌, ◌^◌, map, string_bytes, Some};
+ghost use Rattle.std.specs.Prelude.{◌≡◌, ℕ, ◌+◌, ◌≤◌, ◌^◌, map, string_bytes, Some};
 ghost use Rattle.btr_io.specs.Bytes.{Gives};
-ghost use Rattle.btr_disk.specs.Causes.{Rose};
 ghost use Rattle.btr_words.specs.declared.command.Command.TheVariants.{Ask, Format};
 ghost use Rattle.btr_top.specs.declared.command.TheConstants.{MAX_INPUT};
 ghost use Rattle.btr_words.specs.Words.{command_of};
 ghost use Rattle.btr_top.specs.Command.{IsKept};
-ghost use Rattle.btr_top.specs.Format.{CanFormat, FormatCause, FormatLeaves};
-ghost use Rattle.btr_top.specs.Run.{AllWork, CanRun, DeviceAndSinkWork, Ends, IsPlainStatus, RunCause, Runs};
+ghost use Rattle.btr_top.specs.Format.{FormatCause, FormatLeaves};
+ghost use Rattle.btr_top.specs.Run.{RunCause, Runs};
 
 use crate::ask::run_ask;
 use crate::command::CommandResult;
@@ -68,36 +67,6 @@ pub fn run_paced<R: Threads + Wait + Sync, S: Source, K: Sink, D: Disk + Send, P
 ) -> Outcome<D>
     ensures runs { Runs ⟦<S as Source>⟧ ⟦<K as Sink>⟧ ⟦<D as Disk>⟧ (command_of (map string_bytes words.now))
         source.old source.new sink.old sink.new disk result.disk result.status }
-{
-    do_and_show(rt, alloc, words, source, sink, disk, pace)
-}
-
-/// Does what the words say, and writes the text of its ending.
-fn do_and_show<R: Threads + Wait + Sync, S: Source, K: Sink, D: Disk + Send, P: Pace + Sync>(
-    rt: &R,
-    alloc: Global,
-    words: &[String],
-    source: &mut S,
-    sink: &mut K,
-    disk: D,
-    pace: &P,
-) -> Outcome<D>
-    ensures size { D.size result.disk ≡ D.size disk }
-    ensures input { S.is_observable → Gives (MAX_INPUT + 1) (S.left source.old) (S.left source.new) }
-    ensures ends { Ends ⟦<S as Source>⟧ ⟦<K as Sink>⟧ ⟦<D as Disk>⟧ (command_of (map string_bytes words.now))
-        source.old source.new sink.old sink.new disk result.disk result.status }
-    ensures faulted { result.status ≡ 5 → Rose (D.faults disk) (D.faults result.disk) }
-    ensures format_leaves { D.is_observable → (blocks : ℕ) → command_of (map string_bytes words.now) ≡ Some (Format blocks)
-        → FormatLeaves ⟦<D as Disk>⟧ blocks disk result.disk }
-    ensures formats { D.is_observable → (blocks : ℕ) → command_of (map string_bytes words.now) ≡ Some (Format blocks)
-        → CanFormat ⟦<D as Disk>⟧ blocks disk
-        → DeviceAndSinkWork ⟦<K as Sink>⟧ ⟦<D as Disk>⟧ sink.old sink.new disk result.disk
-        → (result.status ≡ 0) ⊎ (result.status ≡ 9) }
-    ensures completes { S.is_observable → D.is_observable
-        → CanRun ⟦<S as Source>⟧ ⟦<D as Disk>⟧ (command_of (map string_bytes words.now)) source.old disk
-        → AllWork ⟦<S as Source>⟧ ⟦<K as Sink>⟧ ⟦<D as Disk>⟧ source.old source.new sink.old sink.new disk result.disk
-        → IsPlainStatus result.status }
-    ensures kept { command_of (map string_bytes words.now) ≡ Some Ask → IsKept ⟦<D as Disk>⟧ disk result.disk }
 {
     let CommandResult { ending, disk } = dispatch(rt, alloc, words, source, disk, pace);
     let status = show(alloc, sink, &ending);

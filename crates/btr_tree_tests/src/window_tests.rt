@@ -7,37 +7,26 @@ use btr_window::{aggregate, aligned, windows};
 use std::alloc::{AllocError, Global};
 use std::test::Fail;
 
-/// A window and the aggregate of its points.
+/// A row: the start of a window, the number of its points, and the sum, the least and the greatest of their values.
 #[derive(Clone, Copy, PartialEq)]
-struct Window {
-    start: i128,
-    count: u64,
-    sum: i128,
-    least: i64,
-    greatest: i64,
-}
+struct Window(i128, u64, i128, i64, i64);
 
 impl Window {
     /// The row of one point.
     fn of(start: i128, value: i64) -> Window {
-        Window {
-            start,
-            count: 1,
-            sum: i128::from(value),
-            least: value,
-            greatest: value,
-        }
+        Window(start, 1, i128::from(value), value, value)
     }
 
     /// The row with one more value.
     fn with(self, value: i64) -> Window {
-        Window {
-            start: self.start,
-            count: self.count.saturating_add(1),
-            sum: self.sum.wrapping_add(i128::from(value)),
-            least: self.least.min(value),
-            greatest: self.greatest.max(value),
-        }
+        let Window(start, count, sum, least, greatest) = self;
+        Window(
+            start,
+            count.saturating_add(1),
+            sum.wrapping_add(i128::from(value)),
+            least.min(value),
+            greatest.max(value),
+        )
     }
 }
 
@@ -70,13 +59,7 @@ fn rows_of(alloc: Global, cells: &[Cell]) -> Result<Vec<Window>, Fail> {
     for cell in cells {
         let agg = cell.agg;
         let (least, greatest) = agg.ends.ok_or("a point")?;
-        rows.push(Window {
-            start: i128::from(cell.start),
-            count: agg.count,
-            sum: agg.sum,
-            least,
-            greatest,
-        })?;
+        rows.push(Window(i128::from(cell.start), agg.count, agg.sum, least, greatest))?;
     }
     Ok(rows)
 }
@@ -102,7 +85,7 @@ fn plain_rows(
         }
         let mut row = Window::of(start, point.value);
         if let Some(last) = rows.pop() {
-            if last.start == start {
+            if last.0 == start {
                 row = last.with(point.value);
             } else {
                 rows.push(last)?;
@@ -128,10 +111,8 @@ fn aggregate_agrees(alloc: Global, tree: &Tree, points: &[Point], range: Range) 
     }
     let same = match all {
         None => agg.count == 0 && agg.sum == 0 && agg.ends == None,
-        Some(row) => {
-            agg.count == row.count
-                && agg.sum == row.sum
-                && agg.ends == Some((row.least, row.greatest))
+        Some(Window(_, count, sum, least, greatest)) => {
+            agg.count == count && agg.sum == sum && agg.ends == Some((least, greatest))
         }
     };
     same && steps.count() <= 21
@@ -261,22 +242,7 @@ const BY_HAND: &[ByHand] = &[
         0,
         8,
         Asked::Aligned(2),
-        &[
-            Window {
-                start: 0,
-                count: 2,
-                sum: 12,
-                least: 5,
-                greatest: 7,
-            },
-            Window {
-                start: 4,
-                count: 1,
-                sum: -2,
-                least: -2,
-                greatest: -2,
-            },
-        ],
+        &[Window(0, 2, 12, 5, 7), Window(4, 1, -2, -2, -2)],
     ),
     // a window from 7 on would end after the range
     ByHand(
@@ -284,22 +250,7 @@ const BY_HAND: &[ByHand] = &[
         1,
         8,
         Asked::Windows(3),
-        &[
-            Window {
-                start: 1,
-                count: 1,
-                sum: 7,
-                least: 7,
-                greatest: 7,
-            },
-            Window {
-                start: 4,
-                count: 1,
-                sum: -2,
-                least: -2,
-                greatest: -2,
-            },
-        ],
+        &[Window(1, 1, 7, 7, 7), Window(4, 1, -2, -2, -2)],
     ),
     // a sum above the greatest value
     ByHand(
@@ -307,13 +258,13 @@ const BY_HAND: &[ByHand] = &[
         0,
         1,
         Asked::Aligned(62),
-        &[Window {
-            start: -1152921504606846976,
-            count: 2,
-            sum: 18446744073709551614,
-            least: i64::MAX,
-            greatest: i64::MAX,
-        }],
+        &[Window(
+            -1152921504606846976,
+            2,
+            18446744073709551614,
+            i64::MAX,
+            i64::MAX,
+        )],
     ),
 ];
 

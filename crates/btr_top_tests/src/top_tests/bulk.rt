@@ -1,5 +1,6 @@
 //! Runs of `load`, `distil` and `sample`, as transcripts in the form of the document on commands.
-use super::fixture::{play, run_beside, run_on, store_of};
+use super::fixture::{STORE, no_wrong, play, play_parts, run_beside, run_on, store_of};
+use btr_disk::MemDisk;
 use std::sync::Wait;
 use std::test::Fail;
 use std::thread::Threads;
@@ -83,11 +84,8 @@ $ load
 = 1
 ";
 
-// rows of an output are refused one by one, among the others
-const OUTPUT_ROWS: &str = "\
-$ format --blocks 64
-< formatted 64
-= 0
+// two outputs without a version, of which the second has the first as its input
+const OUTPUTS: &str = "\
 $ live
 > create V
 > insert V 0 10 10 20 20 30
@@ -98,6 +96,10 @@ $ live
 < ok 0 0
 < ok 0 0
 = 0
+";
+
+// rows of an output are refused one by one, among the others
+const OUTPUT_ROWS: &str = "\
 $ load
 > W,1,1
 > x
@@ -127,8 +129,8 @@ $ ask
 = 0
 ";
 
-// outputs of a chain, each after its inputs
-const CHAIN: &str = "\
+// no store, and then one without outputs
+const NO_OUTPUTS: &str = "\
 $ distil
 < no store
 = 6
@@ -137,16 +139,10 @@ $ format --blocks 64
 = 0
 $ distil
 = 0
-$ live
-> create V
-> insert V 0 10 10 20 20 30
-> distiller W sum 10 0 V
-> distiller X affine 2 1 3 0 0 W
-< ok 0 0
-< ok 1 0
-< ok 0 0
-< ok 0 0
-= 0
+";
+
+// outputs of a chain, each after its inputs
+const CHAIN: &str = "\
 $ distil --workers 2
 < W 1 1
 < X 1 1
@@ -156,6 +152,22 @@ $ ask
 < ok 1 3
 < 0 7
 < 10 20
+< 20 33
+= 0
+$ live
+> insert V 5 1
+< ok 2 0
+= 0
+$ distil --workers 16
+< W 2 2
+< X 2 2
+= 0
+$ ask
+> range X 0 100 2
+< ok 2 4
+< 0 7
+< 5 7
+< 10 21
 < 20 33
 = 0
 ";
@@ -219,7 +231,7 @@ $ distil
 fn rows_are_loaded(rt: HostRuntime) -> Result<(), Fail> {
     play(&rt, &[], ROWS)?;
     play(&rt, &[], BAD_ROWS)?;
-    play(&rt, &[], OUTPUT_ROWS)?;
+    play_parts(&rt, &[STORE, OUTPUTS, OUTPUT_ROWS])?;
     play(&rt, &[], FULL)?;
     play(&rt, &[], NOT_CREATED)?;
     Ok(())
@@ -227,8 +239,48 @@ fn rows_are_loaded(rt: HostRuntime) -> Result<(), Fail> {
 
 #[test]
 fn outputs_are_refreshed_up_to_date(rt: HostRuntime) -> Result<(), Fail> {
-    play(&rt, &[], CHAIN)?;
+    play_parts(&rt, &[NO_OUTPUTS, OUTPUTS, CHAIN])?;
     Ok(())
+}
+
+/// Returns a device with a store of an output and an output of that.
+fn chain(rt: &(impl AllocGlobal + Threads + Wait + Sync)) -> Result<MemDisk, Fail> {
+    let lines =
+        b"create V\ninsert V 0 10 10 20 20 30\ndistiller W sum 10 0 V\ndistiller X minus 0 0 W V\n";
+    Ok(run_on(rt, "live", lines, store_of(rt, "64")?)?.disk)
+}
+
+/// Returns the bytes of the device after `distil` with so many workers, a late point in the middle, and `distil` again.
+fn distilled_by(
+    rt: &(impl AllocGlobal + Threads + Wait + Sync),
+    workers: u8,
+) -> Result<Vec<u8>, Fail> {
+    let words = format!(in rt.alloc(); "distil --workers {workers}")?;
+    let early = run_on(rt, words.as_str(), b"", chain(rt)?)?;
+    let late = run_on(rt, "live", b"insert V 5 1\n", early.disk)?;
+    Ok(
+        run_on(rt, words.as_str(), b"", late.disk)?
+            .disk
+            .into_bytes(),
+    )
+}
+
+/// Returns the first number of workers in a list with which the device is another one than with one worker.
+fn first_other_device(
+    rt: &(impl AllocGlobal + Threads + Wait + Sync),
+) -> Result<Option<usize>, Fail> {
+    let wanted = distilled_by(rt, 1)?;
+    for (row, workers) in [2, 4, 16].iter().enumerate() {
+        if distilled_by(rt, *workers)?.as_slice() != wanted.as_slice() {
+            return Ok(Some(row));
+        }
+    }
+    Ok(None)
+}
+
+#[test]
+fn any_number_of_workers_leaves_the_same_device(rt: HostRuntime) -> Result<(), Fail> {
+    no_wrong(first_other_device(&rt)?)
 }
 
 #[test]

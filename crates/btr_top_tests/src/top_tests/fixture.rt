@@ -191,6 +191,13 @@ pub(super) fn with_piece(mut bytes: Vec<u8>, at: usize, piece: &[u8]) -> Vec<u8>
     bytes
 }
 
+/// The first part of a transcript: an empty store is made.
+pub(super) const STORE: &str = "\
+$ format --blocks 64
+< formatted 64
+= 0
+";
+
 /// Plays a transcript of runs on one device of 64 blocks. A line `$ WORDS` begins a run, `> LINE` is a line of its
 /// input, `< LINE` a line that it must write, and `= N` the status with which it must end. The calls of the device that
 /// are listed fail. `U`, `V`, `W` and `X` are short for four ids.
@@ -206,6 +213,15 @@ pub(super) fn play(
         }
     }
     Ok(())
+}
+
+/// Plays a transcript that is given in parts, on a device that does not fail. A run may go on in the next part.
+pub(super) fn play_parts(
+    rt: &(impl AllocGlobal + Threads + Wait + Sync),
+    parts: &[&str],
+) -> Result<(), Fail> {
+    let transcript = parts.concat(rt.alloc())?;
+    play(rt, &[], transcript.as_str())
 }
 
 /// Runs what the lines of a transcript say, and returns the device if the run gave what they want.

@@ -1,5 +1,7 @@
 //! Scripts in lanes beside each other, with rounds and without them.
-use super::fixture::{empty_device, no_wrong, play, run_beside, run_on, store_of, with_ids};
+use super::fixture::{
+    STORE, empty_device, no_wrong, play, play_parts, run_beside, run_on, store_of, with_ids,
+};
 use btr_disk::MemDisk;
 use btr_text::read_unsigned;
 use std::alloc::{AllocError, Global};
@@ -63,11 +65,8 @@ $ ask
 = 1
 ";
 
-// an output that is defined in the run is up to date in the end, with one version
-const ROUNDS: &str = "\
-$ format --blocks 64
-< formatted 64
-= 0
+// a run with rounds that defines an output
+const DEFINED: &str = "\
 $ live --materialize
 > create V
 > insert V 0 10 10 20 20 30
@@ -75,6 +74,10 @@ $ live --materialize
 < ok 0 0
 < ok 1 0
 < ok 0 0
+";
+
+// the output is up to date in the end, with one version
+const ROUNDS: &str = "\
 = 0
 $ ask
 > info W latest
@@ -92,18 +95,15 @@ $ ask
 = 0
 ";
 
-// three entries fit: the rounds find no room for the points of the output
-const FULL_ROUNDS: &str = "\
+// a store with room for three entries
+const SMALL_STORE: &str = "\
 $ format --blocks 12
 < formatted 12
 = 0
-$ live --materialize
-> create V
-> insert V 0 10 10 20 20 30
-> distiller W sum 10 0 V
-< ok 0 0
-< ok 1 0
-< ok 0 0
+";
+
+// the rounds find no room for the points of the output
+const FULL_ROUNDS: &str = "\
 < materialize W no full 2 1
 = 8
 ";
@@ -115,8 +115,8 @@ fn lanes_have_their_own_lines(rt: HostRuntime) -> Result<(), Fail> {
 
 #[test]
 fn rounds_refresh_outputs_up_to_date(rt: HostRuntime) -> Result<(), Fail> {
-    play(&rt, &[], ROUNDS)?;
-    play(&rt, &[], FULL_ROUNDS)
+    play_parts(&rt, &[STORE, DEFINED, ROUNDS])?;
+    play_parts(&rt, &[SMALL_STORE, DEFINED, FULL_ROUNDS])
 }
 
 /// Returns the version of a line `ok VERSION COUNT`.

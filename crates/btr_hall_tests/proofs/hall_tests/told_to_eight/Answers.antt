@@ -5,4 +5,4 @@ use Rattle.btr_hall_tests.proofs.hall_tests.told_to_eight.Goals as goal
 
 pub close-engine-requires-clause-alone : goal.close-engine-requires-clause-alone
 close-engine-requires-clause-alone g c =
-    alone_alike c.in_ok-hall.user c.eight_tell-user.result.0 (λ path. c.eight_tell-user.ensures.share path ∙ ap (on_path path) c.create-user.ensures.share) c.in_ok-hall.ensures.alone
+    alone_alike c.in_ok-hall.user c.tell_by_threads-user.result.0 (λ path. c.tell_by_threads-user.ensures.share path ∙ ap (on_path path) c.create-user.ensures.share) c.in_ok-hall.ensures.alone

@@ -1,9 +1,8 @@
-use Rattle.std.proofs.Common.{ap, arith}
+use Rattle.std.proofs.Common.{ap}
 use denote.Param.Send.{sendable}
 use Rattle.std.proofs.Crossing.{crosses}
 use Rattle.btr_gate.specs.Shares.{on_path}
-use Rattle.btr_hall.proofs.SessionLemmas.{split_paths, meet_paths}
-use Rattle.btr_hall_tests.proofs.TestLemmas.{user_send, place_sync}
+use Rattle.btr_hall_tests.proofs.TestLemmas.{user_send, place_sync, shares_meet}
 use Rattle.btr_hall_tests.proofs.hall_tests.two_write_and_read.Goals as goal
 
 pub join-user-requires-send-F : goal.join-user-requires-send-F
@@ -14,8 +13,5 @@ join-user-requires-send-A g c κs within = search (sendable, user_send) depth 30
 
 pub returns-clause-share : goal.returns-clause-share
 returns-clause-share g c path =
-    let cut = split_paths path c.args.user c.split-other.new.self c.split-other.result c.split-other.ensures.splits in
-    let both = meet_paths path c.join-user.result.0.0 c.join-user.result.1.0 c.meet.new.self c.meet.ensures.meets in
-    let first = ap (on_path path) c.join-user.ensures.first.1 in
-    let second = ap (on_path path) c.join-user.ensures.second.1 in
-    omega (arith, cut, both, first, second)
+    shares_meet path c.args.user c.split-other.new.self c.split-other.result c.join-user.result.0.0 c.join-user.result.1.0 c.meet.new.self c.split-other.ensures.splits
+    (ap (on_path path) c.join-user.ensures.first.1) (ap (on_path path) c.join-user.ensures.second.1) c.meet.ensures.meets

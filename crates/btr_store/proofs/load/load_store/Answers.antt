@@ -3,7 +3,7 @@ use Rattle.std.proofs.Common.{inl, inr}
 use Rattle.std.proofs.lemmas.Bool.{cases_lt}
 use Rattle.btr_store.specs.Load.{LoadsRows, LoadsRowsInTurn, LoadsStore}
 use Rattle.btr_store.proofs.WorkLemmas.{does_rightly, does_more}
-use Rattle.btr_store.proofs.LoadLemmas.{loads_if_allowed, loads_told, turn_told, loads_store, loads_store_in_order}
+use Rattle.btr_store.proofs.LoadLemmas.{loads_said, turn_said, loads_if_allowed, loads_told, turn_told, loads_store, loads_store_in_order}
 use Rattle.btr_store.proofs.load.load_store.Goals as goal
 
 pub returns-clause-plain : goal.returns-clause-plain
@@ -15,13 +15,14 @@ returns-clause-done g c = λ seen h held.
     let rows = c.args.rows in
     let batch = c.args.batch in
     let workers = c.args.workers in
-    let said = c.load_rows-said.result in
+    let loaded = c.load-loaded.result in
+    let said = c.say_loaded-said.result in
     let told = c.close_hall.result.said in
     let begun = c.in_ok-hall.ensures.begun in
     let on = begun.opened.stood seen h held in
     let hall = c.in_ok-hall.hall in
     let session = c.in_ok-hall.session in
-    let last = c.load_rows-said.new.session in
+    let last = c.load-loaded.new.session in
     let old = c.args.disk in
     let new = c.close_hall.result.disk in
     elim (cases_lt 1 workers) [
@@ -31,7 +32,8 @@ returns-clause-done g c = λ seen h held.
           (loads_told start log start.history rows batch said told own c.close_hall.ensures.said is))
           (does_rightly disk (λ start log low own. LoadsRows start log low rows batch said own) old new hall session last
           (λ start log own is. loads_if_allowed start log start.history rows batch is.loaded own is.loads)
-          begun h on.at_rest.of c.load_rows-said.ensures.does
+          begun h on.at_rest.of
+          (loads_said hall session last rows batch loaded said c.load-loaded.ensures.loads c.load-loaded.ensures.refused c.say_loaded-said.ensures)
           (λ own goes. c.close_hall.ensures.works old begun.opened session own begun.begins goes h on))
       | inr few ↦
           does_more disk (λ start log own. LoadsRowsInTurn start log start.history rows batch said own) (λ start log own. LoadsStore start log rows batch workers told own) old new
@@ -39,6 +41,7 @@ returns-clause-done g c = λ seen h held.
           (turn_told start log start.history rows batch said told own c.close_hall.ensures.said is))
           (does_rightly disk (λ start log low own. LoadsRowsInTurn start log low rows batch said own) old new hall session last
           (λ start log own is. loads_if_allowed start log start.history rows batch is.did.loaded own is.did.loads)
-          begun h on.at_rest.of (c.load_rows-said.ensures.in_turn few)
+          begun h on.at_rest.of
+          (turn_said hall session last rows batch loaded said (c.load-loaded.ensures.in_turn few) c.load-loaded.ensures.refused c.say_loaded-said.ensures)
           (λ own goes. c.close_hall.ensures.works old begun.opened session own begun.begins goes h on))
     ]

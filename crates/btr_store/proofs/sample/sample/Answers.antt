@@ -6,39 +6,43 @@ use Rattle.btr_store.proofs.sample.sample.Goals as goal
 
 pub returns-in_err-filled-in-0-clause-does : goal.returns-in_err-filled-in-0-clause-does
 returns-in_err-filled-in-0-clause-does g c =
+    let p = c.args.parameters in
     let hall = c.args.hall.now in
     let old = c.args.session.now in
     let mid = c.admit.new.self in
     let new = c.fill.new.session in
     let entries = c.entries.result in
     let told = c.from_residual-in_err-filled-in-0.result in
-    sampled_empty c.args.number c.args.streams c.args.points hall old mid new entries told c.in-0.is c.in_err-filled-in-0.ensures.at
+    sampled_empty p.number p.streams p.points hall old mid new entries told c.in-0.is c.in_err-filled-in-0.ensures.at
     (look_alone hall old mid c.in_ok-snapshot.ensures.looks c.requires.alone (λ h. entries ≡ length h) (λ h of. c.entries.ensures _ (c.in_ok-snapshot.ensures.snapshot h of)))
-    (fills_none c.args.number c.args.streams c.args.points hall mid new c.in_err-filled-in-0.field-0.0 told c.from_residual-in_err-filled-in-0.ensures.0 c.in_err-filled-in-0.ensures.does)
+    (fills_none p.number p.streams p.points hall mid new c.in_err-filled-in-0.field-0.0 told c.from_residual-in_err-filled-in-0.ensures.0 c.in_err-filled-in-0.ensures.does)
 
 pub returns-in-0-clause-does : goal.returns-in-0-clause-does
 returns-in-0-clause-does g c =
+    let p = c.args.parameters in
     let hall = c.args.hall.now in
     let old = c.args.session.now in
     let mid = c.admit.new.self in
     let new = c.say_filled.new.session in
     let entries = c.entries.result in
     let said = c.say_filled.result in
-    sampled_empty c.args.number c.args.streams c.args.points hall old mid new entries said c.in-0.is c.say_filled.ensures.at
+    sampled_empty p.number p.streams p.points hall old mid new entries said c.in-0.is c.say_filled.ensures.at
     (look_alone hall old mid c.in_ok-snapshot.ensures.looks c.requires.alone (λ h. entries ≡ length h) (λ h of. c.entries.ensures _ (c.in_ok-snapshot.ensures.snapshot h of)))
-    (fills_said c.args.number c.args.streams c.args.points hall mid c.fill.new.session new c.in_ok-filled-in-0.filled said c.in_ok-filled-in-0.ensures.does c.say_filled.ensures.stays c.say_filled.ensures.says)
+    (fills_said p.number p.streams p.points hall mid c.fill.new.session new c.in_ok-filled-in-0.filled said c.in_ok-filled-in-0.ensures.does c.say_filled.ensures.stays c.say_filled.ensures.says)
 
 pub returns-in_err-snapshot-clause-does : goal.returns-in_err-snapshot-clause-does
 returns-in_err-snapshot-clause-does g c =
-    sampled_none c.args.number c.args.streams c.args.points c.args.hall.now c.args.session.now c.admit.new.self c.from_residual.result c.from_residual.ensures.0
+    let p = c.args.parameters in
+    sampled_none p.number p.streams p.points c.args.hall.now c.args.session.now c.admit.new.self c.from_residual.result c.from_residual.ensures.0
     (look_alone c.args.hall.now c.args.session.now c.admit.new.self c.in_err-snapshot.ensures.looks c.requires.alone (λ h. Unit {0}) (λ h of. tt))
 
 pub returns-clause-does : goal.returns-clause-does
 returns-clause-does g c =
+    let p = c.args.parameters in
     let hall = c.args.hall.now in
     let old = c.args.session.now in
     let new = c.admit.new.self in
     let entries = c.entries.result in
     let some : 1 ≤ entries = omega (arith, c.in_default) in
-    sampled_used c.args.number c.args.streams c.args.points hall old new entries c.used_line.result some c.used_line.ensures
+    sampled_used p.number p.streams p.points hall old new entries c.used_line.result some c.used_line.ensures
     (look_alone hall old new c.in_ok-snapshot.ensures.looks c.requires.alone (λ h. entries ≡ length h) (λ h of. c.entries.ensures _ (c.in_ok-snapshot.ensures.snapshot h of)))

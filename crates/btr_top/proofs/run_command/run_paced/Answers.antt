@@ -1,0 +1,40 @@
+-- What the command did and what was shown of it make the run. If nothing fails, the run comes to its end. It says that the device failed
+-- only if it did.
+use Rattle.std.specs.Prelude.{map, string_bytes}
+use Rattle.btr_words.specs.Words.{command_of}
+use Rattle.btr_top.proofs.FaultCauses.{fault_shown}
+use Rattle.btr_top.proofs.FormatCompletes.{formats_shown}
+use Rattle.btr_top.proofs.PlainStatuses.{benign_shown}
+use Rattle.btr_top.proofs.RunCompletes.{plain_run}
+use Rattle.btr_top.proofs.run_command.run_paced.Goals as goal
+
+pub returns : goal.returns
+returns g c =
+    let source = g.S.Source in
+    let sink = g.K.Sink in
+    let disk = g.D.Disk in
+    let command = command_of (map string_bytes c.args.words.now) in
+    let given = c.args.source.now in
+    let rest = c.dispatch-ending.new.source in
+    let before = c.args.sink.now in
+    let after = c.show-status.new.sink in
+    let old = c.args.disk in
+    let new = c.dispatch-ending.result.disk in
+    let e = c.dispatch-ending.result.ending in
+    let status = c.show-status.result in
+    let did = c.dispatch-ending.ensures in
+    let shown = c.show-status.ensures in record {
+      runs = record {
+        size = did.size;
+        input = did.input;
+        ends = record { ending = e; cause = did.cause; shown = shown };
+        faulted = fault_shown source disk given rest old new sink before after command e status did.cause shown;
+        format_leaves = did.format_leaves;
+        formats = λ told blocks is can works. formats_shown source sink disk given rest before after old new command blocks is told can works e status did.cause shown;
+        completes = λ source_told told can works.
+            benign_shown sink before after works.others.sink_works e status
+            (plain_run source disk given rest old new c.held_is_sound.ensures c.one_history_is_held.ensures source_told told works.source_works works.others.device_works command can e did.cause)
+            shown;
+        kept = did.kept;
+      };
+    }
