@@ -1,6 +1,7 @@
 -- What the functions promise that stage an entry: why none is staged, what each stream of the next board has, and what the entry
 -- writes.
-use Rattle.std.specs.Prelude.{◌≡◌, ℕ, ◌+◌, ◌-◌, ◌*◌, ◌<◌, ◌≤◌, nat_le, List, [], ◌∷◌, ◌++◌, length, slice_get, slice_set, Option, Some, None}
+use Rattle.std.specs.Prelude.{◌≡◌, ℕ, ◌+◌, ◌-◌, ◌*◌, ◌<◌, ◌≤◌, nat_le, List, [], ◌∷◌, ◌++◌, length}
+use Rattle.std.specs.Prelude.{slice_get, slice_set, Option, Some, None}
 use Rattle.std.specs.Option.{option_to_list}
 use Rattle.btr_log.specs.Head.{content_blocks}
 use Rattle.btr_entry.specs.Grammar.{spelling}
@@ -8,7 +9,7 @@ use Rattle.btr_base.specs.declared.limits.TheConstants.{FIRST, MAX_VERSIONS}
 use Rattle.btr_base.specs.declared.point.Point.{Point}
 use Rattle.btr_base.specs.Range.{RangeValue}
 use Rattle.btr_base.specs.Commit.{Change}
-use Rattle.btr_tree.specs.History.{Past, nothing, ◌▷◌, IsBefore}
+use Rattle.btr_tree.specs.History.{nothing, ◌▷◌, IsBefore}
 use Rattle.btr_tree.specs.Nodes.{above_root}
 use Rattle.btr_tree.specs.NewNodes.{NewNodeValue, bare_all, new_nodes}
 use Rattle.btr_tree.specs.Slots.{block_of}

@@ -84,4 +84,5 @@ module _ {D : Type 0} {disk : Ghosts D} where
     pub mine : mine_of new ≡ mine_of old ++ option_to_list (number_by result (length (seen_of new)))
     pub stopped : stopped_in (opening_of hall) before ≡ true
         → (h : List Entry) → IsEngineOf h (opening_of hall) → result ≡ Err (Stopped (length (history_of h before)))
-    pub replies : (h : List Entry) → IsEngineOf h (opening_of hall) → CommitReplies (opening_of hall) h before (history_of h before) e result
+    pub replies : (h : List Entry) → IsEngineOf h (opening_of hall)
+        → CommitReplies (opening_of hall) h before (history_of h before) e result

@@ -79,4 +79,5 @@ module _ {D : Type 0} {disk : Ghosts D} where
     pub effect : HasResult (engine_after (opening_of hall) before) (engine_of hall new) (step_result result)
     pub stopped : stopped_in (opening_of hall) before ≡ true
         → (h : List Entry) → IsEngineOf h (opening_of hall) → result ≡ Err (faults.Stopped (length (history_of h before)))
-    pub replies : (h : List Entry) → IsEngineOf h (opening_of hall) → LandingReplies (opening_of hall) h before (history_of h before) p result
+    pub replies : (h : List Entry) → IsEngineOf h (opening_of hall)
+        → LandingReplies (opening_of hall) h before (history_of h before) p result

@@ -33,7 +33,7 @@ use Rattle.btr_load.specs.declared.stream.LoadedStream.{LoadedStream}
 use Rattle.btr_load.specs.Batches.{batches_of, batch_entry}
 use Rattle.btr_load.specs.Work.{BatchesDid, OutcomeDid, StreamsDid}
 use Rattle.btr_load.specs.Loads.{IsCommittedTo, OutcomeOfFound, OutcomeOfCreated, CreatesIfNew, CreatesEach}
-use Rattle.btr_load.specs.Alike.{after_entry, after_create, after_creates, Target, found, created, target, targets, after_rows, after_batches}
+use Rattle.btr_load.specs.Alike.{after_entry, after_create, after_creates, Target, goes_to, created, target, targets, after_rows, after_batches}
 use Rattle.btr_load.specs.Alike.Target.{AnOutput, Refused, To}
 use Rattle.btr_load.specs.Alike.{SaysBatches, SaysOutcome, SaysOutcomes, IsPlain, IsPlainOutcome, LoadsAlike}
 use Rattle.btr_load.specs.There.{accepted, outcome_entries, batch_entries, create_entry, create_entries}
@@ -66,7 +66,7 @@ to_agrees stream version Output to = absurd to
 to_agrees stream version (NotCreated fault) to = absurd to
 to_agrees stream version (Committed of results latest) to = to.0
 
-found_agrees : (low : List Entry) (stream : ℕ) (o : Option Spec) (outcome : RowsOutcome) → OutcomeOfFound low stream o outcome → Agrees (found stream o) outcome
+found_agrees : (low : List Entry) (stream : ℕ) (o : Option Spec) (outcome : RowsOutcome) → OutcomeOfFound low stream o outcome → Agrees (goes_to stream o) outcome
 found_agrees low stream None outcome is = to_agrees stream (history.latest low stream) outcome is
 found_agrees low stream (Some spec) outcome is = is
 

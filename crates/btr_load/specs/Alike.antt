@@ -50,9 +50,9 @@ pub data Target : Type 0 where
   Refused : Rejection → Target
   To : ℕ → Target
 
-abbrev pub found : ℕ → Option Spec → Target
-found stream None = To stream
-found stream (Some spec) = AnOutput
+abbrev pub goes_to : ℕ → Option Spec → Target
+goes_to stream None = To stream
+goes_to stream (Some spec) = AnOutput
 
 abbrev pub created : List Entry → Option Rejection → Target
 created p None = To (length (ids p))
@@ -60,7 +60,7 @@ created p (Some why) = Refused why
 
 -- Of rows whose id has this stream in the history `low`, or none. In that case it is created after p.
 abbrev pub target : List Entry → List Entry → ℕ → Option ℕ → Target
-target low p id (Some stream) = found stream (spec_of low stream)
+target low p id (Some stream) = goes_to stream (spec_of low stream)
 target low p id None = created p (rejection p (Create id))
 
 abbrev pub targets : List Entry → List Entry → List StreamValue → List Target

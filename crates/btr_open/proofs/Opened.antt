@@ -12,7 +12,7 @@ use Rattle.btr_engine.specs.declared.engine.Engine.{Engine}
 use Rattle.btr_open.specs.declared.opening.OpenFault.{OpenFault}
 use Rattle.btr_engine.specs.Engine.{device, entries_of, synced_of, entries_at_open, calls_at_open, IsAtRest, IsHeldSince}
 use Rattle.btr_engine.specs.Holds.{HoldsHistory}
-use Rattle.btr_open.specs.Opening.{KeepsDisk, SyncsFirst, IsOpened, IsOpenedOn, IsNotOpened}
+use Rattle.btr_open.specs.Opening.{KeepsDisk, SyncsFirst, IsOpenedEngine, IsOpenedOn, IsNotOpened}
 use Rattle.btr_open.specs.Reading.{IsStoreOf, LogCause, OnlyReads, IsReadEngine}
 use Rattle.btr_open.proofs.Synced.{unwritten_on, counts-trans, reads_on}
 use Rattle.btr_engine.proofs.EngineLemmas.{holds_in, durable_held}
@@ -65,7 +65,7 @@ module _ {D : Type 0} (disk : Ghosts D) (old mid : D) (found : Super) (counts_no
       let bytes : disk.contents (device e) ≡ disk.contents old = Same-is (disk.contents old) (disk.contents (device e)) (kept_on.unwritten told).same in
       subst (λ i. HoldsHistory (disk.size old) i h) bytes (subst (λ n. HoldsHistory n (disk.contents (device e)) h) kept_on.counts.same_size (holds_in h e rest (disk.contents (device e)) (λ k. refl)))
 
-  pub opened : (result : Result (Engine D disk) (OpenFault D)) (synced : D) → SyncsFirst disk old synced mid → IfOk result (IsReadEngine disk found.blocks mid synced) → IfOk result (IsOpened disk old)
+  pub opened : (result : Result (Engine D disk) (OpenFault D)) (synced : D) → SyncsFirst disk old synced mid → IfOk result (IsReadEngine disk found.blocks mid synced) → IfOk result (IsOpenedEngine disk old)
   opened (Ok e) synced first read =
       let so_far : SyncsFirst disk old (synced_of e) (device e) = subst (λ s. SyncsFirst disk old s (device e)) (sym read.synced) (reads_on disk old synced mid (device e) first read.reads (λ told. counts_now told (device e))) in
       let kept_on = keeps (device e) read.reads in
@@ -87,7 +87,7 @@ module _ {D : Type 0} (disk : Ghosts D) (old mid : D) (found : Super) (counts_no
   opened (Err f) synced first read = tt
 
   -- If the device held a history, the engine is of it.
-  pub stood : (result : Result (Engine D disk) (OpenFault D)) → IfOk result (IsOpened disk old) → disk.is_observable → (h : List Entry) → HoldsHistory (disk.size old) (disk.contents old) h → IfOk result (IsOpenedOn disk h)
+  pub stood : (result : Result (Engine D disk) (OpenFault D)) → IfOk result (IsOpenedEngine disk old) → disk.is_observable → (h : List Entry) → HoldsHistory (disk.size old) (disk.contents old) h → IfOk result (IsOpenedOn disk h)
   stood (Ok e) is told h holds = is.stood told h holds
   stood (Err f) is told h holds = tt
 

@@ -47,7 +47,7 @@ module _ {D : Type 0} (disk : Ghosts D) where
 
   -- The engine is not stopped, and was opened with all its entries. If the device is observable and held a history, the engine is of
   -- this history. An observable device without a store, or with a damaged block, is not opened.
-  pub record IsOpened (old : D) (engine : Engine D disk) : Type 0 where
+  pub record IsOpenedEngine (old : D) (engine : Engine D disk) : Type 0 where
     pub kept : KeepsDisk old (device engine)
     pub synced : SyncsFirst old (synced_of engine) (device engine)
     pub runs : is_stopped engine ≡ false

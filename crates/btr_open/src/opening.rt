@@ -9,7 +9,7 @@ ghost use Rattle.btr_super.specs.Choose.{IsChosen};
 ghost use Rattle.btr_hist.specs.declared.entry.Entry.{Entry as EntrySpec};
 ghost use Rattle.btr_engine.specs.Board.{IsBoardOf};
 ghost use Rattle.btr_engine.specs.Holds.{HoldsHistory};
-ghost use Rattle.btr_open.specs.Opening.{KeepsDisk, SyncsFirst, IsOpened, IsOpenedOn, IsNotOpened};
+ghost use Rattle.btr_open.specs.Opening.{KeepsDisk, SyncsFirst, IsOpenedEngine, IsOpenedOn, IsNotOpened};
 ghost use Rattle.btr_open.specs.Reading.{IsReadTo, CauseBetween, LogCause, OnlyReads};
 ghost use Rattle.btr_open.specs.Reading.{IsReadEngine, ReadsLog, AddsEntry, IsReadLog, HasAdded, MayNotAdd};
 
@@ -59,7 +59,7 @@ pub struct OpenFault<D> {
 ///
 /// The time is linear in the log, but for logarithms of the streams, versions and ids. The engine keeps no entries.
 pub fn open_store<D: Disk>(alloc: Global, disk: D) -> Result<Engine<D>, OpenFault<D>>
-    ensures opened { IfOk result (IsOpened ⟦<D as Disk>⟧ disk) }
+    ensures opened { IfOk result (IsOpenedEngine ⟦<D as Disk>⟧ disk) }
     ensures stood { D.is_observable → (h : List EntrySpec) → HoldsHistory (D.size disk) (D.contents disk) h
         → IfOk result (IsOpenedOn ⟦<D as Disk>⟧ h) }
     ensures refused { IfErr result (IsNotOpened ⟦<D as Disk>⟧ disk) }

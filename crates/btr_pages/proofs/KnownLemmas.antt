@@ -32,7 +32,7 @@ use Rattle.btr_node.specs.declared.page.NodePage.{NodePage}
 use Rattle.btr_node.specs.declared.page.NodePage.TheVariants.{Leaf, Inner}
 use Rattle.btr_node.specs.declared.page.PageSlot.{PageSlot}
 use Rattle.btr_pages.specs.Pages.{Pages, with_pages, span_of_page, slot_of_page, slots_of_page, node_of_page, node_of_stream, nodes_in, IsChildPage, HasChildPage, IsPageAt}
-use Rattle.btr_pages.specs.Known.{KnownValue, NodesValue, node_at, IsMadeOf, IsKnown, AreKnown}
+use Rattle.btr_pages.specs.Known.{KnownValue, NodesValue, node_at, CameFrom, IsKnown, AreKnown}
 use Rattle.btr_pages.specs.Made.{IsReadTree, IsKnownChild, HasKnownChild, MayHaveChild, IsBuildable, part_of, ArePartsTo, versions_of, AreLeafPoints, IsLeafMade, IsInnerMade, IsMadeAt}
 use Rattle.btr_pages.proofs.LeafLemmas.{leaf-points}
 use Rattle.btr_pages.proofs.NumberLemmas.{added-here, added-other, none-above}
@@ -158,7 +158,7 @@ node-here pages block page s e =
     ap (option_and_then (node_of_stream s)) (page-here pages block page) ∙ ap (λ t. cond t (Some (node_of_page page)) None) yes
 
 -- A tree that was made of one of the pages was made of one of those with more.
-made-along : (pages : Pages) (nodes : NodesValue) (block : ℕ) (new : List NodePage) (page : NodePage) (k : KnownValue) → AreKnown pages nodes → IsAbove block nodes → IsMadeOf pages page k → IsMadeOf (with_pages pages block new) page k
+made-along : (pages : Pages) (nodes : NodesValue) (block : ℕ) (new : List NodePage) (page : NodePage) (k : KnownValue) → AreKnown pages nodes → IsAbove block nodes → CameFrom pages page k → CameFrom (with_pages pages block new) page k
 made-along pages nodes block new page k are above m =
     record {
       keeps = m.keeps;
@@ -272,7 +272,7 @@ inner-known pages nodes block page s number version span slots t are above some 
     }))
 
 -- The tree that was made was made of the page, with all below it.
-pub made-of_page : (pages : Pages) (nodes : NodesValue) (block : ℕ) (page : NodePage) (k : KnownValue) → AreKnown pages nodes → IsAbove block nodes → 1 ≤ block → Keeps page → Fits page → IsMadeAt nodes block page k → IsMadeOf (with_pages pages block (page ∷ [])) page k
+pub made-of_page : (pages : Pages) (nodes : NodesValue) (block : ℕ) (page : NodePage) (k : KnownValue) → AreKnown pages nodes → IsAbove block nodes → 1 ≤ block → Keeps page → Fits page → IsMadeAt nodes block page k → CameFrom (with_pages pages block (page ∷ [])) page k
 made-of_page pages nodes block (Leaf start height stream version count points) k are above some keeps fits m =
     let page = Leaf start height stream version count points in
     let span : SpanValue = record { start = start; height = height } in
@@ -324,7 +324,7 @@ from-page : (page : NodePage) (n : ℕ) → IsSome (slice_get (page ∷ []) n) �
 from-page page zero some = refl
 from-page page (suc n) some = absurd (cc)
 
-pub known-more : (pages : Pages) (nodes : NodesValue) (page : NodePage) (k : KnownValue) → AreKnown pages nodes → IsAbove k.block nodes → IsMadeOf (with_pages pages k.block (page ∷ [])) page k → AreKnown (with_pages pages k.block (page ∷ [])) (nodes ++ k ∷ [])
+pub known-more : (pages : Pages) (nodes : NodesValue) (page : NodePage) (k : KnownValue) → AreKnown pages nodes → IsAbove k.block nodes → CameFrom (with_pages pages k.block (page ∷ [])) page k → AreKnown (with_pages pages k.block (page ∷ [])) (nodes ++ k ∷ [])
 known-more pages nodes page k are above made =
     let block = k.block in
     let more = with_pages pages block (page ∷ []) in
@@ -374,7 +374,7 @@ addition old new block page k some above keeps fits m is =
     subst (λ xs. IsAddition old xs block page) (sym is) (record {
       added = λ pages are.
           let made = made-of_page pages old block page k are above some keeps fits m in
-          subst (λ b. AreKnown (with_pages pages b (page ∷ [])) (old ++ k ∷ [])) m.its_block (known-more pages old page k are here (subst (λ b. IsMadeOf (with_pages pages b (page ∷ [])) page k) (sym m.its_block) made));
+          subst (λ b. AreKnown (with_pages pages b (page ∷ [])) (old ++ k ∷ [])) m.its_block (known-more pages old page k are here (subst (λ b. CameFrom (with_pages pages b (page ∷ [])) page k) (sym m.its_block) made));
       rightly = λ pages are. page-right pages old block page are above keeps (made-buildable old block page k fits m);
       above = subst (λ b. IsAbove (b + 1) (old ++ k ∷ [])) m.its_block (above-more old k here);
       stands = subst (λ b. IsSome (node_at (old ++ k ∷ []) b)) m.its_block (subst IsSome (sym (added-itself old k here)) refl);

@@ -28,7 +28,7 @@ AreBetween from to [] = from ≤ to
 AreBetween from to (known ∷ nodes) = (from ≤ known.block) × AreBetween (known.block + 1) to nodes
 
 -- What a tree has of the page that it was made of, and that it was read from there with all below it.
-pub record IsMadeOf (pages : Pages) (page : NodePage) (known : KnownValue) : Type 0 where
+pub record CameFrom (pages : Pages) (page : NodePage) (known : KnownValue) : Type 0 where
   pub keeps : Keeps page
   pub stream : known.stream ≡ (front page).stream
   pub span : known.tree.span ≡ span_of_page page
@@ -42,7 +42,7 @@ pub record IsMadeOf (pages : Pages) (page : NodePage) (known : KnownValue) : Typ
 pub record IsKnown (pages : Pages) (known : KnownValue) : Type 0 where
   pub page : NodePage
   pub is : pages known.block ≡ Some page
-  pub made : IsMadeOf pages page known
+  pub made : CameFrom pages page known
 
 -- The trees are those of the pages: each tree was made of the page in its block, and each block that has a page has a tree.
 pub record AreKnown (pages : Pages) (nodes : NodesValue) : Type 0 where

@@ -1,7 +1,8 @@
 //! The page of a node that a commit wrote.
 ghost use Rattle.std.specs.Prelude.{◌≡◌, ◌<◌, ◌%◌, ◌^◌, map, get_or};
 ghost use Rattle.std.specs.List.{sum_by};
-ghost use Rattle.btr_pages.specs.Pages.{page_of as page_of_node, page_by, places_of as filled, unused, page_slots_of, page_slot, unused_slot};
+ghost use Rattle.btr_pages.specs.Pages.{page_of as page_of_node, page_by, places_of as filled, unused};
+ghost use Rattle.btr_pages.specs.Pages.{page_slots_of, page_slot, unused_slot};
 
 use btr_base::{Agg, Point, Span};
 use btr_node::{NodePage, PLACES, PageSlot, SLOTS};
