@@ -4,7 +4,7 @@ ghost use Rattle.btr_kernel.specs.Window.{AreUntil, HasPointAt};
 use super::fixture::{Pairs, Row, after, all_hold, are_pairs, points_of, ranges_of};
 use btr_base::{Bag, END, FIRST, Point, Ranges};
 use btr_hist::{Kernel, Spec};
-use btr_kernel::{Eval, run_over};
+use btr_kernel::{Eval, anchors, point_at, run_over};
 use btr_tree::Tree;
 use std::alloc::{AllocError, Global};
 use std::test::Fail;
@@ -43,6 +43,25 @@ fn swept(
         None => run_over(alloc, spec, &a, None, ranges)?,
     };
     Ok(made)
+}
+
+/// The point of an output at a time, by `point_at`.
+fn point_of(
+    alloc: Global,
+    spec: &Spec,
+    first: &[Point],
+    second: &[Point],
+    t: i64,
+) -> Result<Option<Point>, Fail> {
+    if !spec.is_good() {
+        return Err("no good spec".into());
+    }
+    let a = tree_of(alloc, first)?;
+    let point = match spec.second {
+        Some(_) => point_at(alloc, spec, &a, Some(&tree_of(alloc, second)?), t)?,
+        None => point_at(alloc, spec, &a, None, t)?,
+    };
+    Ok(point)
 }
 
 // ---- the plain program: each anchor from the whole lists
@@ -503,6 +522,130 @@ const CASES: &[Case] = &[
 #[test]
 fn values_by_hand(rt: HostRuntime) -> Result<(), Fail> {
     all_hold(rt.alloc(), CASES)
+}
+
+/// The points of a first input, ranges, and the anchors that they cover.
+struct Anchors(Pairs, Pairs, &'static [i64]);
+
+impl Row for Anchors {
+    fn holds(&self, alloc: Global) -> Result<bool, Fail> {
+        let first = tree_of(alloc, &points_of(alloc, self.0)?)?;
+        let times = anchors(alloc, &first, &ranges_of(alloc, self.1)?)?;
+        Ok(times.as_slice() == self.2)
+    }
+}
+
+/// Points of which some have the same time, and one stands twice.
+const SOME: Pairs = &[
+    (0, 4),
+    (4, 1),
+    (5, 1),
+    (7, 2),
+    (7, 1),
+    (9, 3),
+    (9, 3),
+    (12, 0),
+];
+
+const ANCHORS: &[Anchors] = &[
+    Anchors(SOME, &[(FIRST, END)], &[0, 4, 5, 7, 9, 12]),
+    // the end of a range is not in it
+    Anchors(SOME, &[(0, 5), (7, 9)], &[0, 4, 7]),
+    Anchors(SOME, &[(9, 10)], &[9]),
+    // no time, and times between points
+    Anchors(SOME, &[], &[]),
+    Anchors(SOME, &[(1, 4), (10, 12)], &[]),
+    Anchors(&[], &[(FIRST, END)], &[]),
+    // the ends of the domain
+    Anchors(
+        &[(FIRST, 1), (FIRST, 2), (0, 3), (LAST, 4), (LAST, 5)],
+        &[(FIRST, FIRST + 1), (LAST, END)],
+        &[FIRST, LAST],
+    ),
+];
+
+#[test]
+fn anchors_by_hand(rt: HostRuntime) -> Result<(), Fail> {
+    all_hold(rt.alloc(), ANCHORS)
+}
+
+/// A kernel with a lead, the points of its inputs, a time, and the value of the output there, if there is a point.
+struct At(Kernel, u64, Pairs, Pairs, i64, Option<i64>);
+
+impl Row for At {
+    fn holds(&self, alloc: Global) -> Result<bool, Fail> {
+        let first = points_of(alloc, self.2)?;
+        let second = points_of(alloc, self.3)?;
+        let spec = spec_of(self.0, self.1);
+        let got = point_of(alloc, &spec, &first, &second, self.4)?;
+        let want = self.5.map(|value| Point {
+            time: self.4,
+            value,
+        });
+        Ok(got == want)
+    }
+}
+
+/// Points at both ends of the domain, and two between.
+const ENDS: Pairs = &[(FIRST, 1), (0, 2), (1, 3), (LAST, 4)];
+
+const POINTS: &[At] = &[
+    // the window begins at the time of a point
+    At(
+        Kernel::Sum,
+        3,
+        &[(1, 20), (4, 22), (5, 1)],
+        &[],
+        4,
+        Some(42),
+    ),
+    At(
+        Kernel::Sum,
+        2,
+        &[(1, 20), (4, 22), (5, 1)],
+        &[],
+        4,
+        Some(22),
+    ),
+    // a time with several points
+    At(Kernel::Count, 3, SOME, &[], 9, Some(4)),
+    // none between anchors, before the first and after the last
+    At(Kernel::Sum, 3, SOME, &[], 6, None),
+    At(Kernel::Sum, 3, SOME, &[], -1, None),
+    At(Kernel::Sum, 3, SOME, &[], 13, None),
+    At(Kernel::Sum, 3, &[], &[], 0, None),
+    // none at an anchor at which the kernel has no value
+    At(Kernel::Delta, 1, SOME, &[], 5, Some(0)),
+    At(Kernel::Delta, 1, SOME, &[], 7, None),
+    At(Kernel::Sum, 0, &[(5, MOST), (5, MOST)], &[], 5, None),
+    // the greatest values of both inputs
+    At(
+        Kernel::Minus,
+        0,
+        SOME,
+        &[(7, -6), (7, -4), (8, 9)],
+        7,
+        Some(6),
+    ),
+    At(Kernel::Minus, 0, SOME, &[(7, -6), (7, -4), (8, 9)], 9, None),
+    // a point of the second input alone is no anchor
+    At(Kernel::Hold, 2, SOME, &[(7, -6), (8, 9)], 8, None),
+    At(Kernel::Hold, 2, SOME, &[(7, -6), (8, 9)], 9, Some(-6)),
+    At(Kernel::Hold, 2, SOME, &[(7, -6), (8, 9)], 5, None),
+    // the ends of the domain, and times outside it
+    At(Kernel::Count, LONG, ENDS, &[], FIRST, Some(1)),
+    At(Kernel::Count, LONG, ENDS, &[], 0, Some(2)),
+    At(Kernel::Count, LONG, ENDS, &[], 1, Some(2)),
+    At(Kernel::Count, LONG, ENDS, &[], LAST, Some(1)),
+    At(Kernel::Count, LONG, ENDS, &[], END, None),
+    At(Kernel::Count, LONG, ENDS, &[], FIRST - 1, None),
+    At(Kernel::Count, LONG, ENDS, &[], LEAST, None),
+    At(Kernel::Count, LONG, ENDS, &[], MOST, None),
+];
+
+#[test]
+fn points_by_hand(rt: HostRuntime) -> Result<(), Fail> {
+    all_hold(rt.alloc(), POINTS)
 }
 
 /// The value of any kernel, through the law.

@@ -10,6 +10,8 @@ mod fixture;
 #[cfg(test)]
 mod kernel_tests;
 #[cfg(test)]
+mod pages_tests;
+#[cfg(test)]
 mod scan_tests;
 #[cfg(test)]
 mod tree_tests;

@@ -6,7 +6,7 @@
 //! aggregate in btr_base's `Agg`.
 ghost use Rattle.std.specs.Prelude.{◌≡◌, ◌-◌};
 
-use super::fixture::Counts;
+use super::fixture::{Counts, bag_of_runs};
 use btr_base::{Bag, END, FIRST, Point, Range, Ranges, are_in_domain};
 use btr_tree::{
     Applied, Child, NewNode, NewSlots, Node, Slot, Slots, Steps, Tree, TreeFault, visit,
@@ -60,7 +60,7 @@ struct PlainSlot {
 
 /// A node with its span.
 #[derive(Drop, PartialEq)]
-struct PlainNode {
+pub(crate) struct PlainNode {
     start: i64,
     height: u8,
     version: u64,
@@ -371,7 +371,7 @@ fn walk(
 }
 
 /// All nodes of a tree, in the order of a walk.
-fn nodes_in(alloc: Global, tree: &Tree) -> Result<Vec<PlainNode>, AllocError> {
+pub(crate) fn nodes_in(alloc: Global, tree: &Tree) -> Result<Vec<PlainNode>, AllocError> {
     let mut nodes = Vec::new(alloc);
     walk(alloc, tree.link(), WHOLE, &mut nodes)?;
     Ok(nodes)
@@ -393,25 +393,6 @@ fn is_as_derived(alloc: Global, version: &Version) -> Result<bool, AllocError> {
             && total == summary_in(points, WHOLE)
             && nodes == version.nodes,
     )
-}
-
-/// Points for each triple of first time, step and number, with values from -100 on.
-fn points_of(alloc: Global, runs: &[(i64, i64, i64)]) -> Result<Bag, AllocError> {
-    let mut points = Vec::new(alloc);
-    for (first, step, count) in runs {
-        add_run(&mut points, *first, *step, *count)?;
-    }
-    Ok(Bag::from_points(points))
-}
-
-fn add_run(points: &mut Vec<Point>, first: i64, step: i64, count: i64) -> Result<(), AllocError> {
-    for i in 0..count {
-        points.push(Point {
-            time: first.wrapping_add(i.wrapping_mul(step)),
-            value: i.wrapping_sub(100),
-        })?;
-    }
-    Ok(())
 }
 
 fn cut_of(alloc: Global, bounds: &[(i64, i64)]) -> Result<Ranges, Fail> {
@@ -521,7 +502,7 @@ fn committed(
 
 /// The stream after a commit of the table, if it has the outcome that was found by hand.
 fn after(alloc: Global, stream: Stream, case: &Case) -> Result<Stream, Fail> {
-    let added = points_of(alloc, case.1)?;
+    let added = bag_of_runs(alloc, case.1)?;
     let cut = cut_of(alloc, case.2)?;
     let applied = applied_to(alloc, &stream.last.tree, &cut, &added, case.0)?;
     if outcome_of(&applied) != Some(case.3) {
@@ -635,11 +616,11 @@ fn blocks_of_new_nodes(rt: HostRuntime) -> Result<(), Fail> {
     let alloc = rt.alloc();
     let none = Ranges::none(alloc);
     // two leaves and their root, in blocks 4, 5 and 6; and then a leaf more and the root, in blocks 4 and 5 of a second count
-    let first = points_of(alloc, &[(FIRST, 0, 1), (0, 4, 252)])?;
+    let first = bag_of_runs(alloc, &[(FIRST, 0, 1), (0, 4, 252)])?;
     let Ok(one) = applied_to(alloc, &Tree::empty(), &none, &first, 1)? else {
         return Err("no commit".into());
     };
-    let second = points_of(alloc, &[(FIRST, 0, 1)])?;
+    let second = bag_of_runs(alloc, &[(FIRST, 0, 1)])?;
     let Ok(two) = applied_to(alloc, &one.tree, &none, &second, 2)? else {
         return Err("no commit".into());
     };
@@ -656,7 +637,7 @@ fn blocks_of_new_nodes(rt: HostRuntime) -> Result<(), Fail> {
 /// The tree of 253 points within one slot.
 fn tall_tree(alloc: Global) -> Result<Tree, Fail> {
     let none = Ranges::none(alloc);
-    let added = points_of(alloc, &[(0, 1, 253)])?;
+    let added = bag_of_runs(alloc, &[(0, 1, 253)])?;
     match applied_to(alloc, &Tree::empty(), &none, &added, 1)? {
         Ok(applied) => Ok(applied.tree),
         Err(_) => Err("no commit".into()),
