@@ -8,6 +8,7 @@ pub mod KeptSlotLemmas
 pub mod NewNodeLemmas
 pub mod NodeLemmas
 pub mod OpenedLemmas
+pub mod PlaceLemmas
 pub mod ReadLemmas
 pub mod RootLemmas
 pub mod SlotSplitLemmas

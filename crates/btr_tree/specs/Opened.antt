@@ -1,5 +1,6 @@
 -- What the trees are that are made of nodes read from a device, and which children an inner node takes.
-use Rattle.std.specs.Prelude.{◌≡◌, ℕ, zero, suc, ◌<◌, ◌≤◌, nat_eq, List, [], ◌∷◌, get_or, Option, Some, None, IfSome, if◌then◌else◌}
+use Rattle.std.specs.Prelude.{◌≡◌, ℕ, zero, suc, ◌<◌, ◌≤◌, nat_eq, List, [], ◌∷◌, get_or, slice_get, if◌then◌else◌}
+use Rattle.std.specs.Prelude.{Option, Some, None, IfSome, option_map}
 use Rattle.btr_base.specs.Agg.{AggValue, agg, no_points, joined}
 use Rattle.btr_base.specs.Span.{SpanValue, slot_of}
 use Rattle.btr_base.specs.declared.limits.TheConstants.{LEAF_POINTS, MAX_POINTS}
@@ -72,3 +73,12 @@ pub record IsInnerTree (span : SpanValue) (version block : ℕ) (parts : List (�
   pub its_slots : HasParts 64 parts versions slots
   pub its_block : block_of t.node ≡ block
   pub total : t.total ≡ joined_parts 64 parts
+
+-- The part at a place that is counted from 1, or none at place 0 and after the last part.
+abbrev pub placed_part : List (ℕ × TreeValue) → ℕ → Option TreeValue
+placed_part parts zero = None
+placed_part parts (suc n) = option_map (λ (part : ℕ × TreeValue). part.1) (slice_get parts n)
+
+-- At the place of each of the 64 slots is the part of its number, or none if there is no such part.
+abbrev pub ArePlaces : List (ℕ × TreeValue) → List ℕ → Type 0
+ArePlaces parts places = (i : ℕ) → i < 64 → placed_part parts (get_or places i 0) ≡ part_at parts i

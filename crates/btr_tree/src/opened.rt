@@ -3,7 +3,8 @@ ghost use Rattle.std.specs.Prelude.{◌≡◌, ◌<◌, ◌≤◌, ◌+◌, ◌^
 ghost use Rattle.btr_base.specs.Bag.{within};
 ghost use Rattle.btr_base.specs.declared.limits.TheConstants.{LEAF_POINTS as FEW};
 ghost use Rattle.btr_tree.specs.Change.{end_of};
-ghost use Rattle.btr_tree.specs.Opened.{AreParts, HasParts, IsInnerTree, IsLeafTree, joined_parts, part_at, part_node, part_slot};
+ghost use Rattle.btr_tree.specs.Opened.{ArePlaces, AreParts, HasParts, IsInnerTree, IsLeafTree};
+ghost use Rattle.btr_tree.specs.Opened.{joined_parts, part_node, part_slot, placed_part};
 ghost use Rattle.btr_tree.specs.Root.{WasOpened};
 ghost use Rattle.btr_tree.specs.Slots.{linked};
 
@@ -83,21 +84,51 @@ fn slots_of_parts(
     ensures slots { IfOk result (λ r. HasParts 64 children.now versions.now r.0) }
     ensures agg { IfOk result (λ r. r.1 ≡ joined_parts 64 children.now) }
 {
-    let mut slots = Slots::new(alloc, base_version(children, versions), children.len())?;
+    let places = places_of(children);
+    let mut slots = Slots::new(alloc, base_version(&places, versions), children.len())?;
     let mut agg = Agg::none();
     for i in 0..FAN_OUT {
-        let (slot, child) = slot_of_part(find_part(children, i), versions[usize::from(i)])?;
+        let at = usize::from(i);
+        let (slot, child) = slot_of_part(part_in(children, places[at]), versions[at])?;
         agg = agg.join(&slot.agg);
         slots.put(i, slot, child)?;
     }
     Ok((slots, agg))
 }
 
+/// The place of each slot's child in `children`, counted from 1, or 0 if the slot has none. If several children have one
+/// number, it is the place of the first. It takes one pass over `children`, and no memory.
+fn places_of(children: &[(u8, Tree)]) -> [usize; 64]
+    ensures { ArePlaces children.now result }
+{
+    let mut places = [0; 64];
+    for n in (0..children.len()).rev() {
+        let i = usize::from(children[n].0);
+        if i < 64 {
+            places[i] = n + 1;
+        }
+    }
+    places
+}
+
+/// The tree at a place that is counted from 1, or `None` at place 0 and after the last child.
+fn part_in(children: &[(u8, Tree)], place: usize) -> Option<&Tree>
+    ensures { option_map (λ t. t.now) result ≡ placed_part children.now place }
+{
+    if place == 0 {
+        return None;
+    }
+    match children.get(place - 1) {
+        Some(part) => Some(&part.1),
+        None => None,
+    }
+}
+
 /// The version of the first slot that has no child, or 0 if each has one. Most slots without a child have it.
-fn base_version(children: &[(u8, Tree)], versions: &[u64; 64]) -> u64 {
-    for i in 0..FAN_OUT {
-        if find_part(children, i).is_none() {
-            return versions[usize::from(i)];
+fn base_version(places: &[usize; 64], versions: &[u64; 64]) -> u64 {
+    for i in 0..64 {
+        if places[i] == 0 {
+            return versions[i];
         }
     }
     0
@@ -122,16 +153,4 @@ fn slot_of_part(part: Option<&Tree>, version: u64) -> Result<(Slot, Link), Alloc
         child: 0,
     };
     Ok((slot, tree.root.seen().share()?))
-}
-
-/// The tree of a number, the first if there are several.
-fn find_part(children: &[(u8, Tree)], i: u8) -> Option<&Tree>
-    ensures { option_map (λ t. t.now) result ≡ part_at children.now i }
-{
-    for part in children {
-        if part.0 == i {
-            return Some(&part.1);
-        }
-    }
-    None
 }
