@@ -9,15 +9,11 @@ use Rattle.btr_disk.proofs.ByteLemmas.{Has-append, Has-joined, Has-take, Has-one
 use Rattle.btr_log.specs.declared.head.Head.{Head}
 use Rattle.btr_log.specs.Head.{head_bytes, Spells, IsNoHead}
 use Rattle.btr_log.proofs.HeadLemmas.{length-head_bytes}
-use Rattle.btr_log.specs.Found.{IsWholeExtent, SpellsAt, HasNoHead, IsDamagedExtent}
+use Rattle.btr_log.specs.Found.{IsWholeExtent, SpellsAt, HasNoHead, IsDamagedExtent, after_first}
 
 -- a write of a whole slice of a vector
 pub written_whole : (len : ℕ) (xs items : List ℕ) → length xs ≡ len → take len (xs ++ drop (length xs) items) ≡ xs
 written_whole len xs items size = take_at xs (drop (length xs) items) len size
-
--- all but the first block, as a slice from there on
-abbrev pub after_first : List ℕ → List ℕ
-after_first prefix = take (length prefix - 4096) (drop 4096 prefix)
 
 -- a body whose first block was read before, and the others now
 pub Has-put_mid : (image : Image) (first : ℕ) (body rest : List ℕ) → 4096 ≤ length body → Has image (4096 * first) (take 4096 body) → Has image (4096 * (first + 1)) rest → Has image (4096 * first) (put_mid 4096 (length body - 4096) body rest)

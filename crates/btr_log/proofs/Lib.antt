@@ -6,3 +6,4 @@ pub mod LogLemmas
 mod Pieces
 mod AppendImages
 mod GateAndHead
+mod PieceLemmas

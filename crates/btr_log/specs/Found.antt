@@ -1,16 +1,16 @@
 -- What is found at a gate: a closed gate, an extent, or a damaged extent.
-use Rattle.std.specs.Prelude.{◌≡◌, ◌⊎◌, ℕ, ◌+◌, ◌*◌, ◌<◌, ◌≤◌, List}
+use Rattle.std.specs.Prelude.{◌≡◌, ◌⊎◌, ℕ, ◌+◌, ◌*◌, ◌-◌, ◌<◌, ◌≤◌, List, length, take, drop, Option, None, Some}
 use Rattle.btr_disk.specs.declared.disk.Disk.{Ghosts}
 use Rattle.btr_disk.specs.Bytes.{Image, Has}
 use Rattle.btr_disk.specs.Causes.{Rose}
-use Rattle.btr_disk.specs.Gate.{IsOpen, IsClosed}
+use Rattle.btr_disk.specs.Gate.{mark, IsOpen, IsClosed}
 use Rattle.btr_log.specs.declared.head.Head.{Head}
 use Rattle.btr_log.specs.declared.log.Log.{Log}
 use Rattle.btr_log.specs.declared.found.Found.{Found}
 use Rattle.btr_log.specs.declared.found.Found.TheVariants.{Closed, Extent}
 use Rattle.btr_log.specs.declared.found.ExtentFault.{ExtentFault}
 use Rattle.btr_log.specs.declared.found.ExtentFault.TheVariants.{Damaged, Fault, Want}
-use Rattle.btr_log.specs.Head.{head_bytes, IsHead}
+use Rattle.btr_log.specs.Head.{head_bytes, IsHead, Spells}
 use Rattle.btr_log.specs.Extents.{IsBody}
 use Rattle.btr_log.specs.Log.{log_device, log_blocks}
 
@@ -76,3 +76,25 @@ abbrev pub ExtentCause : {D : Type 0} {disk : Ghosts D} → Log D disk → Log D
 ExtentCause {D} {disk} old new gate fault =
     FindCause disk.is_observable (disk.contents (log_device old)) (log_blocks old) gate
     (disk.faults (log_device old)) (disk.faults (log_device new)) fault
+
+-- The bytes after the first block.
+abbrev pub after_first : List ℕ → List ℕ
+after_first bytes = take (length bytes - 4096) (drop 4096 bytes)
+
+-- The bytes begin with an open gate and then a block with this head, whose extent leaves room for the next gate.
+pub record IsOpenStart (blocks gate : ℕ) (bytes : List ℕ) (head : Head) : Type 0 where
+  pub is_open : take 8 bytes ≡ mark
+  pub spells : Spells (take 64 (after_first bytes)) head
+  pub inside : gate + head.n + 1 < blocks
+
+-- What the bytes from the gate on say: it is closed, or its extent has this head.
+abbrev pub StartSays : ℕ → ℕ → List ℕ → Option Head → Type 0
+StartSays blocks gate bytes None = take 8 bytes ≡ mark → ⊥
+StartSays blocks gate bytes (Some head) = IsOpenStart blocks gate bytes head
+
+-- Each image that has the bytes from the gate on has a damaged extent there.
+abbrev pub IsDamagedStart : ℕ → ℕ → List ℕ → ExtentFault → Type 0
+IsDamagedStart blocks gate bytes (Damaged block) =
+    (image : Image) → Has image (4096 * gate) bytes → IsDamagedExtent image blocks gate block
+IsDamagedStart blocks gate bytes Fault = ⊥
+IsDamagedStart blocks gate bytes Want = ⊥

@@ -3,3 +3,4 @@ pub mod Extents
 pub mod Log
 pub mod Append
 pub mod Found
+pub mod Piece

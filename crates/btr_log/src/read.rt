@@ -1,11 +1,11 @@
 //! Reading an extent: the gate and the first block of the body in one call, the rest in another.
-ghost use Rattle.std.specs.Prelude.{◌≡◌, ◌+◌, ◌*◌, ◌<◌, ◌≤◌, ◌^◌, length, take, IfErr, IfOk, IfSome, IsNone, OnOk};
+ghost use Rattle.std.specs.Prelude.{◌≡◌, ◌+◌, ◌*◌, ◌-◌, ◌<◌, ◌≤◌, ◌^◌, length, min, take, IfErr, IfOk, IfSome, IsNone, OnOk};
 ghost use Rattle.btr_disk.specs.Bytes.{Has, IsBlockRange};
 ghost use Rattle.btr_log.specs.Head.{Spells, IsNoHead};
 ghost use Rattle.btr_disk.specs.Moments.{WroteNothing};
 ghost use Rattle.btr_disk.specs.Causes.{KeepsCounts};
 ghost use Rattle.btr_log.specs.Log.{log_device, log_blocks, KeepsLog, KeepsDevice, LogWroteNothing};
-ghost use Rattle.btr_log.specs.Found.{IsWhole, MatchesDevice, FindCause, ReadCause, ExtentCause};
+ghost use Rattle.btr_log.specs.Found.{IsWhole, MatchesDevice, FindCause, ReadCause, ExtentCause, StartSays, IsDamagedStart};
 
 use crate::{ExtentFault, Found, HEAD_BYTES, Head, Log};
 use btr_disk::{BLOCK, Disk, is_open_gate};
@@ -51,21 +51,11 @@ pub fn find_extent<D: Disk>(
     ensures matches { D.is_observable → IfOk result (MatchesDevice (D.contents disk.old) gate) }
     ensures cause { IfErr result (FindCause D.is_observable (D.contents disk.old) blocks gate (D.faults disk.old) (D.faults disk.new)) }
 {
-    if gate + 1 == blocks {
-        return find_at_end(alloc, disk, gate);
-    }
-    let prefix = read_blocks(alloc, disk, gate, 2)?;
-    if !is_open_gate(&prefix) {
+    let prefix = read_blocks(alloc, disk, gate, start_blocks(blocks, gate))?;
+    let Some(head) = start_of(&prefix, blocks, gate)? else {
         return Ok(Found::Closed);
-    }
-    let first = &prefix[BLOCK..];
-    let Some(head) = head_of(first) else {
-        return Err(ExtentFault::Damaged { block: gate + 1 });
     };
-    if head.n >= blocks - 1 - gate {
-        return Err(ExtentFault::Damaged { block: gate + 1 });
-    }
-    let body = read_body(alloc, disk, gate + 1, first, head.n)?;
+    let body = read_body(alloc, disk, gate + 1, &prefix[BLOCK..], head.n)?;
     Ok(Found::Extent {
         head,
         body,
@@ -73,23 +63,35 @@ pub fn find_extent<D: Disk>(
     })
 }
 
-/// Reads what is at a gate that is the last block.
-fn find_at_end<D: Disk>(alloc: Global, disk: &mut D, gate: u64) -> Result<Found, ExtentFault>
-    requires gate { gate < D.size disk.old }
-    requires addressable { gate < 2 ^ 32 }
-    ensures counts { KeepsCounts D.size D.calls D.faults disk.old disk.new }
-    ensures call { D.calls disk.new ≤ D.calls disk.old + 1 }
-    ensures unwritten { D.is_observable → WroteNothing D.calls D.contents D.images_now D.images_since disk.old disk.new }
-    ensures whole { IfOk result (IsWhole (gate + 1) gate) }
-    ensures matches { D.is_observable → IfOk result (MatchesDevice (D.contents disk.old) gate) }
-    ensures cause { IfErr result (FindCause D.is_observable (D.contents disk.old) (gate + 1) gate (D.faults disk.old) (D.faults disk.new)) }
+/// The number of blocks that tell what is at the gate: its own and the next one, or its own alone if it is the last one.
+pub(crate) fn start_blocks(blocks: u64, gate: u64) -> u64
+    requires { gate < blocks }
+    ensures { result ≡ min 2 (blocks - gate) }
 {
-    let block = read_blocks(alloc, disk, gate, 1)?;
-    if is_open_gate(&block) {
-        Err(ExtentFault::Damaged { block: gate })
-    } else {
-        Ok(Found::Closed)
+    if gate + 1 == blocks { 1 } else { 2 }
+}
+
+/// What the gate and the block after it say, in a log of `blocks` blocks: `None` if the gate is closed, and else the head of its
+/// extent, which leaves room for the next gate. The bytes are both blocks, or the gate's alone if it is the last one.
+pub(crate) fn start_of(prefix: &[u8], blocks: u64, gate: u64) -> Result<Option<Head>, ExtentFault>
+    requires gate { gate < blocks }
+    requires size { length prefix.now ≡ 4096 * min 2 (blocks - gate) }
+    ensures start { IfOk result (StartSays blocks gate prefix.now) }
+    ensures damaged { IfErr result (IsDamagedStart blocks gate prefix.now) }
+{
+    if !is_open_gate(prefix) {
+        return Ok(None);
     }
+    if gate + 1 == blocks {
+        return Err(ExtentFault::Damaged { block: gate });
+    }
+    let Some(head) = head_of(&prefix[BLOCK..]) else {
+        return Err(ExtentFault::Damaged { block: gate + 1 });
+    };
+    if head.n >= blocks - 1 - gate {
+        return Err(ExtentFault::Damaged { block: gate + 1 });
+    }
+    Ok(Some(head))
 }
 
 /// The head at the beginning of a body, or `None`.

@@ -1,0 +1,25 @@
+-- Pieces: runs of blocks that were read from a device and are kept, and what they hold.
+use Rattle.std.specs.Prelude.{ℕ, ◌+◌, ◌-◌, ◌*◌, ◌≤◌, List, [], length, take, drop}
+use Rattle.btr_disk.specs.Bytes.{Image, Has}
+
+-- The first block of a piece, and its bytes.
+pub record PieceValue : Type 0 where
+  pub first : ℕ
+  pub bytes : List ℕ
+
+-- The piece with no block.
+abbrev pub empty_piece : PieceValue
+empty_piece = record { first = 0; bytes = [] }
+
+-- The blocks of the piece are those of the image.
+abbrev pub IsPieceOf : Image → PieceValue → Type 0
+IsPieceOf image p = Has image (4096 * p.first) p.bytes
+
+-- The piece holds the `count` blocks from this one on.
+pub record HoldsBlocks (p : PieceValue) (block count : ℕ) : Type 0 where
+  pub begins : p.first ≤ block
+  pub ends : 4096 * (block + count) ≤ 4096 * p.first + length p.bytes
+
+-- The bytes of the `count` blocks from this one on.
+abbrev pub bytes_at : PieceValue → ℕ → ℕ → List ℕ
+bytes_at p block count = take (4096 * count) (drop (4096 * (block - p.first)) p.bytes)
