@@ -58,12 +58,12 @@ expect 'ask on an empty file' "$(ended)" '6: no store/'
 play before format --blocks 64 </dev/null
 expect 'format where a store is' "$(ended)" '6: no occupied/'
 
-# A file that the system lets grow no further. The store ends at 36 KiB, and the next commit is refused.
+# A file that the system lets grow no further. The store ends at 40 KiB, and the next commit is refused.
 printf 'insert %s 9 9\ninsert %s 10 9\nrange %s 0 100 latest\n' "$id" "$id" "$id" >script
 cp before device
 (
     trap '' XFSZ
-    ulimit -f 36
+    ulimit -f 40
     exec "$program" device live <script >out 2>err
 )
 status=$?
@@ -74,7 +74,7 @@ expect 'a file that could not grow, opened again' "$(ended)" "0: $answer"
 # The same when the system ends the process in the middle of the commit.
 cp before device
 (
-    ulimit -c 0 -f 36
+    ulimit -c 0 -f 40
     "$program" device live <script
 ) >out 2>err
 play device ask <questions
@@ -84,4 +84,4 @@ expect 'a run that was ended because its file cannot grow' "$(ended)" "0: $answe
 play small format --blocks 8 </dev/null
 printf 'create %s\ninsert %s 0 5\n' "$id" "$id" >script
 play small live <script
-expect 'a store that is full' "$(ended)" '8: ok 0 0/no full 2 1/'
+expect 'a store that is full' "$(ended)" '8: ok 0 0/no full 3 1/'

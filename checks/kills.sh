@@ -66,7 +66,7 @@ wrong_after() {
 # Waits for a random moment of a run: in even rounds until the file has grown by some commits, else for a random time.
 wait_in_round() {
     if [ $(($1 % 2)) = 0 ]; then
-        local goal=$(($2 + 8192 * (1 + RANDOM % (lines - 50))))
+        local goal=$(($2 + 12288 * (1 + RANDOM % (lines - 50))))
         while [ "$(wc -c <device)" -lt "$goal" ] && kill -0 "$running" 2>/dev/null; do :; done
     else
         sleep "0.$(printf '%03d' $((RANDOM % 300)))"

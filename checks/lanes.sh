@@ -315,7 +315,7 @@ compare() {
 found=''
 for run in $(seq "${BTR_SOAK:-2}"); do
     rm -f device
-    play device format --blocks 9000 </dev/null
+    play device format --blocks 40000 </dev/null
     play device live <first
     log_of device >log
     before=$(grep -c . log)

@@ -56,14 +56,15 @@ expect 'values' "$(load_new 64)" "1: row 1: no value/row 3: no value/row 4: no v
 
 # ---- streams, batches and full devices
 
-# Of 16 blocks 11 are left for entries: three creates need 6, a batch of one point needs 2, and one of 600 points needs 4.
+# Of 17 blocks 12 are left for entries: three creates need 6, and a batch of one point needs 3. One of 600 points, 10 ns apart, has 24
+# leaves of 256 ns below 9 inner nodes, and needs 37.
 {
     printf '%s,1,1\n' "$u"
     seq 0 599 | awk -v id="$v" '{ print id "," 10 * $1 "," $1 }'
     printf '%s,3,3\n' "$w"
 } >rows
-expect 'one worker loads what fits, in the order of the input' "$(load_new 16 --workers 1)" \
-    "8: $u 1 1/$v rows 2 601: no full 4 3/$v 0 0/$w 1 1/loaded 2 refused 600/"
+expect 'one worker loads what fits, in the order of the input' "$(load_new 17 --workers 1)" \
+    "8: $u 1 1/$v rows 2 601: no full 37 3/$v 0 0/$w 1 1/loaded 2 refused 600/"
 
 fresh device 64
 printf 'create %s\ndistiller %s sum 0 0 %s\n' "$u" "$w" "$u" >lines
@@ -76,10 +77,12 @@ awk -v u="$u" 'BEGIN { for (i = 0; i < 253; i++) print u ",0," i; for (i = 0; i 
 expect 'a batch that is refused, and the next one' "$(load_new 64 --batch 253)" \
     "1: $u rows 1 253: no crowded 0/$u 1 10/loaded 10 refused 253/"
 awk -v u="$u" -v v="$v" 'BEGIN { for (i = 0; i < 1000; i++) { print u "," i ",1"; print v "," i ",1" } }' >rows
-expect 'a device that is full in the middle' "$(load_new 12 --batch 500)" \
-    "8: $u rows 1001 1999: no full 3 0/$u 1 500/$v rows 2 1000: no full 3 0/$v rows 1002 2000: no full 3 0/$v 0 0/loaded 500 refused 1500/"
+# Of 87 blocks 82 are left for entries: two creates need 4, and the first batch 78. 256 points in 256 ns are in 64 leaves: so the trees of
+# 500 points from time 0 on, of 500 more, and of those alone have 75, 140 and 76 new nodes. A content of 500 points has 2 blocks.
+expect 'a device that is full in the middle' "$(load_new 87 --batch 500)" \
+    "8: $u rows 1001 1999: no full 143 0/$u 1 500/$v rows 2 1000: no full 78 0/$v rows 1002 2000: no full 79 0/$v 0 0/loaded 500 refused 1500/"
 expect 'a stream that cannot be created' "$(load_new 8)" \
-    "8: $u rows 1 1999: no full 5 1/$u 0 0/$v rows 2 2000: no full 2 1/loaded 0 refused 2000/"
+    "8: $u rows 1 1999: no full 210 1/$u 0 0/$v rows 2 2000: no full 2 1/loaded 0 refused 2000/"
 
 # ---- any number of workers
 
@@ -164,7 +167,7 @@ expect 'one byte more than may be read' "$(ended), $(compared device before)" '1
 
 # ---- kills
 
-fresh device 60000
+fresh device 600000
 awk 'BEGIN { for (n = 0; n < 60000; n++) printf "%08d-0000-4000-8000-000000000000,%d,%d\n", n % 4, int(n / 4), 7 }' >rows
 wrong=
 for round in 1 2 3 4 5 6; do

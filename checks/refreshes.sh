@@ -75,7 +75,7 @@ for round in $(seq "$rounds"); do
     size=$(wc -c <device)
     "$program" device live <script >held 2>err &
     running=$!
-    goal=$((size + 8192 * (1 + RANDOM % 150)))
+    goal=$((size + 12288 * (1 + RANDOM % 150)))
     while [ "$(wc -c <device)" -lt "$goal" ] && kill -0 "$running" 2>/dev/null; do :; done
     { kill -KILL "$running"; wait "$running"; } 2>/dev/null
     wrong=$(wrong_with "$sums" "$id" 50 sum)
@@ -93,8 +93,8 @@ expect 'the counts at the end' "$(wrong_with "$counts" "$sums" 30 count)" ''
 expect 'the version that the counts have read' "$(read_of "$counts")" \
     "$(echo streams >line; play device ask <line; sed -n "s/^$sums \([0-9]*\) output$/\1/p" out)"
 
-# Twelve blocks: the stream, its points and the output take them, so a refresh of 251 points does not fit.
-play full format --blocks 12 </dev/null
+# Thirteen blocks: the stream, its points with their leaf, and the output take them, so a refresh of 251 points does not fit.
+play full format --blocks 13 </dev/null
 {
     echo "create $id"
     awk -v id="$id" 'BEGIN { printf "insert %s", id; for (t = 0; t < 251; t++) printf " %d 1", t; print "" }'
@@ -103,4 +103,4 @@ play full format --blocks 12 </dev/null
     echo "info $sums latest"
 } >script
 play full live <script
-expect 'a refresh that does not fit' "$(ended)" '8: ok 0 0/ok 1 0/ok 0 0/no full 3 0/ok 0 1/output 0 0/'
+expect 'a refresh that does not fit' "$(ended)" '8: ok 0 0/ok 1 0/ok 0 0/no full 4 0/ok 0 1/output 0 0/'

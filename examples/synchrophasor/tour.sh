@@ -3,7 +3,7 @@
 set -eu
 here=$(cd "$(dirname "$0")" && pwd)
 "$here/generate.sh"
-btr_run grid.btr format --blocks 4096
+btr_run grid.btr format --blocks 65536
 btr_run grid.btr load --workers 2 --batch 4096 <ontime.csv
 btr_run grid.btr live <"$here/define.lines"
 btr_run grid.btr distil --workers 2

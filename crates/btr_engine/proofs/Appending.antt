@@ -11,7 +11,7 @@ use Rattle.btr_disk.proofs.MomentLemmas.{weakens}
 use Rattle.btr_log.specs.declared.log.Log.{Log}
 use Rattle.btr_log.specs.declared.append.AppendFault.{AppendFault}
 use Rattle.btr_log.specs.declared.append.AppendFault.TheVariants.{Full, Fault, Stopped as AlreadyStopped}
-use Rattle.btr_log.specs.Extents.{need, IsLog}
+use Rattle.btr_log.specs.Extents.{need}
 use Rattle.btr_log.proofs.ExtentLemmas.{AtRest-IsLog}
 use Rattle.btr_log.specs.Append as append
 use Rattle.btr_log.specs.Log as log
@@ -20,20 +20,20 @@ use Rattle.btr_hist.specs.Legal.{rejection}
 use Rattle.btr_entry.specs.Grammar.{IsSpelled}
 use Rattle.btr_engine.specs.declared.engine.Engine.{Engine}
 use Rattle.btr_engine.specs.declared.board.Receipt.{Receipt}
-use Rattle.btr_engine.specs.declared.step.Pending.{Pending}
 use Rattle.btr_engine.specs.declared.step.StepFault.{StepFault}
 use Rattle.btr_engine.specs.declared.step.StepFault.TheVariants.{DeviceFull, DeviceFault}
 use Rattle.btr_node.specs.Page.{Fits}
 use Rattle.btr_node.specs.declared.page.NodePage.{NodePage}
 use Rattle.btr_pages.specs.Pages.{Pages, ArePages}
-use Rattle.btr_engine.specs.Body.{body_of, Prefix, prefix_to, first_page, pages_after, IsBodyOf, HasNoNodes, commits_before, nodes_of, need_of}
-use Rattle.btr_engine.proofs.BodyLemmas.{need-body_of, no_nodes}
-use Rattle.btr_engine.specs.Holds.{HoldsHistoryTo}
+use Rattle.btr_pages.proofs.PageOfLemmas.{HasPlaces}
+use Rattle.btr_engine.specs.Body.{body_of, Prefix, prefix_to, first_page, pages_after, IsBodyOf, commits_before, nodes_of, need_of}
+use Rattle.btr_engine.specs.Roots.{IsRootOf}
+use Rattle.btr_engine.specs.Stored.{AreStored}
+use Rattle.btr_engine.proofs.BodyLemmas.{need-body_of}
 use Rattle.btr_engine.specs.Engine.{device, board_of, blocks_of, tail_of, room_of, is_stopped, IsEngineOf, IsAtRest}
 use Rattle.btr_engine.specs.Stage.{IsReceipt}
 use Rattle.btr_engine.specs.Step.{IsBeforeOrAfter, IsStepped, StepCause, HasResult}
-use Rattle.btr_engine.specs.Pending.{IsMade, IsPending}
-use Rattle.btr_engine.proofs.HoldsLemmas.{holds_with, before_or_after}
+use Rattle.btr_engine.proofs.HoldsLemmas.{HoldsTrees, holds_trees, before_or_after}
 use Rattle.btr_engine.proofs.Stepping.{same_engine, no_moment, brings, needs_two}
 
 -- The result of an append.
@@ -45,30 +45,16 @@ Answer = Result (Unit {0}) AppendFault
 pub record IsExtentOf (h : List Entry) (e : Entry) (root : ℕ) (pages : List NodePage) (run : List ℕ) : Type 0 where
   pub allowed : rejection h e ≡ None
   pub spelled : IsSpelled e
-  pub fits : AllByRecursion Fits pages
+  pub places : AllByRecursion HasPlaces pages
   pub low : root < 2 ^ 64
   pub nodes : length pages ≡ nodes_of (commits_before h e) e
   pub bytes : run ≡ body_of (length h + 1) e root pages ++ zeros 4096
 
--- The pages of the next entry stand rightly after the prefix, and with its root they keep the rule.
+-- The pages of the next entry stand rightly after the prefix, their numbers fit, and its root leads to the new tree.
 pub record StandAfter (before : Prefix) (e : Entry) (root : ℕ) (pages : List NodePage) : Type 0 where
+  pub fit : AllByRecursion Fits pages
   pub rightly : ArePages before.pages (first_page before.gate e) pages
-  pub keeps : HasNoNodes (pages_after before e pages) before.entries e root pages
-
--- The extent of a pending entry.
-pub extent_of_pending : (h : List Entry) (e : Entry) (p : Pending) (number : ℕ) (run : List ℕ) → number ≡ length h + 1 → IsMade number e p → IsPending h e p → run ≡ p.extent.items → IsExtentOf h e 0 [] run
-extent_of_pending h e p number run at made is same = record {
-  allowed = is.allowed;
-  spelled = made.spelled;
-  fits = tt;
-  low = omega arith;
-  nodes = sym (no_nodes (commits_before h e) e);
-  bytes = same ∙ made.bytes ∙ ap (λ n. body_of n e 0 [] ++ zeros 4096) at;
-}
-
--- No pages stand rightly after any prefix.
-pub none_stand : (before : Prefix) (e : Entry) → StandAfter before e 0 []
-none_stand before e = record { rightly = λ i. tt; keeps = (refl, refl) }
+  pub keeps : IsRootOf (pages_after before e pages) before.entries e root pages
 
 module _ {D : Type 0} {disk : Ghosts D} (h : List Entry) (old : Engine D disk) (e : Entry) (root : ℕ) (pages : List NodePage) (run : List ℕ) (is : IsExtentOf h e root pages run) where
   -- The result of an append of the run to a log that has too little room for it.
@@ -80,11 +66,11 @@ module _ {D : Type 0} {disk : Ghosts D} (h : List Entry) (old : Engine D disk) (
   AnswersFull answer = IsFalse (is_stopped old) → append.IsTooLong old.log run → answer ≡ full
 
   -- The body of the run is the entry's.
-  its_body : (gate : ℕ) (known : Pages) → ArePages known (first_page gate e) pages → IsBodyOf (prefix_to gate h known) e root pages (append.body_in_run run)
-  its_body gate known rightly = record {
+  its_body : (gate : ℕ) (known : Pages) → StandAfter (prefix_to gate h known) e root pages → IsBodyOf (prefix_to gate h known) e root pages (append.body_in_run run)
+  its_body gate known stand = record {
     spelled = is.spelled;
-    fits = is.fits;
-    rightly = rightly;
+    fits = stand.fit;
+    rightly = stand.rightly;
     low = is.low;
     bytes = brings (length h + 1) e root pages run is.bytes;
   }
@@ -92,7 +78,7 @@ module _ {D : Type 0} {disk : Ghosts D} (h : List Entry) (old : Engine D disk) (
   needed : need (append.body_in_run run) ≡ need_of h e
   needed =
       let same : need (append.body_in_run run) ≡ need (body_of (length h + 1) e root pages) = ap need (brings (length h + 1) e root pages run is.bytes) in
-      omega (arith, same, need-body_of (length h + 1) e root pages is.fits, is.nodes)
+      omega (arith, same, need-body_of (length h + 1) e root pages is.places, is.nodes)
 
   -- An append with another result had room.
   pub fits_unless_full : (answer : Answer) → IsFalse (is_stopped old) → AnswersFull answer → (answer ≡ full → ⊥) → need_of h e ≤ room_of old
@@ -131,7 +117,7 @@ module _ {D : Type 0} {disk : Ghosts D} (h : List Entry) (old : Engine D disk) (
   moments after fits rest stand leaves =
       let contents = disk.contents (device old) in
       weakens disk.calls disk.images_since (device old) (log.log_device after) (append.IsMoment contents (tail_of old) rest.holds.bodies (append.body_in_run run)) (IsBeforeOrAfter (disk.size (device old)) h e)
-      (before_or_after (disk.size (device old)) contents (blocks_of old) (tail_of old) h rest.holds e root pages (append.body_in_run run) (its_body (tail_of old) rest.holds.leads.pages stand.rightly) stand.keeps is.allowed (inside fits))
+      (before_or_after (disk.size (device old)) contents (blocks_of old) (tail_of old) h rest.holds e root pages (append.body_in_run run) (its_body (tail_of old) rest.holds.leads.pages stand) stand.keeps is.allowed needed (inside fits))
       leaves
 
   -- An append that fails made no call of the device, or the device failed.
@@ -159,17 +145,18 @@ module _ {D : Type 0} {disk : Ghosts D} (h : List Entry) (old : Engine D disk) (
       is_receipt = is_receipt;
     }
 
-    pub at_rest : need_of h e ≤ room_of old → log.KeepsBounds old.log new.log → (rest : IsAtRest h old) → StandAfter (before_tail rest) e root pages → Published (disk.contents (device old)) (4096 * (tail_of old + 1)) run (4096 * tail_of old) gate_block (disk.contents (device new)) → log.IsLogAtRest new.log (rest.holds.bodies ++ append.body_in_run run ∷ []) → IsAtRest (h ++ e ∷ []) new
-    at_rest fits kept rest stand written log_rests =
+    pub at_rest : need_of h e ≤ room_of old → log.KeepsBounds old.log new.log → (rest : IsAtRest h old) → StandAfter (before_tail rest) e root pages → AreStored (pages_after (before_tail rest) e pages) (tail_of old + need_of h e) (board_of new).streams → Published (disk.contents (device old)) (4096 * (tail_of old + 1)) run (4096 * tail_of old) gate_block (disk.contents (device new)) → log.IsLogAtRest new.log (rest.holds.bodies ++ append.body_in_run run ∷ []) → IsAtRest (h ++ e ∷ []) new
+    at_rest fits kept rest stand stored written log_rests =
         let size = disk.size (device old) in
         let now = disk.contents (device new) in
+        let streams = (board_of new).streams in
         let below : (k : ℕ) → k < 4096 * tail_of old → now k ≡ disk.contents (device old) k = λ k lt. written.elsewhere k (λ le. absurd (omega arith)) (λ le. absurd (omega arith)) in
         let its_log = AtRest-IsLog now (disk.images_now (device new)) (tail_of new) (rest.holds.bodies ++ append.body_in_run run ∷ []) log_rests in
-        let holds : HoldsHistoryTo size now (blocks_of old) (tail_of old + need_of h e) (h ++ e ∷ []) = holds_with size (disk.contents (device old)) (blocks_of old) (tail_of old) h rest.holds e root pages (append.body_in_run run) (its_body (tail_of old) rest.holds.leads.pages stand.rightly) stand.keeps is.allowed (inside fits) now below its_log in
-        let sized = subst (λ n. HoldsHistoryTo n now (blocks_of old) (tail_of old + need_of h e) (h ++ e ∷ [])) (sym kept.device_kept.same_size) holds in
-        let blocked = subst (λ n. HoldsHistoryTo (disk.size (device new)) now n (tail_of old + need_of h e) (h ++ e ∷ [])) (sym kept.blocks) sized in
-        let tailed = subst (λ n. HoldsHistoryTo (disk.size (device new)) now (blocks_of new) n (h ++ e ∷ [])) (sym tail_after) blocked in
-        record { of = of; holds = tailed; only = log_rests.only }
+        let holds : HoldsTrees size now (blocks_of old) (tail_of old + need_of h e) (h ++ e ∷ []) streams = holds_trees size (disk.contents (device old)) (blocks_of old) (tail_of old) h rest.holds e root pages (append.body_in_run run) (its_body (tail_of old) rest.holds.leads.pages stand) stand.keeps is.allowed needed (inside fits) now below its_log streams stored in
+        let sized = subst (λ n. HoldsTrees n now (blocks_of old) (tail_of old + need_of h e) (h ++ e ∷ []) streams) (sym kept.device_kept.same_size) holds in
+        let blocked = subst (λ n. HoldsTrees (disk.size (device new)) now n (tail_of old + need_of h e) (h ++ e ∷ []) streams) (sym kept.blocks) sized in
+        let tailed = subst (λ n. HoldsTrees (disk.size (device new)) now (blocks_of new) n (h ++ e ∷ []) streams) (sym tail_after) blocked in
+        record { of = of; holds = tailed.0; stored = tailed.1; only = log_rests.only }
 
 -- What an append that failed did to the engine, whatever its history is.
 pub effect_of_fault : {D : Type 0} {disk : Ghosts D} (old new : Engine D disk) (run : List ℕ) (fault : AppendFault) (answer : StepFault) → append.AppendCause old.log new.log run fault → board_of new ≡ board_of old → new.opened_with ≡ old.opened_with → new.synced ≡ old.synced → ((n left : ℕ) → fault ≡ Full n left → answer ≡ DeviceFull n left) → (fault ≡ Fault → answer ≡ DeviceFault) → IsFalse (is_stopped old) → HasResult old new (Err answer)
@@ -185,10 +172,10 @@ effect_of_fault old new run (AlreadyStopped n) answer cause same began synced is
     let stopped = cause.0 in absurd (cc)
 
 -- The numbers of the engine with the new log and the new board.
-module _ {D : Type 0} {disk : Ghosts D} (old : Engine D disk) (e : Entry) (root : ℕ) (pages : List NodePage) (fits : AllByRecursion Fits pages) (run : List ℕ) (number : ℕ) (bytes : run ≡ body_of number e root pages ++ zeros 4096) (after : Log D disk) (appended : append.IsAppended old.log after run) where
+module _ {D : Type 0} {disk : Ghosts D} (old : Engine D disk) (e : Entry) (root : ℕ) (pages : List NodePage) (places : AllByRecursion HasPlaces pages) (run : List ℕ) (number : ℕ) (bytes : run ≡ body_of number e root pages ++ zeros 4096) (after : Log D disk) (appended : append.IsAppended old.log after run) where
   pub ends_after : 2 * log.extents_of after + 4 ≤ log.log_tail after
   ends_after =
-      omega (arith, appended.tail, needs_two number e root pages run bytes fits, appended.extents, old.ends)
+      omega (arith, appended.tail, needs_two number e root pages run bytes places, appended.extents, old.ends)
 
   pub began_after : old.opened_with ≤ log.extents_of after
   began_after = omega (arith, appended.extents, old.began)

@@ -33,7 +33,7 @@ use Rattle.btr_engine.proofs.Crowded.{room-allowed}
 
 -- ---- the tests of a commit
 
-last_some : {A : Type 0} (o : Option A) → first_some (o ∷ []) ≡ o
+pub last_some : {A : Type 0} (o : Option A) → first_some (o ∷ []) ≡ o
 last_some None = refl
 last_some (Some a) = refl
 

@@ -1,9 +1,8 @@
 -- The next board is that of the history with an entry more, and stays well formed.
 use Rattle.std.specs.Prelude.{◌≡◌, ℕ, ◌+◌, ◌-◌, ◌<◌, ◌≤◌, List, [], ◌∷◌, ◌++◌, length, take, slice_get, slice_set, slice_index_or, Option, Some, None, IfSome, is_some}
-use Rattle.std.specs.Option.{option_map}
 use Rattle.std.proofs.Common.{zero, suc, refl, sym, ap, ◌∙◌, arith, subst, inl, inr, length-append}
-use Rattle.std.proofs.lemmas.List.{append-nil, take-append-le, take_all, get_or_append_left, get_or_push, get_or-set_same, get_or-set_other, length-set, length-map, map-append, ext_get_or}
-use Rattle.std.proofs.lemmas.Option.{slice_get_within, slice_get-get_or, slice_get-map, get_or_from_slice_get}
+use Rattle.std.proofs.lemmas.List.{append-nil, take-append-le, take_all, get_or_append_left, get_or_push, get_or-set_same, get_or-set_other, length-set, length-map, map-append}
+use Rattle.std.proofs.lemmas.Option.{slice_get_within, get_or_from_slice_get}
 use Rattle.std.proofs.lemmas.Bool.{cases_lt, cases_eq}
 use Rattle.std.proofs.Math.Seq.{get_or-append_seam, map-set_same}
 use Rattle.btr_base.specs.Commit.{Change}
@@ -92,19 +91,19 @@ one_version_more rs xs x _ same zero = refl
 one_version_more rs xs x long same (suc n) = one_more rs xs x long (λ m. same (suc m)) n
 
 -- Of no reads each version has read none.
-read_at-none : (version : ℕ) → read_at [] version ≡ None
+pub read_at-none : (version : ℕ) → read_at [] version ≡ None
 read_at-none zero = refl
 read_at-none (suc n) = refl
 
 module _ (g h : List Entry) (s : ℕ) where
-  reads-same : (v : Versions) → recorded g s ≡ recorded h s → HasReads h s v → HasReads g s v
+  pub reads-same : (v : Versions) → recorded g s ≡ recorded h s → HasReads h s v → HasReads g s v
   reads-same v same has = record {
     counted = has.counted;
     each = λ version. ap (λ (l : List (Option Reads)). slice_index_or (None ∷ l) version None) same ∙ has.each version;
   }
 
   -- A version more of a plain stream, or of an output.
-  reads-push : (v : Versions) (t : TreeValue) (spec : Option Spec) (read : Option Reads) → v.spec ≡ spec → is_some read ≡ is_some spec → HasTrees h s v.trees → HasReads h s v → recorded g s ≡ recorded h s ++ read ∷ [] → HasReads g s (with_version v t read)
+  pub reads-push : (v : Versions) (t : TreeValue) (spec : Option Spec) (read : Option Reads) → v.spec ≡ spec → is_some read ≡ is_some spec → length v.trees ≡ latest h s + 1 → HasReads h s v → recorded g s ≡ recorded h s ++ read ∷ [] → HasReads g s (with_version v t read)
   reads-push v t None None plain kind trees has more =
       let nothing_new : v.reads ++ [] ≡ v.reads = append-nil v.reads in
       let count : (n : ℕ) → reads_count v.spec n ≡ 0 = λ n. ap (λ o. reads_count o n) plain in
@@ -118,9 +117,9 @@ module _ (g h : List Entry) (s : ℕ) where
       }
   reads-push v t (Some spec) (Some r) output kind trees has more =
       let count : (n : ℕ) → reads_count v.spec n ≡ n - 1 = λ n. ap (λ o. reads_count o n) output in
-      let long : length (recorded h s) ≡ length v.reads = omega (arith, length-recorded h s, has.counted, count (length v.trees), trees.counted) in
+      let long : length (recorded h s) ≡ length v.reads = omega (arith, length-recorded h s, has.counted, count (length v.trees), trees) in
       record {
-        counted = omega (arith, has.counted, count (length v.trees), count (length (v.trees ++ t ∷ [])), trees.counted, length-append v.trees (t ∷ []), length-append v.reads (r ∷ []));
+        counted = omega (arith, has.counted, count (length v.trees), count (length (v.trees ++ t ∷ [])), trees, length-append v.trees (t ∷ []), length-append v.reads (r ∷ []));
         each = λ version.
             ap (λ (l : List (Option Reads)). slice_index_or (None ∷ l) version None) more
             ∙ one_version_more (recorded h s) v.reads r long has.each version;
@@ -212,7 +211,7 @@ module _ (h : List Entry) (b : Kept) (was : IsBoardOf h b) (e : Entry) (allowed 
         named = named s ∙ was_kept.named;
         defined = defined s ∙ was_kept.defined;
         kept = trees-push g h s c (commits-more h e s c read makes) kept.trees t next was_kept.kept;
-        read = reads-push g h s kept t kept.spec read refl kind was_kept.kept was_kept.read (recorded-more h e s c read makes);
+        read = reads-push g h s kept t kept.spec read refl kind was_kept.kept.counted was_kept.read (recorded-more h e s c read makes);
       } in
       record {
         counted = size ∙ was.counted ∙ sym same;
@@ -234,18 +233,6 @@ kept-stream h b s kept of at =
     (there, subst (IsStreamOf h s) (get_or_from_slice_get b.streams s kept kept at) (of.each s kept there))
 
 -- ---- the index of a board
-
--- The ids of the streams are those of the history.
-pub ids-are : (h : List Entry) (b : Kept) → IsBoardOf h b → ids_of b.streams ≡ ids h
-ids-are h b of =
-    let name : Versions → ℕ = λ s. s.id in
-    let d : Versions = record { id = 0; spec = None; trees = []; reads = [] } in
-    let size : length (ids_of b.streams) ≡ length b.streams = length-map b.streams name in
-    ext_get_or 0 (ids_of b.streams) (ids h) (size ∙ of.counted) (λ i low.
-    let kept = slice_index_or b.streams i d in
-    let at : slice_get b.streams i ≡ Some kept = slice_get-get_or b.streams i d (omega (arith, low, size)) in
-    get_or_from_slice_get (ids_of b.streams) i kept.id 0 (slice_get-map name b.streams i ∙ ap (option_map name) at)
-    ∙ sym (get_or_from_slice_get (ids h) i kept.id 0 (of.each i d (omega (arith, low, size, of.counted))).named))
 
 -- The place of an id is that of a stream.
 pub place-below : (streams : List Versions) (id : ℕ) (o : Option ℕ) → o ≡ place_of (ids_of streams) id → IfSome o (λ number. number < length streams)

@@ -1,9 +1,8 @@
 -- What the calls of a board read of a stream, as the history has it.
-use Rattle.std.specs.Prelude.{◌≡◌, ℕ, ◌-◌, ◌<◌, ◌≤◌, nat_le, true, false, cond, List, length, slice_get, Option, Some, None}
+use Rattle.std.specs.Prelude.{◌≡◌, ℕ, ◌-◌, ◌<◌, ◌≤◌, cond, List, length, slice_get, Option, Some, None}
 use Rattle.std.specs.Option.{unwrap_or}
-use Rattle.std.proofs.Common.{refl, sym, ap, ◌∙◌, arith, subst}
+use Rattle.std.proofs.Common.{sym, ap, ◌∙◌, arith, subst}
 use Rattle.std.proofs.lemmas.Bool.{le-leb, lt-leb}
-use Rattle.std.proofs.lemmas.Bool.Decides.{nat_tests}
 use Rattle.std.proofs.lemmas.Option.{slice_get_within, get_or_from_slice_get}
 use Rattle.btr_tree.specs.Root.{TreeValue, IsTree}
 use Rattle.btr_hist.specs.declared.entry.Entry.{Entry}
@@ -11,8 +10,7 @@ use Rattle.btr_hist.specs.declared.kernel.Spec.{Spec}
 use Rattle.btr_hist.specs.declared.kernel.Reads.{Reads}
 use Rattle.btr_hist.specs.History.{ids, spec_of, latest, read_by, nothing_read, reads}
 use Rattle.btr_engine.specs.Past.{commits_to}
-use Rattle.btr_engine.specs.Board.{Versions, Kept, HasVersion, IsTreeOf, IsStreamOf, IsBoardOf, latest_of, reads_count, read_at}
-use Rattle.btr_hist.proofs.HistoryLemmas.{unknown}
+use Rattle.btr_engine.specs.Board.{Versions, Kept, HasVersion, IsTreeOf, IsStreamOf, IsBoardOf, HasStreamOf, latest_of, reads_count, read_at}
 use Rattle.btr_engine.proofs.BoardStreams.{unknown-spec, unknown-read}
 use Rattle.btr_engine.proofs.BoardNext.{kept-stream}
 
@@ -68,21 +66,14 @@ module _ (h : List Entry) (b : Kept) (s : ℕ) (of : IsBoardOf h b) where
     pub read-kept : (version : ℕ) → read_by h s version ≡ read_at kept.reads version
     read-kept version = is.1.read.each version
 
-  -- The latest version of a stream, 0 if there is none.
-  pub latest-or : latest h s ≡ unwrap_or (latest_of h s) 0
-  latest-or = elim (nat_le (length (ids h)) s) as (λ t. nat_le (length (ids h)) s ≡ t → latest h s ≡ unwrap_or (cond t None (Some (latest h s))) 0) [
-    | true ↦ λ test. let past : length (ids h) ≤ s = grind (arith, nat_tests) in unknown h s of.follows past
-    | false ↦ λ _. refl
-  ] refl
-
 -- ---- what the latest version of an output has read
 
-module _ (h : List Entry) (s : ℕ) (kept : Versions) (is : IsStreamOf h s kept) (spec : Spec) (output : kept.spec ≡ Some spec) where
+module _ (h : List Entry) (s : ℕ) (kept : Versions) (is : HasStreamOf h s kept) (spec : Spec) (output : kept.spec ≡ Some spec) where
   latest-read : (count : ℕ) → count ≡ length kept.reads → read_by h s (latest h s) ≡ read_at kept.reads count
   latest-read count same =
       let counted = is.read.counted in
       let one_less : reads_count kept.spec (length kept.trees) ≡ length kept.trees - 1 = ap (λ o. reads_count o (length kept.trees)) output in
-      let last : latest h s ≡ count = let trees = is.kept.counted in omega arith in
+      let last : latest h s ≡ count = let trees = is.counted in omega arith in
       is.read.each (latest h s) ∙ ap (read_at kept.reads) last
 
   -- It is what the last of the reads says, or version 0 of each input.

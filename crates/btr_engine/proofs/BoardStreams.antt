@@ -176,7 +176,7 @@ creation_is h id has full any limit =
 
 -- ---- streams that the history does not have
 
-none-in : {X : Type 0} (xs : List X) → length xs ≡ 0 → xs ≡ []
+pub none-in : {X : Type 0} (xs : List X) → length xs ≡ 0 → xs ≡ []
 none-in [] none = refl
 none-in (x ∷ xs) none = absurd (omega arith)
 

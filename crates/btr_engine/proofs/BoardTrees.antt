@@ -48,7 +48,7 @@ before-with_commits made before (c ∷ cs) k =
     let here : tree.IsBefore (made + 1 + 1) (made_by (made + 1) c ▷ before) = (omega arith, before-weaker (made + 1) (made + 1 + 1) before (omega arith) k) in
     before-weaker ((made + 1) + length cs + 1) (made + suc (length cs) + 1) (with_commits (made + 1) (made_by (made + 1) c ▷ before) cs) (omega arith) (before-with_commits (made + 1) (made_by (made + 1) c ▷ before) cs here)
 
-before-nothing : tree.IsBefore (0 + 1) nothing
+pub before-nothing : tree.IsBefore (0 + 1) nothing
 before-nothing = λ height start. omega arith
 
 pub before-commits_to : (h : List Entry) (stream version : ℕ) → tree.IsBefore (version + 1) (commits_to h stream version)

@@ -12,14 +12,13 @@ use Rattle.btr_log.proofs.HeadLemmas.{length-head_bytes, head_bytes-one, IsHead-
 use Rattle.btr_log.specs.Extents.{IsBody, need}
 use Rattle.btr_node.specs.Page.{page_bytes, Fits}
 use Rattle.btr_node.specs.declared.page.NodePage.{NodePage}
-use Rattle.btr_base.specs.Commit.{Change}
+use Rattle.btr_pages.proofs.PageOfLemmas.{HasPlaces}
+use Rattle.btr_pages.proofs.BlockLemmas.{parts-one, each-places, length-pages, pages-one}
 use Rattle.btr_hist.specs.declared.entry.Entry.{Entry}
-use Rattle.btr_hist.specs.declared.entry.Entry.TheVariants.{Create, Define, Commit, Distillate}
 use Rattle.btr_entry.specs.Grammar.{spelling, IsSpelled}
 use Rattle.btr_entry.proofs.SpellingLemmas.{length-spelling, same_entry}
 use Rattle.btr_engine.specs.Body.{padding, body_of, Prefix, pages_after, with_extent, IsBodyOf}
-use Rattle.btr_engine.specs.Body.{RootRule, HasNoNodes, LeadTo, commits_before, node_blocks, nodes_of, need_of}
-use Rattle.btr_engine.proofs.PageBytes.{parts-one, length-pages, pages-one}
+use Rattle.btr_engine.specs.Body.{RootRule, LeadTo}
 
 -- ---- the length of a body, and that it is a body
 
@@ -31,25 +30,20 @@ filled e = spelling e ++ zeros (padding (length (spelling e)))
 abbrev pub head_of : ℕ → Entry → ℕ → List NodePage → Head
 head_of number e root pages = entry_head number (length (spelling e)) (length pages) root
 
-pub length-body_of : (number : ℕ) (e : Entry) (root : ℕ) (pages : List NodePage) → AllByRecursion Fits pages → length (body_of number e root pages) ≡ 4096 * (content_blocks (length (spelling e)) + length pages)
+pub length-body_of : (number : ℕ) (e : Entry) (root : ℕ) (pages : List NodePage) → AllByRecursion HasPlaces pages → length (body_of number e root pages) ≡ 4096 * (content_blocks (length (spelling e)) + length pages)
 unfolding body_of
-length-body_of number e root pages fits =
+length-body_of number e root pages places =
     let head = head_of number e root pages in
-    omega (arith, length-append (head_bytes head) (filled e ++ flat_map page_bytes pages), length-append (filled e) (flat_map page_bytes pages), length-append (spelling e) (zeros (padding (length (spelling e)))), length-head_bytes head, length-zeros (padding (length (spelling e))), length-pages pages fits)
+    omega (arith, length-append (head_bytes head) (filled e ++ flat_map page_bytes pages), length-append (filled e) (flat_map page_bytes pages), length-append (spelling e) (zeros (padding (length (spelling e)))), length-head_bytes head, length-zeros (padding (length (spelling e))), length-pages pages places)
 
--- The numbers of a body fit their fields, its entry can be spelled, and its pages can be written.
+-- The numbers of a body fit their fields, its entry can be spelled, and its pages have all their places.
 pub record FitsBody (number : ℕ) (e : Entry) (root : ℕ) (pages : List NodePage) : Type 0 where
   pub some : 1 ≤ number
   pub few : number < 2 ^ 64
   pub spelled : IsSpelled e
   pub low : root < 2 ^ 64
-  pub fits : AllByRecursion Fits pages
+  pub places : AllByRecursion HasPlaces pages
   pub room : content_blocks (length (spelling e)) + length pages < 2 ^ 64
-
--- A body without pages fits.
-pub fits-plain : (number : ℕ) (e : Entry) → 1 ≤ number → number < 2 ^ 64 → IsSpelled e → FitsBody number e 0 []
-fits-plain number e some few is =
-    record { some = some; few = few; spelled = is; low = omega arith; fits = tt; room = omega (arith, length-spelling e is) }
 
 module _ (number : ℕ) (e : Entry) (root : ℕ) (pages : List NodePage) where
   -- The head of a body keeps the grammar.
@@ -66,16 +60,16 @@ module _ (number : ℕ) (e : Entry) (root : ℕ) (pages : List NodePage) where
   pub IsBody-body_of : FitsBody number e root pages → IsBody (body_of number e root pages) (head_of number e root pages)
   IsBody-body_of is = record {
     spells = record { is_head = IsHead-head_of is; spelling = take-head };
-    whole = length-body_of number e root pages is.fits;
+    whole = length-body_of number e root pages is.places;
   }
 
   -- The blocks of a body and of the gate after it.
-  pub need-body_of : AllByRecursion Fits pages → need (body_of number e root pages) ≡ content_blocks (length (spelling e)) + length pages + 1
-  need-body_of fits = omega (arith, length-body_of number e root pages fits)
+  pub need-body_of : AllByRecursion HasPlaces pages → need (body_of number e root pages) ≡ content_blocks (length (spelling e)) + length pages + 1
+  need-body_of places = omega (arith, length-body_of number e root pages places)
 
 module _ (before : Prefix) (e : Entry) (root : ℕ) (pages : List NodePage) (body : List ℕ) (is : IsBodyOf before e root pages body) where
   needed : need body ≡ content_blocks (length (spelling e)) + length pages + 1
-  needed = ap need is.bytes ∙ need-body_of (length before.entries + 1) e root pages is.fits
+  needed = ap need is.bytes ∙ need-body_of (length before.entries + 1) e root pages (each-places pages is.fits)
 
   -- A body and the gate after it are at least two blocks.
   pub least-IsBodyOf : 2 ≤ need body
@@ -88,7 +82,7 @@ module _ (before : Prefix) (e : Entry) (root : ℕ) (pages : List NodePage) (bod
     few = few;
     spelled = is.spelled;
     low = is.low;
-    fits = is.fits;
+    places = each-places pages is.fits;
     room = omega (arith, short, needed);
   }
 
@@ -98,9 +92,9 @@ module _ (before : Prefix) (e : Entry) (root : ℕ) (pages : List NodePage) (bod
 abbrev pub SameBody : Entry → ℕ → List NodePage → Entry → ℕ → List NodePage → Type 0
 SameBody e root pages f other others = (e ≡ f) × (root ≡ other) × (pages ≡ others)
 
-pub body_of-one : (number : ℕ) (e f : Entry) (root other : ℕ) (pages others : List NodePage) → FitsBody number e root pages → FitsBody number f other others → body_of number e root pages ≡ body_of number f other others → SameBody e root pages f other others
+pub body_of-one : (number : ℕ) (e f : Entry) (root other : ℕ) (pages others : List NodePage) → FitsBody number e root pages → FitsBody number f other others → AllByRecursion Fits pages → AllByRecursion Fits others → body_of number e root pages ≡ body_of number f other others → SameBody e root pages f other others
 unfolding body_of
-body_of-one number e f root other pages others is is_too same =
+body_of-one number e f root other pages others is is_too fits fit same =
     let first = head_of number e root pages in
     let second = head_of number f other others in
     let pads = λ (x : Entry). length-append (spelling x) (zeros (padding (length (spelling x)))) in
@@ -113,13 +107,13 @@ body_of-one number e f root other pages others is is_too same =
     let spellings = parts-one (spelling e) (spelling f) (zeros (padding (length (spelling e)))) (zeros (padding (length (spelling f)))) size contents.0 in (
       same_entry e f is.spelled is_too.spelled spellings.0,
       ap (λ (h : Head). h.root) heads,
-      pages-one pages others is.fits is_too.fits contents.1,
+      pages-one pages others fits fit contents.1,
     )
 
 -- A body that is not too long is that of one entry at most, with one root and one list of pages.
 pub IsBodyOf-one : (before : Prefix) (e f : Entry) (root other : ℕ) (pages others : List NodePage) (body : List ℕ) → length before.entries + 1 < 2 ^ 64 → need body ≤ 2 ^ 64 → IsBodyOf before e root pages body → IsBodyOf before f other others body → SameBody e root pages f other others
 IsBodyOf-one before e f root other pages others body few short is is_too =
-    body_of-one (length before.entries + 1) e f root other pages others (FitsBody-of before e root pages body is few short) (FitsBody-of before f other others body is_too few short) (sym is.bytes ∙ is_too.bytes)
+    body_of-one (length before.entries + 1) e f root other pages others (FitsBody-of before e root pages body is few short) (FitsBody-of before f other others body is_too few short) is.fits is_too.fits (sym is.bytes ∙ is_too.bytes)
 
 -- ---- bodies that lead from one prefix to another
 
@@ -166,24 +160,3 @@ module _ (Rule : RootRule) where
       let same = IsBodyOf-one before first.0 second.0 first.1 second.1 first.2 second.2 body (omega (arith, few)) size first.3 second.3 in
       let here : with_extent before second.0 second.2 body ≡ next = λ i. with_extent before (sym same.0 i) (sym same.2 i) body in
       LeadTo-one next bodies after other (omega (arith, few, length-append before.entries (first.0 ∷ []))) short first.5 (subst (λ p. LeadTo Rule p bodies other) here second.5)
-
--- ---- in this format: without nodes
-
--- No extent has node blocks.
-pub no_nodes : (past : List Change) (e : Entry) → nodes_of past e ≡ 0
-unfolding node_blocks
-no_nodes past (Create id) = refl
-no_nodes past (Define id spec) = refl
-no_nodes past (Commit stream cut added) = refl
-no_nodes past (Distillate stream cut added reads) = refl
-
--- The body of an entry has the blocks that the entry needs.
-pub need-IsBodyOf : (before : Prefix) (e : Entry) (root : ℕ) (pages : List NodePage) (body : List ℕ) → IsBodyOf before e root pages body → HasNoNodes (pages_after before e pages) before.entries e root pages → need body ≡ need_of before.entries e
-need-IsBodyOf before e root pages body is keeps =
-    let none : length pages ≡ 0 = ap (length {A = NodePage}) keeps.1 in
-    omega (arith, needed before e root pages body is, none, no_nodes (commits_before before.entries e) e)
-
--- A body without a root and without pages.
-pub IsBodyOf-plain : (before : Prefix) (e : Entry) (body : List ℕ) → IsSpelled e → body ≡ body_of (length before.entries + 1) e 0 [] → IsBodyOf before e 0 [] body
-IsBodyOf-plain before e body is same =
-    record { spelled = is; fits = tt; rightly = λ i. tt; low = omega arith; bytes = same }

@@ -1,5 +1,5 @@
 -- Which history is held: by images that agree, and after one entry more.
-use Rattle.std.specs.Prelude.{◌≡◌, ℕ, ◌+◌, ◌-◌, ◌*◌, ◌<◌, ◌≤◌, List, [], ◌∷◌, ◌++◌, length, None}
+use Rattle.std.specs.Prelude.{◌≡◌, ℕ, ◌+◌, ◌-◌, ◌*◌, ◌<◌, ◌≤◌, List, [], ◌∷◌, ◌++◌, None}
 use Rattle.std.proofs.Common.{sym, ◌∙◌, ap, subst, inl, inr, ⊎_elim, arith}
 use Rattle.btr_disk.specs.Bytes.{Image, Same}
 use Rattle.btr_disk.specs.Gate.{IsClosed}
@@ -15,10 +15,18 @@ use Rattle.btr_hist.specs.declared.entry.Entry.{Entry}
 use Rattle.btr_hist.specs.Legal.{rejection}
 use Rattle.btr_hist.proofs.HistoryLemmas.{follows-push}
 use Rattle.btr_node.specs.declared.page.NodePage.{NodePage}
-use Rattle.btr_engine.specs.Body.{Prefix, prefix_to, no_extents, pages_after, IsBodyOf, HasNoNodes, LeadTo, need_of}
-use Rattle.btr_engine.proofs.BodyLemmas.{LeadTo-push, need-IsBodyOf}
+use Rattle.btr_engine.specs.Body.{Prefix, prefix_to, no_extents, pages_after, IsBodyOf, LeadTo, need_of}
+use Rattle.btr_engine.specs.Roots.{IsRootOf}
+use Rattle.btr_engine.specs.Board.{Versions}
+use Rattle.btr_engine.specs.Stored.{AreStored}
+use Rattle.btr_engine.proofs.BodyLemmas.{LeadTo-push}
 use Rattle.btr_engine.specs.Holds.{HoldsHistoryTo}
 use Rattle.btr_engine.specs.Step.{IsBeforeOrAfter}
+
+-- An image holds the history, and the trees of these streams are stored in its pages.
+abbrev pub HoldsTrees : ℕ → Image → ℕ → ℕ → List Entry → List Versions → Type 0
+HoldsTrees size image blocks tail h streams =
+    (holds : HoldsHistoryTo size image blocks tail h) × AreStored holds.leads.pages tail streams
 
 -- ---- the superblocks, in the first four blocks
 
@@ -90,9 +98,9 @@ module _ (size : ℕ) (old : Image) (blocks tail : ℕ) (h : List Entry) (at : H
   holds_still new same =
       holds_as_before new (λ k lt. same k) (IsLog-Same old new first_gate at.bodies same (tail, at.extents, at.closed))
 
-  module _ (e : Entry) (root : ℕ) (pages : List NodePage) (body : List ℕ) (is : IsBodyOf held e root pages body) (keeps : HasNoNodes (pages_after held e pages) h e root pages) (allowed : rejection h e ≡ None) (fits : tail + need_of h e < blocks) where
+  module _ (e : Entry) (root : ℕ) (pages : List NodePage) (body : List ℕ) (is : IsBodyOf held e root pages body) (keeps : IsRootOf (pages_after held e pages) h e root pages) (allowed : rejection h e ≡ None) (needed : need body ≡ need_of h e) (fits : tail + need_of h e < blocks) where
     end_of : tail + need body ≡ tail + need_of h e
-    end_of = ap (λ n. tail + n) (need-IsBodyOf held e root pages body is keeps)
+    end_of = ap (λ n. tail + n) needed
 
     -- If all below the tail is the same and the log has this entry too, the image holds the history with it.
     pub holds_with : (new : Image) → ((k : ℕ) → k < 4096 * tail → new k ≡ old k) → IsLog new first_gate (at.bodies ++ body ∷ []) → HoldsHistoryTo size new blocks (tail + need_of h e) (h ++ e ∷ [])
@@ -107,13 +115,18 @@ module _ (size : ℕ) (old : Image) (blocks tail : ℕ) (h : List Entry) (at : H
           extents = subst (Extents new first_gate (at.bodies ++ body ∷ [])) end log.1;
           leads = record {
             pages = pages_after held e pages;
-            lead = subst (λ g. LeadTo HasNoNodes no_extents (at.bodies ++ body ∷ []) (prefix_to g (h ++ e ∷ []) (pages_after held e pages))) end_of
-                (LeadTo-push HasNoNodes no_extents at.bodies held e root pages body at.leads.lead is keeps);
+            lead = subst (λ g. LeadTo IsRootOf no_extents (at.bodies ++ body ∷ []) (prefix_to g (h ++ e ∷ []) (pages_after held e pages))) end_of
+                (LeadTo-push IsRootOf no_extents at.bodies held e root pages body at.leads.lead is keeps);
           };
           closed = subst (IsClosed new) end log.2;
           inside = fits;
           follows = follows-push h e at.follows allowed;
         }
+
+    -- So it is with trees that are stored in the pages of the history and those of the entry.
+    pub holds_trees : (new : Image) → ((k : ℕ) → k < 4096 * tail → new k ≡ old k) → IsLog new first_gate (at.bodies ++ body ∷ []) → (streams : List Versions) → AreStored (pages_after held e pages) (tail + need_of h e) streams → HoldsTrees size new blocks (tail + need_of h e) (h ++ e ∷ []) streams
+    unfolding holds_with
+    holds_trees new below log streams stored = (holds_with new below log, stored)
 
     -- An image at a moment of an append holds one of the two.
     pub before_or_after : (image : Image) → IsMoment old tail at.bodies body image → IsBeforeOrAfter size h e image

@@ -16,8 +16,8 @@ use Rattle.btr_log.proofs.AppendLemmas.{body_in_run-append, IsAppendRun-from}
 use Rattle.btr_log.specs.Log as log
 use Rattle.btr_hist.specs.declared.entry.Entry.{Entry}
 use Rattle.btr_hist.specs.Legal.{rejection}
-use Rattle.btr_node.specs.Page.{Fits}
 use Rattle.btr_node.specs.declared.page.NodePage.{NodePage}
+use Rattle.btr_pages.proofs.PageOfLemmas.{HasPlaces}
 use Rattle.btr_engine.specs.declared.engine.Engine.{Engine}
 use Rattle.btr_engine.specs.declared.step.Pending.{Pending}
 use Rattle.btr_engine.specs.declared.step.StepFault.{StepFault}
@@ -39,10 +39,10 @@ module _ (number : ℕ) (e : Entry) (root : ℕ) (pages : List NodePage) (run : 
   brings = ap append.body_in_run is ∙ body_in_run-append (body_of number e root pages)
 
   -- It has two blocks or more, with the gate after it.
-  pub needs_two : AllByRecursion Fits pages → 2 ≤ need (append.body_in_run run)
-  needs_two fits =
+  pub needs_two : AllByRecursion HasPlaces pages → 2 ≤ need (append.body_in_run run)
+  needs_two places =
       let same : need (append.body_in_run run) ≡ need (body_of number e root pages) = ap need brings in
-      omega (arith, same, need-body_of number e root pages fits)
+      omega (arith, same, need-body_of number e root pages places)
 
   pub is_append_run : FitsBody number e root pages → append.IsAppendRun run
   is_append_run fits =

@@ -79,6 +79,21 @@ pub record IsStreamOf (h : List Entry) (stream : ℕ) (s : Versions) : Type 0 wh
   pub kept : HasTrees h stream s.trees
   pub read : HasReads h stream s
 
+-- The stream of this number has what the history has of it beside its points: its id, its spec, the number of its versions, and what
+-- they have read.
+pub record HasStreamOf (h : List Entry) (stream : ℕ) (s : Versions) : Type 0 where
+  pub named : slice_get (ids h) stream ≡ Some s.id
+  pub defined : spec_of h stream ≡ s.spec
+  pub counted : length s.trees ≡ latest h stream + 1
+  pub read : HasReads h stream s
+
+-- The board has the streams of the history, and the number of its entries, whatever its trees are. No other number has a version.
+pub record HasStreamsOf (h : List Entry) (b : Kept) : Type 0 where
+  pub counted : length b.streams ≡ length (ids h)
+  pub each : (stream : ℕ) (d : Versions) → stream < length (ids h) → HasStreamOf h stream (slice_index_or b.streams stream d)
+  pub entries : b.entries ≡ length h
+  pub beyond : (stream : ℕ) → length (ids h) ≤ stream → latest h stream ≡ 0
+
 -- The board is that of the history: it has its streams, and the number of its entries. Each entry is accepted after those before
 -- it: it may follow them as to streams, versions, reads and numbers of points, which is what the board tests.
 pub record IsBoardOf (h : List Entry) (b : Kept) : Type 0 where

@@ -2,16 +2,21 @@
 use Rattle.std.specs.Prelude.{◌≡◌, ℕ, ◌+◌, ◌-◌, ◌*◌, ◌^◌, ◌<◌, List, [], ◌∷◌, ◌++◌, length}
 use Rattle.std.specs.List.{flat_map, AllByRecursion}
 use Rattle.btr_base.specs.Commit.{Change}
+use Rattle.btr_base.specs.declared.limits.TheConstants.{FIRST}
 use Rattle.btr_disk.specs.Gate.{zeros}
 use Rattle.btr_log.specs.Extents.{need, first_gate}
 use Rattle.btr_log.specs.Head.{content_blocks, head_bytes, entry_head}
 use Rattle.btr_node.specs.Page.{page_bytes, Fits}
 use Rattle.btr_node.specs.declared.page.NodePage.{NodePage}
+use Rattle.btr_tree.specs.History.{nothing}
+use Rattle.btr_tree.specs.NewNodes.{new_nodes}
+use Rattle.btr_tree.specs.Nodes.{above_root}
 use Rattle.btr_pages.specs.Pages.{Pages, no_pages, with_pages, ArePages}
 use Rattle.btr_hist.specs.declared.entry.Entry.{Entry}
 use Rattle.btr_hist.specs.declared.entry.Entry.TheVariants.{Create, Define, Commit, Distillate}
 use Rattle.btr_hist.specs.History.{commits}
 use Rattle.btr_entry.specs.Grammar.{spelling, IsSpelled}
+use Rattle.btr_engine.specs.Past.{with_commits}
 
 -- ---- bodies
 
@@ -70,10 +75,6 @@ pub record IsBodyOf (before : Prefix) (e : Entry) (root : ℕ) (pages : List Nod
 abbrev pub RootRule : Type 1
 RootRule = Pages → List Entry → Entry → ℕ → List NodePage → Type 0
 
--- In this format no commit writes pages, and no entry has a root.
-abbrev pub HasNoNodes : RootRule
-HasNoNodes known before e root pages = (root ≡ 0) × (pages ≡ [])
-
 -- The extents with these bodies lead from one prefix to another: each body is that of the next entry, and its root and its pages keep
 -- the rule.
 abbrev pub LeadTo : RootRule → Prefix → List (List ℕ) → Prefix → Type 0
@@ -89,9 +90,10 @@ pub record LeadToHistory (Rule : RootRule) (bodies : List (List ℕ)) (gate : �
 
 -- ---- the blocks of an entry
 
--- The number of node blocks that a commit of this change writes, after these commits of its stream. In this format no commit writes any.
+-- The number of node blocks that a commit of this change writes, after these commits of its stream: one for each node of its tree that
+-- is new.
 unfoldable pub node_blocks : List Change → Change → ℕ
-node_blocks past c = 0
+node_blocks past c = length (new_nodes 10 FIRST above_root (with_commits 0 nothing (past ++ c ∷ [])) (length past + 1))
 
 -- The number of node blocks in the extent of an entry, if its stream has these commits. An entry that makes a stream has none.
 abbrev pub nodes_of : List Change → Entry → ℕ

@@ -12,6 +12,7 @@ use Rattle.btr_log.specs.declared.log.Log.{Log}
 use Rattle.btr_hist.specs.declared.entry.Entry.{Entry}
 use Rattle.btr_engine.specs.declared.engine.Engine.{Engine}
 use Rattle.btr_engine.specs.Board.{Kept, IsBoardOf}
+use Rattle.btr_engine.specs.Stored.{AreStored}
 use Rattle.btr_engine.specs.Holds.{HoldsHistoryTo, HoldsHistory}
 
 module _ {D : Type 0} {disk : Ghosts D} where
@@ -67,10 +68,12 @@ module _ {D : Type 0} {disk : Ghosts D} where
   abbrev pub faults_at_open : Engine D disk → ℕ
   faults_at_open e = disk.faults (synced_of e)
 
-  -- The engine is of this history. The device holds it as it reads, and a crash leaves nothing else.
+  -- The engine is of this history. The device holds it as it reads, with the trees of the board in its pages, and a crash leaves
+  -- nothing else.
   pub record IsAtRest (h : List Entry) (e : Engine D disk) : Type 0 where
     pub of : IsEngineOf h e
     pub holds : HoldsHistoryTo (disk.size (device e)) (disk.contents (device e)) (blocks_of e) (tail_of e) h
+    pub stored : AreStored holds.leads.pages (tail_of e) (board_of e).streams
     pub only : Only (disk.contents (device e)) (disk.images_now (device e))
 
   -- The engine is of this history. Every image since the call with this number, and every image now, holds it.

@@ -1,9 +1,13 @@
 -- What a step holds before its first call of the device, and why it has nothing of it.
-use Rattle.std.specs.Prelude.{◌≡◌, ℕ, List, [], ◌∷◌, ◌++◌, None}
+use Rattle.std.specs.Prelude.{◌≡◌, ℕ, ◌+◌, ◌^◌, ◌<◌, List, [], ◌∷◌, ◌++◌, length, None}
 use Rattle.btr_disk.specs.Gate.{zeros}
 use Rattle.btr_hist.specs.declared.entry.Entry.{Entry}
 use Rattle.btr_hist.specs.Legal.{rejection}
-use Rattle.btr_entry.specs.Grammar.{IsSpelled}
+use Rattle.btr_log.specs.Head.{content_blocks}
+use Rattle.btr_node.specs.declared.page.NodePage.{NodePage}
+use Rattle.btr_pages.specs.Pages.{pages_of}
+use Rattle.btr_entry.specs.Grammar.{spelling, IsSpelled}
+use Rattle.btr_engine.specs.declared.board.Staged.{Staged}
 use Rattle.btr_engine.specs.declared.board.PushFault.{PushFault}
 use Rattle.btr_engine.specs.declared.board.PushFault.TheVariants.{Rejected, Want}
 use Rattle.btr_engine.specs.declared.step.Pending.{Pending}
@@ -13,10 +17,17 @@ use Rattle.btr_engine.specs.Board.{IsBoardOf}
 use Rattle.btr_engine.specs.Body.{body_of}
 use Rattle.btr_engine.specs.Stage.{IsReceipt}
 
--- The extent is the entry's, with this number. The board has this number of entries, and the receipt says it.
+-- The pages of the nodes that a staged entry writes.
+abbrev pub written_pages : Staged → List NodePage
+written_pages s = pages_of s.receipt.stream s.nodes.items
+
+-- The extent is the entry's, with this number, and with the root and the pages of what was staged. The board has this number of
+-- entries, and the receipt says it.
 pub record IsMade (number : ℕ) (e : Entry) (p : Pending) : Type 0 where
   pub spelled : IsSpelled e
-  pub bytes : p.extent.items ≡ body_of number e 0 [] ++ zeros 4096
+  pub bytes : p.extent.items ≡ body_of number e p.staged.root (written_pages p.staged) ++ zeros 4096
+  pub low : p.staged.root < 2 ^ 64
+  pub room : content_blocks (length (spelling e)) + length p.staged.nodes.items < 2 ^ 64
   pub counted : p.staged.next.entries ≡ number
   pub numbered : p.staged.receipt.number ≡ number
 

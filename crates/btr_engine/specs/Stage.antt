@@ -1,11 +1,9 @@
 -- What the functions promise that stage an entry: why none is staged, what each stream of the next board has, and what the entry
 -- writes.
-use Rattle.std.specs.Prelude.{◌≡◌, ℕ, ◌+◌, ◌-◌, ◌*◌, ◌<◌, ◌≤◌, nat_le, List, [], ◌∷◌, ◌++◌, length}
+use Rattle.std.specs.Prelude.{◌≡◌, ℕ, ◌+◌, ◌-◌, ◌*◌, ◌<◌, ◌≤◌, nat_le, Bool, true, false, List, [], ◌∷◌, ◌++◌, length}
 use Rattle.std.specs.Prelude.{slice_get, slice_set, Option, Some, None}
-use Rattle.std.specs.Option.{option_to_list}
-use Rattle.btr_log.specs.Head.{content_blocks}
-use Rattle.btr_entry.specs.Grammar.{spelling}
-use Rattle.btr_base.specs.declared.limits.TheConstants.{FIRST, MAX_VERSIONS}
+use Rattle.std.specs.Option.{option_to_list, is_some}
+use Rattle.btr_base.specs.declared.limits.TheConstants.{FIRST, MAX_STREAMS, MAX_VERSIONS}
 use Rattle.btr_base.specs.declared.point.Point.{Point}
 use Rattle.btr_base.specs.Range.{RangeValue}
 use Rattle.btr_base.specs.Commit.{Change}
@@ -29,7 +27,8 @@ use Rattle.btr_engine.specs.declared.board.Staged.{Staged}
 use Rattle.btr_engine.specs.declared.board.PushFault.{PushFault}
 use Rattle.btr_engine.specs.declared.board.PushFault.TheVariants.{Rejected, Want}
 use Rattle.btr_engine.specs.Past.{commits_to}
-use Rattle.btr_engine.specs.Board.{Versions, Kept, HasTrees}
+use Rattle.btr_engine.specs.Body.{first_page}
+use Rattle.btr_engine.specs.Board.{Versions, Kept, HasTrees, place_of, ids_of}
 
 -- Memory may run out before the entry is rejected only while the points are tested that the stream would have. All other tests
 -- come first and take no memory.
@@ -96,10 +95,6 @@ with_version s t read = record { id = s.id; spec = s.spec; trees = s.trees ++ t 
 
 -- ---- what an entry writes
 
--- The block of the first node of an entry, if the gate before its extent is block `tail`: the first one after the gate and the content.
-abbrev pub first_node : ℕ → Entry → ℕ
-first_node tail e = tail + 1 + content_blocks (length (spelling e))
-
 -- What a version writes whose tree is that of `old` after a commit: the new nodes of its tree, one in each block from `first` on, and
 -- the block of its root. It speaks of each past whose tree `old` is, and of each store that holds it below `first`.
 pub record WritesVersion (first version : ℕ) (c : Change) (old new : TreeValue) (nodes : List NewNodeValue) (root : ℕ) : Type 0 where
@@ -144,10 +139,59 @@ pub record WritesStream (b : Kept) (id : ℕ) (spec : Option Spec) (next : Kept)
 abbrev pub WritesOn : Kept → Entry → ℕ → Kept → List NewNodeValue → ℕ → Type 0
 WritesOn b (Create id) tail = WritesStream b id None
 WritesOn b (Define id spec) tail = WritesStream b id (Some spec)
-WritesOn b (Commit stream cut added) tail = WritesCommit b (first_node tail (Commit stream cut added)) stream (change cut added) None
+WritesOn b (Commit stream cut added) tail = WritesCommit b (first_page tail (Commit stream cut added)) stream (change cut added) None
 WritesOn b (Distillate stream cut added reads) tail =
-    WritesCommit b (first_node tail (Distillate stream cut added reads)) stream (change cut added) (Some reads)
+    WritesCommit b (first_page tail (Distillate stream cut added reads)) stream (change cut added) (Some reads)
 
 -- The staged entry has the board that it makes, the nodes that it writes, and the block of the new root.
 abbrev pub WritesEntry : Kept → Entry → ℕ → Staged → Type 0
 WritesEntry b e tail s = WritesOn b e tail s.next s.nodes.items s.root
+
+-- ---- an entry whose tree was read
+
+-- The board may have one stream more, with this id.
+pub record HasRoomForStream (b : Kept) (id : ℕ) : Type 0 where
+  pub few : length b.streams < MAX_STREAMS
+  pub fresh : place_of (ids_of b.streams) id ≡ None
+
+-- The stream may have one version more. It is an output, or a plain stream.
+pub record HasRoomForVersion (b : Kept) (stream : ℕ) (output : Bool) : Type 0 where
+  pub kept : Versions
+  pub there : slice_get b.streams stream ≡ Some kept
+  pub kind : is_some kept.spec ≡ output
+  pub few : length kept.trees ≤ MAX_VERSIONS
+
+-- The board may have what the entry makes.
+abbrev pub HasRoomFor : Kept → Entry → Type 0
+HasRoomFor b (Create id) = HasRoomForStream b id
+HasRoomFor b (Define id spec) = HasRoomForStream b id
+HasRoomFor b (Commit stream cut added) = HasRoomForVersion b stream false
+HasRoomFor b (Distillate stream cut added reads) = HasRoomForVersion b stream true
+
+-- The next board has one version more of a stream, with this tree, which has read these versions or none. No node is written, and the
+-- root is that of the tree.
+pub record ReadsVersion (b : Kept) (stream : ℕ) (read : Option Reads) (t : TreeValue) (next : Kept) (nodes : List NewNodeValue)
+    (root : ℕ) : Type 0 where
+  pub kept : Versions
+  pub there : slice_get b.streams stream ≡ Some kept
+  pub streams : next.streams ≡ slice_set b.streams stream (with_version kept t read)
+  pub none : nodes ≡ []
+  pub root_is : root ≡ block_of t.node
+
+-- What an entry makes of a board, if the version that it makes has this tree. An entry that makes a stream does not take the tree.
+abbrev pub ReadsOn : Kept → Entry → TreeValue → Kept → List NewNodeValue → ℕ → Type 0
+ReadsOn b (Create id) t = WritesStream b id None
+ReadsOn b (Define id spec) t = WritesStream b id (Some spec)
+ReadsOn b (Commit stream cut added) t = ReadsVersion b stream None t
+ReadsOn b (Distillate stream cut added reads) t = ReadsVersion b stream (Some reads) t
+
+-- The staged entry has the board that it makes with this tree.
+abbrev pub ReadsEntry : Kept → Entry → TreeValue → Staged → Type 0
+ReadsEntry b e t s = ReadsOn b e t s.next s.nodes.items s.root
+
+-- The tree is that of the version that an entry makes. An entry that makes a stream has no tree.
+abbrev pub IsTreeAfter : List Entry → Entry → TreeValue → Type 0
+IsTreeAfter h (Create id) t = Unit {0}
+IsTreeAfter h (Define id spec) t = Unit {0}
+IsTreeAfter h (Commit stream cut added) t = IsNextTree h stream (change cut added) t
+IsTreeAfter h (Distillate stream cut added reads) t = IsNextTree h stream (change cut added) t

@@ -2,7 +2,7 @@
 ghost use Rattle.std.specs.Prelude.{◌≡◌, ◌^◌, ◌<◌, List, [], length, IfOk, IfSome, MatchOption};
 ghost use Rattle.btr_hist.specs.declared.entry.Entry.{Entry as EntrySpec};
 ghost use Rattle.btr_hist.specs.History.{ids, stream_of, spec_of, read_by};
-ghost use Rattle.btr_engine.specs.Board.{IsBoardOf, HasVersion, IsTreeOf, latest_of, read_at};
+ghost use Rattle.btr_engine.specs.Board.{IsBoardOf, HasStreamsOf, HasVersion, IsTreeOf, latest_of, read_at};
 ghost use Rattle.btr_engine.specs.Snapshot.{IsSnapshotOf};
 
 use crate::snapshot::Snapshot;
@@ -158,6 +158,7 @@ impl Board {
     /// costs logarithmic time and takes no memory.
     pub fn latest(&self, stream: u32) -> Option<u64>
         ensures of { (h : List EntrySpec) → IsBoardOf h self.now → result ≡ latest_of h stream }
+        ensures known { (h : List EntrySpec) → HasStreamsOf h self.now → result ≡ latest_of h stream }
         ensures few { IfSome result (λ version. version < 2 ^ 32) }
     {
         let kept = self.streams.get(stream as usize)?;

@@ -1,35 +1,87 @@
 //! The bytes of the extent of an entry.
-ghost use Rattle.std.specs.Prelude.{◌≡◌, ◌≤◌, ◌++◌, [], IfOk};
+ghost use Rattle.std.specs.Prelude.{◌≡◌, ◌+◌, ◌^◌, ◌<◌, ◌≤◌, ◌++◌, length, IfOk, OnOk};
+ghost use Rattle.std.specs.List.{flat_map};
 ghost use Rattle.btr_disk.specs.Gate.{zeros};
-ghost use Rattle.btr_entry.specs.Grammar.{IsSpelled, IsWithinBounds};
-ghost use Rattle.btr_engine.specs.Body.{body_of};
+ghost use Rattle.btr_log.specs.Head.{content_blocks};
+ghost use Rattle.btr_node.specs.Page.{page_bytes};
+ghost use Rattle.btr_pages.specs.Pages.{pages_of};
+ghost use Rattle.btr_entry.specs.Grammar.{spelling, IsSpelled, IsWithinBounds};
+ghost use Rattle.btr_engine.specs.Body.{padding, body_of};
 
 use btr_disk::BLOCK;
 use btr_entry::encode;
 use btr_hist::Entry;
-use btr_log::{HEAD_BYTES, Head};
+use btr_log::{HEAD_BYTES, Head, blocks_of_content};
+use btr_node::{NodePage, PAGE, spell};
+use btr_pages::page_of;
+use btr_tree::NewNode;
 use std::alloc::{AllocError, Global};
 
-/// Returns the body of the entry with this number, followed by one block of zeros, in a vector of exactly that capacity. It
-/// takes time linear in the entry, and memory for its spelling beside the vector.
+/// Returns the body of the entry with this number, followed by one block of zeros, in a vector of exactly that capacity. The body
+/// has this root, and the pages of these nodes of this stream. It takes time linear in the entry and the nodes, and memory for the
+/// entry's spelling beside the vector.
 pub(crate) fn encode_extent(
     alloc: Global,
     entry: &Entry,
     number: u64,
+    stream: u32,
+    root: u64,
+    nodes: &[NewNode],
 ) -> Result<Vec<u8>, AllocError>
     requires bounds { IsWithinBounds entry.now }
     requires number { 1 ≤ number }
-    ensures bytes { IfOk result (λ v. v.items ≡ body_of number entry.now 0 [] ++ zeros 4096) }
-    ensures spelled { IfOk result (λ v. IsSpelled entry.now) }
+    ensures bytes { IfOk result (λ v. v.items ≡ body_of number entry.now root (pages_of stream nodes.now) ++ zeros 4096) }
+    ensures spelled { OnOk result (IsSpelled entry.now) }
+    ensures low { OnOk result (root < 2 ^ 64) }
+    ensures room { OnOk result (content_blocks (length (spelling entry.now)) + length nodes.now < 2 ^ 64) }
 {
     let content = encode(alloc, entry)?;
-    let head = Head::for_entry(number, content.len() as u64, 0, 0);
+    let head = Head::for_entry(number, content.len() as u64, nodes.len() as u64, root);
     let mut bytes = [0; HEAD_BYTES];
     head.encode(&mut bytes);
-    let length = (head.n as usize + 1) * BLOCK;
-    let mut extent = Vec::with_capacity(alloc, length)?;
+    let mut extent = Vec::with_capacity(alloc, bytes_of(head.n)?)?;
     extent.extend_from_slice(&bytes)?;
-    extent.extend_from_slice(&content)?;
-    extent.resize(length, 0)?;
+    put_content(&mut extent, &content)?;
+    put_pages(&mut extent, stream, nodes)?;
+    extent.extend_from_slice(&[0; BLOCK])?;
     Ok(extent)
+}
+
+/// Returns the number of bytes of a body of this many blocks and of the block after it. An `Err` is that no memory has so many.
+fn bytes_of(blocks: u64) -> Result<usize, AllocError> {
+    let Some(length) = (blocks as usize).checked_mul(BLOCK) else {
+        return Err(AllocError);
+    };
+    length.checked_add(BLOCK).ok_or(AllocError)
+}
+
+/// Appends the content of an entry to its head, and zeros up to the end of the last block of the content. An `Err` is out of
+/// memory.
+fn put_content(extent: &mut Vec<u8>, content: &[u8]) -> Result<(), AllocError>
+    requires head { length extent.old.items ≡ 64 }
+    requires few { length content.now < 2 ^ 39 }
+    ensures { OnOk result (extent.new.items ≡ extent.old.items ++ (content.now ++ zeros (padding (length content.now)))) }
+{
+    extent.extend_from_slice(content)?;
+    extent.resize(blocks_of_content(content.len() as u64) as usize * BLOCK, 0)?;
+    Ok(())
+}
+
+/// Appends the pages of nodes of a stream, one in each block. An `Err` is out of memory.
+fn put_pages(extent: &mut Vec<u8>, stream: u32, nodes: &[NewNode]) -> Result<(), AllocError>
+    ensures { OnOk result (extent.new.items ≡ extent.old.items ++ flat_map page_bytes (pages_of stream nodes.now)) }
+{
+    for node in nodes {
+        put_page(extent, &page_of(node, stream))?;
+    }
+    Ok(())
+}
+
+/// Appends the bytes of a page. An `Err` is out of memory.
+fn put_page(extent: &mut Vec<u8>, page: &NodePage) -> Result<(), AllocError>
+    ensures { OnOk result (extent.new.items ≡ extent.old.items ++ page_bytes page.now) }
+{
+    let mut bytes = [0; PAGE];
+    spell(page, &mut bytes);
+    extent.extend_from_slice(&bytes)
 }

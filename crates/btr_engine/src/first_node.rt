@@ -4,7 +4,7 @@ ghost use Rattle.btr_base.specs.declared.limits.TheConstants.{MAX_COMMIT_POINTS,
 ghost use Rattle.btr_log.specs.Head.{content_blocks};
 ghost use Rattle.btr_hist.specs.declared.entry.Entry.TheVariants as entry;
 ghost use Rattle.btr_entry.specs.Grammar.{reads_bytes};
-ghost use Rattle.btr_engine.specs.Stage.{first_node};
+ghost use Rattle.btr_engine.specs.Body.{first_page};
 
 use btr_base::{Bag, MAX_POINTS, Ranges};
 use btr_hist::Reads;
@@ -16,7 +16,7 @@ pub(crate) fn node_of_commit(tail: u64, cut: &Ranges, added: &Bag) -> u64
     requires tail { tail ≤ 2 ^ 32 }
     requires ranges { length cut.now ≤ MAX_COMMIT_RANGES }
     requires points { length added.now ≤ MAX_COMMIT_POINTS }
-    ensures block { (stream : ℕ) → result ≡ first_node tail (entry.Commit stream cut.now added.now) }
+    ensures block { (stream : ℕ) → result ≡ first_page tail (entry.Commit stream cut.now added.now) }
     ensures low { (1 ≤ result) × (result ≤ 2 ^ 33) }
 {
     let items = cut.as_slice().len() + added.as_slice().len();
@@ -29,7 +29,7 @@ pub(crate) fn node_of_distillate(tail: u64, cut: &Ranges, added: &Bag, reads: &R
     requires tail { tail ≤ 2 ^ 32 }
     requires ranges { length cut.now ≤ 2 ^ 34 }
     ensures block { (stream : ℕ) → length added.now ≤ MAX_POINTS
-        → result ≡ first_node tail (entry.Distillate stream cut.now added.now reads.now) }
+        → result ≡ first_page tail (entry.Distillate stream cut.now added.now reads.now) }
     ensures low { (1 ≤ result) × (result ≤ 2 ^ 33) }
 {
     let points = added.as_slice().len().min(MAX_POINTS as usize);

@@ -1,6 +1,6 @@
 //! The staging of an entry: its tests, in the order of `rejection`, and the next board.
-ghost use Rattle.std.specs.Prelude.{◌≡◌, ℕ, ◌+◌, ◌-◌, ◌^◌, ◌<◌, ◌≤◌, nat_le, ◌&&◌, true, List, [], ◌∷◌, ◌++◌, length, slice_get, slice_set};
-ghost use Rattle.std.specs.Prelude.{IfOk, IfErr, IfSome, IsNone, IsTrue, OnOk, Some, None};
+ghost use Rattle.std.specs.Prelude.{◌≡◌, ℕ, ◌+◌, ◌-◌, ◌^◌, ◌<◌, ◌≤◌, nat_le, nat_lt, ◌&&◌, true, false, List, [], ◌∷◌, ◌++◌, length};
+ghost use Rattle.std.specs.Prelude.{slice_get, slice_set, IfOk, IfErr, IfSome, IsNone, IsTrue, OnOk, Some, None};
 ghost use Rattle.std.specs.List.{AllByRecursion};
 ghost use Rattle.std.specs.Option.{is_some, option_to_list};
 ghost use Rattle.btr_base.specs.declared.point.Point.{Point as PointSpec};
@@ -14,10 +14,13 @@ ghost use Rattle.btr_hist.specs.declared.entry.Entry.{Entry as EntrySpec};
 ghost use Rattle.btr_hist.specs.declared.entry.Entry.TheVariants as entry;
 ghost use Rattle.btr_hist.specs.Kernel.{is_good};
 ghost use Rattle.btr_hist.specs.History.{latest, spec_of, reads};
-ghost use Rattle.btr_hist.specs.Legal.{rejection, points_rejection, has_inputs, is_stream, takes_reads, may_read, may_read_second};
+ghost use Rattle.btr_hist.specs.declared.rejection.Rejection.TheVariants.{VersionLimit};
+ghost use Rattle.btr_hist.specs.Legal.{when, rejection, points_rejection, has_inputs, is_stream, takes_reads, may_read, may_read_second};
 ghost use Rattle.btr_entry.specs.Grammar.{IsWithinBounds, AreVersions};
-ghost use Rattle.btr_engine.specs.Board.{IsBoardOf, IsStreamOf, IsGrown, HasPast, place_of, ids_of};
+ghost use Rattle.btr_engine.specs.Board.{IsBoardOf, HasStreamOf, HasStreamsOf, IsGrown, HasPast, place_of, ids_of};
 ghost use Rattle.btr_engine.specs.Stage.{PushCause, IsReceipt, MakesStream, MakesVersion, IsNextTree, OfEachStream, change};
+ghost use Rattle.btr_engine.specs.Outline.{outline_of, commit_refusal, distillate_refusal, refusal};
+ghost use Rattle.btr_engine.specs.Stage.{HasRoomFor, HasRoomForVersion, ReadsVersion, ReadsOn, ReadsEntry, IsTreeAfter};
 ghost use Rattle.btr_engine.specs.Stage.{version_rejection, with_version};
 ghost use Rattle.btr_engine.specs.Stage.{WritesNext, WritesCommit, AddsStream, WritesStream, WritesOn, WritesEntry};
 
@@ -81,6 +84,107 @@ impl Board {
             receipt,
             nodes: next.nodes,
             root: next.root,
+        })
+    }
+
+    /// Returns why an entry may not follow, whatever points its stream has, or `None` if nothing else shows against it. These are
+    /// the tests that [`Board::stage`] makes before it looks at points, in the same order. They do not look at the trees. It costs
+    /// logarithmic time, and the length of the entry, and takes no memory.
+    pub fn refusal(&self, entry: &Entry) -> Option<Rejection>
+        ensures of { (h : List EntrySpec) → HasStreamsOf h self.now → result ≡ refusal (outline_of h) entry.now }
+        ensures room { IsNone result → HasRoomFor self.now entry.now }
+    {
+        match entry {
+            Entry::Create { id } => self.create_rejection(*id),
+            Entry::Define { id, spec } => self.define_rejection(*id, spec),
+            Entry::Commit { stream, cut, added } => self.commit_refusal(*stream, cut, added),
+            Entry::Distillate {
+                stream,
+                cut,
+                added,
+                reads,
+            } => self.distillate_refusal(*stream, cut, added, reads),
+        }
+    }
+
+    /// Makes the next board, with an entry more whose new version has this tree. An entry that makes a stream does not take the
+    /// tree. This board stays as it is.
+    ///
+    /// The caller has called [`Board::refusal`], which returned `None`: this call makes no test. The tree is not compared with the
+    /// points. The staged entry has no nodes to write, since the tree is stored already, and the root is that of the tree.
+    ///
+    /// It costs logarithmic time. An `Err` is out of memory.
+    pub fn stage_read(&self, alloc: Global, entry: &Entry, tree: Tree) -> Result<Staged, AllocError>
+        requires few { self.now.entries < 2 ^ 64 - 1 }
+        requires room { HasRoomFor self.now entry.now }
+        requires past { HasPast tree }
+        ensures streams { (h : List EntrySpec) → HasStreamsOf h self.now → refusal (outline_of h) entry.now ≡ None
+            → IfOk result (λ s. HasStreamsOf (h ++ entry.now ∷ []) s.next) }
+        ensures of { (h : List EntrySpec) → IsBoardOf h self.now → rejection h entry.now ≡ None → IsTreeAfter h entry.now tree
+            → IfOk result (λ s. IsBoardOf (h ++ entry.now ∷ []) s.next) }
+        ensures receipt { (h : List EntrySpec) → IsBoardOf h self.now → rejection h entry.now ≡ None
+            → IfOk result (λ s. IsReceipt h entry.now s.receipt) }
+        ensures counted { IfOk result (λ s. s.next.entries ≡ self.now.entries + 1) }
+        ensures number { IfOk result (λ s. s.receipt.number ≡ self.now.entries + 1) }
+        ensures kept { IfOk result (ReadsEntry self.now entry.now tree) }
+    {
+        let next = self.read_board(alloc, entry, tree)?;
+        let receipt = receipt_of(self, entry);
+        Ok(Staged {
+            next: next.board,
+            receipt,
+            nodes: next.nodes,
+            root: next.root,
+        })
+    }
+
+    /// Makes the next board, with an entry more whose new version has this tree. No test is made.
+    fn read_board(&self, alloc: Global, entry: &Entry, tree: Tree) -> Result<NextBoard, AllocError>
+        requires few { self.now.entries < 2 ^ 64 - 1 }
+        requires past { HasPast tree }
+        requires room { HasRoomFor self.now entry.now }
+        ensures counted { IfOk result (λ n. n.board.entries ≡ self.now.entries + 1) }
+        ensures kept { IfOk result (λ n. ReadsOn self.now entry.now tree n.board n.nodes.items n.root) }
+    {
+        match entry {
+            Entry::Create { id } => {
+                Ok(without_nodes(alloc, self.with_stream(alloc, *id, None)?))
+            }
+            Entry::Define { id, spec } => {
+                Ok(without_nodes(alloc, self.with_stream(alloc, *id, Some(*spec))?))
+            }
+            Entry::Commit { stream, .. } => self.read_version(alloc, *stream, tree, None),
+            Entry::Distillate { stream, reads, .. } => {
+                self.read_version(alloc, *stream, tree, Some(*reads))
+            }
+        }
+    }
+
+    /// Makes the next board with one version more of a stream, which has this tree and has read these versions, or none if the
+    /// stream is plain.
+    fn read_version(
+        &self,
+        alloc: Global,
+        stream: u32,
+        tree: Tree,
+        read: Option<Reads>,
+    ) -> Result<NextBoard, AllocError>
+        requires few { self.now.entries < 2 ^ 64 - 1 }
+        requires past { HasPast tree }
+        requires room { HasRoomForVersion self.now stream (is_some read) }
+        ensures counted { IfOk result (λ n. n.board.entries ≡ self.now.entries + 1) }
+        ensures kept { IfOk result (λ n. ReadsVersion self.now stream read tree n.board n.nodes.items n.root) }
+    {
+        let place = stream as usize;
+        let Some(kept) = self.streams.get(place) else {
+            unreachable!()
+        };
+        let root = tree.root();
+        let board = self.with_version(alloc, place, kept, tree, read)?;
+        Ok(NextBoard {
+            board,
+            nodes: Vec::new(alloc),
+            root,
         })
     }
 
@@ -309,9 +413,51 @@ impl Board {
         })
     }
 
+    /// Returns why a user's commit may not follow, whatever points the stream has, or `None` if nothing else shows against it.
+    fn commit_refusal(&self, stream: u32, cut: &Ranges, added: &Bag) -> Option<Rejection>
+        ensures of { (h : List EntrySpec) → HasStreamsOf h self.now
+            → result ≡ commit_refusal (outline_of h) stream (change cut.now added.now) }
+        ensures room { IsNone result → HasRoomForVersion self.now stream false }
+    {
+        let Some(kept) = self.streams.get(stream as usize) else {
+            return Some(Rejection::NoStream);
+        };
+        if kept.spec.is_some() {
+            return Some(Rejection::NotWritable);
+        }
+        if let Some(why) = change_rejection(cut.as_slice(), added.as_slice()) {
+            return Some(why);
+        }
+        version_refusal(kept)
+    }
+
+    /// Returns why a distillate may not follow, whatever points the stream has, or `None` if nothing else shows against it.
+    fn distillate_refusal(
+        &self,
+        stream: u32,
+        cut: &Ranges,
+        added: &Bag,
+        reads: &Reads,
+    ) -> Option<Rejection>
+        ensures of { (h : List EntrySpec) → HasStreamsOf h self.now
+            → result ≡ distillate_refusal (outline_of h) stream (change cut.now added.now) reads.now }
+        ensures room { IsNone result → HasRoomForVersion self.now stream true }
+    {
+        let Some(kept) = self.streams.get(stream as usize) else {
+            return Some(Rejection::NoStream);
+        };
+        if !self.takes_reads(kept, reads) {
+            return Some(Rejection::NotWritable);
+        }
+        if let Some(why) = distillate_change_rejection(cut.as_slice(), added.as_slice()) {
+            return Some(why);
+        }
+        version_refusal(kept)
+    }
+
     /// Returns why a stream with this id may not be created, or `None` if it may.
     fn create_rejection(&self, id: u128) -> Option<Rejection>
-        ensures of { (h : List EntrySpec) → IsBoardOf h self.now → result ≡ rejection h (entry.Create id) }
+        ensures of { (h : List EntrySpec) → HasStreamsOf h self.now → result ≡ rejection h (entry.Create id) }
         ensures room { IsNone result → length self.now.streams < MAX_STREAMS }
         ensures fresh { IsNone result → place_of (ids_of self.now.streams) id ≡ None }
     {
@@ -326,7 +472,7 @@ impl Board {
 
     /// Returns why an output with this id and spec may not be created, or `None` if it may.
     fn define_rejection(&self, id: u128, spec: &Spec) -> Option<Rejection>
-        ensures of { (h : List EntrySpec) → IsBoardOf h self.now → result ≡ rejection h (entry.Define id spec.now) }
+        ensures of { (h : List EntrySpec) → HasStreamsOf h self.now → result ≡ rejection h (entry.Define id spec.now) }
         ensures room { IsNone result → length self.now.streams < MAX_STREAMS }
         ensures fresh { IsNone result → place_of (ids_of self.now.streams) id ≡ None }
         ensures good { IsNone result → is_good spec.now ≡ true }
@@ -345,7 +491,7 @@ impl Board {
 
     /// Returns whether the inputs of a spec are streams.
     fn has_inputs(&self, spec: &Spec) -> bool
-        ensures { (h : List EntrySpec) → IsBoardOf h self.now → result ≡ has_inputs h spec.now }
+        ensures { (h : List EntrySpec) → HasStreamsOf h self.now → result ≡ has_inputs h spec.now }
     {
         let has_second = match spec.second {
             Some(stream) => self.has_stream(stream),
@@ -356,14 +502,14 @@ impl Board {
 
     /// Returns whether there is a stream of this number.
     fn has_stream(&self, stream: u32) -> bool
-        ensures { (h : List EntrySpec) → IsBoardOf h self.now → result ≡ is_stream h stream }
+        ensures { (h : List EntrySpec) → HasStreamsOf h self.now → result ≡ is_stream h stream }
     {
         (stream as usize) < self.streams.len()
     }
 
     /// Returns whether a stream is an output whose next distillate may read these versions.
     fn takes_reads(&self, kept: &Stream, new: &Reads) -> bool
-        ensures of { (h : List EntrySpec) (stream : ℕ) → IsBoardOf h self.now → IsStreamOf h stream kept.now
+        ensures of { (h : List EntrySpec) (stream : ℕ) → HasStreamsOf h self.now → HasStreamOf h stream kept.now
             → result ≡ takes_reads h stream (spec_of h stream) new.now }
         ensures output { IsTrue result → is_some kept.now.spec ≡ true }
         ensures few { IsTrue result → AreVersions new.now }
@@ -376,7 +522,7 @@ impl Board {
 
     /// Returns whether a distillate may read these versions of its inputs, if the last one read the old ones.
     fn may_read(&self, spec: &Spec, old: &Reads, new: &Reads) -> bool
-        ensures of { (h : List EntrySpec) → IsBoardOf h self.now → result ≡ may_read h spec.now old.now new.now }
+        ensures of { (h : List EntrySpec) → HasStreamsOf h self.now → result ≡ may_read h spec.now old.now new.now }
         ensures few { IsTrue result → AreVersions new.now }
     {
         self.may_read_input(spec.first, old.first, new.first)
@@ -385,7 +531,7 @@ impl Board {
 
     /// Returns whether a version of a second input may be read, or there is neither.
     fn may_read_second(&self, stream: Option<u32>, old: Option<u64>, new: Option<u64>) -> bool
-        ensures of { (h : List EntrySpec) → IsBoardOf h self.now → result ≡ may_read_second h stream old new }
+        ensures of { (h : List EntrySpec) → HasStreamsOf h self.now → result ≡ may_read_second h stream old new }
         ensures few { IsTrue result → IfSome new (λ version. version ≤ MAX_VERSIONS) }
     {
         match (stream, old, new) {
@@ -397,7 +543,7 @@ impl Board {
 
     /// Returns whether the stream has this version, and it is not before the old one.
     fn may_read_input(&self, stream: u32, old: u64, new: u64) -> bool
-        ensures of { (h : List EntrySpec) → IsBoardOf h self.now → result ≡ (nat_le old new && nat_le new (latest h stream)) }
+        ensures of { (h : List EntrySpec) → HasStreamsOf h self.now → result ≡ (nat_le old new && nat_le new (latest h stream)) }
         ensures few { IsTrue result → new ≤ MAX_VERSIONS }
     {
         let latest = match self.latest(stream) {
@@ -427,6 +573,16 @@ fn receipt_of(board: &Board, entry: &Entry) -> Receipt
             version: board.latest(*stream).unwrap_or(0) + 1,
         },
     }
+}
+
+/// Returns why a stream may not have one version more, or `None` if it may.
+fn version_refusal(kept: &Stream) -> Option<Rejection>
+    ensures { result ≡ when (nat_lt MAX_VERSIONS (length kept.now.trees)) VersionLimit }
+{
+    if kept.trees.len() > MAX_VERSIONS {
+        return Some(Rejection::VersionLimit);
+    }
+    None
 }
 
 /// Returns a board whose last entry writes no node.
@@ -493,7 +649,7 @@ fn next_reads(
 /// Returns the versions of the inputs that the latest version of an output of this spec stands for: what it has read, or version 0
 /// of each.
 fn latest_reads(kept: &Stream, spec: &Spec) -> Reads
-    ensures { (h : List EntrySpec) (stream : ℕ) → IsStreamOf h stream kept.now → kept.now.spec ≡ Some spec.now
+    ensures { (h : List EntrySpec) (stream : ℕ) → HasStreamOf h stream kept.now → kept.now.spec ≡ Some spec.now
         → result ≡ reads h stream spec.now (latest h stream) }
 {
     match read_at(&kept.reads, kept.reads.len() as u64) {

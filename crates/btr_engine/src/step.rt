@@ -3,8 +3,10 @@ ghost use Rattle.std.specs.Prelude.{◌≡◌, ℕ, ◌+◌, List, [], ◌∷◌
 ghost use Rattle.btr_log.specs.declared.append.AppendFault.TheVariants.{Full, Fault, Stopped as AlreadyStopped};
 ghost use Rattle.btr_hist.specs.declared.entry.Entry.{Entry as EntrySpec};
 ghost use Rattle.btr_engine.specs.declared.step.StepFault.TheVariants.{Stopped, DeviceFull, DeviceFault};
-ghost use Rattle.btr_engine.specs.Engine.{device, entries_of, is_stopped, IsEngineOf, IsAtRest, IsDurable, EngineLeaves, KeepsOpening};
+ghost use Rattle.btr_engine.specs.Engine.{device, board_of, entries_of, tail_of, is_stopped};
+ghost use Rattle.btr_engine.specs.Engine.{IsEngineOf, IsAtRest, IsDurable, EngineLeaves, KeepsOpening};
 ghost use Rattle.btr_engine.specs.Step.{history_after, in_flight_after, IsBeforeOrAfter, HasEffect, HasResult, IsStepped, StepCause};
+ghost use Rattle.btr_engine.specs.Stage.{WritesEntry};
 ghost use Rattle.btr_engine.specs.Pending.{IsMade, IsPending};
 
 use crate::board::{PushFault, Receipt, Staged};
@@ -41,7 +43,7 @@ pub(crate) struct Pending {
     /// The board with the entry, and the receipt.
     pub(crate) staged: Staged,
 
-    /// The body of the entry, and one block of zeros.
+    /// The body of the entry with the pages of its nodes, and one block of zeros.
     pub(crate) extent: Vec<u8>,
 }
 
@@ -52,9 +54,9 @@ impl<D: Disk> Engine<D> {
     /// A crash at any moment of the step leaves the history as before, or with this entry. After an `Err` the engine is as
     /// before, except after a `DeviceFault`, which stops it: from then on it returns `Stopped`.
     ///
-    /// The step makes no call of the device, or four: a write and a sync for the entry, then a write and a sync for the gate
-    /// before it. It takes all memory before the first call. It costs the bytes of the entry, the nodes of its stream's tree
-    /// that it touches, and time logarithmic in the streams, versions and ids.
+    /// The step makes no call of the device, or four: a write and a sync for the entry and the pages of the nodes that are new in
+    /// its stream's tree, then a write and a sync for the gate before it. It takes all memory before the first call. It costs the
+    /// bytes of the entry, 4096 bytes for each of these nodes, and time logarithmic in the streams, versions and ids.
     pub fn step(&mut self, alloc: Global, entry: &Entry) -> Result<Receipt, StepFault>
         ensures effect { HasEffect self.old self.new result }
         ensures cause { (h : List EntrySpec) → IsEngineOf h self.old → IfErr result (StepCause h self.old self.new entry.now) }
@@ -86,12 +88,21 @@ impl<D: Disk> Engine<D> {
     fn stage(&self, alloc: Global, entry: &Entry) -> Result<Pending, StepFault>
         requires runs { is_stopped self.now ≡ false }
         ensures made { IfOk result (IsMade (entries_of self.now + 1) entry.now) }
+        ensures writes { IfOk result (λ p. WritesEntry (board_of self.now) entry.now (tail_of self.now) p.staged) }
         ensures pending { (h : List EntrySpec) → IsEngineOf h self.now → IfOk result (IsPending h entry.now) }
         ensures cause { (h : List EntrySpec) → IsEngineOf h self.now → IfErr result (StepCause h self.now self.now entry.now) }
         ensures refused { IfErr result (λ fault. HasResult self.now self.now (Err fault)) }
     {
         let staged = self.board.stage(alloc, entry, self.log.tail())?;
-        let extent = encode_extent(alloc, entry, staged.receipt.number)?;
+        let receipt = staged.receipt;
+        let extent = encode_extent(
+            alloc,
+            entry,
+            receipt.number,
+            receipt.stream,
+            staged.root,
+            &staged.nodes,
+        )?;
         Ok(Pending { staged, extent })
     }
 }

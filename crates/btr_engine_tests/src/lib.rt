@@ -4,6 +4,8 @@
 #[cfg(test)]
 mod core_tests;
 #[cfg(test)]
+mod damage_tests;
+#[cfg(test)]
 mod engine_tests;
 #[cfg(test)]
 mod fixture;

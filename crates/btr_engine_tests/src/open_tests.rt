@@ -175,9 +175,9 @@ fn a_full_device_is_said_so(rt: HostRuntime) -> Result<(), Fail> {
     let (engine, [small, large]) = filled(alloc)?;
     let found = latest(alloc, &engine)?;
     let is_stopped = engine.stopped();
-    // three of the sixteen blocks are left after the fourth entry
+    // one of the sixteen blocks is left after the fourth entry; a thousand points 4 ns apart are in 16 leaves, below 9 inner nodes
     assert!(rt; small == receipt(4, 0, 2));
-    assert!(rt; large == Err(StepFault::DeviceFull { need: 5, left: 3 }));
+    assert!(rt; large == Err(StepFault::DeviceFull { need: 30, left: 1 }));
     assert!(rt; !is_stopped);
     assert!(rt; found == (2, 6));
     Ok(())
@@ -950,14 +950,14 @@ fn device_of(alloc: Global, bytes: Vec<u8>) -> Result<MemDisk, AllocError>
     MemDisk::from_bytes(alloc, bytes, CAPACITY, Vec::new(alloc))
 }
 
-/// A byte of the body of the last entry, its value, and why the device is not opened. The body is block 15: after its head a byte of
+/// A byte of the body of the last entry, its value, and why the device is not opened. The body is block 18: after its head a byte of
 /// its kind, four of its stream, one of the number of its reads, and eight of the read: the version that it had, one that is not there
 /// yet, one before the last, and a plain stream.
 const BYTES: &[(usize, u8, Option<OpenCause>)] = &[
     (77, 2, None),
-    (77, 3, Some(OpenCause::Damaged { block: 15 })),
-    (77, 0, Some(OpenCause::Damaged { block: 15 })),
-    (68, 0, Some(OpenCause::Damaged { block: 15 })),
+    (77, 3, Some(OpenCause::Damaged { block: 18 })),
+    (77, 0, Some(OpenCause::Damaged { block: 18 })),
+    (68, 0, Some(OpenCause::Damaged { block: 18 })),
 ];
 
 /// Why a device is not opened if this byte has this value.
@@ -971,7 +971,7 @@ fn cause_with(
     requires at { at < 4096 }
 {
     let mut bytes = bytes;
-    if let Some(byte) = bytes.get_mut(15 * 4096 + at) {
+    if let Some(byte) = bytes.get_mut(18 * 4096 + at) {
         *byte = value;
     }
     let disk = device_of(alloc, bytes)?;

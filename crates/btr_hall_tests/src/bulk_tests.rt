@@ -72,9 +72,10 @@ fn an_empty_store_is_filled_and_a_used_one_is_left(rt: HostRuntime) -> Result<()
     Ok(())
 }
 
-/// The lines of a sample that does not fit.
-const FULL: &[u8] = b"00000000-0000-0000-0000-000000000001 rows 1 1: no full 2 0\n\
-    00000000-0000-0000-0000-000000000002 rows 2 2: no full 2 0\n\
+/// The lines of a sample that does not fit. A stream or an output that is made needs two blocks: its entry and the gate after it. A
+/// batch of a point needs three, with the leaf of the point.
+const FULL: &[u8] = b"00000000-0000-0000-0000-000000000001 rows 1 1: no full 3 0\n\
+    00000000-0000-0000-0000-000000000002 rows 2 2: no full 3 0\n\
     00000000-0000-0000-0000-000000000003 rows 3 3: no full 2 0\n\
     00000000-0000-0001-0000-000000000001 no full 2 0\n\
     00000000-0000-0001-0000-000000000002 no full 2 0\n\
@@ -91,7 +92,8 @@ fn sampled_on_a_full_device<R: Threads + Wait + Sync>(
     Ok((text.as_slice() == FULL, status))
 }
 
-/// Two entries fit: they are the creates of two streams. The third stream is not there, so its output has no input.
+/// The device of 9 blocks has four for entries, so two entries fit: they are the creates of two streams. The third stream is not there,
+/// so its output has no input.
 #[test]
 fn what_does_not_fit_is_named(rt: HostRuntime) -> Result<(), Fail> {
     assert!(rt; sampled_on_a_full_device(&rt, rt.alloc())? == (true, 8));

@@ -414,6 +414,9 @@ fn tell<R: Wait>(
     Some(list)
 }
 
+/// The time between two points of a stream, `2^51` nanoseconds. A slot of the root has `2^56`, so it has at most 32 points and is a leaf.
+const APART: i64 = 2_251_799_813_685_248;
+
 /// Commits so many points to a stream, one after another.
 fn tell_often<R: Wait>(
     rt: &R,
@@ -430,7 +433,8 @@ fn tell_often<R: Wait>(
     let mut user = user;
     let mut list = Some(Vec::new(alloc));
     for index in 0..count {
-        list = tell(rt, alloc, hall, &mut user, list, stream, i64::from(index));
+        let time = i64::from(index).wrapping_mul(APART);
+        list = tell(rt, alloc, hall, &mut user, list, stream, time);
     }
     (user, list)
 }
@@ -542,11 +546,15 @@ fn is_log_of(log: &[Told], told: &mut [Told]) -> bool {
 
 /// Lets eight threads commit ten thousand points to a new hall. Returns how many streams were made, what the threads were told, and the
 /// engine in the end.
+///
+/// An entry needs its block, one for each new node, and one for the next gate. Of the 1250 commits of a stream, 252 have one new node,
+/// the leaf of all points. The next one has nine: eight leaves, since 253 points are in eight slots, and their root. Each of the other
+/// 997 has a leaf and the root. So a stream needs `252*3 + 11 + 997*4 = 4755` blocks beside the two of its create, and all need 38056.
 fn told_to_eight<R: Threads + Wait + Sync>(
     rt: &R,
     alloc: Global,
 ) -> Result<(u32, List, Engine<MemDisk>), Fail> {
-    let (hall, user) = begun_empty(alloc, 30_000, &[])?;
+    let (hall, user) = begun_empty(alloc, 40_000, &[])?;
     let (user, made) = create(rt, alloc, &hall, user, 8);
     let (user, told) = tell_by_threads(rt, alloc, &hall, user, 0, 8);
     let engine = close(hall, user);

@@ -226,10 +226,10 @@ const FEEDS: Lines<'static> = &[
 
 /// The replies to those lines, if the device has room for one entry.
 const FEED_REPLIES: &[u8] =
-    b"held 1\nno full 2 1\nno full 2 1\nno empty\nheld 0\nno full 2 1\nheld 0\nno empty\n";
+    b"held 1\nno full 3 1\nno full 3 1\nno empty\nheld 0\nno full 3 1\nheld 0\nno empty\n";
 
 /// A lane has feeds of its own: what one lane feeds, another one does not flush. Points whose commit is refused wait still. There is room
-/// for one entry: an entry takes two of the three blocks.
+/// for one entry: the create takes two of the three blocks, and a commit needs three, one of them for the leaf of its points.
 #[test]
 fn a_full_device_leaves_points_in_the_feed_of_their_lane(rt: HostRuntime) -> Result<(), Fail> {
     let device = Device {

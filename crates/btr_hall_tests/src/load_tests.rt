@@ -203,7 +203,7 @@ const FULL: Given<'static> = (
         &[
             ENTRY_2,
             ENTRY_3,
-            Err(StepFault::DeviceFull { need: 2, left: 1 }),
+            Err(StepFault::DeviceFull { need: 3, left: 2 }),
         ],
         2,
     )],
@@ -224,11 +224,12 @@ const FAILED: Given<'static> = (
     0,
 );
 
-/// Each entry of these loads needs two blocks. The device of 12 blocks has seven for entries.
+/// The create needs two blocks. Each batch needs three: its entry, the leaf of all points so far, and the gate after them. The device of
+/// 15 blocks has ten for entries.
 #[test]
 fn a_refused_batch_does_not_stop_later_ones(rt: HostRuntime) -> Result<(), Fail> {
     let alloc = rt.alloc();
-    assert!(rt; new_gives(&rt, alloc, 12, &[], FIVE_POINTS, 2, 1, FULL)?);
+    assert!(rt; new_gives(&rt, alloc, 15, &[], FIVE_POINTS, 2, 1, FULL)?);
     assert!(rt; new_gives(&rt, alloc, 64, &[5], FIVE_POINTS, 2, 1, FAILED)?);
     Ok(())
 }

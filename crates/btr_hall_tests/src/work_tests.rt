@@ -213,7 +213,7 @@ fn each_output_reads_what_was_landed_below_it(rt: HostRuntime) -> Result<(), Fai
 const FULL: &[(u32, Refreshed)] = &[
     (
         1,
-        Refreshed::Refused(LandFault::DeviceFull { need: 2, left: 0 }),
+        Refreshed::Refused(LandFault::DeviceFull { need: 3, left: 0 }),
     ),
     (2, Refreshed::Current { version: 0 }),
 ];
@@ -223,14 +223,15 @@ fn refreshed_on_a_full_device<R: Threads + Wait + Sync>(
     rt: &R,
     alloc: Global,
 ) -> Result<(bool, bool, u64), Fail> {
-    let engine = two_levels(alloc, 13)?;
+    let engine = two_levels(alloc, 14)?;
     let twice = bring_twice(rt, alloc, engine, 2, &NoPace)?;
     let first = has_lines(&twice.first, FULL);
     let second = has_lines(&twice.second, FULL);
     Ok((first, second, twice.engine.entries()))
 }
 
-/// Four entries leave no block on a device of 13 blocks. The output above then has nothing to read.
+/// Four entries leave no block on a device of 14 blocks: a stream and two outputs that are made take two blocks each, and the three
+/// points take three, with their leaf. The points of the output need as many. The output above then has nothing to read.
 #[test]
 fn an_output_is_refused_if_the_device_is_full(rt: HostRuntime) -> Result<(), Fail> {
     assert!(rt; refreshed_on_a_full_device(&rt, rt.alloc())? == (true, true, 4));

@@ -1,7 +1,13 @@
 mod OutlineLemmas
-mod BodyParts
-mod OpenCauses
 mod Synced
-mod Reading
+mod ContentLemmas
+mod BodyParts
+mod RootLemmas
+mod LeadLemmas
+mod UnbrokenLemmas
 mod Sound
+mod HeldLemmas
+mod LoadingLemmas
+mod OpenCauses
+mod Reading
 mod Opened

@@ -1,5 +1,7 @@
--- what an opening knows of a history beside its points
-pub mod Outline
+-- what the body of an extent has
+pub mod Content
+-- which block may be a root
+pub mod RootTest
 -- a walk over the log of a device
 pub mod Walk
 -- what breaks the format of a store
@@ -10,3 +12,5 @@ pub mod Opening
 pub mod Laws
 -- what the private functions promise
 pub mod Reading
+-- what the functions promise that add an extent
+pub mod Loading

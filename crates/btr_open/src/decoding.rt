@@ -1,19 +1,20 @@
 //! The entry that the bytes of an extent hold.
-ghost use Rattle.std.specs.Prelude.{◌≡◌, ◌≤◌, ◌↔◌, [], IfOk, IfSome, IfNone, IsTrue, EachIndex, slice_index};
+ghost use Rattle.std.specs.Prelude.{◌≡◌, ◌≤◌, ◌↔◌, IfOk, IfSome, IfNone, IsTrue, EachIndex, slice_index};
 ghost use Rattle.btr_log.specs.Extents.{IsBody};
-ghost use Rattle.btr_entry.specs.Grammar.{IsSpelled};
-ghost use Rattle.btr_engine.specs.Body.{body_of};
-ghost use Rattle.btr_open.specs.Walk.{IsNoEntryBody};
+ghost use Rattle.btr_open.specs.Content.{HasContent, HasNoContent, node_blocks_of};
 
+use btr_disk::BLOCK;
 use btr_entry::decode;
 use btr_hist::Entry;
-use btr_log::{HEAD_BYTES, Head};
+use btr_log::{HEAD_BYTES, Head, blocks_of_content};
 use std::alloc::{AllocError, Global};
 
-/// Returns the entry whose body with this number, at least 1, these bytes are, without a root and without pages, or `None` if
-/// there is no such entry. The bytes begin with the head and are as many blocks as it says: this is the caller's condition.
+/// Returns the entry whose content with this number, at least 1, the bytes of a body begin with, or `None` if there is no such
+/// entry. The node blocks of the body follow the content. The bytes begin with the head and are as many blocks as it says: this is
+/// the caller's condition.
 ///
-/// The bytes of an entry are its body only if all bytes after the content, up to the end of the last block, are zeros.
+/// The bytes are the content of an entry only if all bytes after its spelling, up to the end of the last block of the content, are
+/// zeros.
 pub fn decode_extent(
     alloc: Global,
     body: &[u8],
@@ -22,24 +23,25 @@ pub fn decode_extent(
 ) -> Result<Option<Entry>, AllocError>
     requires body { IsBody body.now head.now }
     requires number { 1 ≤ number }
-    ensures found { IfOk result (λ o. IfSome o (λ e. IsSpelled e × (body.now ≡ body_of number e 0 []))) }
-    ensures none { IfOk result (λ o. IfNone o (IsNoEntryBody number body.now)) }
+    ensures found { IfOk result (λ o. IfSome o (λ e. HasContent number e head.now.root (node_blocks_of head.now body.now) body.now)) }
+    ensures none { IfOk result (λ o. IfNone o (HasNoContent number body.now)) }
 {
     if !is_entry_head(head, number) {
         return Ok(None);
     }
     let end = HEAD_BYTES + head.length as usize;
-    if !are_zeros(&body[end..]) {
+    let stop = blocks_of_content(head.length) as usize * BLOCK;
+    if !are_zeros(&body[end..stop]) {
         return Ok(None);
     }
     decode(alloc, &body[HEAD_BYTES..end])
 }
 
-/// Returns whether the head is one of an entry with this number, whatever the length of the content is.
+/// Returns whether the head is one of an entry with this number, whatever its content, its node blocks and its root are.
 fn is_entry_head(head: &Head, number: u64) -> bool
-    ensures { IsTrue result ↔ ((head.now.kind ≡ 1) × (head.now.number ≡ number) × (head.now.nodes ≡ 0) × (head.now.root ≡ 0)) }
+    ensures { IsTrue result ↔ ((head.now.kind ≡ 1) × (head.now.number ≡ number)) }
 {
-    head.kind == 1 && head.number == number && head.nodes == 0 && head.root == 0
+    head.kind == 1 && head.number == number
 }
 
 /// Returns whether each byte is 0.

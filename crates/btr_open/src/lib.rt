@@ -1,11 +1,15 @@
 //! The opening of a store: it makes the engine of the history that a device holds.
 //!
-//! [`open_store`] reads the history that a device holds, and returns an engine of it. `specs/Damage.antt` says which block of a
-//! device breaks the format of a store.
+//! [`open_store`] makes the trees of all versions from the pages that a device has, and returns an engine of the history that the
+//! device holds. `specs/Damage.antt` says which block of a device breaks the format of a store.
 #![tactic(auto)]
 
 // the entry in the bytes of an extent
 mod decoding;
+// the test of an entry's root
+mod roots;
+// what was read so far, and one extent more
+mod loading;
 // the opening
 mod opening;
 // what holds of all devices

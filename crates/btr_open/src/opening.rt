@@ -1,22 +1,23 @@
 //! The opening of a store: which history a device holds.
-ghost use Rattle.std.specs.Prelude.{◌≡◌, ℕ, ◌+◌, ◌<◌, ◌≤◌, ◌^◌, List, [], IfErr, IfOk, IfSome, IfNone, IsTrue, IsFalse};
+ghost use Rattle.std.specs.Prelude.{◌≡◌, ℕ, ◌+◌, ◌-◌, ◌<◌, ◌≤◌, ◌^◌, List, [], IfErr, IfOk, IfSome, IfNone, IsTrue, IsFalse};
 ghost use Rattle.btr_disk.specs.Causes.{KeepsCounts};
 ghost use Rattle.btr_disk.specs.Gate.{IsClosed};
-ghost use Rattle.btr_log.specs.Extents.{IsBody};
 ghost use Rattle.btr_log.specs.Log.{log_device as disk_of, log_blocks};
+ghost use Rattle.btr_log.specs.Piece.{IsPieceOf};
 ghost use Rattle.btr_super.specs.Super.{IsSuper};
 ghost use Rattle.btr_super.specs.Choose.{IsChosen};
 ghost use Rattle.btr_hist.specs.declared.entry.Entry.{Entry as EntrySpec};
 ghost use Rattle.btr_engine.specs.Board.{IsBoardOf};
+ghost use Rattle.btr_engine.specs.Body.{Prefix};
 ghost use Rattle.btr_engine.specs.Holds.{HoldsHistory};
 ghost use Rattle.btr_open.specs.Opening.{KeepsDisk, SyncsFirst, IsOpenedEngine, IsOpenedOn, IsNotOpened};
-ghost use Rattle.btr_open.specs.Reading.{IsReadTo, CauseBetween, LogCause, OnlyReads};
-ghost use Rattle.btr_open.specs.Reading.{IsReadEngine, ReadsLog, AddsEntry, IsReadLog, HasAdded, MayNotAdd};
+ghost use Rattle.btr_open.specs.Reading.{IsReadInto, IsReadTo, CauseBetween, LogCause, OnlyReads};
+ghost use Rattle.btr_open.specs.Reading.{IsReadEngine, ReadsLog, AddsExtent, IsWholeLog};
 
-use crate::decoding::decode_extent;
+use crate::loading::Loader;
 use btr_disk::{Disk, Failed};
-use btr_engine::{Board, Engine, PushFault};
-use btr_log::{ExtentFault, Found, Head, Log};
+use btr_engine::Engine;
+use btr_log::{ExtentFault, Found, Log, Piece};
 use btr_super::{ChooseFault, LOG_START, Super, choose};
 use std::alloc::{AllocError, Global};
 use std::snapshot::Snapshot;
@@ -52,12 +53,16 @@ pub struct OpenFault<D> {
 /// read returns: all that the engine answers from is durable.
 ///
 /// The opening chooses the superblock and reads the extents from block 4 on, up to the first closed gate. Each entry is tested
-/// against those before it: the id and the spec of a new stream; of a commit the stream, its times, its size, the number of
-/// versions, and the points of the new version; of a distillate also what it has read. It is not tested that the cut and the
-/// points of a distillate are those of the definition. An entry that may not follow damages the first block of its body. An
-/// observable device without a store, or with a damaged block, is not opened.
+/// against those before it: the id and the spec of a new stream; of a commit the stream, its times, its size and the number of
+/// versions; of a distillate also what it has read. The trees of all versions are made of the pages in the node blocks: nothing is
+/// computed anew from the entries. Each page is tested by itself and against those of its children, and each root by its page. It
+/// is not tested that the points of a tree are those of the entries, or that the cut and the points of a distillate are those of
+/// the definition. The first block that breaks the format is named; `specs/Walk.antt` says which one it is. An observable device
+/// without a store, or with a damaged block, is not opened.
 ///
-/// The time is linear in the log, but for logarithms of the streams, versions and ids. The engine keeps no entries.
+/// The time is linear in the log, but for logarithms of the streams, versions and ids. The device is read in pieces of 1 MiB, or of
+/// an extent that is larger. The engine keeps all nodes and no entries. While the log is read, a piece and about 128 bytes for each
+/// node are kept beside them.
 pub fn open_store<D: Disk>(alloc: Global, disk: D) -> Result<Engine<D>, OpenFault<D>>
     ensures opened { IfOk result (IsOpenedEngine ⟦<D as Disk>⟧ disk) }
     ensures stood { D.is_observable → (h : List EntrySpec) → HoldsHistory (D.size disk) (D.contents disk) h
@@ -138,10 +143,12 @@ fn open_log<D: Disk>(
     ensures cause { IfErr result (λ f. LogCause ⟦<D as Disk>⟧ blocks disk f.disk f.cause) }
 {
     let mut log = Log::at(disk, LOG_START, blocks, 0);
-    let mut board = Board::empty();
-    match read_log(alloc, &mut log, &mut board) {
-        Ok(end) => {
-            let log = Log::at(log.into_disk(), end.tail, blocks, end.entries);
+    let mut loader = Loader::empty(alloc);
+    match read_log(alloc, &mut log, &mut loader) {
+        Ok(tail) => {
+            let Loader { board, .. } = loader;
+            let entries = board.entries();
+            let log = Log::at(log.into_disk(), tail, blocks, entries);
             Ok(Engine::over(log, board, synced))
         }
         Err(cause) => Err(OpenFault {
@@ -151,91 +158,56 @@ fn open_log<D: Disk>(
     }
 }
 
-/// The end of a log: the closed gate after its last extent, and the number of extents.
-#[derive(Clone, Copy)]
-struct End {
-    tail: u64,
-    entries: u64,
-}
-
-/// Reads the entries of a log into an empty board, from the first gate on up to the first closed gate.
-fn read_log<D: Disk>(alloc: Global, log: &mut Log<D>, board: &mut Board) -> Result<End, OpenCause>
+/// Reads the extents of a log into a loader that has nothing, from the first gate on. Returns the first closed gate.
+fn read_log<D: Disk>(alloc: Global, log: &mut Log<D>, loader: &mut Loader) -> Result<u64, OpenCause>
     requires least { 4 < log_blocks log.old }
-    requires empty { IsBoardOf [] board.old }
+    requires board { IsBoardOf [] loader.old.board }
+    requires nodes { loader.old.nodes ≡ [] }
     ensures reads { ReadsLog log.old log.new }
-    ensures read { IfOk result (λ end. IsReadLog log.old board.new end.tail end.entries) }
+    ensures read { IfOk result (λ tail. IsWholeLog D.is_observable (D.contents (disk_of log.old)) (log_blocks log.old) tail
+        loader.new.board) }
     ensures cause { IfErr result (LogCause ⟦<D as Disk>⟧ (log_blocks log.old) (disk_of log.old) (disk_of log.new)) }
 {
+    let mut piece = Piece::new(alloc);
     let mut gate = LOG_START;
-    let mut entries = 0;
-    while let Some(next) = read_next(alloc, log, board, gate, entries + 1)? {
+    while let Some(next) = read_next(alloc, log, &mut piece, loader, gate)? {
         gate = next;
-        entries += 1;
     }
-    Ok(End {
-        tail: gate,
-        entries,
-    })
+    Ok(gate)
 }
 
-/// Reads the extent at this gate, adds its entry, which has this number, to the board, and returns the gate after it. It
-/// returns `None` exactly if the gate is closed.
+/// Reads the extent at this gate into the loader, and returns the gate after it. It returns `None` exactly if the gate is closed.
 fn read_next<D: Disk>(
     alloc: Global,
     log: &mut Log<D>,
-    board: &mut Board,
+    piece: &mut Piece,
+    loader: &mut Loader,
     gate: u64,
-    number: u64,
 ) -> Result<Option<u64>, OpenCause>
     requires inside { gate < log_blocks log.old }
-    requires number { number ≡ board.old.entries + 1 }
+    requires piece { D.is_observable → IsPieceOf (D.contents (disk_of log.old)) piece.old }
+    requires few { loader.old.board.entries < 2 ^ 64 - 1 }
+    requires read { (before : Prefix) × (before.gate ≡ gate) × IsReadInto before loader.old }
     ensures reads { ReadsLog log.old log.new }
-    ensures same { IfOk result (λ o. IfNone o (board.new ≡ board.old)) }
+    ensures piece { D.is_observable → IsPieceOf (D.contents (disk_of log.new)) piece.new }
+    ensures same { IfOk result (λ o. IfNone o (loader.new ≡ loader.old)) }
     ensures closed { D.is_observable → IfOk result (λ o. IfNone o (IsClosed (D.contents (disk_of log.old)) gate)) }
-    ensures next { IfOk result (λ o. IfSome o (λ next. (e : EntrySpec) × AddsEntry log.old gate board.old board.new e next)) }
-    ensures cause { (h : List EntrySpec) → IsBoardOf h board.old → IfErr result (CauseBetween ⟦<D as Disk>⟧
-        (IsReadTo D.is_observable (D.size (disk_of log.old)) (D.contents (disk_of log.old)) (log_blocks log.old) gate h)
+    ensures next { IfOk result (λ o. IfSome o (AddsExtent log.old gate loader.old loader.new)) }
+    ensures cause { (before : Prefix) → before.gate ≡ gate → IsReadInto before loader.old
+        → IfErr result (CauseBetween ⟦<D as Disk>⟧
+        (IsReadTo D.is_observable (D.size (disk_of log.old)) (D.contents (disk_of log.old)) (log_blocks log.old) before)
         (disk_of log.old) (disk_of log.new)) }
 {
-    let found = match log.read_extent(alloc, gate) {
+    let found = match log.read_ahead(alloc, gate, piece) {
         Ok(found) => found,
         Err(fault) => return Err(cause_of(fault)),
     };
     let Found::Extent { head, body, next } = found else {
         return Ok(None);
     };
-    if !add_body(alloc, board, &head, &body, number, gate)? {
-        return Err(OpenCause::Damaged { block: gate + 1 });
-    }
-    Ok(Some(next))
-}
-
-/// Adds the entry to the board whose body with this number, after the gate at this block, the bytes are. It returns `false`, and the
-/// board stays as it is, if there is no such entry or it may not follow. An `Err` means out of memory.
-fn add_body(
-    alloc: Global,
-    board: &mut Board,
-    head: &Head,
-    body: &[u8],
-    number: u64,
-    gate: u64,
-) -> Result<bool, AllocError>
-    requires body { IsBody body.now head.now }
-    requires number { number ≡ board.old.entries + 1 }
-    requires gate { gate ≤ 2 ^ 32 }
-    ensures added { IfOk result (λ b. IsTrue b → HasAdded board.old board.new number body.now) }
-    ensures refused { IfOk result (λ b. IsFalse b → MayNotAdd board.old number body.now) }
-{
-    let Some(entry) = decode_extent(alloc, body, head, number)? else {
-        return Ok(false);
-    };
-    match board.stage(alloc, &entry, gate) {
-        Ok(staged) => {
-            board.accept(staged);
-            Ok(true)
-        }
-        Err(PushFault::Rejected(_)) => Ok(false),
-        Err(PushFault::Want) => Err(AllocError),
+    match loader.add(alloc, &head, &body, gate)? {
+        Some(block) => Err(OpenCause::Damaged { block }),
+        None => Ok(Some(next)),
     }
 }
 

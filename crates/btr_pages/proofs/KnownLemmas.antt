@@ -32,7 +32,7 @@ use Rattle.btr_node.specs.declared.page.NodePage.{NodePage}
 use Rattle.btr_node.specs.declared.page.NodePage.TheVariants.{Leaf, Inner}
 use Rattle.btr_node.specs.declared.page.PageSlot.{PageSlot}
 use Rattle.btr_pages.specs.Pages.{Pages, with_pages, span_of_page, slot_of_page, slots_of_page, node_of_page, node_of_stream, nodes_in, IsChildPage, HasChildPage, IsPageAt}
-use Rattle.btr_pages.specs.Known.{KnownValue, NodesValue, node_at, CameFrom, IsKnown, AreKnown}
+use Rattle.btr_pages.specs.Known.{KnownValue, NodesValue, node_at, CameFrom, IsKnown, AreKnown, TakesPage}
 use Rattle.btr_pages.specs.Made.{IsReadTree, IsKnownChild, HasKnownChild, MayHaveChild, IsBuildable, part_of, ArePartsTo, versions_of, AreLeafPoints, IsLeafMade, IsInnerMade, IsMadeAt}
 use Rattle.btr_pages.proofs.LeafLemmas.{leaf-points}
 use Rattle.btr_pages.proofs.NumberLemmas.{added-here, added-other, none-above}
@@ -43,7 +43,7 @@ abbrev pub IsAbove : ℕ → NodesValue → Type 0
 IsAbove block nodes = (k : ℕ) → IsSome (node_at nodes k) → k < block
 
 -- The tree of a block is of that block.
-block-at : (nodes : NodesValue) (b : ℕ) (k : KnownValue) → node_at nodes b ≡ Some k → k.block ≡ b
+pub block-at : (nodes : NodesValue) (b : ℕ) (k : KnownValue) → node_at nodes b ≡ Some k → k.block ≡ b
 block-at [] b k e = absurd (cc)
 block-at (n ∷ ns) b k at =
     elim (nat_eq n.block b) as (λ t. nat_eq n.block b ≡ t → cond t (Some n) (node_at ns b) ≡ Some k → k.block ≡ b) [
@@ -55,7 +55,7 @@ block-at (n ∷ ns) b k at =
     ] refl at
 
 -- What is known of a tree that was made.
-known-at : (pages : Pages) (nodes : NodesValue) (b : ℕ) (k : KnownValue) → AreKnown pages nodes → node_at nodes b ≡ Some k → IsKnown pages k
+pub known-at : (pages : Pages) (nodes : NodesValue) (b : ℕ) (k : KnownValue) → AreKnown pages nodes → node_at nodes b ≡ Some k → IsKnown pages k
 known-at pages nodes b k are at = subst (λ o. IfSome o (IsKnown pages)) at (are.each b)
 
 -- ---- a page stands rightly exactly if the trees of its children were made
@@ -361,24 +361,20 @@ made-buildable nodes block (Leaf start height stream version count points) k fit
 made-buildable nodes block (Inner start height stream version count slots) k fits m i =
     all-have nodes (record { start = start; height = height }) stream slots m.tree.parts fits.1 m.tree.are i
 
--- What a tree more means for the trees and the pages.
-pub record IsAddition (old new : NodesValue) (block : ℕ) (page : NodePage) : Type 0 where
-  pub added : (pages : Pages) → AreKnown pages old → AreKnown (with_pages pages block (page ∷ [])) new
-  pub rightly : (pages : Pages) → AreKnown pages old → IsPageAt pages block page
-  pub above : IsAbove (block + 1) new
-  pub stands : IsSome (node_at new block)
-
-pub addition : (old new : NodesValue) (block : ℕ) (page : NodePage) (k : KnownValue) → 1 ≤ block → IsAbove block old → Keeps page → Fits page → IsMadeAt old block page k → new ≡ old ++ k ∷ [] → IsAddition old new block page
+-- The tree that was made was added, and no tree is above its block.
+pub addition : (old new : NodesValue) (block : ℕ) (page : NodePage) (k : KnownValue) → 1 ≤ block → IsAbove block old → Keeps page → Fits page → IsMadeAt old block page k → new ≡ old ++ k ∷ [] → TakesPage old new block page × IsAbove (block + 1) new
 addition old new block page k some above keeps fits m is =
     let here : IsAbove k.block old = subst (λ b. IsAbove b old) (sym m.its_block) above in
-    subst (λ xs. IsAddition old xs block page) (sym is) (record {
-      added = λ pages are.
-          let made = made-of_page pages old block page k are above some keeps fits m in
-          subst (λ b. AreKnown (with_pages pages b (page ∷ [])) (old ++ k ∷ [])) m.its_block (known-more pages old page k are here (subst (λ b. CameFrom (with_pages pages b (page ∷ [])) page k) (sym m.its_block) made));
-      rightly = λ pages are. page-right pages old block page are above keeps (made-buildable old block page k fits m);
-      above = subst (λ b. IsAbove (b + 1) (old ++ k ∷ [])) m.its_block (above-more old k here);
-      stands = subst (λ b. IsSome (node_at (old ++ k ∷ []) b)) m.its_block (subst IsSome (sym (added-itself old k here)) refl);
-    })
+    subst (λ xs. TakesPage old xs block page × IsAbove (block + 1) xs) (sym is) (
+      record {
+        known = λ pages are.
+            let made = made-of_page pages old block page k are above some keeps fits m in
+            subst (λ b. AreKnown (with_pages pages b (page ∷ [])) (old ++ k ∷ [])) m.its_block (known-more pages old page k are here (subst (λ b. CameFrom (with_pages pages b (page ∷ [])) page k) (sym m.its_block) made));
+        rightly = λ pages are. page-right pages old block page are above keeps (made-buildable old block page k fits m);
+        stands = subst (λ b. IsSome (node_at (old ++ k ∷ []) b)) m.its_block (subst IsSome (sym (added-itself old k here)) refl);
+      },
+      subst (λ b. IsAbove (b + 1) (old ++ k ∷ [])) m.its_block (above-more old k here),
+    )
 
 -- The count of a page is that of the tree that was made of it.
 pub leaf-counted : (block version : ℕ) (span : SpanValue) (f : Front) (points : List Point) (t : TreeValue) → IsLeafPage f points → length points ≡ 252 → IsLeafMade block span version (take f.count points) t → IsReadTree f.count t

@@ -6,3 +6,5 @@ pub mod PageOfLemmas
 pub mod ToldLemmas
 pub mod ToldNodeLemmas
 pub mod PagesLemmas
+pub mod BlockLemmas
+pub mod RootPageLemmas

@@ -1,5 +1,5 @@
 -- The pages of the nodes that a commit writes: they stand rightly, and the new tree is stored in them.
-use Rattle.std.specs.Prelude.{◌≡◌, ◌⊎◌, ℕ, ◌+◌, ◌-◌, ◌^◌, ◌<◌, ◌≤◌, ℤ, pos, ◌+ℤ◌, Bool, true, false, not, cond, nat_lt, nat_eq, List, [], ◌∷◌, ◌++◌, length, map, slice_get, Option, Some, None, IfSome, option_map}
+use Rattle.std.specs.Prelude.{◌≡◌, ◌⊎◌, ℕ, ◌+◌, ◌-◌, ◌^◌, ◌<◌, ◌≤◌, ℤ, pos, ◌+ℤ◌, Bool, true, false, not, cond, nat_lt, nat_eq, List, [], ◌∷◌, ◌++◌, length, slice_get, Option, Some, None, IfSome, option_map}
 use Rattle.std.specs.Int.{w64}
 use Rattle.std.specs.Int.RustNames.{FitsSigned}
 use Rattle.std.specs.List.{AllByRecursion}
@@ -480,18 +480,17 @@ told-pages pages stream first h c old new told of by =
       };
     }
 
--- What holds of the pages that stood, and of the new ones, holds of all.
-pub kept-along : (pages : Pages) (stream first : ℕ) (told : List NewNodeValue) (new : TreeValue) → AreKept pages → AreTold pages stream first told new → AreKept (with_pages pages first (pages_of stream told))
-kept-along pages stream first told new kept told_so b =
-    let ps = pages_of stream told in
-    let P = with_pages pages first ps in
+-- Pages that keep the table, and some more that stand rightly and fit, keep it.
+pub kept-more : (pages : Pages) (first : ℕ) (new : List NodePage) → AreKept pages → ArePages pages first new → AllByRecursion Fits new → AreKept (with_pages pages first new)
+kept-more pages first new kept stand fit b =
+    let P = with_pages pages first new in
     elim (P b) as (λ o. P b ≡ o → IfSome o (λ page. Keeps page × Fits page)) [
       | None ↦ λ e. tt
-      | Some page ↦ λ e. elim (with-either pages first ps b page e) [
+      | Some page ↦ λ e. elim (with-either pages first new b page e) [
         | inl old ↦ kept-at pages kept b page old.1
         | inr fresh ↦
-            let stands = subst (λ o. IfSome o (λ q. IsPageAt P (first + (b - first)) q)) fresh.1 (told_so.stand (b - first)) in
-            (stands.keeps, each-get Fits ps (b - first) page told_so.fit fresh.1)
+            let stands = subst (λ o. IfSome o (λ q. IsPageAt P (first + (b - first)) q)) fresh.1 (stand (b - first)) in
+            (stands.keeps, each-get Fits new (b - first) page fit fresh.1)
       ]
     ] refl
 

@@ -1,11 +1,12 @@
 -- Trees that were made of pages: which block each one is of, and what was read from there.
 use Rattle.std.specs.Prelude.{◌≡◌, ℕ, ◌+◌, ◌≤◌, nat_eq, List, [], ◌∷◌, Option, Some, None, IfSome, IsSome, if◌then◌else◌}
+use Rattle.btr_base.specs.declared.limits.TheConstants.{FIRST}
 use Rattle.btr_tree.specs.Leads.{IsRead}
-use Rattle.btr_tree.specs.Root.{TreeValue, WasOpened, version_of}
+use Rattle.btr_tree.specs.Root.{TreeValue, WasOpened, root_part, version_of}
 use Rattle.btr_tree.specs.Slots.{block_of}
 use Rattle.btr_node.specs.Page.{front, Keeps}
 use Rattle.btr_node.specs.declared.page.NodePage.{NodePage}
-use Rattle.btr_pages.specs.Pages.{Pages, span_of_page, nodes_in}
+use Rattle.btr_pages.specs.Pages.{Pages, with_pages, span_of_page, nodes_in, IsPageAt}
 
 -- The tree that was made of the page in a block, and the stream of the page.
 pub record KnownValue : Type 0 where
@@ -48,3 +49,21 @@ pub record IsKnown (pages : Pages) (known : KnownValue) : Type 0 where
 pub record AreKnown (pages : Pages) (nodes : NodesValue) : Type 0 where
   pub each : (block : ℕ) → IfSome (node_at nodes block) (IsKnown pages)
   pub all : (block : ℕ) → IsSome (pages block) → IsSome (node_at nodes block)
+
+-- The tree of the page in a block was added to others: for all pages of which the old trees were made, the page stands rightly after
+-- them.
+pub record TakesPage (old new : NodesValue) (block : ℕ) (page : NodePage) : Type 0 where
+  -- the new trees are those of the pages before and of this one
+  pub known : (pages : Pages) → AreKnown pages old → AreKnown (with_pages pages block (page ∷ [])) new
+  pub rightly : (pages : Pages) → AreKnown pages old → IsPageAt pages block page
+  -- the block has a tree
+  pub stands : IsSome (node_at new block)
+
+-- The tree of a version whose root is in this block: it is about the whole domain, its root is not newer than the version, and it
+-- was read from the pages of the stream.
+pub record IsReadRoot (pages : Pages) (stream version block : ℕ) (t : TreeValue) : Type 0 where
+  pub its_span : t.span ≡ root_part
+  pub its_block : block_of t.node ≡ block
+  pub not_newer : version_of t.node ≤ version
+  pub opened : WasOpened t
+  pub read : IsRead (nodes_in pages stream) 10 FIRST t.node

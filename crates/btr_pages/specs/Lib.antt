@@ -4,5 +4,7 @@ pub mod Pages
 pub mod Told
 -- Trees that were made of pages.
 pub mod Known
+-- Blocks that are read as pages.
+pub mod Blocks
 -- What the private functions promise.
 pub mod Made

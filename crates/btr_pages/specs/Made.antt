@@ -1,5 +1,5 @@
 -- What the private functions promise of the trees that are made of pages, and of the table that finds them.
-use Rattle.std.specs.Prelude.{◌≡◌, ℕ, zero, suc, ◌-◌, ◌<◌, ◌≤◌, nat_eq, nat_lt, List, length, take, map, get_or, slice_get}
+use Rattle.std.specs.Prelude.{◌≡◌, ◌⊎◌, ℕ, zero, suc, ◌-◌, ◌<◌, ◌≤◌, nat_eq, nat_lt, List, length, take, map, get_or, slice_get}
 use Rattle.std.specs.Prelude.{Option, Some, None, IfSome, IsSome, if◌then◌else◌, option_map}
 use Rattle.std.specs.List.{AllByRecursion}
 use Rattle.btr_base.specs.Bag.{IsInOrder}
@@ -7,13 +7,14 @@ use Rattle.btr_base.specs.Span.{SpanValue, slot_of}
 use Rattle.btr_base.specs.declared.point.Point.{Point}
 use Rattle.btr_tree.specs.Opened.{part_at, AreParts, IsLeafTree, IsInnerTree}
 use Rattle.btr_tree.specs.Root.{TreeValue, WasOpened, version_of}
-use Rattle.btr_node.specs.Page.{front, IsInside}
+use Rattle.btr_node.specs.Page.{front, Spells, Fits, IsInside}
 use Rattle.btr_node.specs.declared.page.Front.{Front}
 use Rattle.btr_node.specs.declared.page.NodePage.{NodePage}
 use Rattle.btr_node.specs.declared.page.NodePage.TheVariants.{Leaf, Inner}
 use Rattle.btr_node.specs.declared.page.PageSlot.{PageSlot}
-use Rattle.btr_pages.specs.Pages.{span_of_page, slots_of_page}
-use Rattle.btr_pages.specs.Known.{KnownValue, NodesValue, node_at, AreBetween}
+use Rattle.btr_pages.specs.Pages.{Pages, span_of_page, slots_of_page, IsPageAt}
+use Rattle.btr_pages.specs.Known.{KnownValue, NodesValue, node_at, AreBetween, AreKnown, TakesPage}
+use Rattle.btr_pages.specs.Blocks.{IsNoPage}
 
 -- ---- a tree that was made, and the table
 
@@ -124,3 +125,31 @@ pub record IsMadeAt (nodes : NodesValue) (block : ℕ) (page : NodePage) (known 
   pub its_block : known.block ≡ block
   pub stream : known.stream ≡ (front page).stream
   pub tree : IsTreeOfPage nodes block page known.tree
+
+-- ---- the page that a block is
+
+-- The bytes of a block are those of a page whose tree was added.
+pub record IsAddedPage (old new : NodesValue) (block : ℕ) (bytes : List ℕ) : Type 0 where
+  pub page : NodePage
+  pub fits : Fits page
+  pub spells : Spells bytes page
+  pub added : TakesPage old new block page
+
+-- The bytes of a block are those of a page that does not stand rightly.
+pub record IsMisplaced (nodes : NodesValue) (block : ℕ) (bytes : List ℕ) : Type 0 where
+  pub page : NodePage
+  pub fits : Fits page
+  pub spells : Spells bytes page
+  pub wrong : (pages : Pages) → AreKnown pages nodes → IsPageAt pages block page → ⊥
+
+-- The block is no page that stands rightly.
+abbrev pub IsDamagedPage : NodesValue → ℕ → List ℕ → Type 0
+IsDamagedPage nodes block bytes = IsNoPage bytes ⊎ IsMisplaced nodes block bytes
+
+-- ---- the tree of a root
+
+-- The tree was made of a page of the stream, whose height is that of a root, and which is not newer than the version.
+pub record IsKnownRoot (stream version : ℕ) (known : KnownValue) : Type 0 where
+  pub height : known.tree.span.height ≡ 10
+  pub its_stream : known.stream ≡ stream
+  pub not_newer : version_of known.tree.node ≤ version

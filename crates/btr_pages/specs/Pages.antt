@@ -1,5 +1,5 @@
 -- Pages in blocks: the nodes of a stream that they are, and which of them stand rightly where they stand.
-use Rattle.std.specs.Prelude.{◌≡◌, ℕ, ◌+◌, ◌-◌, ◌^◌, ◌%◌, ◌<◌, pos, nat_lt, nat_eq, List, [], ◌∷◌, ◌++◌}
+use Rattle.std.specs.Prelude.{◌≡◌, ◌⊎◌, ℕ, ◌+◌, ◌-◌, ◌^◌, ◌%◌, ◌<◌, ◌≤◌, pos, nat_lt, nat_eq, Bool, false, List, [], ◌∷◌, ◌++◌}
 use Rattle.std.specs.Prelude.{length, take, replicate, map, slice_get, Option, Some, None, IfSome, if◌then◌else◌}
 use Rattle.std.specs.List.{sum_by}
 use Rattle.std.specs.Option.{option_and_then}
@@ -133,3 +133,22 @@ pub record IsPageAt (pages : Pages) (block : ℕ) (page : NodePage) : Type 0 whe
 abbrev pub ArePages : Pages → ℕ → List NodePage → Type 0
 ArePages pages first new =
     (i : ℕ) → IfSome (slice_get new i) (λ page. IsPageAt (with_pages pages first new) (first + i) page)
+
+-- ---- the page of a root
+
+-- The page of the root of a version of a stream: its height is that of the whole domain, and it is not newer than the version.
+pub record IsRootPage (stream version : ℕ) (page : NodePage) : Type 0 where
+  pub height : (front page).height ≡ 10
+  pub its_stream : (front page).stream ≡ stream
+  pub not_newer : (front page).version ≤ version
+
+-- The block has the page of the root of a version.
+pub record HasRootPage (pages : Pages) (stream version block : ℕ) : Type 0 where
+  pub page : NodePage
+  pub is : pages block ≡ Some page
+  pub fits : IsRootPage stream version page
+
+-- The block may be that of the root of a version: 0 if its commit adds no point, or a block that has the page of such a root.
+abbrev pub MayBeRoot : Pages → ℕ → ℕ → Bool → ℕ → Type 0
+MayBeRoot pages stream version adds block =
+    ((block ≡ 0) × (adds ≡ false)) ⊎ HasRootPage pages stream version block

@@ -17,6 +17,9 @@ mod table;
 // how a tree is made of a page
 mod children;
 mod making;
+// the pages that blocks are, and the trees of roots
+mod blocks;
+mod roots;
 // theorems on the definitions
 mod laws;
 

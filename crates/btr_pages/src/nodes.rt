@@ -2,8 +2,8 @@
 ghost use Rattle.std.specs.Prelude.{◌≡◌, ◌≢◌, ℕ, ◌+◌, ◌<◌, ◌≤◌, [], ◌∷◌, ◌++◌, length, nat_eq, if◌then◌else◌, true, false};
 ghost use Rattle.std.specs.Prelude.{Ok, IfOk, IfErr, IsSome, option_map};
 ghost use Rattle.btr_node.specs.Page.{Keeps, Fits};
-ghost use Rattle.btr_pages.specs.Pages.{Pages, with_pages, IsPageAt};
-ghost use Rattle.btr_pages.specs.Known.{AreKnown, node_at};
+ghost use Rattle.btr_pages.specs.Pages.{Pages, IsPageAt};
+ghost use Rattle.btr_pages.specs.Known.{AreKnown, TakesPage, node_at};
 
 use crate::known::Known;
 use crate::making::make;
@@ -79,13 +79,10 @@ impl Nodes {
         requires above { (k : ℕ) → IsSome (node_at self.old k) → k < block }
         requires keeps { Keeps page.now }
         requires fits { Fits page.now }
-        ensures added { result ≡ Ok true → (pages : Pages) → AreKnown pages self.old
-            → AreKnown (with_pages pages block (page.now ∷ [])) self.new }
-        ensures rightly { result ≡ Ok true → (pages : Pages) → AreKnown pages self.old → IsPageAt pages block page.now }
+        ensures added { result ≡ Ok true → TakesPage self.old self.new block page.now }
         ensures refused { result ≡ Ok false → (pages : Pages) → AreKnown pages self.old → IsPageAt pages block page.now → ⊥ }
         ensures kept { result ≢ Ok true → self.new ≡ self.old }
         ensures above { (k : ℕ) → IsSome (node_at self.new k) → k < block + 1 }
-        ensures stands { result ≡ Ok true → IsSome (node_at self.new block) }
     {
         let Some(known) = make(alloc, self, block, page, steps)? else {
             return Ok(false);

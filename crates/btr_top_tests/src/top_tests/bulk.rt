@@ -172,24 +172,25 @@ $ ask
 = 0
 ";
 
-// the device becomes full in the middle of the batches
+// the device becomes full in the middle of the batches: a create needs two blocks of the nine, and each batch three, one of them for the
+// leaf of its stream's points
 const FULL: &str = "\
-$ format --blocks 12
-< formatted 12
+$ format --blocks 14
+< formatted 14
 = 0
 $ load --batch 1
 > U,0,1
 > U,1,2
 > V,2,3
-< U rows 2 2: no full 2 1
+< U rows 2 2: no full 3 2
 < U 1 1
-< V rows 3 3: no full 2 1
+< V rows 3 3: no full 3 2
 < V 0 0
 < loaded 1 refused 2
 = 8
 ";
 
-// a stream cannot be created
+// a stream cannot be created: that needs two blocks, and there is one after the first stream, whose batches need three
 const NOT_CREATED: &str = "\
 $ format --blocks 8
 < formatted 8
@@ -199,8 +200,8 @@ $ load --batch 1
 > V,1,1
 > U,2,2
 > V,3,3
-< U rows 1 1: no full 2 1
-< U rows 3 3: no full 2 1
+< U rows 1 1: no full 3 1
+< U rows 3 3: no full 3 1
 < U 0 0
 < V rows 2 4: no full 2 1
 < loaded 0 refused 4

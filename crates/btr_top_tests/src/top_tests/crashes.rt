@@ -57,8 +57,8 @@ fn left_by(
     Ok(bytes)
 }
 
-/// Returns the bytes of a store before a commit, and after it. The gate at the tail is block 8, the body block 9, and the next gate block
-/// 10.
+/// Returns the bytes of a store before a commit, and after it. The gate at the tail is block 9, since a create takes two blocks and a
+/// commit of a point three. The body has the blocks 10, of the entry, and 11, the leaf of both points. The next gate is block 12.
 fn before_and_after(
     rt: &(impl AllocGlobal + Threads + Wait + Sync),
 ) -> Result<(Vec<u8>, Vec<u8>), Fail>
@@ -97,7 +97,27 @@ fn reopens(
     Ok(ran.text.as_slice() == want.as_bytes())
 }
 
-/// Returns the first torn body with which a store does not reopen without the commit, whatever the next gate holds.
+/// Returns whether a store reopens without the commit if the block of its entry is so torn, whatever the leaf and the next gate hold.
+fn reopens_without(
+    rt: &(impl AllocGlobal + Threads + Wait + Sync),
+    before: &[u8],
+    after: &[u8],
+    body: Torn,
+) -> Result<bool, Fail>
+    requires { length before.now % 4096 ≡ 0 }
+{
+    for leaf in ALL {
+        for next in ALL {
+            let blocks = [(10, body), (11, leaf), (12, next)];
+            if !reopens(rt, before, after, &blocks, false)? {
+                return Ok(false);
+            }
+        }
+    }
+    Ok(true)
+}
+
+/// Returns the first torn body with which a store does not reopen without the commit.
 fn first_wrong_body(
     rt: &(impl AllocGlobal + Threads + Wait + Sync),
     before: &[u8],
@@ -106,10 +126,8 @@ fn first_wrong_body(
     requires { length before.now % 4096 ≡ 0 }
 {
     for (row, body) in ALL.iter().enumerate() {
-        for next in ALL {
-            if !reopens(rt, before, after, &[(9, *body), (10, next)], false)? {
-                return Ok(Some(row));
-            }
+        if !reopens_without(rt, before, after, *body)? {
+            return Ok(Some(row));
         }
     }
     Ok(None)
@@ -124,7 +142,12 @@ fn first_wrong_gate(
     requires { length before.now % 4096 ≡ 0 }
 {
     for (row, gate) in ALL.iter().enumerate() {
-        let blocks = [(9, Torn::New), (10, Torn::New), (8, *gate)];
+        let blocks = [
+            (10, Torn::New),
+            (11, Torn::New),
+            (12, Torn::New),
+            (9, *gate),
+        ];
         let is_open = matches!(gate, Torn::New | Torn::Gate);
         if !reopens(rt, before, after, &blocks, is_open)? {
             return Ok(Some(row));

@@ -80,9 +80,12 @@ fn an_entry_that_may_not_follow_is_damage(rt: HostRuntime) -> Result<(), Fail> {
 /// The bytes of an entry that creates a stream.
 const CREATE: &[u8] = b"\x01\x11\x11\x11\x11\x11\x11\x41\x11\x81\x11\x11\x11\x11\x11\x11\x11";
 
-/// The bytes of open gates, of a superblock's body and of the bodies of two entries, written by hand: the address and
+/// The bytes of open gates, of a superblock's body, of the bodies of two entries and of a leaf, written by hand: the address and
 /// the bytes. All else is zeros.
-const BYTES: [(usize, &[u8]); 8] = [
+///
+/// The second entry's body has two blocks: one of its content, and one of its node, the root in block 8. The page of that node has its
+/// span's first time and height, the stream, the version and the number of its points, and then the points.
+const BYTES: [(usize, &[u8]); 10] = [
     (0, b"BTR-GATE"),
     (
         4096,
@@ -100,12 +103,22 @@ const BYTES: [(usize, &[u8]); 8] = [
     (6 * 4096, b"BTR-GATE"),
     (
         7 * 4096,
-        b"BTR-BODY\0\0\0\x01\0\0\0\x01\0\0\0\0\0\0\0\x02\0\0\0\0\0\0\0\x01\0\0\0\0\0\0\0\x45",
+        b"BTR-BODY\0\0\0\x01\0\0\0\x01\0\0\0\0\0\0\0\x02\0\0\0\0\0\0\0\x02\0\0\0\0\0\0\0\x45\
+          \0\0\0\0\0\0\0\x01\0\0\0\0\0\0\0\x08",
     ),
     (
         7 * 4096 + 64,
         b"\x02\0\0\0\0\0\0\0\0\0\0\0\0\0\0\0\0\0\0\0\x03\0\0\0\0\0\0\0\0\0\0\0\0\0\0\0\x05\
           \0\0\0\0\0\0\0\x03\0\0\0\0\0\0\0\x07\0\0\0\0\0\0\0\x04\xff\xff\xff\xff\xff\xff\xff\xfe",
+    ),
+    (
+        8 * 4096,
+        b"BTR-LEAF\xf0\0\0\0\0\0\0\0\0\0\0\x0a\0\0\0\0\0\0\0\0\0\0\0\x01\0\0\0\0\0\0\0\x03",
+    ),
+    (
+        8 * 4096 + 64,
+        b"\0\0\0\0\0\0\0\0\0\0\0\0\0\0\0\x05\0\0\0\0\0\0\0\x03\0\0\0\0\0\0\0\x07\
+          \0\0\0\0\0\0\0\x04\xff\xff\xff\xff\xff\xff\xff\xfe",
     ),
 ];
 
@@ -141,7 +154,7 @@ fn asked(rt: &(impl AllocGlobal + Threads + Wait + Sync)) -> Result<MemDisk, Fai
 fn the_bytes_of_the_device_are_those_of_its_format(rt: HostRuntime) -> Result<(), Fail> {
     // eight calls to format, three to open, and four for each entry
     assert!(rt; has_bytes(&rt, written(&rt)?)? == (19, true));
-    // questions write nothing; the three calls to open an empty store, and one for each entry, are all
-    assert!(rt; has_bytes(&rt, asked(&rt)?)? == (5, true));
+    // questions write nothing; a sync, a read of the superblocks, and a read of the log, which is less than 1 MiB, are all
+    assert!(rt; has_bytes(&rt, asked(&rt)?)? == (3, true));
     Ok(())
 }

@@ -95,16 +95,17 @@ $ ask
 = 0
 ";
 
-// a store with room for three entries
+// a store with room for three entries: a stream and an output that are made need two blocks of the nine each, and three points need
+// three, one of them for their leaf
 const SMALL_STORE: &str = "\
-$ format --blocks 12
-< formatted 12
+$ format --blocks 14
+< formatted 14
 = 0
 ";
 
-// the rounds find no room for the points of the output
+// the rounds find no room for the points of the output: they need three blocks, and two are left
 const FULL_ROUNDS: &str = "\
-< materialize W no full 2 1
+< materialize W no full 3 2
 = 8
 ";
 

@@ -216,10 +216,11 @@ $ live
 = 1
 ";
 
-// the store has room for three entries
+// the store has room for three entries: a stream or an output that is made needs two blocks of the nine, and a commit of a point three,
+// one of them for the leaf of the points
 const FULL: &str = "\
-$ format --blocks 12
-< formatted 12
+$ format --blocks 14
+< formatted 14
 = 0
 $ live
 > create V
@@ -230,7 +231,7 @@ $ live
 < ok 0 0
 < ok 0 0
 < ok 1 0
-< no full 2 1
+< no full 3 2
 < ok 0 0
 = 8
 ";

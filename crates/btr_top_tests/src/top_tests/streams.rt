@@ -149,26 +149,28 @@ const INSERTS: &[Insert<'static>] = &[
         CROWDED,
         1,
     ),
-    // an entry needs its blocks
+    // 1000 points need 30 blocks: 4 of the entry, 16 leaves of 256 ns, 9 inner nodes above them, and the next gate; the create needs 2,
+    // and a point alone 3
     (
         1000,
-        1,
+        4,
         "\ninsert U 0 5\n",
-        "11",
-        "ok 0 0\nno full 5 4\nok 1 0\n",
+        "36",
+        "ok 0 0\nno full 30 29\nok 1 0\n",
         8,
     ),
+    // one point more needs 12 blocks: its entry, a leaf, the 9 nodes above it, and the next gate
     (
         1000,
-        1,
+        4,
         "\ninsert U 0 5\n",
-        "12",
-        "ok 0 0\nok 1 0\nno full 2 0\n",
+        "37",
+        "ok 0 0\nok 1 0\nno full 12 0\n",
         8,
     ),
-    // a commit has at most 65536 points
-    (65536, 1, "\n", "64", "ok 0 0\nno full 258 57\n", 8),
-    (65537, 1, "\n", "64", "ok 0 0\nno many 65537\n", 1),
+    // a commit has at most 65536 points; they need 257 blocks of the entry, 1024 leaves of 256 ns, 16 and 8 inner nodes, and the gate
+    (65536, 4, "\n", "64", "ok 0 0\nno full 1306 57\n", 8),
+    (65537, 4, "\n", "64", "ok 0 0\nno many 65537\n", 1),
 ];
 
 /// Returns whether an insert gives its text and status.

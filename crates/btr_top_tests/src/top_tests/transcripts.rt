@@ -1,5 +1,6 @@
 //! Transcripts of runs, in the form of the document on commands: `$` the words, `>` the input, `<` the output, `=` the
-//! status. `U` is short for 11111111-1111-4111-8111-111111111111, and `V` for 22222222-2222-4222-8222-222222222222.
+//! status. `U` is short for 11111111-1111-4111-8111-111111111111, `V` for 22222222-2222-4222-8222-222222222222, and `W` for
+//! 33333333-3333-4333-8333-333333333333.
 use super::fixture::play;
 use std::test::Fail;
 
@@ -134,7 +135,8 @@ $ live
 = 1
 ";
 
-// the least store has room for one entry; of two causes the status is the greater one
+// the least store has room for one entry, which takes two of its three blocks, and a commit of a point needs three; of two causes the
+// status is the greater one
 const FULL: &str = "\
 $ format --blocks 8
 < formatted 8
@@ -146,8 +148,25 @@ $ live
 > range U 0 9 latest
 < ok 0 0
 < no stream
-< no full 2 1
+< no full 3 1
 < ok 0 0
+= 8
+";
+
+// a create needs its entry and the next gate; a commit of a point needs a block more, for its leaf; a smaller entry fits after that
+const SMALLER: &str = "\
+$ format --blocks 9
+< formatted 9
+= 0
+$ live
+> create U
+> insert U 0 5
+> create V
+> create W
+< ok 0 0
+< no full 3 2
+< ok 0 0
+< no full 2 0
 = 8
 ";
 
@@ -244,7 +263,7 @@ $ live --batch=2
 = 1
 ";
 
-// the least store has room for one entry
+// the least store has room for one entry; after it one block is left, and a commit of points needs three
 const FULL_FEEDS: &str = "\
 $ format --blocks 8
 < formatted 8
@@ -259,9 +278,9 @@ $ live --batch 3
 > flush U
 < ok 0 0
 < held 2
-< no full 2 1
-< no full 2 1
-< no full 2 1
+< no full 3 1
+< no full 3 1
+< no full 3 1
 < held 0
 < no empty
 = 8
@@ -401,7 +420,8 @@ fn an_id_is_the_same_in_each_form(rt: HostRuntime) -> Result<(), Fail> {
 
 #[test]
 fn a_full_store_answers_on(rt: HostRuntime) -> Result<(), Fail> {
-    play(&rt, &[], FULL)
+    play(&rt, &[], FULL)?;
+    play(&rt, &[], SMALLER)
 }
 
 #[test]

@@ -1,4 +1,4 @@
-use Rattle.std.specs.Prelude.{◌≡◌, ℕ, ◌^◌, Option, length}
+use Rattle.std.specs.Prelude.{ℕ, ◌^◌, Option, length}
 use Rattle.std.specs.Int.{w64}
 use Rattle.std.proofs.Common.{sym, ap, ◌∙◌}
 use Rattle.btr_entry.specs.Grammar.{one_or_two}

@@ -4,9 +4,9 @@ use Rattle.std.specs.List.{list_any}
 use Rattle.std.proofs.lemmas.Bool.{le-leb, lt-leb}
 use Rattle.btr_base.specs.declared.limits.TheConstants.{MAX_STREAMS}
 use Rattle.btr_hist.specs.History.{ids}
-use Rattle.btr_engine.specs.Board.{Kept, IsBoardOf, place_of, ids_of}
+use Rattle.btr_engine.specs.Board.{Kept, HasStreamsOf, place_of, ids_of}
 use Rattle.btr_engine.proofs.BoardStreams.{place-any, none_from, creation_is}
-use Rattle.btr_engine.proofs.BoardNext.{ids-are}
+use Rattle.btr_engine.proofs.StreamsLemmas.{ids-of}
 use Rattle.btr_engine.proofs.board.Board.create_rejection.Goals.{After-is_some}
 use Rattle.btr_engine.proofs.board.Board.create_rejection.Goals as goal
 
@@ -16,9 +16,9 @@ place c =
     c.find.ensures ∙ c.self.invariant.numbered c.args.id ∙ ap (λ (b : Kept). place_of (ids_of b.streams) c.args.id) c.self.view_is
 
 -- The id is found exactly if the history has it.
-any : (c : After-is_some) (h : _) → IsBoardOf h c.args.self.now → list_any (nat_eq c.args.id) (ids h) ≡ c.is_some.result
+any : (c : After-is_some) (h : _) → HasStreamsOf h c.args.self.now → list_any (nat_eq c.args.id) (ids h) ≡ c.is_some.result
 any c h of =
-    sym (place-any (ids h) c.args.id) ∙ ap is_some (sym (place c ∙ ap (λ l. place_of l c.args.id) (ids-are h c.args.self.now of))) ∙ sym c.is_some.ensures
+    sym (place-any (ids h) c.args.id) ∙ ap is_some (sym (place c ∙ ap (λ l. place_of l c.args.id) (ids-of h c.args.self.now of))) ∙ sym c.is_some.ensures
 
 pub returns-then-is_some-clause-of : goal.returns-then-is_some-clause-of
 returns-then-is_some-clause-of c h of =

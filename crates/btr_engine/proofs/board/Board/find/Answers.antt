@@ -1,11 +1,12 @@
 use Rattle.std.proofs.Common.{ap, ◌∙◌}
 use Rattle.btr_engine.specs.Board.{Kept, place_of, ids_of}
-use Rattle.btr_engine.proofs.BoardNext.{ids-are, place-below}
+use Rattle.btr_engine.proofs.StreamsLemmas.{has-streams, ids-of}
+use Rattle.btr_engine.proofs.BoardNext.{place-below}
 use Rattle.btr_engine.proofs.board.Board.find.Goals as goal
 
 pub returns-clause-of : goal.returns-clause-of
 returns-clause-of c h of =
-    c.find.ensures ∙ c.self.invariant.numbered c.args.id ∙ ap (λ (b : Kept). place_of (ids_of b.streams) c.args.id) c.self.view_is ∙ ap (λ l. place_of l c.args.id) (ids-are h c.args.self.now of)
+    c.find.ensures ∙ c.self.invariant.numbered c.args.id ∙ ap (λ (b : Kept). place_of (ids_of b.streams) c.args.id) c.self.view_is ∙ ap (λ l. place_of l c.args.id) (ids-of h c.args.self.now (has-streams h c.args.self.now of))
 
 pub returns-clause-below : goal.returns-clause-below
 returns-clause-below c =

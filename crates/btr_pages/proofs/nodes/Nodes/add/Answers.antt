@@ -12,19 +12,9 @@ returns-in_default-clause-refused g c e pages are right =
 pub returns-clause-added : goal.returns-clause-added
 returns-clause-added g c e =
     let made = subst (λ o. MatchOption o (IsBuildable c.args.self.now c.args.page.now → ⊥) (IsMadeAt c.args.self.now c.args.block c.args.page.now)) c.in-Some.is c.in_ok-known.ensures in
-    (addition c.args.self.now c.push.new.self c.args.block c.args.page.now c.in-Some.known c.requires.some c.requires.above c.requires.keeps c.requires.fits made c.in_ok-push.ensures.pushed).added
-
-pub returns-clause-rightly : goal.returns-clause-rightly
-returns-clause-rightly g c e =
-    let made = subst (λ o. MatchOption o (IsBuildable c.args.self.now c.args.page.now → ⊥) (IsMadeAt c.args.self.now c.args.block c.args.page.now)) c.in-Some.is c.in_ok-known.ensures in
-    (addition c.args.self.now c.push.new.self c.args.block c.args.page.now c.in-Some.known c.requires.some c.requires.above c.requires.keeps c.requires.fits made c.in_ok-push.ensures.pushed).rightly
+    (addition c.args.self.now c.push.new.self c.args.block c.args.page.now c.in-Some.known c.requires.some c.requires.above c.requires.keeps c.requires.fits made c.in_ok-push.ensures.pushed).0
 
 pub returns-clause-above : goal.returns-clause-above
 returns-clause-above g c =
     let made = subst (λ o. MatchOption o (IsBuildable c.args.self.now c.args.page.now → ⊥) (IsMadeAt c.args.self.now c.args.block c.args.page.now)) c.in-Some.is c.in_ok-known.ensures in
-    (addition c.args.self.now c.push.new.self c.args.block c.args.page.now c.in-Some.known c.requires.some c.requires.above c.requires.keeps c.requires.fits made c.in_ok-push.ensures.pushed).above
-
-pub returns-clause-stands : goal.returns-clause-stands
-returns-clause-stands g c e =
-    let made = subst (λ o. MatchOption o (IsBuildable c.args.self.now c.args.page.now → ⊥) (IsMadeAt c.args.self.now c.args.block c.args.page.now)) c.in-Some.is c.in_ok-known.ensures in
-    (addition c.args.self.now c.push.new.self c.args.block c.args.page.now c.in-Some.known c.requires.some c.requires.above c.requires.keeps c.requires.fits made c.in_ok-push.ensures.pushed).stands
+    (addition c.args.self.now c.push.new.self c.args.block c.args.page.now c.in-Some.known c.requires.some c.requires.above c.requires.keeps c.requires.fits made c.in_ok-push.ensures.pushed).1

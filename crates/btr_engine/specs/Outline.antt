@@ -1,5 +1,4 @@
--- What an opening has to know of a history beside its points, its outline; and why an entry may not follow a history, by the outline
--- and by the points.
+-- What shows of a history beside its points, its outline; and why an entry may not follow a history, by the outline and by the points.
 use Rattle.std.specs.Prelude.{◌≡◌, ℕ, ◌+◌, Bool, true, false, not, ◌&&◌, nat_eq, nat_lt, nat_le, List, [], ◌∷◌, length, map}
 use Rattle.std.specs.Prelude.{slice_index_or, Option, Some, None}
 use Rattle.std.specs.List.{list_any}

@@ -1,0 +1,123 @@
+-- What a pending entry writes: its extent, pages that stand rightly after those before it, and a root that leads to the new tree.
+use Rattle.std.specs.Prelude.{◌≡◌, ℕ, ◌+◌, ◌^◌, ◌<◌, ◌≤◌, List, [], ◌∷◌, ◌++◌, length}
+use Rattle.std.specs.List.{AllByRecursion}
+use Rattle.std.proofs.Common.{refl, sym, ◌∙◌, ap, subst, arith}
+use Rattle.std.proofs.lemmas.List.{length-map}
+use Rattle.btr_base.specs.declared.limits.TheConstants.{MAX_VERSIONS}
+use Rattle.btr_base.specs.Commit.{Change}
+use Rattle.btr_disk.specs.Gate.{zeros}
+use Rattle.btr_tree.specs.NewNodes.{NewNodeValue}
+use Rattle.btr_node.specs.Page.{Fits}
+use Rattle.btr_pages.specs.Pages.{Pages, with_pages, page_of, pages_of, ArePages}
+use Rattle.btr_hist.specs.declared.entry.Entry.{Entry}
+use Rattle.btr_hist.specs.declared.entry.Entry.TheVariants.{Create, Define, Commit, Distillate}
+use Rattle.btr_hist.specs.History.{commits, latest}
+use Rattle.btr_entry.specs.Grammar.{IsSpelled, ValuesFit}
+use Rattle.btr_entry.proofs.SpellingLemmas.{length-spelling}
+use Rattle.btr_engine.specs.declared.board.Staged.{Staged}
+use Rattle.btr_engine.specs.declared.step.Pending.{Pending}
+use Rattle.btr_engine.specs.Body.{node_blocks, body_of, prefix_to, first_page, pages_after, commits_before, nodes_of, need_of}
+use Rattle.btr_engine.specs.Board.{Kept, IsBoardOf}
+use Rattle.btr_engine.specs.Roots.{LeadsToLatest, IsRootOf}
+use Rattle.btr_engine.specs.Stored.{AreStored}
+use Rattle.btr_engine.specs.Stage.{IsReceipt, MakesVersion, WritesCommit, WritesStream, WritesEntry, change}
+use Rattle.btr_engine.specs.Pending.{written_pages, IsMade, IsPending}
+use Rattle.btr_engine.proofs.BoardStreams.{commit-makes, distillate-makes}
+use Rattle.btr_engine.proofs.BodyLemmas.{FitsBody}
+use Rattle.btr_engine.proofs.NeedLemmas.{few_nodes}
+use Rattle.btr_engine.proofs.Written.{nodes-counted, told, root-leads, stored-next, stored-new, pages-places}
+use Rattle.btr_engine.proofs.Appending.{IsExtentOf, StandAfter}
+
+-- The pages of no nodes are none.
+no-pages : (stream : ℕ) (nodes : List NewNodeValue) → nodes ≡ [] → pages_of stream nodes ≡ []
+no-pages stream nodes none = ap (pages_of stream) none
+
+many-pages : (stream : ℕ) (nodes : List NewNodeValue) → length (pages_of stream nodes) ≡ length nodes
+many-pages stream nodes = length-map nodes (page_of stream)
+
+-- The extent can be appended, whatever the history is.
+pub fits_pending : (number : ℕ) (e : Entry) (p : Pending) → 1 ≤ number → number < 2 ^ 64 → IsMade number e p → FitsBody number e p.staged.root (written_pages p.staged)
+fits_pending number e p some few made = record {
+  some = some;
+  few = few;
+  spelled = made.spelled;
+  low = made.low;
+  places = pages-places p.staged.receipt.stream p.staged.nodes.items;
+  room = let room = made.room in omega (arith, many-pages p.staged.receipt.stream p.staged.nodes.items);
+}
+
+module _ (h : List Entry) (b : Kept) (of : IsBoardOf h b) (tail : ℕ) where
+  -- There are as many nodes as the entry has node blocks.
+  nodes-needed : (e : Entry) (s : Staged) → WritesEntry b e tail s → length s.nodes.items ≡ nodes_of (commits_before h e) e
+  nodes-needed (Create id) s w = ap (length {A = NewNodeValue}) w.none
+  nodes-needed (Define id spec) s w = ap (length {A = NewNodeValue}) w.none
+  nodes-needed (Commit stream cut added) s w =
+      let e : Entry = Commit stream cut added in
+      nodes-counted h b s.next of e (first_page tail e) stream (change cut added) _ (commit-makes stream cut added) s.nodes.items s.root w
+  nodes-needed (Distillate stream cut added reads) s w =
+      let e : Entry = Distillate stream cut added reads in
+      nodes-counted h b s.next of e (first_page tail e) stream (change cut added) _ (distillate-makes stream cut added reads) s.nodes.items s.root w
+
+  -- The extent of a pending entry.
+  pub extent_of_pending : (e : Entry) (p : Pending) (number : ℕ) (run : List ℕ) → number ≡ length h + 1 → IsMade number e p → IsPending h e p → WritesEntry b e tail p.staged → run ≡ p.extent.items → IsExtentOf h e p.staged.root (written_pages p.staged) run
+  extent_of_pending e p number run at made is w same = record {
+    allowed = is.allowed;
+    spelled = made.spelled;
+    places = pages-places p.staged.receipt.stream p.staged.nodes.items;
+    low = made.low;
+    nodes = many-pages p.staged.receipt.stream p.staged.nodes.items ∙ nodes-needed e p.staged w;
+    bytes = same ∙ made.bytes ∙ ap (λ n. body_of n e p.staged.root (written_pages p.staged) ++ zeros 4096) at;
+  }
+
+  -- What an entry writes stands after the pages that stood, and stores the trees of the next board.
+  pub record WritesRightly (pages : Pages) (e : Entry) (s : Staged) : Type 0 where
+    pub stand : StandAfter (prefix_to tail h pages) e s.root (written_pages s)
+    pub stored : AreStored (pages_after (prefix_to tail h pages) e (written_pages s)) (tail + need_of h e) s.next.streams
+
+  module _ (pages : Pages) (stored : AreStored pages tail b.streams) (some : 1 ≤ tail) (low : tail < 2 ^ 32) (few : (stream : ℕ) → latest h stream < MAX_VERSIONS) where
+    rightly-stream : (e : Entry) (s : Staged) (id : ℕ) (spec : _) → WritesStream b id spec s.next s.nodes.items s.root → nodes_of (commits_before h e) e ≡ 0 → ((known : Pages) → s.root ≡ 0 → IsRootOf known h e s.root (written_pages s)) → WritesRightly pages e s
+    rightly-stream e s id spec w none rule =
+        let empty : written_pages s ≡ [] = no-pages s.receipt.stream s.nodes.items w.none in
+        record {
+          stand = record {
+            fit = subst (AllByRecursion Fits) (sym empty) tt;
+            rightly = subst (λ l. ArePages pages (first_page tail e) l) (sym empty) (λ i. tt);
+            keeps = rule _ w.no_root;
+          };
+          stored = subst (λ l. AreStored (with_pages pages (first_page tail e) l) (tail + need_of h e) s.next.streams) (sym empty)
+              (stored-new pages tail (first_page tail e) (tail + need_of h e) b s.next id spec stored w.adds (omega arith) (omega arith) some);
+        }
+
+    rightly-version : (e : Entry) (s : Staged) (stream : ℕ) (c : Change) (read : _) → MakesVersion e stream c read → WritesCommit b (first_page tail e) stream c read s.next s.nodes.items s.root → s.receipt.stream ≡ stream → IsSpelled e → ValuesFit c.added → stream < 2 ^ 32 → length c.added ≤ 2 ^ 34 → length c.cut ≤ 2 ^ 34 → nodes_of (commits_before h e) e ≡ node_blocks (commits h stream) c → ((known : Pages) → LeadsToLatest known (h ++ e ∷ []) stream s.root → IsRootOf known h e s.root (written_pages s)) → WritesRightly pages e s
+    rightly-version e s stream c read makes w of_stream spelled values small points ranges count rule =
+        let first = first_page tail e in
+        let nodes = s.nodes.items in
+        let counted = nodes-counted h b s.next of e first stream c read makes nodes s.root w in
+        let bound = few_nodes (commits h stream) c in
+        let blocks : first + length nodes < 2 ^ 64 = omega (arith, counted, bound, length-spelling e spelled) in
+        let behind : tail ≤ first = omega arith in
+        let its : pages_of stream nodes ≡ written_pages s = ap (λ n. pages_of n nodes) (sym of_stream) in
+        let all : first + length nodes ≤ tail + need_of h e = omega (arith, counted, count) in
+        let fact = told h b s.next of e first stream c read makes nodes s.root w pages tail stored behind values small (few stream) blocks in
+        let next = stored-next h b s.next of e first stream c read makes nodes s.root w pages tail stored behind values small (few stream) blocks (tail + need_of h e) all in
+        let leads = root-leads h b s.next of e first stream c read makes nodes s.root w pages tail stored behind values small (few stream) blocks in
+        record {
+          stand = record {
+            fit = subst (AllByRecursion Fits) its fact.fit;
+            rightly = subst (λ l. ArePages pages first l) its fact.stand;
+            keeps = rule _ (subst (λ l. LeadsToLatest (with_pages pages first l) (h ++ e ∷ []) stream s.root) its leads);
+          };
+          stored = subst (λ l. AreStored (with_pages pages first l) (tail + need_of h e) s.next.streams) its next;
+        }
+
+    pub writes-rightly : (e : Entry) (s : Staged) → WritesEntry b e tail s → IsReceipt h e s.receipt → IsSpelled e → WritesRightly pages e s
+    writes-rightly (Create id) s w receipt spelled = rightly-stream (Create id) s id _ w refl (λ known none_such. none_such)
+    writes-rightly (Define id spec) s w receipt spelled = rightly-stream (Define id spec) s id _ w refl (λ known none_such. none_such)
+    writes-rightly (Commit stream cut added) s w receipt spelled =
+        let ranges = spelled.bounded.few_ranges in
+        let points = spelled.bounded.few_points in
+        rightly-version (Commit stream cut added) s stream (change cut added) _ (commit-makes stream cut added) w receipt.stream spelled spelled.values_fit spelled.stream_fits (omega arith) (omega arith) refl (λ known leads. leads)
+    writes-rightly (Distillate stream cut added reads) s w receipt spelled =
+        let ranges = spelled.bounded.few_ranges in
+        let points = spelled.bounded.few_points in
+        rightly-version (Distillate stream cut added reads) s stream (change cut added) _ (distillate-makes stream cut added reads) w receipt.stream spelled spelled.values_fit spelled.stream_fits (omega arith) (omega arith) refl (λ known leads. leads)

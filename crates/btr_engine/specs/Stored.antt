@@ -1,0 +1,20 @@
+-- The trees of a board are stored in pages.
+use Rattle.std.specs.Prelude.{ℕ, ◌<◌, List, slice_get, Option, IfSome, IsSome}
+use Rattle.std.specs.Option.{option_and_then}
+use Rattle.btr_base.specs.declared.limits.TheConstants.{FIRST}
+use Rattle.btr_tree.specs.Root.{TreeValue}
+use Rattle.btr_tree.specs.Stored.{IsBelow}
+use Rattle.btr_pages.specs.Pages.{Pages, nodes_in}
+use Rattle.btr_pages.specs.Told.{AreKept}
+use Rattle.btr_engine.specs.Board.{Versions}
+
+-- The tree of a version of a stream, if the board has it.
+abbrev pub tree_at : List Versions → ℕ → ℕ → Option TreeValue
+tree_at streams stream version = option_and_then (λ s. slice_get s.trees version) (slice_get streams stream)
+
+-- The pages keep their table and are below a gate, and the tree of each version of each stream is stored in them.
+pub record AreStored (pages : Pages) (gate : ℕ) (streams : List Versions) : Type 0 where
+  pub kept : AreKept pages
+  pub below : (block : ℕ) → IsSome (pages block) → block < gate
+  pub each : (stream version : ℕ)
+      → IfSome (tree_at streams stream version) (λ t. IsBelow (nodes_in pages stream) gate 10 FIRST t.node)

@@ -1,0 +1,90 @@
+-- Lemmas on the content of a body: a body has one, and the body of an entry is its content and then its pages.
+use Rattle.std.specs.Prelude.{◌≡◌, ℕ, ◌+◌, ◌<◌, ◌≤◌, ◌^◌, List, ◌++◌, length}
+use Rattle.std.specs.List.{flat_map, AllByRecursion}
+use Rattle.std.proofs.Common.{sym, ◌∙◌, ap, arith, append_assoc, length-append}
+use Rattle.btr_disk.specs.Gate.{zeros}
+use Rattle.btr_log.specs.declared.head.Head.{Head}
+use Rattle.btr_log.specs.Extents.{need}
+use Rattle.btr_log.specs.Head.{head_bytes, IsHead, entry_head}
+use Rattle.btr_log.proofs.HeadLemmas.{length-head_bytes, head_bytes-one, IsHead-entry_head}
+use Rattle.btr_node.specs.Page.{page_bytes, Fits}
+use Rattle.btr_node.specs.declared.page.NodePage.{NodePage}
+use Rattle.btr_pages.specs.Pages.{ArePages}
+use Rattle.btr_pages.proofs.BlockLemmas.{parts-one, each-places, length-pages}
+use Rattle.btr_hist.specs.declared.entry.Entry.{Entry}
+use Rattle.btr_entry.specs.Grammar.{spelling}
+use Rattle.btr_entry.proofs.SpellingLemmas.{length-spelling, same_entry}
+use Rattle.btr_engine.specs.Body.{padding, body_of, Prefix, IsBodyOf, first_page}
+use Rattle.btr_engine.proofs.BodyLemmas.{filled, need-body_of}
+use Rattle.btr_open.specs.Content.{content_of, HasContent}
+
+-- ---- the head of a content
+
+module _ (number : ℕ) (e : Entry) (root : ℕ) (blocks body : List ℕ) (has : HasContent number e root blocks body) where
+  -- The head of the content.
+  abbrev pub content_head : Head
+  content_head = entry_head number (length (spelling e)) has.nodes root
+
+  pub IsHead-content : 1 ≤ number → number < 2 ^ 64 → IsHead content_head
+  IsHead-content some few =
+      IsHead-entry_head number (length (spelling e)) has.nodes root some few (omega (arith, length-spelling e has.spelled)) has.room has.low
+
+  -- The head, the spelling and the zeros, and then the node blocks.
+  pub content-parts : body ≡ head_bytes content_head ++ (filled e ++ blocks)
+  unfolding content_of
+  content-parts = has.bytes ∙ append_assoc (head_bytes content_head) (filled e) blocks
+
+-- ---- one content
+
+-- A body has one content.
+pub content-one : (number : ℕ) (e f : Entry) (q r : ℕ) (x y body : List ℕ) → 1 ≤ number → number < 2 ^ 64 → HasContent number e q x body → HasContent number f r y body → (e ≡ f) × (q ≡ r) × (x ≡ y)
+content-one number e f q r x y body some few is is_too =
+    let first = content_head number e q x body is in
+    let second = content_head number f r y body is_too in
+    let same = sym (content-parts number e q x body is) ∙ content-parts number f r y body is_too in
+    let parts = parts-one (head_bytes first) (head_bytes second) (filled e ++ x) (filled f ++ y) (length-head_bytes first ∙ sym (length-head_bytes second)) same in
+    let heads : first ≡ second = head_bytes-one first second (IsHead-content number e q x body is some few) (IsHead-content number f r y body is_too some few) parts.0 in
+    let size : length (spelling e) ≡ length (spelling f) = ap (λ (h : Head). h.length) heads in
+    let pads = λ (d : Entry). length-append (spelling d) (zeros (padding (length (spelling d)))) in
+    let long : length (filled e) ≡ length (filled f) = pads e ∙ ap (λ n. n + length (zeros (padding n))) size ∙ sym (pads f) in
+    let contents = parts-one (filled e) (filled f) x y long parts.1 in
+    let spellings = parts-one (spelling e) (spelling f) (zeros (padding (length (spelling e)))) (zeros (padding (length (spelling f)))) size contents.0 in (
+      same_entry e f is.spelled is_too.spelled spellings.0,
+      ap (λ (h : Head). h.root) heads,
+      contents.1,
+    )
+
+-- ---- the body of an entry
+
+-- The bytes of the body of an entry are its content and then its pages.
+content-bytes : (number : ℕ) (e : Entry) (root : ℕ) (pages : List NodePage) → body_of number e root pages ≡ content_of number e root (length pages) ++ flat_map page_bytes pages
+unfolding body_of content_of
+content-bytes number e root pages =
+    sym (append_assoc (head_bytes (entry_head number (length (spelling e)) (length pages) root)) (filled e) (flat_map page_bytes pages))
+
+-- The body of an entry has its content, and its node blocks are its pages.
+pub body-content : (before : Prefix) (e : Entry) (root : ℕ) (pages : List NodePage) (body : List ℕ) → before.gate + need body < 2 ^ 64 → IsBodyOf before e root pages body → HasContent (length before.entries + 1) e root (flat_map page_bytes pages) body
+body-content before e root pages body short is =
+    let places = each-places pages is.fits in
+    let needed = ap need is.bytes ∙ need-body_of (length before.entries + 1) e root pages places in
+    record {
+      spelled = is.spelled;
+      low = is.low;
+      nodes = length pages;
+      whole = length-pages pages places;
+      room = omega (arith, short, needed);
+      bytes = is.bytes ∙ content-bytes (length before.entries + 1) e root pages;
+    }
+
+-- A content whose node blocks are pages that stand rightly is the body of its entry.
+pub content-body : (before : Prefix) (e : Entry) (root : ℕ) (nodes : List ℕ) (pages : List NodePage) (body : List ℕ) → HasContent (length before.entries + 1) e root nodes body → nodes ≡ flat_map page_bytes pages → AllByRecursion Fits pages → ArePages before.pages (first_page before.gate e) pages → IsBodyOf before e root pages body
+content-body before e root nodes pages body has same fits stand =
+    let number = length before.entries + 1 in
+    let count : has.nodes ≡ length pages = omega (arith, has.whole, ap length same, length-pages pages (each-places pages fits)) in
+    record {
+      spelled = has.spelled;
+      fits = fits;
+      rightly = stand;
+      low = has.low;
+      bytes = has.bytes ∙ (λ i. content_of number e root (count i) ++ same i) ∙ sym (content-bytes number e root pages);
+    }

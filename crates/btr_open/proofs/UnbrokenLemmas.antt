@@ -1,0 +1,184 @@
+-- The body of an entry that may follow, with a root that may be its own, breaks the format nowhere, and neither does its extent.
+use Rattle.std.specs.Prelude.{◌≡◌, ◌⊎◌, ℕ, ◌+◌, ◌*◌, ◌<◌, ◌≤◌, ◌^◌, List, [], ◌∷◌, ◌++◌, length, take, drop}
+use Rattle.std.specs.List.{flat_map, AllByRecursion}
+use Rattle.std.proofs.Common.{refl, sym, ◌∙◌, ap, subst, arith, ⊎_elim, length-append}
+use Rattle.std.proofs.Math.Seq.{take-append_seam, take-append-add, drop-append-add}
+use Rattle.std.proofs.lemmas.List.Concat.{flat_map-cons}
+use Rattle.btr_disk.specs.Bytes.{Image, Has}
+use Rattle.btr_disk.proofs.ByteLemmas.{Has-one, Has-take}
+use Rattle.btr_log.specs.declared.head.Head.{Head}
+use Rattle.btr_log.specs.Head.{head_bytes}
+use Rattle.btr_log.proofs.HeadLemmas.{length-head_bytes, head_bytes-one}
+use Rattle.btr_log.specs.Extents.{need, IsExtent}
+use Rattle.btr_log.proofs.ExtentLemmas.{IsBody-one, IsBody-blocks}
+use Rattle.btr_log.specs.Found.{SpellsAt, IsDamagedExtent}
+use Rattle.btr_node.specs.Page.{page_bytes, Fits}
+use Rattle.btr_node.specs.declared.page.NodePage.{NodePage}
+use Rattle.btr_node.proofs.PageLemmas.{page-once}
+use Rattle.btr_pages.specs.Pages.{Pages, with_pages, IsPageAt, ArePages}
+use Rattle.btr_pages.specs.Blocks.{block_of_bytes, IsNoPage}
+use Rattle.btr_pages.proofs.BlockLemmas.{parts-one, length-pages, each-places}
+use Rattle.btr_pages.proofs.PagesLemmas.{right-next}
+use Rattle.btr_hist.specs.declared.entry.Entry.{Entry}
+use Rattle.btr_engine.specs.Body.{Prefix, first_page, pages_after, IsBodyOf}
+use Rattle.btr_open.specs.Content.{HasContent}
+use Rattle.btr_open.specs.RootTest.{MayLead, MayLeadIn}
+use Rattle.btr_open.specs.Walk.{IsNoEntryBody, IsForbiddenBody, HasWrongRoot, IsOutOfPlace, HasWrongNode, BreaksBody}
+use Rattle.btr_open.specs.Walk.{IsBrokenExtent, IsDamagedEntry}
+use Rattle.btr_open.proofs.ContentLemmas.{content-one, body-content}
+use Rattle.btr_open.proofs.RootLemmas.{may-lead-in, pages-keep}
+
+-- ---- pages of which some are known
+
+-- A page fills a block.
+page-length : (p : NodePage) → Fits p → length (page_bytes p) ≡ 4096
+page-length p fits =
+    omega (arith, length-pages (p ∷ []) (each-places (p ∷ []) (fits, tt)), ap (length {A = ℕ}) (flat_map-cons page_bytes p []), length-append (page_bytes p) [])
+
+-- The bytes of pages begin with those of the first one.
+module _ (p : NodePage) (ps : List NodePage) (fits : Fits p) where
+  all : flat_map page_bytes (p ∷ ps) ≡ page_bytes p ++ flat_map page_bytes ps
+  all = flat_map-cons page_bytes p ps
+
+  first-block : block_of_bytes (flat_map page_bytes (p ∷ ps)) 0 ≡ page_bytes p
+  first-block = ap (take 4096) all ∙ ap (λ k. take k (page_bytes p ++ flat_map page_bytes ps)) (sym (page-length p fits)) ∙ take-append_seam (page_bytes p) (flat_map page_bytes ps)
+
+  further : (n : ℕ) → 4096 * (n + 1) ≡ length (page_bytes p) + 4096 * n
+  further n = omega (arith, page-length p fits)
+
+  take-further : (n : ℕ) → take (4096 * (n + 1)) (flat_map page_bytes (p ∷ ps)) ≡ page_bytes p ++ take (4096 * n) (flat_map page_bytes ps)
+  take-further n = ap (take (4096 * (n + 1))) all ∙ ap (λ k. take k (page_bytes p ++ flat_map page_bytes ps)) (further n) ∙ take-append-add (page_bytes p) (flat_map page_bytes ps) (4096 * n)
+
+  further-block : (n : ℕ) → block_of_bytes (flat_map page_bytes (p ∷ ps)) (n + 1) ≡ block_of_bytes (flat_map page_bytes ps) n
+  further-block n = ap (λ xs. take 4096 (drop (4096 * (n + 1)) xs)) all ∙ ap (λ k. take 4096 (drop k (page_bytes p ++ flat_map page_bytes ps))) (further n) ∙ ap (take 4096) (drop-append-add (page_bytes p) (flat_map page_bytes ps) (4096 * n))
+
+-- The pages are those before, then this one, whose bytes are those of the block, and then more.
+record AreSplit (pages before : List NodePage) : Type 0 where
+  page : NodePage
+  more : List NodePage
+  are : pages ≡ before ++ page ∷ more
+  fits : Fits page
+  block : block_of_bytes (flat_map page_bytes pages) (length before) ≡ page_bytes page
+
+-- Pages whose first blocks are other pages begin with those.
+split : (before pages : List NodePage) → AllByRecursion Fits before → AllByRecursion Fits pages → length before < length pages → take (4096 * length before) (flat_map page_bytes pages) ≡ flat_map page_bytes before → AreSplit pages before
+split before [] fit fits within same = absurd (omega (arith, within))
+split [] (p ∷ ps) fit fits within same =
+    record { page = p; more = ps; are = refl; fits = fits.0; block = first-block p ps fits.0 }
+split (b ∷ bs) (p ∷ ps) fit fits within same =
+    let n = length bs in
+    let count : length (b ∷ bs) ≡ n + 1 = omega arith in
+    let both : page_bytes p ++ take (4096 * n) (flat_map page_bytes ps) ≡ page_bytes b ++ flat_map page_bytes bs =
+    sym (take-further p ps fits.0 n) ∙ ap (λ k. take (4096 * k) (flat_map page_bytes (p ∷ ps))) (sym count) ∙ same ∙ flat_map-cons page_bytes b bs in
+    let parts = parts-one (page_bytes p) (page_bytes b) (take (4096 * n) (flat_map page_bytes ps)) (flat_map page_bytes bs) (page-length p fits.0 ∙ sym (page-length b fit.0)) both in
+    let head : p ≡ b = page-once p b fits.0 fit.0 parts.0 in
+    let rest = split bs ps fit.1 fits.1 (omega (arith, within)) parts.1 in
+    let tail = rest.are in
+    record {
+      page = rest.page;
+      more = rest.more;
+      are = λ i. head i ∷ tail i;
+      fits = rest.fits;
+      block = ap (block_of_bytes (flat_map page_bytes (p ∷ ps))) count ∙ further-block p ps fits.0 n ∙ rest.block;
+    }
+
+-- The block of a page that stands rightly is not damaged.
+not-damaged : (pages : Pages) (block : ℕ) (bytes : List ℕ) (page : NodePage) → Fits page → bytes ≡ page_bytes page → IsPageAt pages block page → IsNoPage bytes ⊎ IsOutOfPlace pages block bytes → ⊥
+not-damaged pages block bytes page fits same stands damaged =
+    ⊎_elim
+    (λ none. none page fits (record { keeps = stands.keeps; bytes_are = same }))
+    (λ (out : IsOutOfPlace pages block bytes).
+    out.wrong (subst (IsPageAt pages block) (page-once page out.page fits out.fits (sym same ∙ out.spells.bytes_are)) stands))
+    damaged
+
+-- ---- a body
+
+-- The numbers of the entry fit eight bytes. The entry may follow those before it, and its root may be its own.
+module _ (May : List Entry → Entry → Type 0) (log : Prefix) (e : Entry) (root : ℕ) (pages : List NodePage) (body : List ℕ) (block : ℕ) (few : length log.entries + 1 < 2 ^ 64) (short : log.gate + need body < 2 ^ 64) (is : IsBodyOf log e root pages body) (keeps : MayLead (pages_after log e pages) log.entries e root pages) (allowed : May log.entries e) where
+  abbrev number : ℕ
+  number = length log.entries + 1
+
+  abbrev nodes : List ℕ
+  nodes = flat_map page_bytes pages
+
+  content : HasContent number e root nodes body
+  content = body-content log e root pages body short is
+
+  -- Whatever content the body has, it is this one.
+  one-content : (f : Entry) (r : ℕ) (y : List ℕ) → HasContent number f r y body → (e ≡ f) × (root ≡ r) × (nodes ≡ y)
+  one-content f r y other = content-one number e f root r nodes y body (omega arith) few content other
+
+  has-entry : IsNoEntryBody log body block → ⊥
+  has-entry n = n.none e root nodes content
+
+  not-forbidden : IsForbiddenBody May log body block → ⊥
+  not-forbidden f =
+      f.forbidden (subst (May log.entries) (one-content f.entry f.root f.nodes f.content).0 allowed)
+
+  right-root : HasWrongRoot May log body block → ⊥
+  right-root w =
+      let same = one-content w.entry w.root w.nodes w.content in
+      let may = may-lead-in log.pages log.entries e (first_page log.gate e) root pages nodes refl is.fits (pages-keep log.pages (first_page log.gate e) pages is.rightly) keeps in
+      let there : MayLeadIn log.pages log.entries w.entry (first_page log.gate w.entry) w.nodes w.root = subst {A = Entry × ℕ × List ℕ} (λ c. MayLeadIn log.pages log.entries c.0 (first_page log.gate c.0) c.2 c.1) (λ i. (same.0 i, same.1 i, same.2 i)) may in
+      w.wrong there
+
+  right-nodes : HasWrongNode May log body block → ⊥
+  right-nodes w =
+      let same = one-content w.entry w.root w.nodes w.content in
+      let first = first_page log.gate e in
+      let n = length w.before in
+      let within : n < length pages = omega (arith, w.within, ap (length {A = ℕ}) same.2, length-pages pages (each-places pages is.fits)) in
+      let start : take (4096 * n) nodes ≡ flat_map page_bytes w.before = ap (take (4096 * n)) same.2 ∙ w.bytes in
+      let parts = split w.before pages w.fit is.fits within start in
+      let here : block_of_bytes w.nodes n ≡ page_bytes parts.page = ap (λ xs. block_of_bytes xs n) (sym same.2) ∙ parts.block in
+      let right : IsPageAt (with_pages log.pages first w.before) (first + n) parts.page = right-next log.pages first w.before parts.more parts.page (subst (ArePages log.pages first) {y = w.before ++ parts.page ∷ parts.more} parts.are is.rightly) in
+      let firsts : first ≡ first_page log.gate w.entry = ap (first_page log.gate) same.0 in
+      let at : first + n ≡ block = ap (λ b. b + n) firsts ∙ sym w.next in
+      let there = with_pages log.pages (first_page log.gate w.entry) w.before in
+      let stands : IsPageAt there block parts.page = subst {A = ℕ × ℕ} (λ c. IsPageAt (with_pages log.pages c.0 w.before) c.1 parts.page) (λ i. (firsts i, at i)) right in
+      not-damaged there block (block_of_bytes w.nodes n) parts.page parts.fits here stands w.damaged
+
+  pub body-unbroken : BreaksBody May log body block → ⊥
+  body-unbroken breaks =
+      ⊎_elim has-entry (λ f. ⊎_elim not-forbidden (λ w. ⊎_elim right-root right-nodes w) f) breaks
+
+-- ---- an extent
+
+-- The extent is inside the blocks of a log.
+module _ (image : Image) (blocks block gate : ℕ) (body : List ℕ) (head : Head) (extent : IsExtent image gate body head) (inside : gate + need body < blocks) where
+  head-stands : Has image (4096 * (gate + 1)) (head_bytes head)
+  head-stands =
+      subst (Has image (4096 * (gate + 1))) extent.is_body.spells.spelling (Has-take image (4096 * (gate + 1)) 64 body extent.stored)
+
+  -- The head in the image is the body's.
+  one-head : (other : Head) → SpellsAt image (gate + 1) other → other ≡ head
+  one-head other at =
+      head_bytes-one other head at.is_head extent.is_body.spells.is_head
+      (Has-one image (4096 * (gate + 1)) (head_bytes other) (head_bytes head) (length-head_bytes other ∙ sym (length-head_bytes head)) at.stored head-stands)
+
+  has-room : (other : Head) → SpellsAt image (gate + 1) other → blocks ≤ gate + other.n + 1 → ⊥
+  has-room other at much =
+      let n : other.n ≡ head.n = ap (λ (h : Head). h.n) (one-head other at) in
+      omega (arith, n, much, inside, IsBody-blocks body head extent.is_body)
+
+  -- The bytes in the image are one body.
+  one-body : (other : List ℕ) (h : Head) → IsExtent image gate other h → other ≡ body
+  one-body other h at =
+      IsBody-one image (4096 * (gate + 1)) other body h head at.is_body extent.is_body at.stored extent.stored
+
+  extent-unbroken : IsDamagedExtent image blocks gate block → ⊥
+  extent-unbroken damaged =
+      ⊎_elim
+      (λ end. let at = end.0 in omega (arith, at, inside))
+      (λ cause. ⊎_elim (λ none. none head (record { is_head = extent.is_body.spells.is_head; stored = head-stands })) (λ much. has-room much.0 much.1 much.2) cause.2)
+      damaged.damage
+
+-- The next extent of a log, inside its blocks, is not damaged.
+pub entry-undamaged : (May : List Entry → Entry → Type 0) (image : Image) (blocks block : ℕ) (log : Prefix) (e : Entry) (root : ℕ) (pages : List NodePage) (body : List ℕ) (head : Head) → blocks ≤ 2 ^ 64 → length log.entries + 1 < 2 ^ 64 → IsBodyOf log e root pages body → MayLead (pages_after log e pages) log.entries e root pages → May log.entries e → IsExtent image log.gate body head → log.gate + need body < blocks → IsDamagedEntry May image blocks log block → ⊥
+entry-undamaged May image blocks block log e root pages body head limit few is keeps allowed extent inside damage =
+    ⊎_elim
+    (extent-unbroken image blocks block log.gate body head extent inside)
+    (λ (b : IsBrokenExtent May image blocks log block).
+    let same = one-body image blocks block log.gate body head extent inside b.body b.head b.extent in
+    body-unbroken May log e root pages body block few (omega (arith, limit, inside)) is keeps allowed (subst (λ c. BreaksBody May log c block) same b.breaks))
+    damage

@@ -1,0 +1,31 @@
+-- What the body of an extent has: an entry with its number and its root, and the blocks of its pages.
+use Rattle.std.specs.Prelude.{◌≡◌, ℕ, ◌+◌, ◌*◌, ◌^◌, ◌<◌, List, ◌++◌, length, drop}
+use Rattle.btr_disk.specs.Gate.{zeros}
+use Rattle.btr_log.specs.declared.head.Head.{Head}
+use Rattle.btr_log.specs.Head.{content_blocks, head_bytes, entry_head}
+use Rattle.btr_hist.specs.declared.entry.Entry.{Entry}
+use Rattle.btr_entry.specs.Grammar.{spelling, IsSpelled}
+use Rattle.btr_engine.specs.Body.{padding}
+
+-- The content of the entry with this number, in a body with this root and this many node blocks: the head, the spelling, and zeros up
+-- to the end of the block.
+unfoldable pub content_of : ℕ → Entry → ℕ → ℕ → List ℕ
+content_of number e root nodes =
+    head_bytes (entry_head number (length (spelling e)) nodes root) ++ (spelling e ++ zeros (padding (length (spelling e))))
+
+-- The body is the content of the entry with this number and this root, followed by the bytes of its node blocks.
+pub record HasContent (number : ℕ) (e : Entry) (root : ℕ) (blocks body : List ℕ) : Type 0 where
+  pub spelled : IsSpelled e
+  pub low : root < 2 ^ 64
+  pub nodes : ℕ
+  pub whole : length blocks ≡ 4096 * nodes
+  pub room : content_blocks (length (spelling e)) + nodes < 2 ^ 64
+  pub bytes : body ≡ content_of number e root nodes ++ blocks
+
+-- The body has no content of an entry with this number.
+abbrev pub HasNoContent : ℕ → List ℕ → Type 0
+HasNoContent number body = (e : Entry) (root : ℕ) (blocks : List ℕ) → HasContent number e root blocks body → ⊥
+
+-- The bytes of the node blocks of a body with this head.
+abbrev pub node_blocks_of : Head → List ℕ → List ℕ
+node_blocks_of head body = drop (4096 * content_blocks head.length) body

@@ -1,0 +1,130 @@
+//! What an opening has read so far, and the reading of the body of one extent more.
+ghost use Rattle.std.specs.Prelude.{◌≡◌, ◌+◌, ◌-◌, ◌^◌, ◌<◌, ◌≤◌, IfOk, IfSome, IfNone, List, []};
+ghost use Rattle.btr_log.specs.Extents.{IsBody, need};
+ghost use Rattle.btr_tree.specs.Root.{TreeValue};
+ghost use Rattle.btr_hist.specs.declared.entry.Entry.{Entry as EntrySpec};
+ghost use Rattle.btr_engine.specs.Board.{HasPast, HasStreamsOf, IsBoardOf};
+ghost use Rattle.btr_engine.specs.Body.{Prefix};
+ghost use Rattle.btr_engine.specs.Stage.{HasRoomFor};
+ghost use Rattle.btr_open.specs.Content.{HasContent, node_blocks_of};
+ghost use Rattle.btr_open.specs.Damage.{FitsOutline};
+ghost use Rattle.btr_open.specs.Loading.{AddsTree};
+ghost use Rattle.btr_open.specs.Reading.{BreaksNext, HasAdded, IsReadInto, IsTreeOfRoot};
+
+use crate::decoding::decode_extent;
+use crate::roots::wrong_root;
+use btr_disk::BLOCK;
+use btr_engine::Board;
+use btr_hist::Entry;
+use btr_log::{Head, blocks_of_content};
+use btr_pages::Nodes;
+use btr_tree::{Label, Steps};
+use std::alloc::{AllocError, Global};
+
+/// The label of the counter of the nodes that an opening makes.
+pub(crate) struct OpenWalk;
+
+impl Label for OpenWalk {}
+
+/// What was read of a log: the board of its entries, and the trees of its pages.
+#[derive(Drop)]
+pub(crate) struct Loader {
+    pub(crate) board: Board,
+    pub(crate) nodes: Nodes,
+    pub(crate) steps: Steps<OpenWalk>,
+}
+
+impl Loader {
+    /// Nothing was read. It takes no memory.
+    pub(crate) fn empty(alloc: Global) -> Loader
+        ensures board { IsBoardOf [] result.board }
+        ensures nodes { result.nodes ≡ [] }
+    {
+        Loader {
+            board: Board::empty(),
+            nodes: Nodes::new(alloc),
+            steps: Steps::new(),
+        }
+    }
+
+    /// Adds the entry and the pages of the body after the gate at this block. Returns the first block of the body that breaks the
+    /// format, if there is one. An `Err` is out of memory. After both the loader may have some of the pages.
+    pub(crate) fn add(
+        &mut self,
+        alloc: Global,
+        head: &Head,
+        body: &[u8],
+        gate: u64,
+    ) -> Result<Option<u64>, AllocError>
+        requires body { IsBody body.now head.now }
+        requires few { self.old.board.entries < 2 ^ 64 - 1 }
+        requires room { gate + need body.now < 2 ^ 33 }
+        requires read { (before : Prefix) × (before.gate ≡ gate) × IsReadInto before self.old }
+        ensures added { IfOk result (λ o. IfNone o (HasAdded gate body.now self.old self.new)) }
+        ensures damaged { IfOk result (λ o. IfSome o (BreaksNext gate body.now self.old)) }
+    {
+        let number = self.board.entries() + 1;
+        let Some(entry) = decode_extent(alloc, body, head, number)? else {
+            return Ok(Some(gate + 1));
+        };
+        if self.board.refusal(&entry).is_some() {
+            return Ok(Some(gate + 1));
+        }
+        self.add_entry(alloc, &entry, head, body, gate)
+    }
+
+    /// Adds an entry that may follow, and the pages of its body. It promises what [`Loader::add`] does.
+    fn add_entry(
+        &mut self,
+        alloc: Global,
+        entry: &Entry,
+        head: &Head,
+        body: &[u8],
+        gate: u64,
+    ) -> Result<Option<u64>, AllocError>
+        requires body { IsBody body.now head.now }
+        requires few { self.old.board.entries < 2 ^ 64 - 1 }
+        requires room { gate + need body.now < 2 ^ 33 }
+        requires content { HasContent (self.old.board.entries + 1) entry.now head.now.root (node_blocks_of head.now body.now) body.now }
+        requires may { HasRoomFor self.old.board entry.now }
+        requires allowed { (h : List EntrySpec) → HasStreamsOf h self.old.board → FitsOutline h entry.now }
+        requires read { (before : Prefix) × (before.gate ≡ gate) × IsReadInto before self.old }
+        ensures added { IfOk result (λ o. IfNone o (HasAdded gate body.now self.old self.new)) }
+        ensures damaged { IfOk result (λ o. IfSome o (BreaksNext gate body.now self.old)) }
+    {
+        let content = blocks_of_content(head.length);
+        let first = gate + 1 + content;
+        let pages = &body[content as usize * BLOCK..];
+        let wrong = wrong_root(
+            &self.board,
+            &self.nodes,
+            entry,
+            head.root,
+            gate,
+            first,
+            pages,
+        );
+        if let Some(block) = wrong {
+            return Ok(Some(block));
+        }
+        let damaged = self.nodes.add_blocks(alloc, first, pages, &mut self.steps)?;
+        if let Some(block) = damaged {
+            return Ok(Some(block));
+        }
+        self.add_tree(alloc, entry, head.root)?;
+        Ok(None)
+    }
+
+    /// Adds an entry that may follow and whose pages were added. Its version has the tree of this root.
+    fn add_tree(&mut self, alloc: Global, entry: &Entry, root: u64) -> Result<(), AllocError>
+        requires few { self.old.board.entries < 2 ^ 64 - 1 }
+        requires may { HasRoomFor self.old.board entry.now }
+        requires past { (t : TreeValue) → IsTreeOfRoot self.old.nodes root t → HasPast t }
+        ensures { IfOk result (λ u. AddsTree self.old entry.now root self.new) }
+    {
+        let tree = self.nodes.tree(root)?;
+        let staged = self.board.stage_read(alloc, entry, tree)?;
+        self.board.accept(staged);
+        Ok(())
+    }
+}
