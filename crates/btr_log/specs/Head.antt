@@ -48,6 +48,18 @@ entry_head number length nodes root = record {
   root = root;
 }
 
+-- The head of a checkpoint after this number of entries, with a content of `length` bytes.
+abbrev pub checkpoint_head : ℕ → ℕ → Head
+checkpoint_head number length = record {
+  kind = 2;
+  format = 1;
+  number = number;
+  n = content_blocks length;
+  length = length;
+  nodes = 0;
+  root = 0;
+}
+
 -- The 64 bytes of a head: the mark, the fields with the highest byte first, and zeros.
 unfoldable pub head_bytes : Head → List ℕ
 head_bytes head =

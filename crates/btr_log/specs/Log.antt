@@ -28,7 +28,7 @@ module _ {D : Type 0} {disk : Ghosts D} where
   abbrev pub extents_of : Log D disk → ℕ
   extents_of log = log.extents
 
-  -- Whether the device failed in an append.
+  -- Whether the device failed in an append, or the log was stopped after another fault.
   abbrev pub is_log_stopped : Log D disk → Bool
   is_log_stopped log = log.stopped
 

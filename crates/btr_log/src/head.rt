@@ -1,6 +1,6 @@
 //! The first 64 bytes of an extent's body: what the body is, and how many blocks it has.
 ghost use Rattle.std.specs.Prelude.{◌≡◌, ◌↔◌, ◌+◌, ◌<◌, ◌^◌, length, IfSome, IsNone, IsTrue};
-ghost use Rattle.btr_log.specs.Head.{head_at, head_bytes, content_blocks, entry_head, IsHead, IsNoHead, Spells};
+ghost use Rattle.btr_log.specs.Head.{head_at, head_bytes, content_blocks, entry_head, checkpoint_head, IsHead, IsNoHead, Spells};
 
 use btr_disk::bytes::{put, u32_at, u64_at};
 
@@ -53,6 +53,21 @@ impl Head {
             length,
             nodes,
             root,
+        }
+    }
+
+    /// The head of a checkpoint after this number of entries, with a content of `length` bytes. Its body has no node blocks and no root.
+    pub fn for_checkpoint(number: u64, length: u64) -> Head
+        ensures { result ≡ checkpoint_head number length }
+    {
+        Head {
+            kind: 2,
+            format: 1,
+            number,
+            n: blocks_of_content(length),
+            length,
+            nodes: 0,
+            root: 0,
         }
     }
 

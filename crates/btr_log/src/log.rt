@@ -1,5 +1,5 @@
 //! A log on a device: where it ends, and how much room is left.
-ghost use Rattle.std.specs.Prelude.{◌≡◌, ◌<◌, ◌≤◌, ◌^◌, IsTrue, ◌↔◌};
+ghost use Rattle.std.specs.Prelude.{◌≡◌, ◌<◌, ◌≤◌, ◌^◌, IsTrue};
 ghost use Rattle.btr_disk.specs.Causes.{Rose};
 
 use btr_disk::Disk;
@@ -12,10 +12,12 @@ use std::snapshot::Snapshot;
 /// as in the log of BTrDB (FAST 2016).
 ///
 /// If the device fails in an append, the log is stopped and stays so: only another opening shows whether the
-/// body is durable. The count of faults of its device is then above the one when the log was made.
+/// body is durable. The holder of the log stops it if the device fails in a call of the holder's own. The count
+/// of faults of its device is then above the one when the log was made.
 #[derive(Drop)]
 pub struct Log<D: Disk> {
-    pub(crate) disk: D,
+    /// The device. The holder of the log may call it, and leaves the blocks from 4 on as they are.
+    pub disk: D,
     pub(crate) tail: u64,
     pub(crate) blocks: u64,
     pub(crate) extents: u64,
@@ -31,7 +33,8 @@ pub struct Log<D: Disk> {
 }
 
 impl<D: Disk> Log<D> {
-    ghost use Rattle.btr_log.specs.Log.{log_device, log_tail, log_room, extents_of, is_log_stopped, faults_at, IsLogMadeOf};
+    ghost use Rattle.std.specs.Prelude.{true};
+    ghost use Rattle.btr_log.specs.Log.{log_device, log_tail, log_room, extents_of, is_log_stopped, faults_at, IsLogMadeOf, KeepsBounds};
 
     /// The log on this device whose gate at the end is `tail`, with `extents` extents before it and
     /// `blocks` blocks to use. It is not stopped. It makes no call of the device.
@@ -74,12 +77,25 @@ impl<D: Disk> Log<D> {
         self.extents
     }
 
-    /// Whether the device failed in an append. Then its count of faults is above the one when the log was made.
+    /// Whether the device failed in an append, or the log was stopped. Then its count of faults is above the one when the log was made.
     pub fn stopped(&self) -> bool
         ensures stopped { result ≡ is_log_stopped self.now }
         ensures faulted { IsTrue result → Rose (faults_at self.now) (D.faults (log_device self.now)) }
     {
         self.stopped
+    }
+
+    /// Stops the log, as an append does in which the device fails. The caller passes a log whose device has failed since the log was
+    /// made. It makes no call of the device.
+    pub fn stop(&mut self)
+        requires { Rose (faults_at self.old) (D.faults (log_device self.old)) }
+        ensures kept { KeepsBounds self.old self.new }
+        ensures device { log_device self.new ≡ log_device self.old }
+        ensures tail { log_tail self.new ≡ log_tail self.old }
+        ensures extents { extents_of self.new ≡ extents_of self.old }
+        ensures stopped { is_log_stopped self.new ≡ true }
+    {
+        self.stopped = true;
     }
 
     /// The device, as the log's calls left it.

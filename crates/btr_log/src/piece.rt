@@ -40,8 +40,8 @@ impl Piece {
         }
     }
 
-    /// Whether the piece holds the `count` blocks from this one on.
-    fn holds(&self, block: u64, count: u64) -> bool
+    /// Returns whether the piece holds the `count` blocks from this one on.
+    pub fn holds(&self, block: u64, count: u64) -> bool
         ensures { IsTrue result → HoldsBlocks self.now block count }
     {
         let held = (self.bytes.len() / BLOCK) as u64;
@@ -49,7 +49,7 @@ impl Piece {
     }
 
     /// The bytes of the `count` blocks from this one on, which the piece holds. They are not copied.
-    pub(crate) fn blocks(&self, block: u64, count: u64) -> &[u8]
+    pub fn blocks(&self, block: u64, count: u64) -> &[u8]
         requires { HoldsBlocks self.now block count }
         ensures { result.now ≡ bytes_at self.now block count }
     {
@@ -86,10 +86,11 @@ impl Piece {
         self.read(disk, block, more)
     }
 
-    /// Reads `count` blocks from `first` on into the piece, in one call. They replace what it held.
+    /// Reads `count` blocks from `first` on into the piece, in one call of the device. They replace what it held.
     ///
-    /// Its memory is used again, and grows only to what they need. After an `Err` it is as before, or has no block.
-    fn read<D: Disk>(&mut self, disk: &mut D, first: u64, count: u64) -> Result<(), ExtentFault>
+    /// Its memory is used again, and grows only to what they need. After an `Err` it is as before, or has no block. `Fault` is returned
+    /// only if the call failed, and never `Damaged`.
+    pub fn read<D: Disk>(&mut self, disk: &mut D, first: u64, count: u64) -> Result<(), ExtentFault>
         requires run { IsBlockRange (D.size disk.old) first (4096 * count) }
         requires addressable { count ≤ 2 ^ 32 }
         ensures counts { KeepsCounts D.size D.calls D.faults disk.old disk.new }

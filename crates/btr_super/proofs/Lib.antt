@@ -4,3 +4,4 @@ mod Fields
 mod Prefix
 mod ChoiceIsUnique
 mod Writing
+mod Side

@@ -37,7 +37,7 @@ torn_again a n b m old images mid new only first second c left =
     SameButTwo-from a n b m old from.0 c (Torn-Only a n old images mid only first from.0 from.1) from.2
 
 -- a block is open or closed
-Has-decides : (image : Image) (address : ℕ) (bytes : List ℕ) → Has image address bytes ⊎ (Has image address bytes → ⊥)
+pub Has-decides : (image : Image) (address : ℕ) (bytes : List ℕ) → Has image address bytes ⊎ (Has image address bytes → ⊥)
 Has-decides image address [] = inl tt
 Has-decides image address (b ∷ bytes) =
     ⊎_elim
@@ -57,8 +57,7 @@ module _ (size blocks : ℕ) (least : 8 ≤ blocks) (greatest : blocks ≤ 2 ^ 3
     inside = inside;
     tail_from = omega arith;
     tail_to = omega arith;
-    no_checkpoint = refl;
-    from_start = λ _. refl;
+    start = inl (refl, refl);
   }
 
   pub empty_store : (c : Image) → IsOpen c 0 → IsClosed c 2 → Has c (4096 * 1) (super_bytes (first_super blocks)) → Has c (4096 * 4) (zeros 4096) → IsEmptyStore size blocks c

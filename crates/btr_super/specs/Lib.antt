@@ -1,4 +1,5 @@
 pub mod Super
 pub mod Choose
 pub mod Format
+pub mod Replace
 pub mod Chosen

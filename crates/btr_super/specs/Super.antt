@@ -1,5 +1,5 @@
 -- Superblocks: the bytes of one, and the table that it keeps.
-use Rattle.std.specs.Prelude.{◌≡◌, ℕ, ◌+◌, ◌-◌, ◌^◌, ◌<◌, ◌≤◌, List, ◌++◌, codes}
+use Rattle.std.specs.Prelude.{◌≡◌, ◌⊎◌, ℕ, ◌+◌, ◌-◌, ◌^◌, ◌<◌, ◌≤◌, List, ◌++◌, codes}
 use Rattle.std.specs.Int.{w32, w64, to_be_bytes}
 use Rattle.btr_disk.specs.Gate.{zeros}
 use Rattle.btr_super.specs.declared.superblock.Super.{Super}
@@ -16,6 +16,10 @@ super_bytes s =
     ++ to_be_bytes w64 s.checkpoint
     ++ zeros 4048
 
+-- The log is read from its beginning, or from a gate after that of a checkpoint.
+abbrev pub IsLogStart : ℕ → ℕ → Type 0
+IsLogStart checkpoint tail = ((checkpoint ≡ 0) × (tail ≡ 4)) ⊎ ((4 ≤ checkpoint) × (checkpoint < tail))
+
 -- The table that a superblock keeps on a device of `size` blocks.
 pub record IsSuper (size : ℕ) (s : Super) : Type 0 where
   pub known_format : s.format ≡ 1
@@ -27,9 +31,7 @@ pub record IsSuper (size : ℕ) (s : Super) : Type 0 where
   pub inside : s.blocks ≤ size
   pub tail_from : 4 ≤ s.tail
   pub tail_to : s.tail < s.blocks
-  -- There are no checkpoints, so the log is read from its beginning.
-  pub no_checkpoint : s.checkpoint ≡ 0
-  pub from_start : s.checkpoint ≡ 0 → s.tail ≡ 4
+  pub start : IsLogStart s.checkpoint s.tail
 
 -- Each field fits the number that spells it.
 pub record FitsFields (s : Super) : Type 0 where

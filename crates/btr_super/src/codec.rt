@@ -1,7 +1,7 @@
 //! The codec of a superblock's body: from superblock to block and back, and the table that it keeps.
 ghost use Rattle.std.specs.Prelude.{◌≡◌, ◌↔◌, ◌≤◌, length, IsTrue, IfSome};
 ghost use Rattle.btr_super.specs.declared.superblock.Super.{Super};
-ghost use Rattle.btr_super.specs.Super.{super_bytes, IsSuper, FitsFields};
+ghost use Rattle.btr_super.specs.Super.{super_bytes, IsLogStart, IsSuper, FitsFields};
 
 use crate::superblock::{FORMAT, LOG_START, MAX_BLOCKS, MIN_BLOCKS, SUPER_MARK, Super};
 use btr_disk::BLOCK;
@@ -52,8 +52,16 @@ pub(crate) fn keeps_table(s: &Super, size: u64) -> bool
         && MIN_BLOCKS <= s.blocks
         && s.blocks <= MAX_BLOCKS
         && s.blocks <= size
-        && s.checkpoint == 0
-        && s.tail == LOG_START
+        && LOG_START <= s.tail
+        && s.tail < s.blocks
+        && is_start(s.checkpoint, s.tail)
         && 1 <= s.seq
         && s.seq <= s.tail - LOG_START + s.format as u64
+}
+
+/// Whether the log is read from its beginning, or from a gate after that of a checkpoint.
+fn is_start(checkpoint: u64, tail: u64) -> bool
+    ensures { IsTrue result ↔ IsLogStart checkpoint tail }
+{
+    (checkpoint == 0 && tail == LOG_START) || (LOG_START <= checkpoint && checkpoint < tail)
 }

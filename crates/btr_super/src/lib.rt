@@ -1,4 +1,4 @@
-//! The two superblocks of a device: which store is on it, and how an empty store is made.
+//! The two superblocks of a device: which store is on it, how an empty store is made, and how the superblock that counts is replaced.
 //!
 //! Blocks 0 and 1 are gate and body of superblock A (side 0), blocks 2 and 3 those of superblock B
 //! (side 1). The body of an open gate says how many blocks the store has, and from which gate its log is
@@ -9,8 +9,10 @@ mod choosing;
 mod codec;
 mod formatting;
 mod gates;
+mod replacing;
 mod superblock;
 
 pub use choosing::{ChooseFault, choose};
 pub use formatting::{FormatFault, format};
+pub use replacing::{ReplaceFault, replace};
 pub use superblock::{FORMAT, LOG_START, MAX_BLOCKS, MIN_BLOCKS, SUPER_MARK, Super};

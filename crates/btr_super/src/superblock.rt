@@ -27,10 +27,10 @@ pub struct Super {
     /// The number of blocks of the store: [`MIN_BLOCKS`] to [`MAX_BLOCKS`], and at most those of the device.
     pub blocks: u64,
 
-    /// The gate from which the log is read.
+    /// The gate from which the log is read: [`LOG_START`], or the gate after a checkpoint. Less than `blocks`.
     pub tail: u64,
 
-    /// Always 0: there is no checkpoint, and the log is read from its beginning.
+    /// The gate of the checkpoint from which the log is read, less than `tail`, or 0 if there is no checkpoint.
     pub checkpoint: u64,
 
     /// The format of the device: [`FORMAT`].
