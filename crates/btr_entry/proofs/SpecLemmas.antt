@@ -2,7 +2,6 @@
 use Rattle.std.proofs.Common.{◌≡◌, ◌⊎◌, ℕ, ◌+◌, ◌*◌, ◌<◌, ◌≤◌, ◌^◌, ◌&&◌, ℤ, List, [], ◌∷◌, ◌++◌, length, get_or, Option, Some, None, lit≤, inl, inr, refl, sym, ap, ◌∙◌, subst, arith, length-append, append_assoc, if◌then◌else◌, not}
 use Rattle.std.specs.Prelude.{IfSome, nat_le, is_some}
 use Rattle.std.specs.Int.{Width, w32, w64, byte_len}
-use Rattle.std.proofs.lemmas.List.{append-nil}
 use Rattle.std.proofs.lemmas.Bool.{and_parts}
 use Rattle.std.proofs.lemmas.Bool.Decides.{nat_tests}
 use Rattle.btr_base.specs.declared.limits.TheConstants.{MAX_VERSIONS}
@@ -202,36 +201,41 @@ good_lead s h =
     let lead = (and_parts (nat_le s.lead (2 ^ 60)) (nat_le s.grain 62) last.1).0 in
     grind (arith, nat_tests)
 
--- After the kernel, the lead, the grain and the inputs of a spec.
-abbrev pub after_lead : Spec → List ℕ
-after_lead s = s.grain ∷ one_or_two w32 s.first s.second
+-- The bytes after the lead of a spec, and those after its kernel, with more bytes after them.
+abbrev pub after_lead : Spec → List ℕ → List ℕ
+after_lead s rest = s.grain ∷ (one_or_two w32 s.first s.second ++ rest)
 
-abbrev pub after_kernel : Spec → List ℕ
-after_kernel s = number w64 s.lead ++ after_lead s
+abbrev pub after_kernel : Spec → List ℕ → List ℕ
+after_kernel s rest = number w64 s.lead ++ after_lead s rest
 
--- A spec that was read from the bytes of a good spec is that spec, and nothing follows.
-pub spec_read : (bytes r0 r1 r2 r3 : List ℕ) (made s : Spec) → KernelFits made.kernel → made.lead < 2 ^ 64 → made.first < 2 ^ 32 → IfSome made.second (λ n. n < 2 ^ 32) → bytes ≡ kernel_bytes made.kernel ++ r0 → r0 ≡ number w64 made.lead ++ r1 → r1 ≡ made.grain ∷ r2 → r2 ≡ one_or_two w32 made.first made.second ++ r3 → IsSpec s → bytes ≡ spec_bytes s → (made ≡ s) × (r3 ≡ [])
-spec_read bytes r0 r1 r2 r3 made s kernel_fits lead_fits first_fits second_fits kernel_is lead_is grain_is inputs_are h same =
-    let kernels = kernel_once made.kernel s.kernel r0 (after_kernel s) kernel_fits h.kernel_fits (sym kernel_is ∙ same) in
-    let leads = number_once w64 (2 ^ 64) wide64 made.lead s.lead r1 (after_lead s) lead_fits (good_lead s h) (sym lead_is ∙ kernels.1) in
-    let grains = heads made.grain s.grain r2 (one_or_two w32 s.first s.second) (sym grain_is ∙ leads.1) in
-    let inputs = tails made.grain s.grain r2 (one_or_two w32 s.first s.second) (sym grain_is ∙ leads.1) in
-    let numbers = numbers_once w32 (2 ^ 32) wide32 made.first s.first made.second s.second r3 [] first_fits h.first_fits second_fits h.second_fits (sym inputs_are ∙ inputs ∙ sym (append-nil (one_or_two w32 s.first s.second))) in
+-- The bytes of a spec, with more bytes after them.
+pub spec_parts : (s : Spec) (rest : List ℕ) → spec_bytes s ++ rest ≡ kernel_bytes s.kernel ++ after_kernel s rest
+spec_parts s rest =
+    append_assoc (kernel_bytes s.kernel) (number w64 s.lead ++ (s.grain ∷ one_or_two w32 s.first s.second)) rest ∙ ap (λ (l : List ℕ). kernel_bytes s.kernel ++ l) (append_assoc (number w64 s.lead) (s.grain ∷ one_or_two w32 s.first s.second) rest)
+
+-- A spec that was read from the bytes of a good spec is that spec, and the same bytes follow.
+pub spec_read : (bytes r0 r1 r2 r3 rest : List ℕ) (made s : Spec) → KernelFits made.kernel → made.lead < 2 ^ 64 → made.first < 2 ^ 32 → IfSome made.second (λ n. n < 2 ^ 32) → bytes ≡ kernel_bytes made.kernel ++ r0 → r0 ≡ number w64 made.lead ++ r1 → r1 ≡ made.grain ∷ r2 → r2 ≡ one_or_two w32 made.first made.second ++ r3 → IsSpec s → bytes ≡ spec_bytes s ++ rest → (made ≡ s) × (r3 ≡ rest)
+spec_read bytes r0 r1 r2 r3 rest made s kernel_fits lead_fits first_fits second_fits kernel_is lead_is grain_is inputs_are h same =
+    let kernels = kernel_once made.kernel s.kernel r0 (after_kernel s rest) kernel_fits h.kernel_fits (sym kernel_is ∙ same ∙ spec_parts s rest) in
+    let leads = number_once w64 (2 ^ 64) wide64 made.lead s.lead r1 (after_lead s rest) lead_fits (good_lead s h) (sym lead_is ∙ kernels.1) in
+    let grains = heads made.grain s.grain r2 (one_or_two w32 s.first s.second ++ rest) (sym grain_is ∙ leads.1) in
+    let inputs = tails made.grain s.grain r2 (one_or_two w32 s.first s.second ++ rest) (sym grain_is ∙ leads.1) in
+    let numbers = numbers_once w32 (2 ^ 32) wide32 made.first s.first made.second s.second r3 rest first_fits h.first_fits second_fits h.second_fits (sym inputs_are ∙ inputs) in
     (λ i. record { kernel = kernels.0 i; lead = leads.0 i; grain = grains i; first = numbers.0 i; second = numbers.1 i }, numbers.2)
 
 -- After the kernel that was read follow the lead and the rest of the spec.
-pub kernel_read : (bytes rest : List ℕ) (k : Kernel) (s : Spec) → KernelFits k → bytes ≡ kernel_bytes k ++ rest → IsSpec s → bytes ≡ spec_bytes s → rest ≡ after_kernel s
-kernel_read bytes rest k s fits is h same = (kernel_once k s.kernel rest (after_kernel s) fits h.kernel_fits (sym is ∙ same)).1
+pub kernel_read : (bytes after : List ℕ) (k : Kernel) (s : Spec) (rest : List ℕ) → KernelFits k → bytes ≡ kernel_bytes k ++ after → IsSpec s → bytes ≡ spec_bytes s ++ rest → after ≡ after_kernel s rest
+kernel_read bytes after k s rest fits is h same = (kernel_once k s.kernel after (after_kernel s rest) fits h.kernel_fits (sym is ∙ same ∙ spec_parts s rest)).1
 
 -- After the lead that was read follow the grain and the inputs.
-pub lead_read : (rest after : List ℕ) (n : ℕ) (s : Spec) → n < 2 ^ 64 → rest ≡ number w64 n ++ after → IsSpec s → rest ≡ after_kernel s → after ≡ after_lead s
-lead_read rest after n s fits is h same =
-    (number_once w64 (2 ^ 64) wide64 n s.lead after (after_lead s) fits (good_lead s h) (sym is ∙ same)).1
+pub lead_read : (bytes after : List ℕ) (n : ℕ) (s : Spec) (rest : List ℕ) → n < 2 ^ 64 → bytes ≡ number w64 n ++ after → IsSpec s → bytes ≡ after_kernel s rest → after ≡ after_lead s rest
+lead_read bytes after n s rest fits is h same =
+    (number_once w64 (2 ^ 64) wide64 n s.lead after (after_lead s rest) fits (good_lead s h) (sym is ∙ same)).1
 
 -- The bytes determine the spec.
-pub spec_once : (s t : Spec) → IsSpec s → IsSpec t → spec_bytes s ≡ spec_bytes t → s ≡ t
-spec_once s t h j same =
-    (spec_read (spec_bytes s) (after_kernel s) (after_lead s) (one_or_two w32 s.first s.second) [] s t h.kernel_fits (good_lead s h) h.first_fits h.second_fits refl refl refl (sym (append-nil (one_or_two w32 s.first s.second))) j same).0
+pub spec_once : (s t : Spec) (x y : List ℕ) → IsSpec s → IsSpec t → spec_bytes s ++ x ≡ spec_bytes t ++ y → (s ≡ t) × (x ≡ y)
+spec_once s t x y h j same =
+    spec_read (spec_bytes s ++ x) (after_kernel s x) (after_lead s x) (one_or_two w32 s.first s.second ++ x) x y s t h.kernel_fits (good_lead s h) h.first_fits h.second_fits (spec_parts s x) refl refl refl j same
 
 -- ---- reads
 

@@ -199,7 +199,8 @@ same_commit s t cut other a b h k same =
 same_output : (a b : ℕ) (s t : Spec) → IsOutput a s → IsOutput b t → number w128 a ++ spec_bytes s ≡ number w128 b ++ spec_bytes t → (a ≡ b) × (s ≡ t)
 same_output a b s t h k same =
     let one = number_once w128 (2 ^ 128) wide128 a b (spec_bytes s) (spec_bytes t) h.id_fits k.id_fits same in
-    (one.0, spec_once s t h.is_spec k.is_spec one.1)
+    let specs = spec_once s t [] [] h.is_spec k.is_spec (append-nil (spec_bytes s) ∙ one.1 ∙ sym (append-nil (spec_bytes t))) in
+    (one.0, specs.0)
 
 same_distillate : (s t : ℕ) (cut other : List RangeValue) (a b : List Point) (r q : Reads) → IsDistilled s cut a r → IsDistilled t other b q → number w32 s ++ (reads_bytes r ++ (listed range cut ++ listed point a)) ≡ number w32 t ++ (reads_bytes q ++ (listed range other ++ listed point b)) → (s ≡ t) × (cut ≡ other) × (a ≡ b) × (r ≡ q)
 same_distillate s t cut other a b r q h k same =

@@ -74,7 +74,10 @@ fn read_define(bytes: &[u8]) -> Option<Entry>
     ensures none { IfNone result ((e : EntrySpec) → IsEntry (3 ∷ bytes.now) e → ⊥) }
 {
     let (id, rest) = read_id(bytes)?;
-    let spec = read_spec(rest)?;
+    let (spec, rest) = read_spec(rest)?;
+    if !rest.is_empty() {
+        return None;
+    }
     Some(Entry::Define { id, spec })
 }
 

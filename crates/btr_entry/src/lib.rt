@@ -23,6 +23,9 @@
 //! grain in 1 byte, the number of inputs in 1 byte, and the stream of each input in 4 bytes. It is good: see
 //! [`Spec::is_good`](btr_hist::Spec::is_good). Reads are the number of inputs in 1 byte, 1 or 2, and the version of each
 //! in 8 bytes, at most [`MAX_VERSIONS`](btr_base::MAX_VERSIONS). After an entry nothing follows.
+//!
+//! A checkpoint has ids, numbers, specs and reads with the same bytes. The functions that read and write one of them are public
+//! for the crate that encodes checkpoints. After an `Err`, which means out of memory, `out` may have a part of what was appended.
 #![tactic(auto)]
 
 mod fields;
@@ -37,4 +40,7 @@ mod laws;
 
 pub use decoding::decode;
 pub use encoding::{encode, spelling_length};
+pub use fields::{put_byte, put_id, put_u32, put_u64, read_id, read_u32, read_u64};
 pub use laws::one_spelling;
+pub use reads_bytes::{put_reads, read_reads};
+pub use spec_bytes::{put_spec, read_spec};

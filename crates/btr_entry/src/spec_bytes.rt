@@ -1,5 +1,5 @@
 //! The spec of an output as bytes, and back.
-ghost use Rattle.std.specs.Prelude.{◌≡◌, Option, ℕ, ◌<◌, ◌≤◌, ◌^◌, List, ◌∷◌, ◌++◌, length, IsTrue, IfSome, IfNone, OnOk};
+ghost use Rattle.std.specs.Prelude.{◌≡◌, Option, ℕ, ◌<◌, ◌≤◌, ◌^◌, List, ◌∷◌, ◌++◌, length, slice_index_or, IsTrue, IfSome, IfNone, OnOk};
 ghost use Rattle.std.specs.Int.{w32};
 ghost use Rattle.btr_hist.specs.declared.kernel.Kernel.{Kernel as KernelValue};
 ghost use Rattle.btr_hist.specs.declared.kernel.Spec.{Spec as SpecValue};
@@ -64,15 +64,25 @@ fn put_kernel(out: &mut Vec<u8>, kernel: Kernel) -> Result<(), AllocError>
             put_signed(out, b)?;
             put_signed(out, d)
         }
-        Kernel::Sum => put_byte(out, 2),
-        Kernel::Mean => put_byte(out, 3),
-        Kernel::Least => put_byte(out, 4),
-        Kernel::Greatest => put_byte(out, 5),
-        Kernel::Count => put_byte(out, 6),
-        Kernel::Delta => put_byte(out, 7),
-        Kernel::Minus => put_byte(out, 8),
-        Kernel::Angle => put_byte(out, 9),
-        Kernel::Hold => put_byte(out, 10),
+        _ => put_byte(out, kernel_number(kernel)),
+    }
+}
+
+/// Returns the number of a kernel.
+fn kernel_number(kernel: Kernel) -> u8
+    ensures { result ≡ slice_index_or (kernel_bytes kernel) 0 0 }
+{
+    match kernel {
+        Kernel::Affine { .. } => 1,
+        Kernel::Sum => 2,
+        Kernel::Mean => 3,
+        Kernel::Least => 4,
+        Kernel::Greatest => 5,
+        Kernel::Count => 6,
+        Kernel::Delta => 7,
+        Kernel::Minus => 8,
+        Kernel::Angle => 9,
+        Kernel::Hold => 10,
     }
 }
 
@@ -95,10 +105,12 @@ fn put_inputs(out: &mut Vec<u8>, first: u32, second: Option<u32>) -> Result<(), 
     }
 }
 
-/// Reads all of the bytes as a spec. Returns `None` if no output can have it.
-pub fn read_spec(bytes: &[u8]) -> Option<Spec>
-    ensures found { IfSome result (λ s. IsSpec s × (bytes.now ≡ spec_bytes s)) }
-    ensures none { IfNone result ((s : SpecValue) → IsSpec s → bytes.now ≡ spec_bytes s → ⊥) }
+/// Reads a spec from the first bytes, and returns it with the bytes after it. Returns `None` if they are those of no spec
+/// that an output can have.
+pub fn read_spec(bytes: &[u8]) -> Option<(Spec, &[u8])>
+    ensures some { IfSome result (λ x. bytes.now ≡ spec_bytes x.0 ++ x.1.now) }
+    ensures fits { IfSome result (λ x. IsSpec x.0) }
+    ensures none { IfNone result ((s : SpecValue) (rest : List ℕ) → IsSpec s → bytes.now ≡ spec_bytes s ++ rest → ⊥) }
 {
     let (kernel, rest) = read_kernel(bytes)?;
     let (lead, rest) = read_u64(rest)?;
@@ -111,13 +123,10 @@ pub fn read_spec(bytes: &[u8]) -> Option<Spec>
         first,
         second,
     };
-    if !rest.is_empty() {
-        return None;
-    }
     if !spec.is_good() {
         return None;
     }
-    Some(spec)
+    Some((spec, rest))
 }
 
 /// Reads a kernel from the first bytes, and returns it with the bytes after it. Returns `None` if they are no kernel's.

@@ -1,0 +1,156 @@
+//! The streams of a roll and their versions, from their bytes. Each count is compared with the bytes that are left before
+//! memory is taken for it: a version has at least 16 bytes, and a stream at least 33.
+ghost use Rattle.std.specs.Prelude.{◌≡◌, ℕ, ◌++◌, List, Option, IfOk, IfSome, IfNone};
+ghost use Rattle.btr_hist.specs.declared.kernel.Spec.{Spec as SpecValue};
+ghost use Rattle.btr_hist.specs.declared.kernel.Reads.{Reads as ReadsValue};
+ghost use Rattle.btr_roll.specs.declared.roll.RollVersion.{RollVersion as VersionValue};
+ghost use Rattle.btr_entry.specs.Grammar.{IsSpec};
+ghost use Rattle.btr_roll.specs.Roll.{RollStreamValue, some_reads_bytes, version_bytes, kind_bytes, stream_bytes};
+ghost use Rattle.btr_roll.specs.Roll.{ReadsFit, VersionFits, StreamFits};
+ghost use Rattle.btr_roll.specs.Items.{IsStreamStart, AreItems};
+
+use crate::roll::{RollStream, RollVersion};
+use btr_base::MAX_VERSIONS;
+use btr_entry::{read_id, read_reads, read_spec, read_u64};
+use btr_hist::{Reads, Spec};
+use std::alloc::{AllocError, Global};
+
+/// Reads this many streams from the first bytes, and returns them with the bytes after them. Returns `None` if the bytes do
+/// not begin with so many streams that fit. An `Err` means out of memory.
+pub fn read_streams(
+    alloc: Global,
+    bytes: &[u8],
+    count: usize,
+) -> Result<Option<(Vec<RollStream>, &[u8])>, AllocError>
+    ensures some { IfOk result (λ o. IfSome o (λ x. AreItems stream_bytes StreamFits count bytes.now x.0.items x.1.now)) }
+    ensures none { IfOk result (λ o. IfNone o ((streams : List RollStreamValue) (rest : List ℕ)
+        → AreItems stream_bytes StreamFits count bytes.now streams rest → ⊥)) }
+{
+    if count > bytes.len() / 33 {
+        return Ok(None);
+    }
+    let mut streams = Vec::with_capacity(alloc, count)?;
+    let mut rest = bytes;
+    while streams.len() < count {
+        let Some((stream, after)) = read_stream(alloc, rest)? else {
+            return Ok(None);
+        };
+        streams.push(stream)?;
+        rest = after;
+    }
+    Ok(Some((streams, rest)))
+}
+
+/// Reads a stream from the first bytes, and returns it with the bytes after it. Returns `None` if the bytes do not begin with
+/// a stream that fits.
+fn read_stream(alloc: Global, bytes: &[u8]) -> Result<Option<(RollStream, &[u8])>, AllocError>
+    ensures some { IfOk result (λ o. IfSome o (λ x. bytes.now ≡ stream_bytes x.0 ++ x.1.now)) }
+    ensures fits { IfOk result (λ o. IfSome o (λ x. StreamFits x.0)) }
+    ensures none { IfOk result (λ o. IfNone o ((s : RollStreamValue) (rest : List ℕ)
+        → StreamFits s → bytes.now ≡ stream_bytes s ++ rest → ⊥)) }
+{
+    let Some((id, entry, spec, count, rest)) = read_stream_start(bytes) else {
+        return Ok(None);
+    };
+    let Some((versions, rest)) = read_versions(alloc, rest, count, spec.is_some())? else {
+        return Ok(None);
+    };
+    Ok(Some((
+        RollStream {
+            id,
+            entry,
+            spec,
+            versions,
+        },
+        rest,
+    )))
+}
+
+/// Reads from the first bytes the id of a stream, the number of its entry, the spec of an output and the number of versions,
+/// and returns them with the bytes after them.
+fn read_stream_start(bytes: &[u8]) -> Option<(u128, u64, Option<Spec>, usize, &[u8])>
+    ensures some { IfSome result (λ x. IsStreamStart bytes.now x.0 x.1 x.2 x.3 x.4.now) }
+    ensures none { IfNone result ((id entry : ℕ) (spec : Option SpecValue) (count : ℕ) (rest : List ℕ)
+        → IsStreamStart bytes.now id entry spec count rest → ⊥) }
+{
+    let (id, rest) = read_id(bytes)?;
+    let (entry, rest) = read_u64(rest)?;
+    let (spec, rest) = read_kind(rest)?;
+    let (count, rest) = read_u64(rest)?;
+    if count > MAX_VERSIONS as u64 {
+        return None;
+    }
+    Some((id, entry, spec, count as usize, rest))
+}
+
+/// Reads the kind of a stream, and returns the spec of an output with the bytes after it.
+fn read_kind(bytes: &[u8]) -> Option<(Option<Spec>, &[u8])>
+    ensures some { IfSome result (λ x. bytes.now ≡ kind_bytes x.0 ++ x.1.now) }
+    ensures fits { IfSome result (λ x. IfSome x.0 IsSpec) }
+    ensures none { IfNone result ((spec : Option SpecValue) (rest : List ℕ)
+        → IfSome spec IsSpec → bytes.now ≡ kind_bytes spec ++ rest → ⊥) }
+{
+    let (kind, rest) = bytes.split_first()?;
+    match *kind {
+        0 => Some((None, rest)),
+        1 => {
+            let (spec, rest) = read_spec(rest)?;
+            Some((Some(spec), rest))
+        }
+        _ => None,
+    }
+}
+
+/// Reads this many versions, of an output or of a plain stream, from the first bytes, and returns them with the bytes after
+/// them. Returns `None` if the bytes do not begin with so many versions that fit. An `Err` means out of memory.
+fn read_versions(
+    alloc: Global,
+    bytes: &[u8],
+    count: usize,
+    output: bool,
+) -> Result<Option<(Vec<RollVersion>, &[u8])>, AllocError>
+    ensures some { IfOk result (λ o. IfSome o (λ x. AreItems version_bytes (VersionFits output) count bytes.now x.0.items x.1.now)) }
+    ensures none { IfOk result (λ o. IfNone o ((versions : List VersionValue) (rest : List ℕ)
+        → AreItems version_bytes (VersionFits output) count bytes.now versions rest → ⊥)) }
+{
+    if count > bytes.len() / 16 {
+        return Ok(None);
+    }
+    let mut versions = Vec::with_capacity(alloc, count)?;
+    let mut rest = bytes;
+    while versions.len() < count {
+        let Some((version, after)) = read_version(rest, output) else {
+            return Ok(None);
+        };
+        versions.push(version)?;
+        rest = after;
+    }
+    Ok(Some((versions, rest)))
+}
+
+/// Reads a version, of an output or of a plain stream, from the first bytes, and returns it with the bytes after it.
+fn read_version(bytes: &[u8], output: bool) -> Option<(RollVersion, &[u8])>
+    ensures some { IfSome result (λ x. bytes.now ≡ version_bytes x.0 ++ x.1.now) }
+    ensures fits { IfSome result (λ x. VersionFits output x.0) }
+    ensures none { IfNone result ((v : VersionValue) (rest : List ℕ)
+        → VersionFits output v → bytes.now ≡ version_bytes v ++ rest → ⊥) }
+{
+    let (entry, rest) = read_u64(bytes)?;
+    let (root, rest) = read_u64(rest)?;
+    let (reads, rest) = read_some_reads(rest, output)?;
+    Some((RollVersion { entry, root, reads }, rest))
+}
+
+/// Reads what a version of an output has read, and nothing for a version of a plain stream.
+fn read_some_reads(bytes: &[u8], output: bool) -> Option<(Option<Reads>, &[u8])>
+    ensures some { IfSome result (λ x. bytes.now ≡ some_reads_bytes x.0 ++ x.1.now) }
+    ensures fits { IfSome result (λ x. ReadsFit output x.0) }
+    ensures none { IfNone result ((reads : Option ReadsValue) (rest : List ℕ)
+        → ReadsFit output reads → bytes.now ≡ some_reads_bytes reads ++ rest → ⊥) }
+{
+    if !output {
+        return Some((None, bytes));
+    }
+    let (reads, rest) = read_reads(bytes)?;
+    Some((Some(reads), rest))
+}
