@@ -1,5 +1,5 @@
 -- Lemmas on blocks that are read as pages: their bytes are those of one list of pages, and blocks are added one at a time.
-use Rattle.std.specs.Prelude.{◌≡◌, ◌⊎◌, ℕ, ◌+◌, ◌*◌, ◌<◌, ◌≤◌, List, [], ◌∷◌, ◌++◌, length, take, codes, Some, None, IsSome}
+use Rattle.std.specs.Prelude.{◌≡◌, ◌⊎◌, ℕ, ◌+◌, ◌*◌, ◌<◌, ◌≤◌, List, [], ◌∷◌, ◌++◌, length, take, codes, slice_get, Some, None, IfSome, IsSome}
 use Rattle.std.specs.List.{flat_map, AllByRecursion}
 use Rattle.std.proofs.Common.{refl, sym, ◌∙◌, ap, subst, arith, inl, inr, length-append}
 use Rattle.std.proofs.Math.Seq.{take-add}
@@ -7,6 +7,7 @@ use Rattle.std.proofs.lemmas.Bool.{cases_lt}
 use Rattle.std.proofs.lemmas.Grind.{flat_map-append}
 use Rattle.std.proofs.lemmas.List.{append-nil, take_all}
 use Rattle.std.proofs.lemmas.List.Concat.{flat_map-cons}
+use Rattle.std.proofs.lemmas.Option.{slice_get_past}
 use Rattle.btr_base.specs.declared.point.Point.{Point}
 use Rattle.btr_base.proofs.ListLemmas.{each-append, each-weaker}
 use Rattle.btr_node.specs.Page.{front, front_bytes, point_bytes, slot_bytes, page_bytes, number, zeros, Fits}
@@ -17,11 +18,11 @@ use Rattle.btr_node.specs.declared.page.PageSlot.{PageSlot}
 use Rattle.btr_node.proofs.PageLemmas.{page-once}
 use Rattle.btr_pages.specs.Pages.{Pages, with_pages, IsPageAt}
 use Rattle.btr_pages.specs.Known.{NodesValue, AreKnown}
-use Rattle.btr_pages.specs.Blocks.{block_of_bytes, AreAdded, AllWereAdded, IsNoPage, IsWrongPage, IsDamagedBlock}
+use Rattle.btr_pages.specs.Blocks.{block_of_bytes, AreAmong, AreAdded, AllWereAdded, IsNoPage, IsWrongPage, IsDamagedBlock}
 use Rattle.btr_pages.specs.Made.{IsAddedPage, IsDamagedPage}
-use Rattle.btr_pages.proofs.KnownLemmas.{IsAbove, pages-below, pages-from}
+use Rattle.btr_pages.proofs.KnownLemmas.{IsAbove, pages-below, pages-from, knows-all}
 use Rattle.btr_pages.proofs.PageOfLemmas.{HasPlaces, fits-places}
-use Rattle.btr_pages.proofs.PagesLemmas.{known-same, pages-more, right-none, right-more}
+use Rattle.btr_pages.proofs.PagesLemmas.{get-before, get-after, known-same, pages-more, right-none, right-more}
 
 -- If two lists are equal and their first parts have the same length, their parts are equal.
 pub parts-one : (a b x y : List ℕ) → length a ≡ length b → a ++ x ≡ b ++ y → (a ≡ b) × (x ≡ y)
@@ -123,6 +124,7 @@ added-none nodes first bytes above =
       fit = tt;
       stand = λ pages are. right-none pages first;
       known = λ pages are. known-same pages (with_pages pages first []) nodes (λ b. with-none pages nodes first b are above) are;
+      part = λ pages are among. are;
     }
 
 -- The pages that were added are as many as the blocks.
@@ -141,17 +143,33 @@ bytes-more i bytes added page is here =
     ∙ ap (λ xs. flat_map page_bytes added ++ xs) (here ∙ sym (append-nil (page_bytes page)) ∙ sym (flat_map-cons page_bytes page []))
     ∙ sym (flat_map-append page_bytes added (page ∷ []))
 
-pub added-more : (old mid new : NodesValue) (first i : ℕ) (bytes : List ℕ) (added : List NodePage) → AreAdded old mid first (take (4096 * i) bytes) added → length added ≡ i → (here : IsAddedPage mid new (first + i) (block_of_bytes bytes i)) → AreAdded old new first (take (4096 * (i + 1)) bytes) (added ++ here.page ∷ [])
-added-more old mid new first i bytes added are n here =
+-- Of pages that are among others, those before the last are.
+among-before : (pages : Pages) (first : ℕ) (added : List NodePage) (page : NodePage) → AreAmong pages first (added ++ page ∷ []) → AreAmong pages first added
+among-before pages first added page among i =
+    elim (cases_lt i (length added)) [
+      | inl less ↦ subst (λ o. IfSome o (λ p. pages (first + i) ≡ Some p)) (get-before added (page ∷ []) i less) (among i)
+      | inr le ↦ subst (λ o. IfSome o (λ p. pages (first + i) ≡ Some p)) (sym (slice_get_past added i (omega arith))) tt
+    ]
+
+-- The last of them is in its block.
+among-last : (pages : Pages) (first i : ℕ) (added : List NodePage) (page : NodePage) → length added ≡ i → AreAmong pages first (added ++ page ∷ []) → pages (first + i) ≡ Some page
+among-last pages first i added page n among =
+    let at : slice_get (added ++ page ∷ []) i ≡ Some page = ap (slice_get (added ++ page ∷ [])) (let e : i ≡ length added + 0 = omega arith in e) ∙ get-after added (page ∷ []) 0 in
+    subst (λ o. IfSome o (λ p. pages (first + i) ≡ Some p)) at (among i)
+
+pub added-more : (old mid new : NodesValue) (first i : ℕ) (bytes : List ℕ) (added : List NodePage) → AreAdded old mid first (take (4096 * i) bytes) added → length added ≡ i → IsAbove (first + i) mid → (here : IsAddedPage mid new (first + i) (block_of_bytes bytes i)) → AreAdded old new first (take (4096 * (i + 1)) bytes) (added ++ here.page ∷ [])
+added-more old mid new first i bytes added are n above here =
     let page = here.page in
     record {
       bytes_are = bytes-more i bytes added page are.bytes_are here.spells.bytes_are;
       fit = each-append Fits added (page ∷ []) are.fit (here.fits, tt);
       stand = λ pages known.
-          right-more pages first added page (are.stand pages known) (subst (λ k. IsPageAt (with_pages pages first added) (first + k) page) (sym n) (here.added.rightly (with_pages pages first added) (are.known pages known)));
+          right-more pages first added page (are.stand pages known) (subst (λ k. IsPageAt (with_pages pages first added) (first + k) page) (sym n) (here.added.rightly (with_pages pages first added) (are.known pages known).each));
       known = λ pages known.
           let with = with_pages pages first added in
-          known-same (with_pages with (first + length added) (page ∷ [])) (with_pages pages first (added ++ page ∷ [])) new (λ b. sym (pages-more pages first added page b)) (subst (λ k. AreKnown (with_pages with (first + k) (page ∷ [])) new) (sym n) (here.added.known with (are.known pages known)));
+          known-same (with_pages with (first + length added) (page ∷ [])) (with_pages pages first (added ++ page ∷ [])) new (λ b. sym (pages-more pages first added page b)) (subst (λ k. AreKnown (with_pages with (first + k) (page ∷ [])) new) (sym n) (here.added.known with (are.known pages known) above));
+      part = λ pages old_are among.
+          here.added.part pages (are.part pages old_are (among-before pages first added page among)) (among-last pages first i added page n among);
     }
 
 -- ---- a damaged block
@@ -163,7 +181,9 @@ damaged-here old mid first i bytes added are (inr here) =
       page = here.page;
       fits = here.fits;
       spells = here.spells;
-      wrong = λ pages known. here.wrong (with_pages pages first added) (are.known pages known);
+      wrong = λ pages known.
+          let with = with_pages pages first added in
+          here.wrong with (are.known pages known).each (knows-all with mid here.page (are.known pages known));
     })
 
 pub damaged-block : (old mid : NodesValue) (first i : ℕ) (bytes : List ℕ) (added : List NodePage) → AreAdded old mid first (take (4096 * i) bytes) added → length added ≡ i → 4096 * i < length bytes → IsDamagedPage mid (first + i) (block_of_bytes bytes i) → IsDamagedBlock old mid first bytes (first + i)
@@ -199,7 +219,7 @@ to-more old mid new first i bytes to here above =
     record {
       added = to.added ++ here.page ∷ [];
       number = omega (arith, length-last to.added here.page, to.number);
-      are = added-more old mid new first i bytes to.added to.are to.number here;
+      are = added-more old mid new first i bytes to.added to.are to.number to.above here;
       above = subst (λ b. IsAbove b new) up above;
     }
 

@@ -1,5 +1,5 @@
 -- Lemmas on trees that were made of pages: the trees with one more are those of the pages with one more.
-use Rattle.std.specs.Prelude.{◌≡◌, ℕ, ◌+◌, ◌-◌, ◌<◌, ◌≤◌, nat_eq, nat_lt, ℤ, List, [], ◌∷◌, ◌++◌, length, take, map, get_or, slice_get, Option, Some, None, IfSome, IsSome, option_map, cond, true, false}
+use Rattle.std.specs.Prelude.{◌≡◌, ◌⊎◌, ℕ, ◌-◌, ◌<◌, ◌≤◌, nat_eq, nat_lt, ℤ, List, [], ◌∷◌, ◌++◌, length, take, map, get_or, slice_get, Option, Some, None, IfSome, IsSome, IsNone, option_map, cond, true, false}
 use Rattle.std.specs.Option.{option_and_then}
 use Rattle.std.specs.List.{AllByRecursion, sum_by}
 use Rattle.std.proofs.Common.{zero, suc, refl, sym, ap, ◌∙◌, subst, arith, inl, inr}
@@ -32,10 +32,10 @@ use Rattle.btr_node.specs.declared.page.NodePage.{NodePage}
 use Rattle.btr_node.specs.declared.page.NodePage.TheVariants.{Leaf, Inner}
 use Rattle.btr_node.specs.declared.page.PageSlot.{PageSlot}
 use Rattle.btr_pages.specs.Pages.{Pages, with_pages, span_of_page, slot_of_page, slots_of_page, node_of_page, node_of_stream, nodes_in, IsChildPage, HasChildPage, IsPageAt}
-use Rattle.btr_pages.specs.Known.{KnownValue, NodesValue, node_at, CameFrom, IsKnown, AreKnown, TakesPage}
+use Rattle.btr_pages.specs.Known.{KnownValue, NodesValue, node_at, CameFrom, IsKnown, AreKnown, ArePartOf, KnowsChildren, TakesPage}
 use Rattle.btr_pages.specs.Made.{IsReadTree, IsKnownChild, HasKnownChild, MayHaveChild, IsBuildable, part_of, ArePartsTo, versions_of, AreLeafPoints, IsLeafMade, IsInnerMade, IsMadeAt}
 use Rattle.btr_pages.proofs.LeafLemmas.{leaf-points}
-use Rattle.btr_pages.proofs.NumberLemmas.{added-here, added-other, none-above}
+use Rattle.btr_pages.proofs.NumberLemmas.{added-here, added-other, none-there}
 use Rattle.btr_pages.proofs.PartLemmas.{parts-count, all-have, version-at, at-slot, no-slot}
 
 -- No tree is of this block, nor of one above.
@@ -55,17 +55,25 @@ block-at (n ∷ ns) b k at =
     ] refl at
 
 -- What is known of a tree that was made.
-pub known-at : (pages : Pages) (nodes : NodesValue) (b : ℕ) (k : KnownValue) → AreKnown pages nodes → node_at nodes b ≡ Some k → IsKnown pages k
-known-at pages nodes b k are at = subst (λ o. IfSome o (IsKnown pages)) at (are.each b)
+pub known-at : (pages : Pages) (nodes : NodesValue) (b : ℕ) (k : KnownValue) → ArePartOf pages nodes → node_at nodes b ≡ Some k → IsKnown pages k
+known-at pages nodes b k are at = subst (λ o. IfSome o (IsKnown pages)) at (are b)
+
+-- If all pages have a tree, those of the children of a page have one.
+pub knows-all : (pages : Pages) (nodes : NodesValue) (page : NodePage) → AreKnown pages nodes → KnowsChildren pages nodes page
+knows-all pages nodes page are i =
+    elim (slice_get (slots_of_page page) i) as (λ o. IfSome o (λ slot. 0 < slot.agg.count → IsSome (pages slot.child) → IsSome (node_at nodes slot.child))) [
+      | None ↦ tt
+      | Some slot ↦ λ some has. are.all slot.child has
+    ]
 
 -- ---- a page stands rightly exactly if the trees of its children were made
 
-child-right : (pages : Pages) (nodes : NodesValue) (block : ℕ) (page : NodePage) (i : ℕ) (slot : PageSlot) → AreKnown pages nodes → IsAbove block nodes → HasKnownChild nodes (slot_of (span_of_page page) i) (front page).stream slot → HasChildPage pages block page i slot
-child-right pages nodes block page i slot are above has =
+child-right : (pages : Pages) (nodes : NodesValue) (block : ℕ) (page : NodePage) (i : ℕ) (slot : PageSlot) → ArePartOf pages nodes → HasKnownChild nodes block (slot_of (span_of_page page) i) (front page).stream slot → HasChildPage pages block page i slot
+child-right pages nodes block page i slot are has =
     let known = known-at pages nodes slot.child has.known are has.is in
     let at = block-at nodes slot.child has.known has.is in
     record {
-      lower = above slot.child (subst IsSome (sym has.is) refl);
+      lower = has.fits.lower;
       child = known.page;
       is = ap pages (sym at) ∙ known.is;
       fits = record {
@@ -76,16 +84,15 @@ child-right pages nodes block page i slot are above has =
       };
     }
 
-slot-right : (pages : Pages) (nodes : NodesValue) (block : ℕ) (page : NodePage) (i : ℕ) (o : Option PageSlot) → AreKnown pages nodes → IsAbove block nodes → IfSome o (MayHaveChild nodes (slot_of (span_of_page page) i) (front page).stream) → IfSome o (λ slot. 0 < slot.agg.count → HasChildPage pages block page i slot)
-slot-right pages nodes block page i None are above may = may
-slot-right pages nodes block page i (Some slot) are above may = λ some.
-    child-right pages nodes block page i slot are above (may some)
+slot-right : (pages : Pages) (nodes : NodesValue) (block : ℕ) (page : NodePage) (i : ℕ) (o : Option PageSlot) → ArePartOf pages nodes → IfSome o (MayHaveChild nodes block (slot_of (span_of_page page) i) (front page).stream) → IfSome o (λ slot. 0 < slot.agg.count → HasChildPage pages block page i slot)
+slot-right pages nodes block page i None are may = may
+slot-right pages nodes block page i (Some slot) are may = λ some. child-right pages nodes block page i slot are (may some)
 
-pub page-right : (pages : Pages) (nodes : NodesValue) (block : ℕ) (page : NodePage) → AreKnown pages nodes → IsAbove block nodes → Keeps page → IsBuildable nodes page → IsPageAt pages block page
-page-right pages nodes block page are above keeps may =
+pub page-right : (pages : Pages) (nodes : NodesValue) (block : ℕ) (page : NodePage) → ArePartOf pages nodes → Keeps page → IsBuildable nodes block page → IsPageAt pages block page
+page-right pages nodes block page are keeps may =
     record {
       keeps = keeps;
-      children = λ i. slot-right pages nodes block page i (slice_get (slots_of_page page) i) are above (may i);
+      children = λ i. slot-right pages nodes block page i (slice_get (slots_of_page page) i) are (may i);
     }
 
 -- A tree that was made, where there is one.
@@ -96,9 +103,9 @@ some-known nodes b =
       | Some k ↦ λ e some. (k, e)
     ] refl
 
-child-known : (pages : Pages) (nodes : NodesValue) (block : ℕ) (page : NodePage) (i : ℕ) (slot : PageSlot) → AreKnown pages nodes → HasChildPage pages block page i slot → HasKnownChild nodes (slot_of (span_of_page page) i) (front page).stream slot
-child-known pages nodes block page i slot are has =
-    let found = some-known nodes slot.child (are.all slot.child (subst IsSome (sym has.is) refl)) in
+child-known : (pages : Pages) (nodes : NodesValue) (block : ℕ) (page : NodePage) (i : ℕ) (slot : PageSlot) → ArePartOf pages nodes → (IsSome (pages slot.child) → IsSome (node_at nodes slot.child)) → HasChildPage pages block page i slot → HasKnownChild nodes block (slot_of (span_of_page page) i) (front page).stream slot
+child-known pages nodes block page i slot are knows has =
+    let found = some-known nodes slot.child (knows (subst IsSome (sym has.is) refl)) in
     let known = known-at pages nodes slot.child found.0 are found.1 in
     let at = block-at nodes slot.child found.0 found.1 in
     let two : Some known.page ≡ Some has.child = sym known.is ∙ ap pages at ∙ has.is in
@@ -108,6 +115,7 @@ child-known pages nodes block page i slot are has =
       known = found.0;
       is = found.1;
       fits = record {
+        lower = has.lower;
         stream = known.made.stream ∙ fits.stream;
         span = known.made.span ∙ fits.span;
         version = known.made.version ∙ fits.version;
@@ -116,14 +124,145 @@ child-known pages nodes block page i slot are has =
       };
     }
 
-slot-known : (pages : Pages) (nodes : NodesValue) (block : ℕ) (page : NodePage) (i : ℕ) (o : Option PageSlot) → AreKnown pages nodes → IfSome o (λ slot. 0 < slot.agg.count → HasChildPage pages block page i slot) → IfSome o (MayHaveChild nodes (slot_of (span_of_page page) i) (front page).stream)
-slot-known pages nodes block page i None are has = has
-slot-known pages nodes block page i (Some slot) are has = λ some.
-    child-known pages nodes block page i slot are (has some)
+slot-known : (pages : Pages) (nodes : NodesValue) (block : ℕ) (page : NodePage) (i : ℕ) (o : Option PageSlot) → ArePartOf pages nodes → IfSome o (λ slot. 0 < slot.agg.count → IsSome (pages slot.child) → IsSome (node_at nodes slot.child)) → IfSome o (λ slot. 0 < slot.agg.count → HasChildPage pages block page i slot) → IfSome o (MayHaveChild nodes block (slot_of (span_of_page page) i) (front page).stream)
+slot-known pages nodes block page i None are knows has = has
+slot-known pages nodes block page i (Some slot) are knows has = λ some.
+    child-known pages nodes block page i slot are (knows some) (has some)
 
-pub page-known : (pages : Pages) (nodes : NodesValue) (block : ℕ) (page : NodePage) → AreKnown pages nodes → IsPageAt pages block page → IsBuildable nodes page
-page-known pages nodes block page are right i =
-    slot-known pages nodes block page i (slice_get (slots_of_page page) i) are (right.children i)
+pub page-known : (pages : Pages) (nodes : NodesValue) (block : ℕ) (page : NodePage) → ArePartOf pages nodes → KnowsChildren pages nodes page → IsPageAt pages block page → IsBuildable nodes block page
+page-known pages nodes block page are knows right i =
+    slot-known pages nodes block page i (slice_get (slots_of_page page) i) are (knows i) (right.children i)
+
+-- ---- the node of a page
+
+node-here : (pages : Pages) (block : ℕ) (page : NodePage) (s : ℕ) → pages block ≡ Some page → s ≡ (front page).stream → nodes_in pages s block ≡ Some (node_of_page page)
+node-here pages block page s here e =
+    let yes : nat_eq (front page).stream s ≡ true = grind (arith, nat_tests) in
+    ap (option_and_then (node_of_stream s)) here ∙ ap (λ t. cond t (Some (node_of_page page)) None) yes
+
+-- ---- the tree of a page
+
+version-of_leaf_kind : (v : ℕ) (ps : List Point) (d : NodeData-F NodeData Link Kept Slots) → ByKind (λ w qs. (w ≡ v) × (qs ≡ ps)) (λ w x. ⊥) d → version_of_kind d ≡ v
+version-of_leaf_kind v ps (NodeData-F.Leaf b w qs) is = is.0
+version-of_leaf_kind v ps (NodeData-F.Inner b w x) is = absurd is
+
+version-of_leaf : (v : ℕ) (ps : List Point) (o : Option NodeData) → IsLeafOf v ps o → version_of o ≡ v
+version-of_leaf v ps None is = absurd is
+version-of_leaf v ps (Some d) is = version-of_leaf_kind v ps (out-NodeData d) is
+
+version-of_inner_kind : (v : ℕ) (x : Slots) (d : NodeData-F NodeData Link Kept Slots) → ByKind (λ w qs. ⊥) (λ w y. (w ≡ v) × AreSameSlots x y) d → version_of_kind d ≡ v
+version-of_inner_kind v x (NodeData-F.Leaf b w qs) is = absurd is
+version-of_inner_kind v x (NodeData-F.Inner b w y) is = is.0
+
+version-of_inner : (v : ℕ) (x : Slots) (o : Option NodeData) → IsInnerOf v x o → version_of o ≡ v
+version-of_inner v x None is = absurd is
+version-of_inner v x (Some d) is = version-of_inner_kind v x (out-NodeData d) is
+
+pub leaf-count : (block version : ℕ) (span : SpanValue) (points : List Point) (t : TreeValue) → IsLeafMade block span version points t → t.total.count ≡ length points
+leaf-count block version span points t m = ap (λ (a : AggValue). a.count) m.is.total ∙ agg-count points
+
+pub inner-count : (nodes : NodesValue) (block : ℕ) (span : SpanValue) (number version : ℕ) (slots : List PageSlot) (t : TreeValue) → IsInnerMade nodes block span number version slots t → length slots ≡ 64 → t.total.count ≡ sum_by (λ s. s.agg.count) slots
+inner-count nodes block span number version slots t m full =
+    ap (λ (a : AggValue). a.count) m.is.total ∙ parts-count nodes block span number slots m.parts full m.are
+
+-- ---- the slots of a page, as they were read
+
+slot-keeps : (slots : List PageSlot) (version i : ℕ) (slot : PageSlot) → AllByRecursion (IsSlot version) slots → slice_get slots i ≡ Some slot → IsSlot version slot
+slot-keeps [] version i slot all at = absurd (cc)
+slot-keeps (s ∷ ss) version zero slot all at = let same : s ≡ slot = cc in subst (IsSlot version) same all.0
+slot-keeps (s ∷ ss) version (suc i) slot all at = slot-keeps ss version i slot all.1 at
+
+-- What the slot's part has of the slot.
+record IsPartRead (store : Store) (below : ℕ) (start : ℤ) (slot : PageSlot) (part : Option TreeValue) : Type 0 where
+  child : slot.child ≡ block_of (part_node part)
+  read : IfSome part (λ t. IsRead store below start t.node)
+
+part-known : (pages : Pages) (nodes : NodesValue) (block : ℕ) (span : SpanValue) (below number s i : ℕ) (slot : PageSlot) (k : KnownValue) → ArePartOf pages nodes → span.height ≡ suc below → s ≡ number → node_at nodes slot.child ≡ Some k → IsKnownChild block (slot_of span i) number slot k → IsPartRead (nodes_in pages s) below (slot_start below span.start i) slot (Some k.tree)
+part-known pages nodes block span below number s i slot k are high e at fits =
+    let known = known-at pages nodes slot.child k are at in
+    let place : k.tree.span ≡ record { start = slot_start below span.start i; height = below } = fits.span ∙ slot-part span below i high in
+    record {
+      child = sym (known.made.its_block ∙ block-at nodes slot.child k at);
+      read =
+          subst (λ (u : SpanValue). IsRead (nodes_in pages s) u.height u.start k.tree.node) place (subst (λ n. IsRead (nodes_in pages n) k.tree.span.height k.tree.span.start k.tree.node) (fits.stream ∙ sym e) known.made.read);
+    }
+
+part-read_of : (pages : Pages) (nodes : NodesValue) (block : ℕ) (span : SpanValue) (below number s i version : ℕ) (slot : PageSlot) → ArePartOf pages nodes → span.height ≡ suc below → s ≡ number → IsSlot version slot → MayHaveChild nodes block (slot_of span i) number slot → IsPartRead (nodes_in pages s) below (slot_start below span.start i) slot (part_of nodes (Some slot))
+part-read_of pages nodes block span below number s i version slot are high e keeps may =
+    elim (nat_eq slot.agg.count 0) as (λ b. nat_eq slot.agg.count 0 ≡ b → IsPartRead (nodes_in pages s) below (slot_start below span.start i) slot (cond b None (option_map (λ k. k.tree) (node_at nodes slot.child)))) [
+      | true ↦ λ t. record { child = keeps.no_child (grind (arith, nat_tests)); read = tt }
+      | false ↦ λ t.
+          let some : 0 < slot.agg.count = grind (arith, nat_tests) in
+          let has = may some in
+          subst (λ o. IsPartRead (nodes_in pages s) below (slot_start below span.start i) slot (option_map (λ k. k.tree) o)) (sym has.is) (part-known pages nodes block span below number s i slot has.known are high e has.is has.fits)
+    ] refl
+
+part-read_at : (pages : Pages) (nodes : NodesValue) (block : ℕ) (span : SpanValue) (below number s version : ℕ) (slots : List PageSlot) (parts : List (ℕ × TreeValue)) → ArePartOf pages nodes → span.height ≡ suc below → s ≡ number → length slots ≡ 64 → AllByRecursion (IsSlot version) slots → ArePartsTo 64 nodes block span number slots parts → (i : ℕ) → i < 64 → IsPartRead (nodes_in pages s) below (slot_start below span.start i) (get_or slots i no-slot) (part_at parts i)
+part-read_at pages nodes block span below number s version slots parts are high e full all a i lt =
+    let at = at-slot slots i (omega arith) in
+    let slot = get_or slots i no-slot in
+    subst (IsPartRead (nodes_in pages s) below (slot_start below span.start i) slot) (sym (a.are i lt ∙ ap (part_of nodes) at)) (part-read_of pages nodes block span below number s i version slot are high e (slot-keeps slots version i slot all at) (subst (λ o. IfSome o (MayHaveChild nodes block (slot_of span i) number)) at (a.have i lt)))
+
+-- ---- the tree of the page in a block was made of it
+
+leaf-known : (pages : Pages) (block : ℕ) (page : NodePage) (s version : ℕ) (span : SpanValue) (points : List Point) (t : TreeValue) → pages block ≡ Some page → 1 ≤ block → AreLeafPoints span points → s ≡ (front page).stream → node_of_page page ≡ leaf_node span version points → IsLeafMade block span version points t → IsRead (nodes_in pages s) t.span.height t.span.start t.node
+leaf-known pages block page s version span points t here some are e node m =
+    let f = nodes_in pages s in
+    subst (λ (u : SpanValue). IsRead f u.height u.start t.node) (sym m.is.its_span) (leaf-read f span version block points t m.is some are.some are.few (node-here pages block page s here e ∙ ap Some node))
+
+slot-of_part : (slots : List PageSlot) (below i : ℕ) (start : ℤ) (store : Store) (part : Option TreeValue) → i < length slots → IsPartRead store below start (get_or slots i no-slot) part → IsSlotOf (slice_get (map slot_of_page slots) i) (get_or (versions_of slots) i 0) (part_node part)
+slot-of_part slots below i start store part lt r =
+    let at = at-slot slots i lt in
+    subst (λ o. IsSlotOf o (get_or (versions_of slots) i 0) (part_node part)) (sym (slice_get-map slot_of_page slots i ∙ ap (option_map slot_of_page) at)) (sym (version-at slots i (get_or slots i no-slot) at), r.child)
+
+inner-known : (pages : Pages) (nodes : NodesValue) (block : ℕ) (page : NodePage) (s number version : ℕ) (span : SpanValue) (slots : List PageSlot) (t : TreeValue) → ArePartOf pages nodes → pages block ≡ Some page → 1 ≤ block → 1 ≤ span.height → s ≡ (front page).stream → s ≡ number → length slots ≡ 64 → AllByRecursion (IsSlot version) slots → node_of_page page ≡ record { span = span; version = version; points = []; slots = map slot_of_page slots } → IsInnerMade nodes block span number version slots t → IsRead (nodes_in pages s) t.span.height t.span.start t.node
+inner-known pages nodes block page s number version span slots t are here some high e f full all node m =
+    let store = nodes_in pages s in
+    let below = span.height - 1 in
+    let up : span.height ≡ suc below = omega arith in
+    let read = part-read_at pages nodes block span below number s version slots m.parts are up f full all m.are in
+    subst (λ (u : SpanValue). IsRead store u.height u.start t.node) (sym m.is.its_span) (inner-read store span below version block m.parts (versions_of slots) (record { span = span; version = version; points = []; slots = map slot_of_page slots }) t m.fit m.is (record {
+      height = up;
+      some = some;
+      is = node-here pages block page s here e ∙ ap Some node;
+      its_span = refl;
+      its_version = refl;
+      its_points = refl;
+      its_slots = λ i lt. slot-of_part slots below i (slot_start below span.start i) store (part_at m.parts i) (omega arith) (read i lt);
+      each = λ i lt. (read i lt).read;
+    }))
+
+-- The tree that was made was made of the page, with all below it.
+pub made-of_page : (pages : Pages) (nodes : NodesValue) (block : ℕ) (page : NodePage) (k : KnownValue) → ArePartOf pages nodes → pages block ≡ Some page → 1 ≤ block → Keeps page → Fits page → IsMadeAt nodes block page k → CameFrom pages page k
+made-of_page pages nodes block (Leaf start height stream version count points) k are here some keeps fits m =
+    let page = Leaf start height stream version count points in
+    let span : SpanValue = record { start = start; height = height } in
+    let points_are = leaf-points (front page) points keeps fits.1 in
+    let to = keeps.count_to in
+    let full = fits.1 in
+    record {
+      keeps = keeps;
+      stream = m.stream;
+      span = m.tree.is.its_span;
+      version = version-of_leaf version (take count points) k.tree.node m.tree.is.node;
+      count = leaf-count block version span (take count points) k.tree m.tree ∙ length-take-le count points (omega arith);
+      opened = m.tree.opened;
+      its_block = m.tree.is.its_block ∙ sym m.its_block;
+      read = leaf-known pages block page k.stream version span (take count points) k.tree here some points_are m.stream refl m.tree;
+    }
+made-of_page pages nodes block (Inner start height stream version count slots) k are here some keeps fits m =
+    let page = Inner start height stream version count slots in
+    let span : SpanValue = record { start = start; height = height } in
+    record {
+      keeps = keeps;
+      stream = m.stream;
+      span = m.tree.is.its_span;
+      version = version-of_inner version m.tree.is.slots k.tree.node m.tree.is.node;
+      count = inner-count nodes block span stream version slots k.tree m.tree fits.1 ∙ keeps.total;
+      opened = m.tree.opened;
+      its_block = m.tree.is.its_block ∙ sym m.its_block;
+      read = inner-known pages nodes block page k.stream stream version span slots k.tree are here some keeps.height_from m.stream m.stream fits.1 keeps.each refl m.tree;
+    }
 
 -- ---- one page more
 
@@ -152,11 +291,6 @@ store-along pages nodes block new are above s b n at =
           ap (option_and_then (node_of_stream s)) (pages-below pages block b new (page-below pages nodes block b p are above e) ∙ e) ∙ is
     ] refl at
 
-node-here : (pages : Pages) (block : ℕ) (page : NodePage) (s : ℕ) → s ≡ (front page).stream → nodes_in (with_pages pages block (page ∷ [])) s block ≡ Some (node_of_page page)
-node-here pages block page s e =
-    let yes : nat_eq (front page).stream s ≡ true = grind (arith, nat_tests) in
-    ap (option_and_then (node_of_stream s)) (page-here pages block page) ∙ ap (λ t. cond t (Some (node_of_page page)) None) yes
-
 -- A tree that was made of one of the pages was made of one of those with more.
 made-along : (pages : Pages) (nodes : NodesValue) (block : ℕ) (new : List NodePage) (page : NodePage) (k : KnownValue) → AreKnown pages nodes → IsAbove block nodes → CameFrom pages page k → CameFrom (with_pages pages block new) page k
 made-along pages nodes block new page k are above m =
@@ -179,202 +313,101 @@ known-along pages nodes block new k are above is =
       made = made-along pages nodes block new is.page k are above is.made;
     }
 
--- ---- the tree of a page
-
-version-of_leaf_kind : (v : ℕ) (ps : List Point) (d : NodeData-F NodeData Link Kept Slots) → ByKind (λ w qs. (w ≡ v) × (qs ≡ ps)) (λ w x. ⊥) d → version_of_kind d ≡ v
-version-of_leaf_kind v ps (NodeData-F.Leaf b w qs) is = is.0
-version-of_leaf_kind v ps (NodeData-F.Inner b w x) is = absurd is
-
-version-of_leaf : (v : ℕ) (ps : List Point) (o : Option NodeData) → IsLeafOf v ps o → version_of o ≡ v
-version-of_leaf v ps None is = absurd is
-version-of_leaf v ps (Some d) is = version-of_leaf_kind v ps (out-NodeData d) is
-
-version-of_inner_kind : (v : ℕ) (x : Slots) (d : NodeData-F NodeData Link Kept Slots) → ByKind (λ w qs. ⊥) (λ w y. (w ≡ v) × AreSameSlots x y) d → version_of_kind d ≡ v
-version-of_inner_kind v x (NodeData-F.Leaf b w qs) is = absurd is
-version-of_inner_kind v x (NodeData-F.Inner b w y) is = is.0
-
-version-of_inner : (v : ℕ) (x : Slots) (o : Option NodeData) → IsInnerOf v x o → version_of o ≡ v
-version-of_inner v x None is = absurd is
-version-of_inner v x (Some d) is = version-of_inner_kind v x (out-NodeData d) is
-
-pub leaf-count : (block version : ℕ) (span : SpanValue) (points : List Point) (t : TreeValue) → IsLeafMade block span version points t → t.total.count ≡ length points
-leaf-count block version span points t m = ap (λ (a : AggValue). a.count) m.is.total ∙ agg-count points
-
-pub inner-count : (nodes : NodesValue) (block : ℕ) (span : SpanValue) (number version : ℕ) (slots : List PageSlot) (t : TreeValue) → IsInnerMade nodes block span number version slots t → length slots ≡ 64 → t.total.count ≡ sum_by (λ s. s.agg.count) slots
-inner-count nodes block span number version slots t m full =
-    ap (λ (a : AggValue). a.count) m.is.total ∙ parts-count nodes span number slots m.parts full m.are
-
--- ---- the slots of a page, as they were read
-
-slot-keeps : (slots : List PageSlot) (version i : ℕ) (slot : PageSlot) → AllByRecursion (IsSlot version) slots → slice_get slots i ≡ Some slot → IsSlot version slot
-slot-keeps [] version i slot all at = absurd (cc)
-slot-keeps (s ∷ ss) version zero slot all at = let same : s ≡ slot = cc in subst (IsSlot version) same all.0
-slot-keeps (s ∷ ss) version (suc i) slot all at = slot-keeps ss version i slot all.1 at
-
--- What the slot's part has of the slot.
-record IsPartRead (store : Store) (below : ℕ) (start : ℤ) (slot : PageSlot) (part : Option TreeValue) : Type 0 where
-  child : slot.child ≡ block_of (part_node part)
-  read : IfSome part (λ t. IsRead store below start t.node)
-
-part-known : (pages : Pages) (nodes : NodesValue) (block : ℕ) (new : List NodePage) (span : SpanValue) (below number s i : ℕ) (slot : PageSlot) (k : KnownValue) → AreKnown pages nodes → IsAbove block nodes → span.height ≡ suc below → s ≡ number → node_at nodes slot.child ≡ Some k → IsKnownChild (slot_of span i) number slot k → IsPartRead (nodes_in (with_pages pages block new) s) below (slot_start below span.start i) slot (Some k.tree)
-part-known pages nodes block new span below number s i slot k are above high e at fits =
-    let known = known-along pages nodes block new k are above (known-at pages nodes slot.child k are at) in
-    let place : k.tree.span ≡ record { start = slot_start below span.start i; height = below } = fits.span ∙ slot-part span below i high in
-    record {
-      child = sym (known.made.its_block ∙ block-at nodes slot.child k at);
-      read =
-          subst (λ (u : SpanValue). IsRead (nodes_in (with_pages pages block new) s) u.height u.start k.tree.node) place (subst (λ n. IsRead (nodes_in (with_pages pages block new) n) k.tree.span.height k.tree.span.start k.tree.node) (fits.stream ∙ sym e) known.made.read);
-    }
-
-part-read_of : (pages : Pages) (nodes : NodesValue) (block : ℕ) (new : List NodePage) (span : SpanValue) (below number s i version : ℕ) (slot : PageSlot) → AreKnown pages nodes → IsAbove block nodes → span.height ≡ suc below → s ≡ number → IsSlot version slot → MayHaveChild nodes (slot_of span i) number slot → IsPartRead (nodes_in (with_pages pages block new) s) below (slot_start below span.start i) slot (part_of nodes (Some slot))
-part-read_of pages nodes block new span below number s i version slot are above high e keeps may =
-    elim (nat_eq slot.agg.count 0) as (λ b. nat_eq slot.agg.count 0 ≡ b → IsPartRead (nodes_in (with_pages pages block new) s) below (slot_start below span.start i) slot (cond b None (option_map (λ k. k.tree) (node_at nodes slot.child)))) [
-      | true ↦ λ t. record { child = keeps.no_child (grind (arith, nat_tests)); read = tt }
-      | false ↦ λ t.
-          let some : 0 < slot.agg.count = grind (arith, nat_tests) in
-          let has = may some in
-          subst (λ o. IsPartRead (nodes_in (with_pages pages block new) s) below (slot_start below span.start i) slot (option_map (λ k. k.tree) o)) (sym has.is) (part-known pages nodes block new span below number s i slot has.known are above high e has.is has.fits)
+-- The trees are those of the pages with more.
+part-still : (pages : Pages) (nodes : NodesValue) (block : ℕ) (new : List NodePage) → AreKnown pages nodes → IsAbove block nodes → ArePartOf (with_pages pages block new) nodes
+part-still pages nodes block new are above c =
+    elim (node_at nodes c) as (λ o. node_at nodes c ≡ o → IfSome o (IsKnown (with_pages pages block new))) [
+      | None ↦ λ e. tt
+      | Some k ↦ λ e. known-along pages nodes block new k are above (known-at pages nodes c k are.each e)
     ] refl
-
-part-read_at : (pages : Pages) (nodes : NodesValue) (block : ℕ) (new : List NodePage) (span : SpanValue) (below number s version : ℕ) (slots : List PageSlot) (parts : List (ℕ × TreeValue)) → AreKnown pages nodes → IsAbove block nodes → span.height ≡ suc below → s ≡ number → length slots ≡ 64 → AllByRecursion (IsSlot version) slots → ArePartsTo 64 nodes span number slots parts → (i : ℕ) → i < 64 → IsPartRead (nodes_in (with_pages pages block new) s) below (slot_start below span.start i) (get_or slots i no-slot) (part_at parts i)
-part-read_at pages nodes block new span below number s version slots parts are above high e full all a i lt =
-    let at = at-slot slots i (omega arith) in
-    let slot = get_or slots i no-slot in
-    subst (IsPartRead (nodes_in (with_pages pages block new) s) below (slot_start below span.start i) slot) (sym (a.are i lt ∙ ap (part_of nodes) at)) (part-read_of pages nodes block new span below number s i version slot are above high e (slot-keeps slots version i slot all at) (subst (λ o. IfSome o (MayHaveChild nodes (slot_of span i) number)) at (a.have i lt)))
-
--- ---- the tree of the page in a block was made of it
-
-leaf-known : (pages : Pages) (block : ℕ) (page : NodePage) (s version : ℕ) (span : SpanValue) (points : List Point) (t : TreeValue) → 1 ≤ block → AreLeafPoints span points → s ≡ (front page).stream → node_of_page page ≡ leaf_node span version points → IsLeafMade block span version points t → IsRead (nodes_in (with_pages pages block (page ∷ [])) s) t.span.height t.span.start t.node
-leaf-known pages block page s version span points t some are e node m =
-    let f = nodes_in (with_pages pages block (page ∷ [])) s in
-    subst (λ (u : SpanValue). IsRead f u.height u.start t.node) (sym m.is.its_span) (leaf-read f span version block points t m.is some are.some are.few (node-here pages block page s e ∙ ap Some node))
-
-slot-of_part : (slots : List PageSlot) (below i : ℕ) (start : ℤ) (store : Store) (part : Option TreeValue) → i < length slots → IsPartRead store below start (get_or slots i no-slot) part → IsSlotOf (slice_get (map slot_of_page slots) i) (get_or (versions_of slots) i 0) (part_node part)
-slot-of_part slots below i start store part lt r =
-    let at = at-slot slots i lt in
-    subst (λ o. IsSlotOf o (get_or (versions_of slots) i 0) (part_node part)) (sym (slice_get-map slot_of_page slots i ∙ ap (option_map slot_of_page) at)) (sym (version-at slots i (get_or slots i no-slot) at), r.child)
-
-inner-known : (pages : Pages) (nodes : NodesValue) (block : ℕ) (page : NodePage) (s number version : ℕ) (span : SpanValue) (slots : List PageSlot) (t : TreeValue) → AreKnown pages nodes → IsAbove block nodes → 1 ≤ block → 1 ≤ span.height → s ≡ (front page).stream → s ≡ number → length slots ≡ 64 → AllByRecursion (IsSlot version) slots → node_of_page page ≡ record { span = span; version = version; points = []; slots = map slot_of_page slots } → IsInnerMade nodes block span number version slots t → IsRead (nodes_in (with_pages pages block (page ∷ [])) s) t.span.height t.span.start t.node
-inner-known pages nodes block page s number version span slots t are above some high e f full all node m =
-    let store = nodes_in (with_pages pages block (page ∷ [])) s in
-    let below = span.height - 1 in
-    let up : span.height ≡ suc below = omega arith in
-    let read = part-read_at pages nodes block (page ∷ []) span below number s version slots m.parts are above up f full all m.are in
-    subst (λ (u : SpanValue). IsRead store u.height u.start t.node) (sym m.is.its_span) (inner-read store span below version block m.parts (versions_of slots) (record { span = span; version = version; points = []; slots = map slot_of_page slots }) t m.fit m.is (record {
-      height = up;
-      some = some;
-      is = node-here pages block page s e ∙ ap Some node;
-      its_span = refl;
-      its_version = refl;
-      its_points = refl;
-      its_slots = λ i lt. slot-of_part slots below i (slot_start below span.start i) store (part_at m.parts i) (omega arith) (read i lt);
-      each = λ i lt. (read i lt).read;
-    }))
-
--- The tree that was made was made of the page, with all below it.
-pub made-of_page : (pages : Pages) (nodes : NodesValue) (block : ℕ) (page : NodePage) (k : KnownValue) → AreKnown pages nodes → IsAbove block nodes → 1 ≤ block → Keeps page → Fits page → IsMadeAt nodes block page k → CameFrom (with_pages pages block (page ∷ [])) page k
-made-of_page pages nodes block (Leaf start height stream version count points) k are above some keeps fits m =
-    let page = Leaf start height stream version count points in
-    let span : SpanValue = record { start = start; height = height } in
-    let points_are = leaf-points (front page) points keeps fits.1 in
-    let to = keeps.count_to in
-    let full = fits.1 in
-    record {
-      keeps = keeps;
-      stream = m.stream;
-      span = m.tree.is.its_span;
-      version = version-of_leaf version (take count points) k.tree.node m.tree.is.node;
-      count = leaf-count block version span (take count points) k.tree m.tree ∙ length-take-le count points (omega arith);
-      opened = m.tree.opened;
-      its_block = m.tree.is.its_block ∙ sym m.its_block;
-      read = leaf-known pages block page k.stream version span (take count points) k.tree some points_are m.stream refl m.tree;
-    }
-made-of_page pages nodes block (Inner start height stream version count slots) k are above some keeps fits m =
-    let page = Inner start height stream version count slots in
-    let span : SpanValue = record { start = start; height = height } in
-    record {
-      keeps = keeps;
-      stream = m.stream;
-      span = m.tree.is.its_span;
-      version = version-of_inner version m.tree.is.slots k.tree.node m.tree.is.node;
-      count = inner-count nodes block span stream version slots k.tree m.tree fits.1 ∙ keeps.total;
-      opened = m.tree.opened;
-      its_block = m.tree.is.its_block ∙ sym m.its_block;
-      read = inner-known pages nodes block page k.stream stream version span slots k.tree are above some keeps.height_from m.stream m.stream fits.1 keeps.each refl m.tree;
-    }
 
 -- ---- the trees with one more
 
-each-still : (pages : Pages) (nodes : NodesValue) (block : ℕ) (new : List NodePage) → AreKnown pages nodes → IsAbove block nodes → (c : ℕ) → IfSome (node_at nodes c) (IsKnown (with_pages pages block new))
-each-still pages nodes block new are above c =
-    elim (node_at nodes c) as (λ o. node_at nodes c ≡ o → IfSome o (IsKnown (with_pages pages block new))) [
-      | None ↦ λ e. tt
-      | Some k ↦ λ e. known-along pages nodes block new k are above (known-at pages nodes c k are e)
+some-none : (o : Option KnownValue) → IsSome o → IsNone o → ⊥
+some-none None some none = absurd (cc)
+some-none (Some k) some none = absurd (cc)
+
+-- A tree is found as before.
+pub added-kept : (nodes : NodesValue) (k : KnownValue) (c : ℕ) → IsNone (node_at nodes k.block) → IsSome (node_at nodes c) → node_at (nodes ++ k ∷ []) c ≡ node_at nodes c
+added-kept nodes k c fresh some =
+    added-other nodes k c (λ same. some-none (node_at nodes c) some (subst (λ b. IsNone (node_at nodes b)) same fresh))
+
+pub added-itself : (nodes : NodesValue) (k : KnownValue) → IsNone (node_at nodes k.block) → node_at (nodes ++ k ∷ []) k.block ≡ Some k
+added-itself nodes k fresh = added-here nodes k (none-there nodes k.block fresh)
+
+-- No other block gets a tree.
+pub added-only : (nodes : NodesValue) (k : KnownValue) (c : ℕ) → IsSome (node_at (nodes ++ k ∷ []) c) → (c ≡ k.block) ⊎ IsSome (node_at nodes c)
+added-only nodes k c some =
+    elim (nat_eq k.block c) as (λ u. nat_eq k.block c ≡ u → (c ≡ k.block) ⊎ IsSome (node_at nodes c)) [
+      | true ↦ λ e. inl (let same : c ≡ k.block = grind (arith, nat_tests) in same)
+      | false ↦ λ e.
+          let ne : k.block ≡ c → ⊥ = grind (arith, nat_tests) in
+          inr (subst IsSome (added-other nodes k c ne) some)
     ] refl
 
-pub added-some : (nodes : NodesValue) (k : KnownValue) (c : ℕ) → IsAbove k.block nodes → IsSome (node_at nodes c) → IsSome (node_at (nodes ++ k ∷ []) c)
-added-some nodes k c above some =
-    let less = above c some in
-    subst IsSome (sym (added-other nodes k c (λ same. absurd (omega arith)))) some
-
-pub added-itself : (nodes : NodesValue) (k : KnownValue) → IsAbove k.block nodes → node_at (nodes ++ k ∷ []) k.block ≡ Some k
-added-itself nodes k above = added-here nodes k (none-above nodes k.block above k.block (omega arith))
+-- The trees with one that was made of one of the pages.
+pub part-more : (pages : Pages) (nodes : NodesValue) (page : NodePage) (k : KnownValue) → ArePartOf pages nodes → IsNone (node_at nodes k.block) → pages k.block ≡ Some page → CameFrom pages page k → ArePartOf pages (nodes ++ k ∷ [])
+part-more pages nodes page k are fresh here made c =
+    elim (nat_eq k.block c) as (λ u. nat_eq k.block c ≡ u → IfSome (node_at (nodes ++ k ∷ []) c) (IsKnown pages)) [
+      | true ↦ λ e.
+          let same : k.block ≡ c = grind (arith, nat_tests) in
+          subst (λ c. IfSome (node_at (nodes ++ k ∷ []) c) (IsKnown pages)) same (subst (λ o. IfSome o (IsKnown pages)) (sym (added-itself nodes k fresh)) (record { page = page; is = here; made = made }))
+      | false ↦ λ e.
+          let ne : k.block ≡ c → ⊥ = grind (arith, nat_tests) in
+          subst (λ o. IfSome o (IsKnown pages)) (sym (added-other nodes k c ne)) (are c)
+    ] refl
 
 from-page : (page : NodePage) (n : ℕ) → IsSome (slice_get (page ∷ []) n) → n ≡ 0
 from-page page zero some = refl
 from-page page (suc n) some = absurd (cc)
 
-pub known-more : (pages : Pages) (nodes : NodesValue) (page : NodePage) (k : KnownValue) → AreKnown pages nodes → IsAbove k.block nodes → CameFrom (with_pages pages k.block (page ∷ [])) page k → AreKnown (with_pages pages k.block (page ∷ [])) (nodes ++ k ∷ [])
-known-more pages nodes page k are above made =
+-- Each block that has a page has a tree, also with one page and its tree more.
+all-more : (pages : Pages) (nodes : NodesValue) (page : NodePage) (k : KnownValue) (c : ℕ) → AreKnown pages nodes → IsNone (node_at nodes k.block) → IsSome (with_pages pages k.block (page ∷ []) c) → IsSome (node_at (nodes ++ k ∷ []) c)
+all-more pages nodes page k c are fresh some =
     let block = k.block in
-    let more = with_pages pages block (page ∷ []) in
-    record {
-      each = λ c.
-          elim (nat_eq k.block c) as (λ u. nat_eq k.block c ≡ u → IfSome (node_at (nodes ++ k ∷ []) c) (IsKnown more)) [
-            | true ↦ λ e.
-                let same : k.block ≡ c = grind (arith, nat_tests) in
-                subst (λ c. IfSome (node_at (nodes ++ k ∷ []) c) (IsKnown more)) same (subst (λ o. IfSome o (IsKnown more)) (sym (added-itself nodes k above)) (record { page = page; is = page-here pages block page; made = made }))
-            | false ↦ λ e.
-                let ne : k.block ≡ c → ⊥ = grind (arith, nat_tests) in
-                subst (λ o. IfSome o (IsKnown more)) (sym (added-other nodes k c ne)) (each-still pages nodes block (page ∷ []) are above c)
-          ] refl;
-      all = λ c some.
-          elim (cases_lt c block) [
-            | inl less ↦ added-some nodes k c above (are.all c (subst IsSome (pages-below pages block c (page ∷ []) less) some))
-            | inr le ↦
-                let last = from-page page (c - block) (subst IsSome (pages-from pages block c (page ∷ []) le) some) in
-                let same : block ≡ c = omega arith in
-                subst (λ c. IsSome (node_at (nodes ++ k ∷ []) c)) same (subst IsSome (sym (added-itself nodes k above)) refl)
-          ];
-    }
-
-pub above-more : (nodes : NodesValue) (k : KnownValue) → IsAbove k.block nodes → IsAbove (k.block + 1) (nodes ++ k ∷ [])
-above-more nodes k above c some =
-    elim (cases_lt c (k.block + 1)) [
-      | inl less ↦ less
-      | inr le ↦ (let before = above c (subst IsSome (added-other nodes k c (λ same. absurd (omega arith))) some) in absurd (omega arith))
+    elim (cases_lt c block) [
+      | inl less ↦
+          let before = are.all c (subst IsSome (pages-below pages block c (page ∷ []) less) some) in
+          subst IsSome (sym (added-kept nodes k c fresh before)) before
+      | inr le ↦
+          let last = from-page page (c - block) (subst IsSome (pages-from pages block c (page ∷ []) le) some) in
+          let same : block ≡ c = omega arith in
+          subst (λ c. IsSome (node_at (nodes ++ k ∷ []) c)) same (subst IsSome (sym (added-itself nodes k fresh)) refl)
     ]
 
 -- The trees of a page's children were made, where its own was.
-pub made-buildable : (nodes : NodesValue) (block : ℕ) (page : NodePage) (k : KnownValue) → Fits page → IsMadeAt nodes block page k → IsBuildable nodes page
+pub made-buildable : (nodes : NodesValue) (block : ℕ) (page : NodePage) (k : KnownValue) → Fits page → IsMadeAt nodes block page k → IsBuildable nodes block page
 made-buildable nodes block (Leaf start height stream version count points) k fits m i = tt
 made-buildable nodes block (Inner start height stream version count slots) k fits m i =
-    all-have nodes (record { start = start; height = height }) stream slots m.tree.parts fits.1 m.tree.are i
+    all-have nodes block (record { start = start; height = height }) stream slots m.tree.parts fits.1 m.tree.are i
 
--- The tree that was made was added, and no tree is above its block.
-pub addition : (old new : NodesValue) (block : ℕ) (page : NodePage) (k : KnownValue) → 1 ≤ block → IsAbove block old → Keeps page → Fits page → IsMadeAt old block page k → new ≡ old ++ k ∷ [] → TakesPage old new block page × IsAbove (block + 1) new
-addition old new block page k some above keeps fits m is =
-    let here : IsAbove k.block old = subst (λ b. IsAbove b old) (sym m.its_block) above in
-    subst (λ xs. TakesPage old xs block page × IsAbove (block + 1) xs) (sym is) (
-      record {
-        known = λ pages are.
-            let made = made-of_page pages old block page k are above some keeps fits m in
-            subst (λ b. AreKnown (with_pages pages b (page ∷ [])) (old ++ k ∷ [])) m.its_block (known-more pages old page k are here (subst (λ b. CameFrom (with_pages pages b (page ∷ [])) page k) (sym m.its_block) made));
-        rightly = λ pages are. page-right pages old block page are above keeps (made-buildable old block page k fits m);
-        stands = subst (λ b. IsSome (node_at (old ++ k ∷ []) b)) m.its_block (subst IsSome (sym (added-itself old k here)) refl);
-      },
-      subst (λ b. IsAbove (b + 1) (old ++ k ∷ [])) m.its_block (above-more old k here),
-    )
+-- No other block than this one has a tree that it had not before.
+abbrev pub HasOnly : NodesValue → NodesValue → ℕ → Type 0
+HasOnly old new block = (k : ℕ) → IsSome (node_at new k) → (k ≡ block) ⊎ IsSome (node_at old k)
+
+-- The tree of the page in its own block was added.
+takes : (nodes : NodesValue) (page : NodePage) (k : KnownValue) → 1 ≤ k.block → IsNone (node_at nodes k.block) → Keeps page → Fits page → IsMadeAt nodes k.block page k → TakesPage nodes (nodes ++ k ∷ []) k.block page
+takes nodes page k some fresh keeps fits m =
+    let block = k.block in
+    let part : (pages : Pages) → ArePartOf pages nodes → pages block ≡ Some page → ArePartOf pages (nodes ++ k ∷ []) = λ pages are here.
+    part-more pages nodes page k are fresh here (made-of_page pages nodes block page k are here some keeps fits m) in
+    record {
+      known = λ pages are above. record {
+        each = part (with_pages pages block (page ∷ [])) (part-still pages nodes block (page ∷ []) are above) (page-here pages block page);
+        all = λ c has. all-more pages nodes page k c are fresh has;
+      };
+      part = part;
+      rightly = λ pages are. page-right pages nodes block page are keeps (made-buildable nodes block page k fits m);
+      stands = subst IsSome (sym (added-itself nodes k fresh)) refl;
+      kept = λ c has. added-kept nodes k c fresh has;
+    }
+
+-- The tree that was made was added, and no other.
+pub addition : (old new : NodesValue) (block : ℕ) (page : NodePage) (k : KnownValue) → 1 ≤ block → IsNone (node_at old block) → Keeps page → Fits page → IsMadeAt old block page k → new ≡ old ++ k ∷ [] → TakesPage old new block page × HasOnly old new block
+addition old new block page k some fresh keeps fits m is =
+    let at = m.its_block in
+    let here : TakesPage old (old ++ k ∷ []) k.block page = takes old page k (subst (λ b. 1 ≤ b) (sym at) some) (subst (λ b. IsNone (node_at old b)) (sym at) fresh) keeps fits (subst (λ b. IsMadeAt old b page k) (sym at) m) in
+    subst (λ xs. TakesPage old xs block page × HasOnly old xs block) (sym is) (subst (λ b. TakesPage old (old ++ k ∷ []) b page × HasOnly old (old ++ k ∷ []) b) at (here, λ c has. added-only old k c has))
 
 -- The count of a page is that of the tree that was made of it.
 pub leaf-counted : (block version : ℕ) (span : SpanValue) (f : Front) (points : List Point) (t : TreeValue) → IsLeafPage f points → length points ≡ 252 → IsLeafMade block span version (take f.count points) t → IsReadTree f.count t

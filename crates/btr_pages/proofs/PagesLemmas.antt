@@ -63,12 +63,12 @@ right-along pages more block page same right =
 
 -- ---- one page more
 
-get-before : (new more : List NodePage) (n : ℕ) → n < length new → slice_get (new ++ more) n ≡ slice_get new n
+pub get-before : (new more : List NodePage) (n : ℕ) → n < length new → slice_get (new ++ more) n ≡ slice_get new n
 get-before [] more n lt = absurd (omega arith)
 get-before (p ∷ ps) more zero lt = refl
 get-before (p ∷ ps) more (suc n) lt = get-before ps more n (omega arith)
 
-get-after : (new more : List NodePage) (n : ℕ) → slice_get (new ++ more) (length new + n) ≡ slice_get more n
+pub get-after : (new more : List NodePage) (n : ℕ) → slice_get (new ++ more) (length new + n) ≡ slice_get more n
 get-after [] more n = ap (slice_get more) (let e : 0 + n ≡ n = omega arith in e)
 get-after (p ∷ ps) more n =
     ap (slice_get (p ∷ ps ++ more)) (let e : suc (length ps) + n ≡ suc (length ps + n) = omega arith in e) ∙ get-after ps more n

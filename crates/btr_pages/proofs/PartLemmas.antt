@@ -36,8 +36,8 @@ push-same (p ∷ ps) i t none =
 
 -- ---- the parts of the slots so far
 
-pub none-yet : (nodes : NodesValue) (span : SpanValue) (number : ℕ) (slots : List PageSlot) → ArePartsTo 0 nodes span number slots []
-none-yet nodes span number slots =
+pub none-yet : (nodes : NodesValue) (block : ℕ) (span : SpanValue) (number : ℕ) (slots : List PageSlot) → ArePartsTo 0 nodes block span number slots []
+none-yet nodes block span number slots =
     record { have = λ i lt. absurd (omega arith); are = λ i lt. absurd (omega arith); no_more = λ i le. refl }
 
 below : (P : ℕ → Type 0) (n i : ℕ) → i < n + 1 → ((j : ℕ) → j < n → P j) → P n → P i
@@ -45,45 +45,45 @@ below P n i lt before here =
     elim (cases_lt i n) [ inl less ↦ before i less | inr le ↦ subst P (let e : n ≡ i = omega arith in e) here ]
 
 -- A slot without a point has no part.
-pub one-skipped : (n : ℕ) (nodes : NodesValue) (span : SpanValue) (number : ℕ) (slots : List PageSlot) (parts : List (ℕ × TreeValue)) (slot : PageSlot) → ArePartsTo n nodes span number slots parts → slice_get slots n ≡ Some slot → slot.agg.count ≡ 0 → ArePartsTo (n + 1) nodes span number slots parts
-one-skipped n nodes span number slots parts slot a at empty =
+pub one-skipped : (n : ℕ) (nodes : NodesValue) (block : ℕ) (span : SpanValue) (number : ℕ) (slots : List PageSlot) (parts : List (ℕ × TreeValue)) (slot : PageSlot) → ArePartsTo n nodes block span number slots parts → slice_get slots n ≡ Some slot → slot.agg.count ≡ 0 → ArePartsTo (n + 1) nodes block span number slots parts
+one-skipped n nodes block span number slots parts slot a at empty =
     record {
       have = λ i lt.
-          below (λ j. IfSome (slice_get slots j) (MayHaveChild nodes (slot_of span j) number)) n i lt a.have (subst (λ o. IfSome o (MayHaveChild nodes (slot_of span n) number)) (sym at) (λ some. absurd (omega arith)));
+          below (λ j. IfSome (slice_get slots j) (MayHaveChild nodes block (slot_of span j) number)) n i lt a.have (subst (λ o. IfSome o (MayHaveChild nodes block (slot_of span n) number)) (sym at) (λ some. absurd (omega arith)));
       are = λ i lt.
           below (λ j. part_at parts j ≡ part_of nodes (slice_get slots j)) n i lt a.are (a.no_more n (omega arith) ∙ sym (ap (part_of nodes) at ∙ (let yes : nat_eq slot.agg.count 0 ≡ true = grind (arith, nat_tests) in ap (λ b. cond b None (option_map (λ k. k.tree) (node_at nodes slot.child))) yes)));
       no_more = λ i le. a.no_more i (omega arith);
     }
 
 -- A slot with a point has the tree of its child as a part.
-pub one-more : (n : ℕ) (nodes : NodesValue) (span : SpanValue) (number : ℕ) (slots : List PageSlot) (parts : List (ℕ × TreeValue)) (slot : PageSlot) (t : TreeValue) → ArePartsTo n nodes span number slots parts → slice_get slots n ≡ Some slot → HasKnownChild nodes (slot_of span n) number slot → part_of nodes (Some slot) ≡ Some t → ArePartsTo (n + 1) nodes span number slots (parts ++ (n, t) ∷ [])
-one-more n nodes span number slots parts slot t a at has is =
+pub one-more : (n : ℕ) (nodes : NodesValue) (block : ℕ) (span : SpanValue) (number : ℕ) (slots : List PageSlot) (parts : List (ℕ × TreeValue)) (slot : PageSlot) (t : TreeValue) → ArePartsTo n nodes block span number slots parts → slice_get slots n ≡ Some slot → HasKnownChild nodes block (slot_of span n) number slot → part_of nodes (Some slot) ≡ Some t → ArePartsTo (n + 1) nodes block span number slots (parts ++ (n, t) ∷ [])
+one-more n nodes block span number slots parts slot t a at has is =
     record {
       have = λ i lt.
-          below (λ j. IfSome (slice_get slots j) (MayHaveChild nodes (slot_of span j) number)) n i lt a.have (subst (λ o. IfSome o (MayHaveChild nodes (slot_of span n) number)) (sym at) (λ some. has));
+          below (λ j. IfSome (slice_get slots j) (MayHaveChild nodes block (slot_of span j) number)) n i lt a.have (subst (λ o. IfSome o (MayHaveChild nodes block (slot_of span n) number)) (sym at) (λ some. has));
       are = λ i lt.
           below (λ j. part_at (parts ++ (n, t) ∷ []) j ≡ part_of nodes (slice_get slots j)) n i lt (λ j less. push-other parts n j t (λ same. absurd (omega arith)) ∙ a.are j less) (push-same parts n t (a.no_more n (omega arith)) ∙ sym (ap (part_of nodes) at ∙ is));
       no_more = λ i le. push-other parts n i t (λ same. absurd (omega arith)) ∙ a.no_more i (omega arith);
     }
 
 -- A slot whose child is not there.
-pub not-all : (nodes : NodesValue) (span : SpanValue) (number i : ℕ) (slots : List PageSlot) (slot : PageSlot) → slice_get slots i ≡ Some slot → 0 < slot.agg.count → (HasKnownChild nodes (slot_of span i) number slot → ⊥) → HaveKnownChildren nodes span number slots → ⊥
-not-all nodes span number i slots slot at some none all =
-    none (subst (λ o. IfSome o (MayHaveChild nodes (slot_of span i) number)) at (all i) some)
+pub not-all : (nodes : NodesValue) (block : ℕ) (span : SpanValue) (number i : ℕ) (slots : List PageSlot) (slot : PageSlot) → slice_get slots i ≡ Some slot → 0 < slot.agg.count → (HasKnownChild nodes block (slot_of span i) number slot → ⊥) → HaveKnownChildren nodes block span number slots → ⊥
+not-all nodes block span number i slots slot at some none all =
+    none (subst (λ o. IfSome o (MayHaveChild nodes block (slot_of span i) number)) at (all i) some)
 
 -- The children of all slots are there.
-pub all-have : (nodes : NodesValue) (span : SpanValue) (number : ℕ) (slots : List PageSlot) (parts : List (ℕ × TreeValue)) → length slots ≡ 64 → ArePartsTo 64 nodes span number slots parts → HaveKnownChildren nodes span number slots
-all-have nodes span number slots parts full a i =
+pub all-have : (nodes : NodesValue) (block : ℕ) (span : SpanValue) (number : ℕ) (slots : List PageSlot) (parts : List (ℕ × TreeValue)) → length slots ≡ 64 → ArePartsTo 64 nodes block span number slots parts → HaveKnownChildren nodes block span number slots
+all-have nodes block span number slots parts full a i =
     elim (cases_lt i 64) [
       | inl less ↦ a.have i less
-      | inr le ↦ subst (λ o. IfSome o (MayHaveChild nodes (slot_of span i) number)) (sym (slice_get_past slots i (omega arith))) tt
+      | inr le ↦ subst (λ o. IfSome o (MayHaveChild nodes block (slot_of span i) number)) (sym (slice_get_past slots i (omega arith))) tt
     ]
 
 -- ---- the parts are those of an inner node
 
 -- A slot's part has the slot's count, version and span.
-part-is : (nodes : NodesValue) (span : SpanValue) (number i : ℕ) (slot : PageSlot) → MayHaveChild nodes (slot_of span i) number slot → IfSome (part_of nodes (Some slot)) (IsPart span slot.version i)
-part-is nodes span number i slot may =
+part-is : (nodes : NodesValue) (block : ℕ) (span : SpanValue) (number i : ℕ) (slot : PageSlot) → MayHaveChild nodes block (slot_of span i) number slot → IfSome (part_of nodes (Some slot)) (IsPart span slot.version i)
+part-is nodes block span number i slot may =
     elim (nat_eq slot.agg.count 0) as (λ b. nat_eq slot.agg.count 0 ≡ b → IfSome (cond b None (option_map (λ k. k.tree) (node_at nodes slot.child))) (IsPart span slot.version i)) [
       | true ↦ λ e. tt
       | false ↦ λ e.
@@ -98,8 +98,8 @@ part-is nodes span number i slot may =
           })
     ] refl
 
-part-count : (nodes : NodesValue) (place : SpanValue) (number : ℕ) (slot : PageSlot) → MayHaveChild nodes place number slot → (part_total (part_of nodes (Some slot))).count ≡ slot.agg.count
-part-count nodes place number slot may =
+part-count : (nodes : NodesValue) (block : ℕ) (place : SpanValue) (number : ℕ) (slot : PageSlot) → MayHaveChild nodes block place number slot → (part_total (part_of nodes (Some slot))).count ≡ slot.agg.count
+part-count nodes block place number slot may =
     elim (nat_eq slot.agg.count 0) as (λ b. nat_eq slot.agg.count 0 ≡ b → (part_total (cond b None (option_map (λ k. k.tree) (node_at nodes slot.child)))).count ≡ slot.agg.count) [
       | true ↦ λ e. grind (arith, nat_tests)
       | false ↦ λ e.
@@ -123,33 +123,33 @@ older-all [] version i all = omega arith
 older-all (s ∷ ss) version zero all = all.0.version_to
 older-all (s ∷ ss) version (suc i) all = older-all ss version i all.1
 
-counts-to : (n : ℕ) (nodes : NodesValue) (span : SpanValue) (number : ℕ) (slots : List PageSlot) (parts : List (ℕ × TreeValue)) → length slots ≡ 64 → n ≤ 64 → ArePartsTo 64 nodes span number slots parts → (joined_parts n parts).count ≡ sum_by (λ s. s.agg.count) (take n slots)
-counts-to zero nodes span number slots parts full le a = sym (ap (λ x. x.count) (parts-first no_points parts refl))
-counts-to (suc n) nodes span number slots parts full le a =
+counts-to : (n : ℕ) (nodes : NodesValue) (block : ℕ) (span : SpanValue) (number : ℕ) (slots : List PageSlot) (parts : List (ℕ × TreeValue)) → length slots ≡ 64 → n ≤ 64 → ArePartsTo 64 nodes block span number slots parts → (joined_parts n parts).count ≡ sum_by (λ s. s.agg.count) (take n slots)
+counts-to zero nodes block span number slots parts full le a = sym (ap (λ x. x.count) (parts-first no_points parts refl))
+counts-to (suc n) nodes block span number slots parts full le a =
     let e : n + 1 ≡ suc n = omega arith in
     let less : n < length slots = omega arith in
     let slot = get_or slots n no-slot in
     let at = at-slot slots n less in
-    let before = counts-to n nodes span number slots parts full (omega arith) a in
-    let here : (part_total (part_at parts n)).count ≡ slot.agg.count = ap (λ o. (part_total o).count) (a.are n (omega arith) ∙ ap (part_of nodes) at) ∙ part-count nodes (slot_of span n) number slot (subst (λ o. IfSome o (MayHaveChild nodes (slot_of span n) number)) at (a.have n (omega arith))) in
+    let before = counts-to n nodes block span number slots parts full (omega arith) a in
+    let here : (part_total (part_at parts n)).count ≡ slot.agg.count = ap (λ o. (part_total o).count) (a.are n (omega arith) ∙ ap (part_of nodes) at) ∙ part-count nodes block (slot_of span n) number slot (subst (λ o. IfSome o (MayHaveChild nodes block (slot_of span n) number)) at (a.have n (omega arith))) in
     let next : (joined_parts (n + 1) parts).count ≡ (joined_parts n parts).count + (part_total (part_at parts n)).count = ap (λ x. x.count) (parts-next n parts) in
     let more : sum_by (λ s. s.agg.count) (take (n + 1) slots) ≡ sum_by (λ s. s.agg.count) (take n slots) + slot.agg.count = sum_by_more (λ s. s.agg.count) slots n no-slot less in
     subst (λ m. (joined_parts m parts).count ≡ sum_by (λ s. s.agg.count) (take m slots)) e (omega arith)
 
-pub parts-count : (nodes : NodesValue) (span : SpanValue) (number : ℕ) (slots : List PageSlot) (parts : List (ℕ × TreeValue)) → length slots ≡ 64 → ArePartsTo 64 nodes span number slots parts → (joined_parts 64 parts).count ≡ sum_by (λ s. s.agg.count) slots
-parts-count nodes span number slots parts full a =
-    counts-to 64 nodes span number slots parts full (omega arith) a ∙ ap (sum_by (λ s. s.agg.count)) (take_all 64 slots (omega arith))
+pub parts-count : (nodes : NodesValue) (block : ℕ) (span : SpanValue) (number : ℕ) (slots : List PageSlot) (parts : List (ℕ × TreeValue)) → length slots ≡ 64 → ArePartsTo 64 nodes block span number slots parts → (joined_parts 64 parts).count ≡ sum_by (λ s. s.agg.count) slots
+parts-count nodes block span number slots parts full a =
+    counts-to 64 nodes block span number slots parts full (omega arith) a ∙ ap (sum_by (λ s. s.agg.count)) (take_all 64 slots (omega arith))
 
-pub parts-fit_page : (nodes : NodesValue) (span : SpanValue) (number version : ℕ) (slots : List PageSlot) (parts : List (ℕ × TreeValue)) → length slots ≡ 64 → LEAF_POINTS < sum_by (λ s. s.agg.count) slots → sum_by (λ s. s.agg.count) slots ≤ MAX_POINTS → AllByRecursion (IsSlot version) slots → ArePartsTo 64 nodes span number slots parts → AreParts span version parts (versions_of slots)
-parts-fit_page nodes span number version slots parts full many few all a =
-    let count = parts-count nodes span number slots parts full a in
+pub parts-fit_page : (nodes : NodesValue) (block : ℕ) (span : SpanValue) (number version : ℕ) (slots : List PageSlot) (parts : List (ℕ × TreeValue)) → length slots ≡ 64 → LEAF_POINTS < sum_by (λ s. s.agg.count) slots → sum_by (λ s. s.agg.count) slots ≤ MAX_POINTS → AllByRecursion (IsSlot version) slots → ArePartsTo 64 nodes block span number slots parts → AreParts span version parts (versions_of slots)
+parts-fit_page nodes block span number version slots parts full many few all a =
+    let count = parts-count nodes block span number slots parts full a in
     record {
       each = λ i.
           elim (cases_lt i 64) [
             | inl less ↦
                 let at = at-slot slots i (omega arith) in
                 let slot = get_or slots i no-slot in
-                subst (λ o. IfSome o (IsPart span (get_or (versions_of slots) i 0) i)) (sym (a.are i less ∙ ap (part_of nodes) at)) (subst (λ v. IfSome (part_of nodes (Some slot)) (IsPart span v i)) (sym (version-at slots i slot at)) (part-is nodes span number i slot (subst (λ o. IfSome o (MayHaveChild nodes (slot_of span i) number)) at (a.have i less))))
+                subst (λ o. IfSome o (IsPart span (get_or (versions_of slots) i 0) i)) (sym (a.are i less ∙ ap (part_of nodes) at)) (subst (λ v. IfSome (part_of nodes (Some slot)) (IsPart span v i)) (sym (version-at slots i slot at)) (part-is nodes block span number i slot (subst (λ o. IfSome o (MayHaveChild nodes block (slot_of span i) number)) at (a.have i less))))
             | inr le ↦ subst (λ o. IfSome o (IsPart span (get_or (versions_of slots) i 0) i)) (sym (a.no_more i le)) tt
           ];
       older = λ i. older-all slots version i all;

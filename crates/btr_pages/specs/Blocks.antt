@@ -1,22 +1,28 @@
 -- Blocks that are read as pages: which pages were added, and which block is damaged.
-use Rattle.std.specs.Prelude.{◌≡◌, ◌⊎◌, ℕ, ◌+◌, ◌*◌, ◌<◌, List, length, take, drop}
+use Rattle.std.specs.Prelude.{◌≡◌, ◌⊎◌, ℕ, ◌+◌, ◌*◌, ◌<◌, List, length, take, drop, slice_get, Some, IfSome}
 use Rattle.std.specs.List.{flat_map, AllByRecursion}
 use Rattle.btr_node.specs.Page.{page_bytes, Spells, Fits}
 use Rattle.btr_node.specs.declared.page.NodePage.{NodePage}
 use Rattle.btr_pages.specs.Pages.{Pages, with_pages, IsPageAt, ArePages}
-use Rattle.btr_pages.specs.Known.{NodesValue, AreKnown}
+use Rattle.btr_pages.specs.Known.{NodesValue, AreKnown, ArePartOf}
 
 -- The bytes of a block. Blocks are counted from 0.
 abbrev pub block_of_bytes : List ℕ → ℕ → List ℕ
 block_of_bytes bytes n = take 4096 (drop (4096 * n) bytes)
 
+-- These pages are among others, one in each block from `first` on.
+abbrev pub AreAmong : Pages → ℕ → List NodePage → Type 0
+AreAmong pages first new = (i : ℕ) → IfSome (slice_get new i) (λ page. pages (first + i) ≡ Some page)
+
 -- The bytes are those of these pages, one in each block from `first` on. For all pages of which the old trees were made, these
--- pages stand rightly after them, and the new trees are those of both.
+-- pages stand rightly after them, and the new trees are those of both. If the old trees are those of some of all pages, and these
+-- pages are among them, the new trees are so too.
 pub record AreAdded (old new : NodesValue) (first : ℕ) (bytes : List ℕ) (added : List NodePage) : Type 0 where
   pub bytes_are : bytes ≡ flat_map page_bytes added
   pub fit : AllByRecursion Fits added
   pub stand : (pages : Pages) → AreKnown pages old → ArePages pages first added
   pub known : (pages : Pages) → AreKnown pages old → AreKnown (with_pages pages first added) new
+  pub part : (pages : Pages) → ArePartOf pages old → AreAmong pages first added → ArePartOf pages new
 
 -- The bytes are those of pages that were all added.
 abbrev pub AllWereAdded : NodesValue → NodesValue → ℕ → List ℕ → Type 0

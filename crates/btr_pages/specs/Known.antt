@@ -1,12 +1,12 @@
 -- Trees that were made of pages: which block each one is of, and what was read from there.
-use Rattle.std.specs.Prelude.{◌≡◌, ℕ, ◌+◌, ◌≤◌, nat_eq, List, [], ◌∷◌, Option, Some, None, IfSome, IsSome, if◌then◌else◌}
+use Rattle.std.specs.Prelude.{◌≡◌, ℕ, ◌<◌, ◌≤◌, nat_eq, List, [], ◌∷◌, Option, Some, None, IfSome, IsSome, slice_get, if◌then◌else◌}
 use Rattle.btr_base.specs.declared.limits.TheConstants.{FIRST}
 use Rattle.btr_tree.specs.Leads.{IsRead}
 use Rattle.btr_tree.specs.Root.{TreeValue, WasOpened, root_part, version_of}
 use Rattle.btr_tree.specs.Slots.{block_of}
 use Rattle.btr_node.specs.Page.{front, Keeps}
 use Rattle.btr_node.specs.declared.page.NodePage.{NodePage}
-use Rattle.btr_pages.specs.Pages.{Pages, with_pages, span_of_page, nodes_in, IsPageAt}
+use Rattle.btr_pages.specs.Pages.{Pages, with_pages, span_of_page, slots_of_page, nodes_in, IsPageAt}
 
 -- The tree that was made of the page in a block, and the stream of the page.
 pub record KnownValue : Type 0 where
@@ -14,7 +14,7 @@ pub record KnownValue : Type 0 where
   pub stream : ℕ
   pub tree : TreeValue
 
--- The trees that were made, in the order of their blocks.
+-- The trees that were made, in the order in which they were made.
 abbrev pub NodesValue : Type 0
 NodesValue = List KnownValue
 
@@ -22,11 +22,6 @@ NodesValue = List KnownValue
 abbrev pub node_at : NodesValue → ℕ → Option KnownValue
 node_at [] block = None
 node_at (known ∷ nodes) block = if nat_eq known.block block then Some known else node_at nodes block
-
--- Each tree is of a block from one on and below another, and no later tree is of the same block or of a lower one.
-abbrev pub AreBetween : ℕ → ℕ → NodesValue → Type 0
-AreBetween from to [] = from ≤ to
-AreBetween from to (known ∷ nodes) = (from ≤ known.block) × AreBetween (known.block + 1) to nodes
 
 -- What a tree has of the page that it was made of, and that it was read from there with all below it.
 pub record CameFrom (pages : Pages) (page : NodePage) (known : KnownValue) : Type 0 where
@@ -50,14 +45,33 @@ pub record AreKnown (pages : Pages) (nodes : NodesValue) : Type 0 where
   pub each : (block : ℕ) → IfSome (node_at nodes block) (IsKnown pages)
   pub all : (block : ℕ) → IsSome (pages block) → IsSome (node_at nodes block)
 
--- The tree of the page in a block was added to others: for all pages of which the old trees were made, the page stands rightly after
--- them.
+-- The trees are those of pages: each was made of the page in its block. Not every page needs to have a tree.
+abbrev pub ArePartOf : Pages → NodesValue → Type 0
+ArePartOf pages nodes = (block : ℕ) → IfSome (node_at nodes block) (IsKnown pages)
+
+-- The trees of those children of a page are known that have a page: of each slot with a point.
+abbrev pub KnowsChildren : Pages → NodesValue → NodePage → Type 0
+KnowsChildren pages nodes page =
+    (i : ℕ)
+    → IfSome (slice_get (slots_of_page page) i)
+    (λ slot. 0 < slot.agg.count → IsSome (pages slot.child) → IsSome (node_at nodes slot.child))
+
+-- The tree of the page in a block was added to others: whatever pages the old trees were made of, the page stands rightly among them.
 pub record TakesPage (old new : NodesValue) (block : ℕ) (page : NodePage) : Type 0 where
-  -- the new trees are those of the pages before and of this one
-  pub known : (pages : Pages) → AreKnown pages old → AreKnown (with_pages pages block (page ∷ [])) new
-  pub rightly : (pages : Pages) → AreKnown pages old → IsPageAt pages block page
+  -- if the block is above those of the old trees, and all pages have a tree, the new trees are those of the pages before and of this
+  -- one
+  pub known :
+      (pages : Pages)
+      → AreKnown pages old
+      → ((k : ℕ) → IsSome (node_at old k) → k < block)
+      → AreKnown (with_pages pages block (page ∷ [])) new
+  -- the new trees are those of pages that have this page in its block
+  pub part : (pages : Pages) → ArePartOf pages old → pages block ≡ Some page → ArePartOf pages new
+  pub rightly : (pages : Pages) → ArePartOf pages old → IsPageAt pages block page
   -- the block has a tree
   pub stands : IsSome (node_at new block)
+  -- the old trees are found as before
+  pub kept : (k : ℕ) → IsSome (node_at old k) → node_at new k ≡ node_at old k
 
 -- The tree of a version whose root is in this block: it is about the whole domain, its root is not newer than the version, and it
 -- was read from the pages of the stream.
@@ -67,3 +81,10 @@ pub record IsReadRoot (pages : Pages) (stream version block : ℕ) (t : TreeValu
   pub not_newer : version_of t.node ≤ version
   pub opened : WasOpened t
   pub read : IsRead (nodes_in pages stream) 10 FIRST t.node
+
+-- The block has a tree that was made, about the whole domain.
+pub record HasWholeTree (nodes : NodesValue) (block : ℕ) : Type 0 where
+  pub known : KnownValue
+  pub is : node_at nodes block ≡ Some known
+  pub opened : WasOpened known.tree
+  pub height : known.tree.span.height ≡ 10

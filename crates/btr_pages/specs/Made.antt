@@ -1,6 +1,6 @@
 -- What the private functions promise of the trees that are made of pages, and of the table that finds them.
-use Rattle.std.specs.Prelude.{◌≡◌, ◌⊎◌, ℕ, zero, suc, ◌-◌, ◌<◌, ◌≤◌, nat_eq, nat_lt, List, length, take, map, get_or, slice_get}
-use Rattle.std.specs.Prelude.{Option, Some, None, IfSome, IsSome, if◌then◌else◌, option_map}
+use Rattle.std.specs.Prelude.{◌≡◌, ◌⊎◌, ℕ, zero, suc, ◌<◌, ◌≤◌, nat_eq, List, length, take, map, get_or, slice_get}
+use Rattle.std.specs.Prelude.{Option, Some, None, IfSome, if◌then◌else◌, option_map}
 use Rattle.std.specs.List.{AllByRecursion}
 use Rattle.btr_base.specs.Bag.{IsInOrder}
 use Rattle.btr_base.specs.Span.{SpanValue, slot_of}
@@ -13,7 +13,7 @@ use Rattle.btr_node.specs.declared.page.NodePage.{NodePage}
 use Rattle.btr_node.specs.declared.page.NodePage.TheVariants.{Leaf, Inner}
 use Rattle.btr_node.specs.declared.page.PageSlot.{PageSlot}
 use Rattle.btr_pages.specs.Pages.{Pages, span_of_page, slots_of_page, IsPageAt}
-use Rattle.btr_pages.specs.Known.{KnownValue, NodesValue, node_at, AreBetween, AreKnown, TakesPage}
+use Rattle.btr_pages.specs.Known.{KnownValue, NodesValue, node_at, ArePartOf, KnowsChildren, TakesPage}
 use Rattle.btr_pages.specs.Blocks.{IsNoPage}
 
 -- ---- a tree that was made, and the table
@@ -24,26 +24,25 @@ pub record IsReadTree (count : ℕ) (t : TreeValue) : Type 0 where
   pub is : count ≡ t.total.count
 
 -- What the table has for a block: the number of a tree of the list, counted from 1, or 0 for none.
-abbrev pub table_number : ℕ → List ℕ → ℕ → ℕ
-table_number first table block = if nat_lt block first then 0 else get_or table (block - first) 0
+abbrev pub table_number : List ℕ → ℕ → ℕ
+table_number table block = get_or table block 0
 
 -- The tree of a number, counted from 1.
 abbrev pub numbered : NodesValue → ℕ → Option KnownValue
 numbered nodes zero = None
 numbered nodes (suc place) = slice_get nodes place
 
--- The blocks of the trees rise. The table has the number of each tree, at the place of its block from a first block on, and 0 for
--- each other block.
-pub record IsTable (nodes : NodesValue) (first : ℕ) (table : List ℕ) : Type 0 where
-  pub each : (block : ℕ) → node_at nodes block ≡ numbered nodes (table_number first table block)
-  pub within : (block : ℕ) → table_number first table block ≤ length nodes
-  pub begins : 0 < length nodes → IsSome (node_at nodes first)
-  pub rises : (to : ℕ) × AreBetween 0 to nodes
+-- The table has the number of each tree, at the place of its block, and 0 for each other block.
+pub record IsTable (nodes : NodesValue) (table : List ℕ) : Type 0 where
+  pub each : (block : ℕ) → node_at nodes block ≡ numbered nodes (table_number table block)
+  pub within : (block : ℕ) → table_number table block ≤ length nodes
 
 -- ---- the children of a page
 
--- A tree that was made is that of a slot's child: of the stream, of the slot's span, and with the slot's version and count.
-pub record IsKnownChild (place : SpanValue) (number : ℕ) (slot : PageSlot) (known : KnownValue) : Type 0 where
+-- A tree that was made is that of the child of a slot of the page in a block: the child is in a lower block, and the tree is of the
+-- stream, of the slot's span, and with the slot's version and count.
+pub record IsKnownChild (block : ℕ) (place : SpanValue) (number : ℕ) (slot : PageSlot) (known : KnownValue) : Type 0 where
+  pub lower : slot.child < block
   pub stream : known.stream ≡ number
   pub span : known.tree.span ≡ place
   pub version : version_of known.tree.node ≡ slot.version
@@ -51,33 +50,33 @@ pub record IsKnownChild (place : SpanValue) (number : ℕ) (slot : PageSlot) (kn
   pub opened : WasOpened known.tree
 
 -- The tree of the slot's child was made.
-pub record HasKnownChild (nodes : NodesValue) (place : SpanValue) (number : ℕ) (slot : PageSlot) : Type 0 where
+pub record HasKnownChild (nodes : NodesValue) (block : ℕ) (place : SpanValue) (number : ℕ) (slot : PageSlot) : Type 0 where
   pub known : KnownValue
   pub is : node_at nodes slot.child ≡ Some known
-  pub fits : IsKnownChild place number slot known
+  pub fits : IsKnownChild block place number slot known
 
 -- If the slot has a point, the tree of its child was made.
-abbrev pub MayHaveChild : NodesValue → SpanValue → ℕ → PageSlot → Type 0
-MayHaveChild nodes place number slot = 0 < slot.agg.count → HasKnownChild nodes place number slot
+abbrev pub MayHaveChild : NodesValue → ℕ → SpanValue → ℕ → PageSlot → Type 0
+MayHaveChild nodes block place number slot = 0 < slot.agg.count → HasKnownChild nodes block place number slot
 
--- The trees of the children of all slots of a span were made.
-abbrev pub HaveKnownChildren : NodesValue → SpanValue → ℕ → List PageSlot → Type 0
-HaveKnownChildren nodes span number slots =
-    (i : ℕ) → IfSome (slice_get slots i) (MayHaveChild nodes (slot_of span i) number)
+-- The trees of the children of all slots of a span were made, for a page in this block.
+abbrev pub HaveKnownChildren : NodesValue → ℕ → SpanValue → ℕ → List PageSlot → Type 0
+HaveKnownChildren nodes block span number slots =
+    (i : ℕ) → IfSome (slice_get slots i) (MayHaveChild nodes block (slot_of span i) number)
 
--- The trees of the children of a page were made.
-abbrev pub IsBuildable : NodesValue → NodePage → Type 0
-IsBuildable nodes page = HaveKnownChildren nodes (span_of_page page) (front page).stream (slots_of_page page)
+-- The trees of the children of the page in a block were made.
+abbrev pub IsBuildable : NodesValue → ℕ → NodePage → Type 0
+IsBuildable nodes block page = HaveKnownChildren nodes block (span_of_page page) (front page).stream (slots_of_page page)
 
 -- The tree of a slot's child, if the slot has a point.
 abbrev pub part_of : NodesValue → Option PageSlot → Option TreeValue
 part_of nodes None = None
 part_of nodes (Some slot) = if nat_eq slot.agg.count 0 then None else option_map (λ k. k.tree) (node_at nodes slot.child)
 
--- The parts are the trees of the children of the first n slots.
-pub record ArePartsTo (n : ℕ) (nodes : NodesValue) (span : SpanValue) (number : ℕ) (slots : List PageSlot) (parts : List (ℕ × TreeValue))
-    : Type 0 where
-  pub have : (i : ℕ) → i < n → IfSome (slice_get slots i) (MayHaveChild nodes (slot_of span i) number)
+-- The parts are the trees of the children of the first n slots of the page in a block.
+pub record ArePartsTo (n : ℕ) (nodes : NodesValue) (block : ℕ) (span : SpanValue) (number : ℕ) (slots : List PageSlot)
+    (parts : List (ℕ × TreeValue)) : Type 0 where
+  pub have : (i : ℕ) → i < n → IfSome (slice_get slots i) (MayHaveChild nodes block (slot_of span i) number)
   pub are : (i : ℕ) → i < n → part_at parts i ≡ part_of nodes (slice_get slots i)
   pub no_more : (i : ℕ) → n ≤ i → part_at parts i ≡ None
 
@@ -108,7 +107,7 @@ pub record IsLeafMade (block : ℕ) (span : SpanValue) (version : ℕ) (points :
 pub record IsInnerMade (nodes : NodesValue) (block : ℕ) (span : SpanValue) (number version : ℕ) (slots : List PageSlot) (t : TreeValue)
     : Type 0 where
   pub parts : List (ℕ × TreeValue)
-  pub are : ArePartsTo 64 nodes span number slots parts
+  pub are : ArePartsTo 64 nodes block span number slots parts
   pub fit : AreParts span version parts (versions_of slots)
   pub is : IsInnerTree span version block parts (versions_of slots) t
   pub opened : WasOpened t
@@ -140,7 +139,7 @@ pub record IsMisplaced (nodes : NodesValue) (block : ℕ) (bytes : List ℕ) : T
   pub page : NodePage
   pub fits : Fits page
   pub spells : Spells bytes page
-  pub wrong : (pages : Pages) → AreKnown pages nodes → IsPageAt pages block page → ⊥
+  pub wrong : (pages : Pages) → ArePartOf pages nodes → KnowsChildren pages nodes page → IsPageAt pages block page → ⊥
 
 -- The block is no page that stands rightly.
 abbrev pub IsDamagedPage : NodesValue → ℕ → List ℕ → Type 0

@@ -15,8 +15,8 @@ impl Nodes {
     /// that is damaged, if there is one: no page, or a page that does not fit those before it, as [`Nodes::add`] says. Then the
     /// pages of all blocks before it were added.
     ///
-    /// All blocks are above those of the pages before. The cost is the blocks, and the blocks since the last page. An `Err` is
-    /// out of memory, and the pages of some of the blocks were added.
+    /// All blocks are above those that have a tree. The cost is the blocks, and those between the highest one that had a tree and
+    /// `first`. An `Err` is out of memory, and the pages of some of the blocks were added.
     pub fn add_blocks<L>(
         &mut self,
         alloc: Global,

@@ -11,24 +11,25 @@ use btr_node::PageSlot;
 use btr_tree::Tree;
 use std::alloc::{AllocError, Global};
 
-/// The trees of the children of a span's slots, each with the number of its slot. `None` is that a slot has a point and the tree
-/// of its child was not made. An `Err` is out of memory.
+/// The trees of the children of a span's slots, each with the number of its slot, for a page in this block. `None` is that a slot
+/// has a point and the tree of its child was not made, or is not in a lower block. An `Err` is out of memory.
 pub(crate) fn parts_of(
     alloc: Global,
     nodes: &Nodes,
+    block: u64,
     span: Span,
     stream: u32,
     slots: &[PageSlot; 64],
 ) -> Result<Option<Vec<(u8, Tree)>>, AllocError>
     requires height { 1 ≤ span.height }
-    ensures { IfOk result (λ r. MatchOption r (HaveKnownChildren nodes.now span stream slots.now → ⊥)
-        (λ parts. ArePartsTo 64 nodes.now span stream slots.now parts.items)) }
+    ensures { IfOk result (λ r. MatchOption r (HaveKnownChildren nodes.now block span stream slots.now → ⊥)
+        (λ parts. ArePartsTo 64 nodes.now block span stream slots.now parts.items)) }
 {
     let mut parts = Vec::new(alloc);
     for i in 0..FAN_OUT {
         let slot = &slots[usize::from(i)];
         if count_of(&slot.agg) > 0 {
-            let Some(tree) = part(nodes, span.slot(i), stream, slot)? else {
+            let Some(tree) = part(nodes, block, span.slot(i), stream, slot)? else {
                 return Ok(None);
             };
             parts.push((i, tree))?;
@@ -37,40 +38,49 @@ pub(crate) fn parts_of(
     Ok(Some(parts))
 }
 
-/// The tree of a slot's child, if it was made. An `Err` is out of memory.
+/// The tree of the child of a slot of the page in a block, if it was made. An `Err` is out of memory.
 fn part(
     nodes: &Nodes,
+    block: u64,
     place: Span,
     stream: u32,
     slot: &PageSlot,
 ) -> Result<Option<Tree>, AllocError>
     requires some { 0 < slot.now.agg.count }
-    ensures { IfOk result (λ r. MatchOption r (HasKnownChild nodes.now place stream slot.now → ⊥)
-        (λ t. HasKnownChild nodes.now place stream slot.now × (part_of nodes.now (Some slot.now) ≡ Some t))) }
+    ensures { IfOk result (λ r. MatchOption r (HasKnownChild nodes.now block place stream slot.now → ⊥)
+        (λ t. HasKnownChild nodes.now block place stream slot.now × (part_of nodes.now (Some slot.now) ≡ Some t))) }
 {
-    match child(nodes, place, stream, slot) {
+    match child(nodes, block, place, stream, slot) {
         None => Ok(None),
         Some(known) => Ok(Some(known.tree.share()?)),
     }
 }
 
-/// The child of a slot, if its tree was made.
-fn child<'a>(nodes: &'a Nodes, place: Span, stream: u32, slot: &PageSlot) -> Option<&'a Known>
-    ensures is { IfSome result (λ k. (node_at nodes.now slot.now.child ≡ Some k.now) × IsKnownChild place stream slot.now k.now) }
-    ensures none { IfNone result (HasKnownChild nodes.now place stream slot.now → ⊥) }
+/// The child of a slot of the page in a block, if its tree was made.
+fn child<'a>(
+    nodes: &'a Nodes,
+    block: u64,
+    place: Span,
+    stream: u32,
+    slot: &PageSlot,
+) -> Option<&'a Known>
+    ensures is { IfSome result
+        (λ k. (node_at nodes.now slot.now.child ≡ Some k.now) × IsKnownChild block place stream slot.now k.now) }
+    ensures none { IfNone result (HasKnownChild nodes.now block place stream slot.now → ⊥) }
 {
     match nodes.get(slot.child) {
-        Some(known) if fits(known, place, stream, slot) => Some(known),
+        Some(known) if fits(known, block, place, stream, slot) => Some(known),
         _ => None,
     }
 }
 
-/// Whether a tree is that of a slot's child.
-fn fits(known: &Known, place: Span, stream: u32, slot: &PageSlot) -> bool
-    ensures { IsTrue result ↔ IsKnownChild place stream slot.now known.now }
+/// Whether a tree is that of the child of a slot of the page in a block.
+fn fits(known: &Known, block: u64, place: Span, stream: u32, slot: &PageSlot) -> bool
+    ensures { IsTrue result ↔ IsKnownChild block place stream slot.now known.now }
 {
     let tree = &known.tree;
-    known.stream == stream
+    slot.child < block
+        && known.stream == stream
         && tree.span() == place
         && tree.version() == slot.version
         && known.count == count_of(&slot.agg)

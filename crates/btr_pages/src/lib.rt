@@ -1,8 +1,8 @@
 //! The pages of a stream's nodes in the blocks of a device, children before their parents (the node blocks of BTrDB, FAST 2016).
 //!
-//! [`page_of`] gives the page of a node that a commit wrote. [`Nodes`] makes the tree of each page, in the order of their blocks,
-//! and finds the trees of a page's children by their blocks. It refuses a page that has a child which is not among the pages
-//! before it, or not the child that the page says.
+//! [`page_of`] gives the page of a node that a commit wrote. [`Nodes`] makes the tree of each page, children before their parents,
+//! and finds the trees of a page's children by their blocks. It refuses a page that has a child whose tree was not made, or that is
+//! not in a lower block, or not the child that the page says.
 //!
 //! The definitions say over blocks and pages as plain data which nodes of a stream there are, and which pages stand rightly where
 //! they stand. The crate knows no device.

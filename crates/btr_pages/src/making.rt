@@ -12,7 +12,8 @@ use btr_node::{NodePage, PageSlot};
 use btr_tree::{Steps, Tree};
 use std::alloc::{AllocError, Global};
 
-/// Makes the tree of a page. `None` is that the page has a child of which no tree was made. An `Err` is out of memory.
+/// Makes the tree of a page. `None` is that the page has a child of which no tree was made, or one that is not in a lower block. An
+/// `Err` is out of memory.
 pub(crate) fn make<L>(
     alloc: Global,
     nodes: &Nodes,
@@ -22,7 +23,7 @@ pub(crate) fn make<L>(
 ) -> Result<Option<Known>, AllocError>
     requires keeps { Keeps page.now }
     requires fits { Fits page.now }
-    ensures { IfOk result (λ r. MatchOption r (IsBuildable nodes.now page.now → ⊥) (IsMadeAt nodes.now block page.now)) }
+    ensures { IfOk result (λ r. MatchOption r (IsBuildable nodes.now block page.now → ⊥) (IsMadeAt nodes.now block page.now)) }
 {
     match page {
         NodePage::Leaf {
@@ -95,8 +96,8 @@ fn make_leaf<L>(
     Tree::leaf(alloc, span, version, block, &bag, steps)
 }
 
-/// Makes the tree of an inner node's page. `None` is that the page has a child of which no tree was made. An `Err` is out of
-/// memory.
+/// Makes the tree of an inner node's page. `None` is that the page has a child of which no tree was made, or one that is not in a
+/// lower block. An `Err` is out of memory.
 fn make_inner<L>(
     alloc: Global,
     nodes: &Nodes,
@@ -109,10 +110,10 @@ fn make_inner<L>(
     steps: &mut Steps<L>,
 ) -> Result<Option<Tree>, AllocError>
     requires keeps { IsInnerPage (page_front span stream version count) slots.now }
-    ensures { IfOk result (λ r. MatchOption r (HaveKnownChildren nodes.now span stream slots.now → ⊥)
+    ensures { IfOk result (λ r. MatchOption r (HaveKnownChildren nodes.now block span stream slots.now → ⊥)
         (IsInnerMade nodes.now block span stream version slots.now)) }
 {
-    let Some(parts) = parts_of(alloc, nodes, span, stream, slots)? else {
+    let Some(parts) = parts_of(alloc, nodes, block, span, stream, slots)? else {
         return Ok(None);
     };
     let tree = Tree::inner(alloc, span, version, block, &parts, &versions(slots), steps)?;

@@ -4,14 +4,11 @@ ghost use Rattle.btr_pages.specs.Made.{table_number};
 
 use std::alloc::AllocError;
 
-/// The number of the tree of a block, counted from 1, or 0 for none. The table begins at the block `first`.
-pub(crate) fn number_of(table: &[u32], first: u64, block: u64) -> usize
-    ensures { result ≡ table_number first table.now block }
+/// The number of the tree of a block, counted from 1, or 0 for none.
+pub(crate) fn number_of(table: &[u32], block: u64) -> usize
+    ensures { result ≡ table_number table.now block }
 {
-    if block < first {
-        return 0;
-    }
-    match table.get((block - first) as usize) {
+    match table.get(block as usize) {
         None => 0,
         Some(number) => *number as usize,
     }

@@ -19,11 +19,11 @@ loop-i-preserved c =
     let count : c.count_of.result ≡ slot.agg.count = c.count_of.ensures ∙ sym (ap (λ (s : PageSlot). s.agg.count) c.index-slots-from.is) in
     elim c.if-count_of-gt0.branch [
       | then-count_of-gt0+in_ok-tree+in-Some+in_ok-push w ↦
-          let found = subst (λ x. MatchOption w.in_ok-tree.field-0 (HasKnownChild nodes w.slot.result stream x → ⊥) (λ t. HasKnownChild nodes w.slot.result stream x × (part_of nodes (Some x) ≡ Some t))) (sym c.index-slots-from.is) w.in_ok-tree.ensures in
-          let some = subst (λ o. MatchOption o (HasKnownChild nodes w.slot.result stream slot → ⊥) (λ t. HasKnownChild nodes w.slot.result stream slot × (part_of nodes (Some slot) ≡ Some t))) w.in-Some.is found in
-          let has = subst (λ p. HasKnownChild nodes p stream slot) w.slot.ensures some.0 in
-          subst (λ v. ArePartsTo (i + 1) nodes span stream slots v.items) (sym w.parts-is) (subst (ArePartsTo (i + 1) nodes span stream slots) (sym w.in_ok-push.ensures.items) (one-more i nodes span stream slots c.loop-i.parts.items slot w.in-Some.tree c.loop-i.invariant at has some.1))
+          let found = subst (λ x. MatchOption w.in_ok-tree.field-0 (HasKnownChild nodes c.args.block w.slot.result stream x → ⊥) (λ t. HasKnownChild nodes c.args.block w.slot.result stream x × (part_of nodes (Some x) ≡ Some t))) (sym c.index-slots-from.is) w.in_ok-tree.ensures in
+          let some = subst (λ o. MatchOption o (HasKnownChild nodes c.args.block w.slot.result stream slot → ⊥) (λ t. HasKnownChild nodes c.args.block w.slot.result stream slot × (part_of nodes (Some slot) ≡ Some t))) w.in-Some.is found in
+          let has = subst (λ p. HasKnownChild nodes c.args.block p stream slot) w.slot.ensures some.0 in
+          subst (λ v. ArePartsTo (i + 1) nodes c.args.block span stream slots v.items) (sym w.parts-is) (subst (ArePartsTo (i + 1) nodes c.args.block span stream slots) (sym w.in_ok-push.ensures.items) (one-more i nodes c.args.block span stream slots c.loop-i.parts.items slot w.in-Some.tree c.loop-i.invariant at has some.1))
       | else-count_of-gt0 w ↦
           let low = w.if-count_of-gt0.false in
-          subst (λ v. ArePartsTo (i + 1) nodes span stream slots v.items) (sym w.parts-is) (one-skipped i nodes span stream slots c.loop-i.parts.items slot c.loop-i.invariant at (omega arith))
+          subst (λ v. ArePartsTo (i + 1) nodes c.args.block span stream slots v.items) (sym w.parts-is) (one-skipped i nodes c.args.block span stream slots c.loop-i.parts.items slot c.loop-i.invariant at (omega arith))
     ]
