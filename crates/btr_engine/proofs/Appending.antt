@@ -28,9 +28,9 @@ use Rattle.btr_pages.specs.Pages.{Pages, ArePages}
 use Rattle.btr_pages.proofs.PageOfLemmas.{HasPlaces}
 use Rattle.btr_engine.specs.Body.{body_of, Prefix, prefix_to, first_page, pages_after, IsBodyOf, commits_before, nodes_of, need_of}
 use Rattle.btr_engine.specs.Roots.{IsRootOf}
-use Rattle.btr_engine.specs.Stored.{AreStored}
+use Rattle.btr_engine.specs.Stored.{AreStored, HaveRoots}
 use Rattle.btr_engine.proofs.BodyLemmas.{need-body_of}
-use Rattle.btr_engine.specs.Engine.{device, board_of, blocks_of, tail_of, room_of, is_stopped, IsEngineOf, IsAtRest}
+use Rattle.btr_engine.specs.Engine.{device, board_of, blocks_of, tail_of, room_of, super_of, is_stopped, IsEngineOf, IsAtRest}
 use Rattle.btr_engine.specs.Stage.{IsReceipt}
 use Rattle.btr_engine.specs.Step.{IsBeforeOrAfter, IsStepped, StepCause, HasResult}
 use Rattle.btr_engine.proofs.HoldsLemmas.{HoldsTrees, holds_trees, before_or_after}
@@ -66,8 +66,8 @@ module _ {D : Type 0} {disk : Ghosts D} (h : List Entry) (old : Engine D disk) (
   AnswersFull answer = IsFalse (is_stopped old) → append.IsTooLong old.log run → answer ≡ full
 
   -- The body of the run is the entry's.
-  its_body : (gate : ℕ) (known : Pages) → StandAfter (prefix_to gate h known) e root pages → IsBodyOf (prefix_to gate h known) e root pages (append.body_in_run run)
-  its_body gate known stand = record {
+  its_body : (gate : ℕ) (roots : List ℕ) (known : Pages) → StandAfter (prefix_to gate h roots known) e root pages → IsBodyOf (prefix_to gate h roots known) e root pages (append.body_in_run run)
+  its_body gate roots known stand = record {
     spelled = is.spelled;
     fits = stand.fit;
     rightly = stand.rightly;
@@ -88,24 +88,24 @@ module _ {D : Type 0} {disk : Ghosts D} (h : List Entry) (old : Engine D disk) (
 
   -- ---- an append that fails
 
-  pub refused : (new : Engine D disk) (fault : AppendFault) (answer : StepFault) → IsFalse (is_stopped old) → AnswersFull (Err fault) → append.AppendCause old.log new.log run fault → board_of new ≡ board_of old → new.opened_with ≡ old.opened_with → new.synced ≡ old.synced → ((n left : ℕ) → fault ≡ Full n left → answer ≡ DeviceFull n left) → (fault ≡ Fault → answer ≡ DeviceFault) → StepCause h old new e answer
-  refused new (Full n room) answer runs answers_full cause same began synced is_full is_fault =
+  pub refused : (new : Engine D disk) (fault : AppendFault) (answer : StepFault) → IsFalse (is_stopped old) → AnswersFull (Err fault) → append.AppendCause old.log new.log run fault → board_of new ≡ board_of old → new.opened_with ≡ old.opened_with → new.chosen ≡ old.chosen → new.synced ≡ old.synced → ((n left : ℕ) → fault ≡ Full n left → answer ≡ DeviceFull n left) → (fault ≡ Fault → answer ≡ DeviceFault) → StepCause h old new e answer
+  refused new (Full n room) answer runs answers_full cause same began chosen synced is_full is_fault =
       let short : room < n = omega (arith, cause.1, cause.2, cause.3) in
-      subst (StepCause h old new e) (sym (is_full n room refl)) (runs, is.allowed, cause.2 ∙ needed, cause.3, short, same_engine new old cause.4 same began synced)
-  refused new Fault answer runs answers_full cause same began synced is_full is_fault =
+      subst (StepCause h old new e) (sym (is_full n room refl)) (runs, is.allowed, cause.2 ∙ needed, cause.3, short, same_engine new old cause.4 same began chosen synced)
+  refused new Fault answer runs answers_full cause same began chosen synced is_full is_fault =
       let fits = fits_unless_full (Err Fault) runs answers_full (λ no. absurd (cc)) in
       subst (StepCause h old new e) (sym (is_fault refl)) (
         record { runs = runs; allowed = is.allowed; fits = fits },
         record { called = cause.1.called; at_most = cause.1.at_most; rose = cause.1.rose; stopped = cause.1.stopped; board = same; tail = cause.1.tail },
       )
-  refused new (AlreadyStopped n) answer runs answers_full cause same began synced is_full is_fault =
+  refused new (AlreadyStopped n) answer runs answers_full cause same began chosen synced is_full is_fault =
       let stopped = cause.0 in absurd (cc)
 
   -- ---- each moment of an append
 
   -- What is before the tail of an engine at rest.
   abbrev pub before_tail : IsAtRest h old → Prefix
-  before_tail rest = prefix_to (tail_of old) h rest.holds.leads.pages
+  before_tail rest = prefix_to (tail_of old) h rest.holds.leads.roots rest.holds.leads.pages
 
   -- A block is left after it for the next gate.
   inside : need_of h e ≤ room_of old → tail_of old + need_of h e < blocks_of old
@@ -117,7 +117,7 @@ module _ {D : Type 0} {disk : Ghosts D} (h : List Entry) (old : Engine D disk) (
   moments after fits rest stand leaves =
       let contents = disk.contents (device old) in
       weakens disk.calls disk.images_since (device old) (log.log_device after) (append.IsMoment contents (tail_of old) rest.holds.bodies (append.body_in_run run)) (IsBeforeOrAfter (disk.size (device old)) h e)
-      (before_or_after (disk.size (device old)) contents (blocks_of old) (tail_of old) h rest.holds e root pages (append.body_in_run run) (its_body (tail_of old) rest.holds.leads.pages stand) stand.keeps is.allowed needed (inside fits))
+      (before_or_after (disk.size (device old)) contents (blocks_of old) (tail_of old) h rest.holds e root pages (append.body_in_run run) (its_body (tail_of old) rest.holds.leads.roots rest.holds.leads.pages stand) stand.keeps is.allowed needed (inside fits))
       leaves
 
   -- An append that fails made no call of the device, or the device failed.
@@ -145,30 +145,30 @@ module _ {D : Type 0} {disk : Ghosts D} (h : List Entry) (old : Engine D disk) (
       is_receipt = is_receipt;
     }
 
-    pub at_rest : need_of h e ≤ room_of old → log.KeepsBounds old.log new.log → (rest : IsAtRest h old) → StandAfter (before_tail rest) e root pages → AreStored (pages_after (before_tail rest) e pages) (tail_of old + need_of h e) (board_of new).streams → Published (disk.contents (device old)) (4096 * (tail_of old + 1)) run (4096 * tail_of old) gate_block (disk.contents (device new)) → log.IsLogAtRest new.log (rest.holds.bodies ++ append.body_in_run run ∷ []) → IsAtRest (h ++ e ∷ []) new
-    at_rest fits kept rest stand stored written log_rests =
+    pub at_rest : need_of h e ≤ room_of old → log.KeepsBounds old.log new.log → super_of new ≡ super_of old → (rest : IsAtRest h old) → StandAfter (before_tail rest) e root pages → AreStored (pages_after (before_tail rest) e pages) (tail_of old + need_of h e) (board_of new).streams → HaveRoots (rest.holds.leads.roots ++ root ∷ []) (board_of new).streams → Published (disk.contents (device old)) (4096 * (tail_of old + 1)) run (4096 * tail_of old) gate_block (disk.contents (device new)) → log.IsLogAtRest new.log (rest.holds.bodies ++ append.body_in_run run ∷ []) → IsAtRest (h ++ e ∷ []) new
+    at_rest fits kept chosen rest stand stored have written log_rests =
         let size = disk.size (device old) in
         let now = disk.contents (device new) in
         let streams = (board_of new).streams in
         let below : (k : ℕ) → k < 4096 * tail_of old → now k ≡ disk.contents (device old) k = λ k lt. written.elsewhere k (λ le. absurd (omega arith)) (λ le. absurd (omega arith)) in
         let its_log = AtRest-IsLog now (disk.images_now (device new)) (tail_of new) (rest.holds.bodies ++ append.body_in_run run ∷ []) log_rests in
-        let holds : HoldsTrees size now (blocks_of old) (tail_of old + need_of h e) (h ++ e ∷ []) streams = holds_trees size (disk.contents (device old)) (blocks_of old) (tail_of old) h rest.holds e root pages (append.body_in_run run) (its_body (tail_of old) rest.holds.leads.pages stand) stand.keeps is.allowed needed (inside fits) now below its_log streams stored in
-        let sized = subst (λ n. HoldsTrees n now (blocks_of old) (tail_of old + need_of h e) (h ++ e ∷ []) streams) (sym kept.device_kept.same_size) holds in
-        let blocked = subst (λ n. HoldsTrees (disk.size (device new)) now n (tail_of old + need_of h e) (h ++ e ∷ []) streams) (sym kept.blocks) sized in
-        let tailed = subst (λ n. HoldsTrees (disk.size (device new)) now (blocks_of new) n (h ++ e ∷ []) streams) (sym tail_after) blocked in
-        record { of = of; holds = tailed.0; stored = tailed.1; only = log_rests.only }
+        let holds : HoldsTrees size now (blocks_of old) (tail_of old + need_of h e) (h ++ e ∷ []) (super_of new) streams = holds_trees size (disk.contents (device old)) (blocks_of old) (tail_of old) h rest.holds e root pages (append.body_in_run run) (its_body (tail_of old) rest.holds.leads.roots rest.holds.leads.pages stand) stand.keeps is.allowed needed (inside fits) now below its_log (super_of new) (rest.under ∙ sym chosen) streams stored have in
+        let sized = subst (λ n. HoldsTrees n now (blocks_of old) (tail_of old + need_of h e) (h ++ e ∷ []) (super_of new) streams) (sym kept.device_kept.same_size) holds in
+        let blocked = subst (λ n. HoldsTrees (disk.size (device new)) now n (tail_of old + need_of h e) (h ++ e ∷ []) (super_of new) streams) (sym kept.blocks) sized in
+        let tailed = subst (λ n. HoldsTrees (disk.size (device new)) now (blocks_of new) n (h ++ e ∷ []) (super_of new) streams) (sym tail_after) blocked in
+        record { of = of; holds = tailed.0; under = tailed.1; stored = tailed.2; roots = tailed.3; only = log_rests.only }
 
 -- What an append that failed did to the engine, whatever its history is.
-pub effect_of_fault : {D : Type 0} {disk : Ghosts D} (old new : Engine D disk) (run : List ℕ) (fault : AppendFault) (answer : StepFault) → append.AppendCause old.log new.log run fault → board_of new ≡ board_of old → new.opened_with ≡ old.opened_with → new.synced ≡ old.synced → ((n left : ℕ) → fault ≡ Full n left → answer ≡ DeviceFull n left) → (fault ≡ Fault → answer ≡ DeviceFault) → IsFalse (is_stopped old) → HasResult old new (Err answer)
-effect_of_fault old new run (Full n room) answer cause same began synced is_full is_fault runs =
+pub effect_of_fault : {D : Type 0} {disk : Ghosts D} (old new : Engine D disk) (run : List ℕ) (fault : AppendFault) (answer : StepFault) → append.AppendCause old.log new.log run fault → board_of new ≡ board_of old → new.opened_with ≡ old.opened_with → new.chosen ≡ old.chosen → new.synced ≡ old.synced → ((n left : ℕ) → fault ≡ Full n left → answer ≡ DeviceFull n left) → (fault ≡ Fault → answer ≡ DeviceFault) → IsFalse (is_stopped old) → HasResult old new (Err answer)
+effect_of_fault old new run (Full n room) answer cause same began chosen synced is_full is_fault runs =
     let short : room < n = omega (arith, cause.1, cause.2, cause.3) in
-    subst (λ a. HasResult old new (Err a)) (sym (is_full n room refl)) (runs, cause.3, short, same_engine new old cause.4 same began synced)
-effect_of_fault old new run Fault answer cause same began synced is_full is_fault runs =
+    subst (λ a. HasResult old new (Err a)) (sym (is_full n room refl)) (runs, cause.3, short, same_engine new old cause.4 same began chosen synced)
+effect_of_fault old new run Fault answer cause same began chosen synced is_full is_fault runs =
     subst (λ a. HasResult old new (Err a)) (sym (is_fault refl)) (
       runs,
       record { called = cause.1.called; at_most = cause.1.at_most; rose = cause.1.rose; stopped = cause.1.stopped; board = same; tail = cause.1.tail },
     )
-effect_of_fault old new run (AlreadyStopped n) answer cause same began synced is_full is_fault runs =
+effect_of_fault old new run (AlreadyStopped n) answer cause same began chosen synced is_full is_fault runs =
     let stopped = cause.0 in absurd (cc)
 
 -- The numbers of the engine with the new log and the new board.
@@ -177,5 +177,10 @@ module _ {D : Type 0} {disk : Ghosts D} (old : Engine D disk) (e : Entry) (root 
   ends_after =
       omega (arith, appended.tail, needs_two number e root pages run bytes places, appended.extents, old.ends)
 
-  pub began_after : old.opened_with ≤ log.extents_of after
-  began_after = omega (arith, appended.extents, old.began)
+-- The superblock is still of as many blocks as the log.
+module _ {D : Type 0} {disk : Ghosts D} (old : Engine D disk) (after : Log D disk) (kept : log.KeepsBounds old.log after) where
+  pub large_after : 8 ≤ log.log_blocks after
+  large_after = omega (arith, old.large, kept.blocks)
+
+  pub blocks_after : (super_of old).blocks ≡ log.log_blocks after
+  blocks_after = old.same_blocks ∙ sym kept.blocks

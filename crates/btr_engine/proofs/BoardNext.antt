@@ -1,5 +1,6 @@
 -- The next board is that of the history with an entry more, and stays well formed.
 use Rattle.std.specs.Prelude.{◌≡◌, ℕ, ◌+◌, ◌-◌, ◌<◌, ◌≤◌, List, [], ◌∷◌, ◌++◌, length, take, slice_get, slice_set, slice_index_or, Option, Some, None, IfSome, is_some}
+use Rattle.std.specs.Option.{option_to_list}
 use Rattle.std.proofs.Common.{zero, suc, refl, sym, ap, ◌∙◌, arith, subst, inl, inr, length-append}
 use Rattle.std.proofs.lemmas.List.{append-nil, take-append-le, take_all, get_or_append_left, get_or_push, get_or-set_same, get_or-set_other, length-set, length-map, map-append}
 use Rattle.std.proofs.lemmas.Option.{slice_get_within, get_or_from_slice_get}
@@ -17,10 +18,11 @@ use Rattle.btr_hist.specs.declared.kernel.Reads.{Reads}
 use Rattle.btr_hist.specs.History.{ids, kinds, spec_of, commits, latest, recorded}
 use Rattle.btr_hist.specs.Legal.{rejection}
 use Rattle.btr_hist.proofs.HistoryLemmas.{length-kinds, length-recorded, follows-push, unknown}
-use Rattle.btr_engine.specs.Past.{with_commits, commits_to}
-use Rattle.btr_engine.specs.Board.{Versions, Kept, HasPast, HasTrees, reads_count, read_at, HasReads, IsStreamOf, IsBoardOf, IsGrown, IsWellFormed, place_of, ids_of}
-use Rattle.btr_engine.specs.Stage.{MakesStream, MakesVersion, IsNextTree, with_version}
-use Rattle.btr_engine.proofs.BoardStreams.{place-low, places-push, ids-more, kinds-more, commits-still, recorded-still, ids-still, kinds-still, commits-more, recorded-more, commits-other, recorded-other, unknown-recorded, read-none}
+use Rattle.btr_engine.specs.Past.{with_commits, commits_to, stream_numbers}
+use Rattle.btr_engine.specs.Board.{Versions, Kept, HasPast, HasTrees, reads_count, read_at, HasReads, IsStreamOf, IsBoardOf, IsGrown, IsWellFormed, HasGoodSpec, place_of, ids_of}
+use Rattle.btr_engine.specs.Stage.{MakesStream, MakesVersion, IsNextTree, with_version, new_stream}
+use Rattle.btr_engine.proofs.BoardStreamLemmas.{place-low, places-push, ids-more, kinds-more, commits-still, recorded-still, ids-still, kinds-still, commits-more, recorded-more, commits-other, recorded-other, unknown-recorded, read-none}
+use Rattle.btr_engine.proofs.NumberingLemmas.{numbers-still, numbers-new, numbers-more, numbers-other}
 use Rattle.btr_engine.proofs.BoardTrees.{made_by, with_commits-push}
 
 -- ---- the trees of a stream
@@ -103,8 +105,8 @@ module _ (g h : List Entry) (s : ℕ) where
   }
 
   -- A version more of a plain stream, or of an output.
-  pub reads-push : (v : Versions) (t : TreeValue) (spec : Option Spec) (read : Option Reads) → v.spec ≡ spec → is_some read ≡ is_some spec → length v.trees ≡ latest h s + 1 → HasReads h s v → recorded g s ≡ recorded h s ++ read ∷ [] → HasReads g s (with_version v t read)
-  reads-push v t None None plain kind trees has more =
+  pub reads-push : (v : Versions) (t : TreeValue) (number : ℕ) (spec : Option Spec) (read : Option Reads) → v.spec ≡ spec → is_some read ≡ is_some spec → length v.trees ≡ latest h s + 1 → HasReads h s v → recorded g s ≡ recorded h s ++ read ∷ [] → HasReads g s (with_version v t read number)
+  reads-push v t number None None plain kind trees has more =
       let nothing_new : v.reads ++ [] ≡ v.reads = append-nil v.reads in
       let count : (n : ℕ) → reads_count v.spec n ≡ 0 = λ n. ap (λ o. reads_count o n) plain in
       record {
@@ -115,7 +117,7 @@ module _ (g h : List Entry) (s : ℕ) where
             ∙ has.each version
             ∙ ap (λ l. read_at l version) (sym nothing_new);
       }
-  reads-push v t (Some spec) (Some r) output kind trees has more =
+  reads-push v t number (Some spec) (Some r) output kind trees has more =
       let count : (n : ℕ) → reads_count v.spec n ≡ n - 1 = λ n. ap (λ o. reads_count o n) output in
       let long : length (recorded h s) ≡ length v.reads = omega (arith, length-recorded h s, has.counted, count (length v.trees), trees) in
       record {
@@ -124,23 +126,24 @@ module _ (g h : List Entry) (s : ℕ) where
             ap (λ (l : List (Option Reads)). slice_index_or (None ∷ l) version None) more
             ∙ one_version_more (recorded h s) v.reads r long has.each version;
       }
-  reads-push v t None (Some r) plain kind trees has more = absurd (cc)
-  reads-push v t (Some spec) None output kind trees has more = absurd (cc)
+  reads-push v t number None (Some r) plain kind trees has more = absurd (cc)
+  reads-push v t number (Some spec) None output kind trees has more = absurd (cc)
 
 -- ---- the next board
 
 -- A stream of which an entry says nothing stays as it is.
-stream-still : (g h : List Entry) (s : ℕ) (v : Versions) → slice_get (ids g) s ≡ slice_get (ids h) s → spec_of g s ≡ spec_of h s → commits g s ≡ commits h s → recorded g s ≡ recorded h s → IsStreamOf h s v → IsStreamOf g s v
-stream-still g h s v same_id same_kind same_commits same_records is = record {
+stream-still : (g h : List Entry) (s : ℕ) (v : Versions) → slice_get (ids g) s ≡ slice_get (ids h) s → spec_of g s ≡ spec_of h s → commits g s ≡ commits h s → recorded g s ≡ recorded h s → stream_numbers g s ≡ stream_numbers h s → IsStreamOf h s v → IsStreamOf g s v
+stream-still g h s v same_id same_kind same_commits same_records same_numbers is = record {
   named = same_id ∙ is.named;
   defined = same_kind ∙ is.defined;
   kept = trees-same g h s v.trees same_commits is.kept;
   read = reads-same g h s v same_records is.read;
+  numbered = is.numbered ∙ sym same_numbers;
 }
 
 -- A new stream has version 0 alone.
-stream-new : (g : List Entry) (s id : ℕ) (spec : Option Spec) (t : TreeValue) → slice_get (ids g) s ≡ Some id → spec_of g s ≡ spec → latest g s ≡ 0 → recorded g s ≡ [] → IsTree nothing t → IsStreamOf g s (record { id = id; spec = spec; trees = t ∷ []; reads = [] })
-stream-new g s id spec t named defined none unread empty = record {
+stream-new : (g : List Entry) (s id : ℕ) (spec : Option Spec) (t : TreeValue) (number : ℕ) → slice_get (ids g) s ≡ Some id → spec_of g s ≡ spec → latest g s ≡ 0 → recorded g s ≡ [] → stream_numbers g s ≡ number ∷ [] → IsTree nothing t → IsStreamOf g s (new_stream id spec t number)
+stream-new g s id spec t number named defined none unread numbers empty = record {
   named = named;
   defined = defined;
   kept = record {
@@ -153,14 +156,16 @@ stream-new g s id spec t named defined none unread empty = record {
     counted = elim spec as (λ (o : Option Spec). 0 ≡ reads_count o 1) [ None ↦ refl | Some x ↦ refl ];
     each = λ version. read-none (recorded g s) unread version ∙ sym (read_at-none version);
   };
+  numbered = sym numbers;
 }
 
 module _ (h : List Entry) (b : Kept) (was : IsBoardOf h b) (e : Entry) (allowed : rejection h e ≡ None) where
   -- The board with a new stream at version 0.
-  pub push-stream : (id : ℕ) (spec : Option Spec) (t : TreeValue) (streams : List Versions) (entries : ℕ) → MakesStream e id spec → IsTree nothing t → streams ≡ b.streams ++ record { id = id; spec = spec; trees = t ∷ []; reads = [] } ∷ [] → entries ≡ b.entries + 1 → IsBoardOf (h ++ e ∷ []) (record { streams = streams; entries = entries })
+  pub push-stream : (id : ℕ) (spec : Option Spec) (t : TreeValue) (streams : List Versions) (entries : ℕ) → MakesStream e id spec → IsTree nothing t → streams ≡ b.streams ++ new_stream id spec t (b.entries + 1) ∷ [] → entries ≡ b.entries + 1 → IsBoardOf (h ++ e ∷ []) (record { streams = streams; entries = entries })
   push-stream id spec t streams entries makes empty more one =
       let g = h ++ e ∷ [] in
-      let first : Versions = record { id = id; spec = spec; trees = t ∷ []; reads = [] } in
+      let number : ℕ = b.entries + 1 in
+      let first : Versions = new_stream id spec t number in
       let ids_are = ids-more h e id spec makes in
       let kinds_are = kinds-more h e id spec makes in
       let size : length (ids g) ≡ length (ids h) + 1 = ap (length {A = ℕ}) ids_are ∙ length-append (ids h) (id ∷ []) in
@@ -176,7 +181,7 @@ module _ (h : List Entry) (b : Kept) (was : IsBoardOf h b) (e : Entry) (allowed 
               let is = was.each s d (omega (arith, was.counted)) in
               let named : slice_get (ids g) s ≡ slice_get (ids h) s = ap (λ l. slice_get l s) ids_are ∙ get-append (ids h) (id ∷ []) s _ is.named ∙ sym is.named in
               let defined : spec_of g s ≡ spec_of h s = ap (λ l. slice_index_or l s None) kinds_are ∙ get_or_append_left (kinds h) (spec ∷ []) None s (omega (arith, was.counted, length-kinds h)) in
-              subst (IsStreamOf g s) (sym (old s d before)) (stream-still g h s _ named defined (commits-still h e id spec makes s) (recorded-still h e id spec makes s) is)
+              subst (IsStreamOf g s) (sym (old s d before)) (stream-still g h s _ named defined (commits-still h e id spec makes s) (recorded-still h e id spec makes s) (numbers-still h e id spec makes s (omega (arith, was.counted))) is)
           | inr end ↦
               let place : s ≡ length b.streams = omega (arith, was.counted, size) in
               let past : length (ids h) ≤ s = omega (arith, was.counted) in
@@ -184,17 +189,19 @@ module _ (h : List Entry) (b : Kept) (was : IsBoardOf h b) (e : Entry) (allowed 
               let defined : spec_of g s ≡ spec = ap (λ l. slice_index_or l s None) kinds_are ∙ get_or_push (kinds h) spec None s (omega (arith, place, was.counted, length-kinds h)) in
               let none : latest g s ≡ 0 = ap (length {A = Change}) (commits-still h e id spec makes s) ∙ unknown h s was.follows past in
               let unread = recorded-still h e id spec makes s ∙ unknown-recorded h s was.follows past in
-              subst (IsStreamOf g s) (sym (new s d place)) (stream-new g s id spec t named defined none unread empty)
+              let numbers : stream_numbers g s ≡ number ∷ [] = numbers-new h e id spec makes s (place ∙ was.counted) (unknown h s was.follows past) ∙ ap (λ (n : ℕ). (n + 1) ∷ []) (sym was.entries) in
+              subst (IsStreamOf g s) (sym (new s d place)) (stream-new g s id spec t number named defined none unread numbers empty)
         ];
         entries = one ∙ ap (λ (n : ℕ). n + 1) was.entries ∙ sym (length-append h (e ∷ []));
         follows = follows-push h e was.follows allowed;
       }
 
   -- The board with one version more of one stream.
-  pub push-version : (s : ℕ) (c : Change) (read : Option Reads) (kept : Versions) (t : TreeValue) (streams : List Versions) (entries : ℕ) → MakesVersion e s c read → is_some read ≡ is_some kept.spec → IsNextTree h s c t → slice_get b.streams s ≡ Some kept → streams ≡ slice_set b.streams s (with_version kept t read) → entries ≡ b.entries + 1 → IsBoardOf (h ++ e ∷ []) (record { streams = streams; entries = entries })
+  pub push-version : (s : ℕ) (c : Change) (read : Option Reads) (kept : Versions) (t : TreeValue) (streams : List Versions) (entries : ℕ) → MakesVersion e s c read → is_some read ≡ is_some kept.spec → IsNextTree h s c t → slice_get b.streams s ≡ Some kept → streams ≡ slice_set b.streams s (with_version kept t read (b.entries + 1)) → entries ≡ b.entries + 1 → IsBoardOf (h ++ e ∷ []) (record { streams = streams; entries = entries })
   push-version s c read kept t streams entries makes kind next at set one =
       let g = h ++ e ∷ [] in
-      let grown : Versions = with_version kept t read in
+      let number : ℕ = b.entries + 1 in
+      let grown : Versions = with_version kept t read number in
       let ids_are = ids-still h e s c read makes in
       let kinds_are = kinds-still h e s c read makes in
       let same = ap (length {A = ℕ}) ids_are in
@@ -211,7 +218,8 @@ module _ (h : List Entry) (b : Kept) (was : IsBoardOf h b) (e : Entry) (allowed 
         named = named s ∙ was_kept.named;
         defined = defined s ∙ was_kept.defined;
         kept = trees-push g h s c (commits-more h e s c read makes) kept.trees t next was_kept.kept;
-        read = reads-push g h s kept t kept.spec read refl kind was_kept.kept.counted was_kept.read (recorded-more h e s c read makes);
+        read = reads-push g h s kept t number kept.spec read refl kind was_kept.kept.counted was_kept.read (recorded-more h e s c read makes);
+        numbered = ap (λ (l : List ℕ). l ++ number ∷ []) was_kept.numbered ∙ ap (λ (n : ℕ). stream_numbers h s ++ (n + 1) ∷ []) was.entries ∙ sym (numbers-more h e s c read makes);
       } in
       record {
         counted = size ∙ was.counted ∙ sym same;
@@ -220,7 +228,7 @@ module _ (h : List Entry) (b : Kept) (was : IsBoardOf h b) (e : Entry) (allowed 
               subst (λ (n : ℕ). IsStreamOf g n (slice_index_or streams n d)) (sym is) (subst (IsStreamOf g s) (sym (here d)) is_grown)
           | inr other ↦
               let otherwise : s ≡ i → ⊥ = λ e. other (sym e) in
-              subst (IsStreamOf g i) (sym (others i d other)) (stream-still g h i _ (named i) (defined i) (commits-other h e s c read makes i otherwise) (recorded-other h e s c read makes i otherwise) (was.each i d (omega (arith, same))))
+              subst (IsStreamOf g i) (sym (others i d other)) (stream-still g h i _ (named i) (defined i) (commits-other h e s c read makes i otherwise) (recorded-other h e s c read makes i otherwise) (numbers-other h e s c read makes i otherwise) (was.each i d (omega (arith, same))))
         ];
         entries = one ∙ ap (λ (n : ℕ). n + 1) was.entries ∙ sym (length-append h (e ∷ []));
         follows = follows-push h e was.follows allowed;
@@ -240,12 +248,21 @@ place-below streams id None is = tt
 place-below streams id (Some n) is =
     omega (arith, place-low (ids_of streams) id n (sym is), length-map streams (λ (s : Versions). s.id))
 
+-- One read more of an output, and none of a plain stream, for one tree more.
+reads-counted : (spec : Option Spec) (read : Option Reads) (was now : ℕ) (rs : List Reads) → is_some read ≡ is_some spec → 1 ≤ was → now ≡ was + 1 → length rs ≡ reads_count spec was → length (rs ++ option_to_list read) ≡ reads_count spec now
+reads-counted None None was now rs kind some one counted = ap (length {A = Reads}) (append-nil rs) ∙ counted
+reads-counted (Some spec) (Some r) was now rs kind some one counted =
+    let counted_here : length rs ≡ was - 1 = counted in
+    omega (arith, length-append rs (r ∷ []))
+reads-counted None (Some r) was now rs kind some one counted = absurd (cc)
+reads-counted (Some spec) None was now rs kind some one counted = absurd (cc)
+
 module _ (streams : List Versions) (number : ℕ → Option ℕ) (was : IsWellFormed streams number) where
   -- A board stays well formed with a new stream at version 0.
-  pub formed-stream : (id : ℕ) (spec : Option Spec) (t : TreeValue) (next : ℕ → Option ℕ) (last : ℕ) (after : List Versions) → IsTree nothing t → length streams < MAX_STREAMS → place_of (ids_of streams) id ≡ None → after ≡ streams ++ record { id = id; spec = spec; trees = t ∷ []; reads = [] } ∷ [] → last ≡ length streams → ((q : ℕ) → next q ≡ put_at id last number q) → IsWellFormed after next
-  formed-stream id spec t next last after empty room fresh more is put =
+  pub formed-stream : (id : ℕ) (spec : Option Spec) (t : TreeValue) (entry : ℕ) (next : ℕ → Option ℕ) (last : ℕ) (after : List Versions) → IsTree nothing t → length streams < MAX_STREAMS → place_of (ids_of streams) id ≡ None → HasGoodSpec spec → after ≡ streams ++ new_stream id spec t entry ∷ [] → last ≡ length streams → ((q : ℕ) → next q ≡ put_at id last number q) → IsWellFormed after next
+  formed-stream id spec t entry next last after empty room fresh good more is put =
       let name : Versions → ℕ = λ s. s.id in
-      let first : Versions = record { id = id; spec = spec; trees = t ∷ []; reads = [] } in
+      let first : Versions = new_stream id spec t entry in
       let size : length after ≡ length streams + 1 = ap (length {A = Versions}) more ∙ length-append streams (first ∷ []) in
       let old : (s : ℕ) (d : Versions) → s < length streams → slice_index_or after s d ≡ slice_index_or streams s d =
       λ s d low. ap (λ l. slice_index_or l s d) more ∙ get_or_append_left streams (first ∷ []) d s low in
@@ -257,7 +274,14 @@ module _ (streams : List Versions) (number : ℕ → Option ℕ) (was : IsWellFo
         each = λ s d low. elim (cases_lt s (length streams)) [
           | inl before ↦ subst IsGrown (sym (old s d before)) (was.each s d before)
           | inr end ↦
-              subst IsGrown (sym (new s d (omega (arith, size)))) (record { some = omega arith; limited = omega arith; pasts = ((nothing, empty), tt) })
+              subst IsGrown (sym (new s d (omega (arith, size)))) (record {
+                some = omega arith;
+                limited = omega arith;
+                pasts = ((nothing, empty), tt);
+                numbered = refl;
+                read = elim spec as (λ (o : Option Spec). 0 ≡ reads_count o 1) [ None ↦ refl | Some x ↦ refl ];
+                good = good;
+              })
         ];
         numbered = λ q. places-push (ids_of streams) id number next last (is ∙ sym (length-map streams name)) fresh was.numbered put q ∙ ap (λ l. place_of l q) (sym named);
       }
@@ -268,10 +292,10 @@ module _ (streams : List Versions) (number : ℕ → Option ℕ) (was : IsWellFo
       subst IsGrown (get_or_from_slice_get streams s kept kept at) (was.each s kept (slice_get_within streams s kept at))
 
   -- A board stays well formed with one version more of one stream.
-  pub formed-version : (s : ℕ) (kept : Versions) (t : TreeValue) (read : Option Reads) (next : ℕ → Option ℕ) (after : List Versions) → slice_get streams s ≡ Some kept → length kept.trees ≤ MAX_VERSIONS → HasPast t → after ≡ slice_set streams s (with_version kept t read) → ((q : ℕ) → next q ≡ number q) → IsWellFormed after next
-  formed-version s kept t read next after at room past set same =
+  pub formed-version : (s : ℕ) (kept : Versions) (t : TreeValue) (read : Option Reads) (entry : ℕ) (next : ℕ → Option ℕ) (after : List Versions) → slice_get streams s ≡ Some kept → length kept.trees ≤ MAX_VERSIONS → HasPast t → is_some read ≡ is_some kept.spec → after ≡ slice_set streams s (with_version kept t read entry) → ((q : ℕ) → next q ≡ number q) → IsWellFormed after next
+  formed-version s kept t read entry next after at room past kind set same =
       let name : Versions → ℕ = λ x. x.id in
-      let grown : Versions = with_version kept t read in
+      let grown : Versions = with_version kept t read entry in
       let there : s < length streams = slice_get_within streams s kept at in
       let size : length after ≡ length streams = ap (length {A = Versions}) set ∙ length-set streams s grown in
       let long : length grown.trees ≡ length kept.trees + 1 = length-append kept.trees (t ∷ []) in
@@ -286,6 +310,9 @@ module _ (streams : List Versions) (number : ℕ → Option ℕ) (was : IsWellFo
         some = omega (arith, long);
         limited = omega (arith, long, room);
         pasts = each-append HasPast kept.trees (t ∷ []) was_grown.pasts (past, tt);
+        numbered = omega (arith, long, was_grown.numbered, length-append kept.numbers (entry ∷ []));
+        read = reads-counted kept.spec read (length kept.trees) (length grown.trees) kept.reads kind was_grown.some long was_grown.read;
+        good = was_grown.good;
       } in
       record {
         few = omega (arith, size, was.few);

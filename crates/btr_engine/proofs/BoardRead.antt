@@ -17,24 +17,27 @@ use Rattle.btr_hist.specs.History.{ids, kinds, spec_of, commits, latest, recorde
 use Rattle.btr_hist.specs.Legal.{rejection}
 use Rattle.btr_hist.proofs.HistoryLemmas.{length-kinds, length-recorded}
 use Rattle.btr_engine.specs.Board.{Versions, Kept, IsBoardOf, HasStreamOf, HasStreamsOf, reads_count}
-use Rattle.btr_engine.specs.Stage.{MakesStream, MakesVersion, IsNextTree, AddsStream, ReadsVersion, ReadsOn, HasRoomForVersion, HasRoomFor, IsTreeAfter, with_version, change}
-use Rattle.btr_engine.proofs.BoardStreams.{ids-more, kinds-more, commits-still, recorded-still, ids-still, kinds-still, commits-more, recorded-more, commits-other, recorded-other, none-in, read-none}
-use Rattle.btr_engine.proofs.BoardStreams.{create-makes, define-makes, commit-makes, distillate-makes}
+use Rattle.btr_engine.specs.Past.{stream_numbers}
+use Rattle.btr_engine.specs.Stage.{MakesStream, MakesVersion, IsNextTree, AddsStream, ReadsVersion, ReadsOn, HasRoomForVersion, HasRoomFor, IsTreeAfter, with_version, new_stream, change}
+use Rattle.btr_engine.proofs.BoardStreamLemmas.{ids-more, kinds-more, commits-still, recorded-still, ids-still, kinds-still, commits-more, recorded-more, commits-other, recorded-other, none-in, read-none}
+use Rattle.btr_engine.proofs.BoardStreamLemmas.{create-makes, define-makes, commit-makes, distillate-makes}
+use Rattle.btr_engine.proofs.NumberingLemmas.{numbers-still, numbers-new, numbers-more, numbers-other}
 use Rattle.btr_engine.proofs.StreamsLemmas.{stream-of}
 use Rattle.btr_engine.proofs.BoardNext.{reads-same, reads-push, read_at-none, push-stream, push-version}
 
 -- A stream of which an entry says nothing stays as it is.
-still : (g h : List Entry) (s : ℕ) (v : Versions) → slice_get (ids g) s ≡ slice_get (ids h) s → spec_of g s ≡ spec_of h s → commits g s ≡ commits h s → recorded g s ≡ recorded h s → HasStreamOf h s v → HasStreamOf g s v
-still g h s v same_id same_kind same_commits same_records is = record {
+still : (g h : List Entry) (s : ℕ) (v : Versions) → slice_get (ids g) s ≡ slice_get (ids h) s → spec_of g s ≡ spec_of h s → commits g s ≡ commits h s → recorded g s ≡ recorded h s → stream_numbers g s ≡ stream_numbers h s → HasStreamOf h s v → HasStreamOf g s v
+still g h s v same_id same_kind same_commits same_records same_numbers is = record {
   named = same_id ∙ is.named;
   defined = same_kind ∙ is.defined;
   counted = is.counted ∙ sym (ap (λ (cs : List Change). length cs + 1) same_commits);
   read = reads-same g h s v same_records is.read;
+  numbered = is.numbered ∙ sym same_numbers;
 }
 
 -- A new stream has version 0 alone.
-new : (g : List Entry) (s id : ℕ) (spec : Option Spec) (t : TreeValue) → slice_get (ids g) s ≡ Some id → spec_of g s ≡ spec → latest g s ≡ 0 → recorded g s ≡ [] → HasStreamOf g s (record { id = id; spec = spec; trees = t ∷ []; reads = [] })
-new g s id spec t named defined none unread = record {
+new : (g : List Entry) (s id : ℕ) (spec : Option Spec) (t : TreeValue) (number : ℕ) → slice_get (ids g) s ≡ Some id → spec_of g s ≡ spec → latest g s ≡ 0 → recorded g s ≡ [] → stream_numbers g s ≡ number ∷ [] → HasStreamOf g s (new_stream id spec t number)
+new g s id spec t number named defined none unread numbers = record {
   named = named;
   defined = defined;
   counted = sym (ap (λ n. n + 1) none);
@@ -42,6 +45,7 @@ new g s id spec t named defined none unread = record {
     counted = elim spec as (λ (o : Option Spec). 0 ≡ reads_count o 1) [ None ↦ refl | Some x ↦ refl ];
     each = λ version. read-none (recorded g s) unread version ∙ sym (read_at-none version);
   };
+  numbered = sym numbers;
 }
 
 module _ (h : List Entry) (b : Kept) (has : HasStreamsOf h b) (e : Entry) (next : Kept) (one : next.entries ≡ b.entries + 1) where
@@ -52,7 +56,8 @@ module _ (h : List Entry) (b : Kept) (has : HasStreamsOf h b) (e : Entry) (next 
   pub streams-more : (id : ℕ) (spec : Option Spec) → MakesStream e id spec → AddsStream b id spec next → HasStreamsOf (h ++ e ∷ []) next
   streams-more id spec makes adds =
       let g = h ++ e ∷ [] in
-      let first : Versions = record { id = id; spec = spec; trees = adds.tree ∷ []; reads = [] } in
+      let number : ℕ = b.entries + 1 in
+      let first : Versions = new_stream id spec adds.tree number in
       let ids_are = ids-more h e id spec makes in
       let kinds_are = kinds-more h e id spec makes in
       let size : length (ids g) ≡ length (ids h) + 1 = ap (length {A = ℕ}) ids_are ∙ length-append (ids h) (id ∷ []) in
@@ -70,24 +75,26 @@ module _ (h : List Entry) (b : Kept) (has : HasStreamsOf h b) (e : Entry) (next 
               let is = has.each s d (omega (arith, has.counted)) in
               let named : slice_get (ids g) s ≡ slice_get (ids h) s = ap (λ l. slice_get l s) ids_are ∙ get-append (ids h) (id ∷ []) s _ is.named ∙ sym is.named in
               let defined : spec_of g s ≡ spec_of h s = ap (λ l. slice_index_or l s None) kinds_are ∙ get_or_append_left (kinds h) (spec ∷ []) None s (omega (arith, has.counted, length-kinds h)) in
-              subst (HasStreamOf g s) (sym (before s d earlier)) (still g h s _ named defined (commits-still h e id spec makes s) (recorded-still h e id spec makes s) is)
+              subst (HasStreamOf g s) (sym (before s d earlier)) (still g h s _ named defined (commits-still h e id spec makes s) (recorded-still h e id spec makes s) (numbers-still h e id spec makes s (omega (arith, has.counted))) is)
           | inr end ↦
               let place : s ≡ length b.streams = omega (arith, has.counted, size) in
               let past : length (ids h) ≤ s = omega (arith, has.counted) in
               let named : slice_get (ids g) s ≡ Some id = ap (λ l. slice_get l s) ids_are ∙ ap (slice_get (ids h ++ id ∷ [])) (place ∙ has.counted) ∙ get_last (ids h) id in
               let defined : spec_of g s ≡ spec = ap (λ l. slice_index_or l s None) kinds_are ∙ get_or_push (kinds h) spec None s (omega (arith, place, has.counted, length-kinds h)) in
               let unread = recorded-still h e id spec makes s ∙ none-in (recorded h s) (length-recorded h s ∙ has.beyond s past) in
-              subst (HasStreamOf g s) (sym (last s d place)) (new g s id spec adds.tree named defined (no_version s past) unread)
+              let numbers : stream_numbers g s ≡ number ∷ [] = numbers-new h e id spec makes s (place ∙ has.counted) (has.beyond s past) ∙ ap (λ (n : ℕ). (n + 1) ∷ []) (sym has.entries) in
+              subst (HasStreamOf g s) (sym (last s d place)) (new g s id spec adds.tree number named defined (no_version s past) unread numbers)
         ];
         entries = entries_are;
         beyond = λ s past. no_version s (omega (arith, size, past));
       }
 
   -- One version more of one stream.
-  pub streams-grown : (s : ℕ) (c : Change) (read : Option Reads) (kept : Versions) (t : TreeValue) → MakesVersion e s c read → is_some read ≡ is_some kept.spec → slice_get b.streams s ≡ Some kept → next.streams ≡ slice_set b.streams s (with_version kept t read) → HasStreamsOf (h ++ e ∷ []) next
+  pub streams-grown : (s : ℕ) (c : Change) (read : Option Reads) (kept : Versions) (t : TreeValue) → MakesVersion e s c read → is_some read ≡ is_some kept.spec → slice_get b.streams s ≡ Some kept → next.streams ≡ slice_set b.streams s (with_version kept t read (b.entries + 1)) → HasStreamsOf (h ++ e ∷ []) next
   streams-grown s c read kept t makes kind at set =
       let g = h ++ e ∷ [] in
-      let grown : Versions = with_version kept t read in
+      let number : ℕ = b.entries + 1 in
+      let grown : Versions = with_version kept t read number in
       let ids_are = ids-still h e s c read makes in
       let kinds_are = kinds-still h e s c read makes in
       let same = ap (length {A = ℕ}) ids_are in
@@ -106,7 +113,8 @@ module _ (h : List Entry) (b : Kept) (has : HasStreamsOf h b) (e : Entry) (next 
         named = named s ∙ was_kept.named;
         defined = defined s ∙ was_kept.defined;
         counted = let counted = was_kept.counted in omega (arith, length-append kept.trees (t ∷ []));
-        read = reads-push g h s kept t kept.spec read refl kind was_kept.counted was_kept.read (recorded-more h e s c read makes);
+        read = reads-push g h s kept t number kept.spec read refl kind was_kept.counted was_kept.read (recorded-more h e s c read makes);
+        numbered = ap (λ (l : List ℕ). l ++ number ∷ []) was_kept.numbered ∙ ap (λ (n : ℕ). stream_numbers h s ++ (n + 1) ∷ []) has.entries ∙ sym (numbers-more h e s c read makes);
       } in
       record {
         counted = size ∙ has.counted ∙ sym same;
@@ -115,7 +123,7 @@ module _ (h : List Entry) (b : Kept) (has : HasStreamsOf h b) (e : Entry) (next 
               subst (λ (n : ℕ). HasStreamOf g n (slice_index_or next.streams n d)) (sym is) (subst (HasStreamOf g s) (sym (here d)) is_grown)
           | inr other ↦
               let otherwise : s ≡ i → ⊥ = λ e. other (sym e) in
-              subst (HasStreamOf g i) (sym (others i d other)) (still g h i _ (named i) (defined i) (commits-other h e s c read makes i otherwise) (recorded-other h e s c read makes i otherwise) (has.each i d (omega (arith, same))))
+              subst (HasStreamOf g i) (sym (others i d other)) (still g h i _ (named i) (defined i) (commits-other h e s c read makes i otherwise) (recorded-other h e s c read makes i otherwise) (numbers-other h e s c read makes i otherwise) (has.each i d (omega (arith, same))))
         ];
         entries = entries_are;
         beyond = λ i past.

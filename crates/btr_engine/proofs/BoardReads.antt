@@ -1,17 +1,16 @@
 -- What the calls of a board read of a stream, as the history has it.
-use Rattle.std.specs.Prelude.{◌≡◌, ℕ, ◌-◌, ◌<◌, ◌≤◌, cond, List, length, slice_get, Option, Some, None}
-use Rattle.std.specs.Option.{unwrap_or}
-use Rattle.std.proofs.Common.{sym, ap, ◌∙◌, arith, subst}
+use Rattle.std.specs.Prelude.{◌≡◌, ℕ, ◌-◌, ◌<◌, ◌≤◌, cond, List, length, slice_get, Some, None}
+use Rattle.std.proofs.Common.{ap, ◌∙◌, arith, subst}
 use Rattle.std.proofs.lemmas.Bool.{le-leb, lt-leb}
 use Rattle.std.proofs.lemmas.Option.{slice_get_within, get_or_from_slice_get}
 use Rattle.btr_tree.specs.Root.{TreeValue, IsTree}
 use Rattle.btr_hist.specs.declared.entry.Entry.{Entry}
-use Rattle.btr_hist.specs.declared.kernel.Spec.{Spec}
-use Rattle.btr_hist.specs.declared.kernel.Reads.{Reads}
-use Rattle.btr_hist.specs.History.{ids, spec_of, latest, read_by, nothing_read, reads}
-use Rattle.btr_engine.specs.Past.{commits_to}
-use Rattle.btr_engine.specs.Board.{Versions, Kept, HasVersion, IsTreeOf, IsStreamOf, IsBoardOf, HasStreamOf, latest_of, reads_count, read_at}
-use Rattle.btr_engine.proofs.BoardStreams.{unknown-spec, unknown-read}
+use Rattle.btr_hist.specs.History.{ids, spec_of, latest, read_by}
+use Rattle.btr_hist.proofs.HistoryLemmas.{unknown}
+use Rattle.btr_engine.specs.Past.{commits_to, stream_numbers}
+use Rattle.btr_engine.specs.Board.{Versions, Kept, HasVersion, IsTreeOf, IsStreamOf, IsBoardOf, latest_of, read_at}
+use Rattle.btr_engine.proofs.BoardStreamLemmas.{unknown-spec, unknown-read}
+use Rattle.btr_engine.proofs.NumberingLemmas.{numbers-past}
 use Rattle.btr_engine.proofs.BoardNext.{kept-stream}
 
 module _ (h : List Entry) (b : Kept) (s : ℕ) (of : IsBoardOf h b) where
@@ -32,6 +31,9 @@ module _ (h : List Entry) (b : Kept) (s : ℕ) (of : IsBoardOf h b) where
 
     pub read-past : (version : ℕ) → read_by h s version ≡ None
     read-past version = unknown-read h s version of.follows past-ids
+
+    pub number-past : (version : ℕ) → slice_get (stream_numbers h s) version ≡ None
+    number-past version = ap (λ (l : List ℕ). slice_get l version) (numbers-past h s past-ids (unknown h s of.follows past-ids))
 
   -- ---- a stream
 
@@ -65,18 +67,3 @@ module _ (h : List Entry) (b : Kept) (s : ℕ) (of : IsBoardOf h b) where
 
     pub read-kept : (version : ℕ) → read_by h s version ≡ read_at kept.reads version
     read-kept version = is.1.read.each version
-
--- ---- what the latest version of an output has read
-
-module _ (h : List Entry) (s : ℕ) (kept : Versions) (is : HasStreamOf h s kept) (spec : Spec) (output : kept.spec ≡ Some spec) where
-  latest-read : (count : ℕ) → count ≡ length kept.reads → read_by h s (latest h s) ≡ read_at kept.reads count
-  latest-read count same =
-      let counted = is.read.counted in
-      let one_less : reads_count kept.spec (length kept.trees) ≡ length kept.trees - 1 = ap (λ o. reads_count o (length kept.trees)) output in
-      let last : latest h s ≡ count = let trees = is.counted in omega arith in
-      is.read.each (latest h s) ∙ ap (read_at kept.reads) last
-
-  -- It is what the last of the reads says, or version 0 of each input.
-  pub latest-reads : (count : ℕ) (found : Option Reads) → count ≡ length kept.reads → found ≡ read_at kept.reads count → reads h s spec (latest h s) ≡ unwrap_or found (nothing_read spec)
-  latest-reads count found same is_found =
-      ap (λ o. unwrap_or o (nothing_read spec)) (latest-read count same ∙ sym is_found)

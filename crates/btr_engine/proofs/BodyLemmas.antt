@@ -1,13 +1,15 @@
--- Lemmas on the bodies of entries: their lengths, that they are bodies, which entry a body is of, one more after others, and which
--- history bodies lead to.
+-- Lemmas on bodies: their lengths, that they are bodies, which entry a body is of, that none is an entry's and a checkpoint's, one more
+-- after others, and which history bodies lead to.
 use Rattle.std.specs.Prelude.{◌≡◌, ℕ, ◌+◌, ◌*◌, ◌<◌, ◌≤◌, ◌^◌, List, [], ◌∷◌, ◌++◌, length, take}
 use Rattle.std.specs.List.{flat_map, AllByRecursion}
-use Rattle.std.proofs.Common.{refl, sym, ◌∙◌, ap, subst, arith, length-append}
+use Rattle.std.proofs.Common.{refl, sym, ◌∙◌, ap, subst, inl, inr, arith, length-append}
 use Rattle.std.proofs.lemmas.List.{take_at}
+use Rattle.std.proofs.lemmas.Nat.{from_be_bytes-to_be_bytes_4}
 use Rattle.btr_disk.specs.Gate.{zeros}
+use Rattle.btr_disk.specs.Numbers.{u32_at}
 use Rattle.btr_disk.proofs.GateLemmas.{length-zeros}
 use Rattle.btr_log.specs.declared.head.Head.{Head}
-use Rattle.btr_log.specs.Head.{content_blocks, head_bytes, IsHead, entry_head}
+use Rattle.btr_log.specs.Head.{content_blocks, head_bytes, IsHead, entry_head, checkpoint_head}
 use Rattle.btr_log.proofs.HeadLemmas.{length-head_bytes, head_bytes-one, IsHead-entry_head}
 use Rattle.btr_log.specs.Extents.{IsBody, need}
 use Rattle.btr_node.specs.Page.{page_bytes, Fits}
@@ -16,9 +18,11 @@ use Rattle.btr_pages.proofs.PageOfLemmas.{HasPlaces}
 use Rattle.btr_pages.proofs.BlockLemmas.{parts-one, each-places, length-pages, pages-one}
 use Rattle.btr_hist.specs.declared.entry.Entry.{Entry}
 use Rattle.btr_entry.specs.Grammar.{spelling, IsSpelled}
+use Rattle.btr_roll.specs.Roll.{roll_bytes}
 use Rattle.btr_entry.proofs.SpellingLemmas.{length-spelling, same_entry}
+use Rattle.btr_engine.specs.Rolling.{roll_of}
 use Rattle.btr_engine.specs.Body.{padding, body_of, Prefix, pages_after, with_extent, IsBodyOf}
-use Rattle.btr_engine.specs.Body.{RootRule, LeadTo}
+use Rattle.btr_engine.specs.Body.{checkpoint_body, IsCheckpointOf, with_checkpoint, RootRule, LeadTo}
 
 -- ---- the length of a body, and that it is a body
 
@@ -115,48 +119,162 @@ pub IsBodyOf-one : (before : Prefix) (e f : Entry) (root other : ℕ) (pages oth
 IsBodyOf-one before e f root other pages others body few short is is_too =
     body_of-one (length before.entries + 1) e f root other pages others (FitsBody-of before e root pages body is few short) (FitsBody-of before f other others body is_too few short) is.fits is_too.fits (sym is.bytes ∙ is_too.bytes)
 
+-- ---- the body of a checkpoint
+
+-- The content of a checkpoint: the streams with all their versions.
+abbrev pub content_of : List Entry → List ℕ → List ℕ
+content_of h roots = roll_bytes (roll_of h roots)
+
+module _ (h : List Entry) (roots : List ℕ) where
+  -- The content, and zeros up to the end of its last block.
+  abbrev filled_content : List ℕ
+  filled_content = content_of h roots ++ zeros (padding (length (content_of h roots)))
+
+  -- The head of the body.
+  abbrev pub head_of_checkpoint : Head
+  head_of_checkpoint = checkpoint_head (length h) (length (content_of h roots))
+
+  pub length-checkpoint_body : length (checkpoint_body h roots) ≡ 4096 * content_blocks (length (content_of h roots))
+  unfolding checkpoint_body
+  length-checkpoint_body =
+      let size = length (content_of h roots) in
+      omega (arith, length-append (head_bytes head_of_checkpoint) filled_content, length-append (content_of h roots) (zeros (padding size)), length-head_bytes head_of_checkpoint, length-zeros (padding size))
+
+  -- The head of a checkpoint keeps the grammar, if its numbers fit.
+  pub IsHead-checkpoint : length h < 2 ^ 64 → length (content_of h roots) < 2 ^ 64 → IsHead head_of_checkpoint
+  IsHead-checkpoint few short = record {
+    kind = inr (refl, refl, refl);
+    format = refl;
+    blocks = omega arith;
+    fits = record { number = few; n = omega (arith, short); length = short; nodes = omega arith; root = omega arith };
+  }
+
+  pub IsBody-checkpoint_body : length h < 2 ^ 64 → length (content_of h roots) < 2 ^ 64 → IsBody (checkpoint_body h roots) head_of_checkpoint
+  unfolding checkpoint_body
+  IsBody-checkpoint_body few short = record {
+    spells = record {
+      is_head = IsHead-checkpoint few short;
+      spelling = take_at (head_bytes head_of_checkpoint) filled_content 64 (length-head_bytes head_of_checkpoint);
+    };
+    whole = length-checkpoint_body;
+  }
+
+  -- The blocks of the body and of the gate after it.
+  pub need-checkpoint_body : need (checkpoint_body h roots) ≡ content_blocks (length (content_of h roots)) + 1
+  need-checkpoint_body = omega (arith, length-checkpoint_body)
+
+-- The body of a checkpoint and the gate after it are at least two blocks.
+pub least-IsCheckpointOf : (before : Prefix) (body : List ℕ) → IsCheckpointOf before body → 2 ≤ need body
+least-IsCheckpointOf before body is =
+    let same : need body ≡ need (checkpoint_body before.entries before.roots) = ap need is.bytes in
+    omega (arith, same, need-checkpoint_body before.entries before.roots)
+
+-- The kind in the head.
+kind-head_bytes : (head : Head) → head.kind < 2 ^ 32 → u32_at 8 (head_bytes head) ≡ head.kind
+unfolding head_bytes
+kind-head_bytes head small = from_be_bytes-to_be_bytes_4 head.kind small
+
+-- No body is an entry's and a checkpoint's: the kinds in their heads differ.
+apart : (number : ℕ) (e : Entry) (root : ℕ) (pages : List NodePage) (h : List Entry) (roots : List ℕ) → body_of number e root pages ≡ checkpoint_body h roots → ⊥
+unfolding body_of checkpoint_body
+apart number e root pages h roots same =
+    let first = head_of number e root pages in
+    let second = head_of_checkpoint h roots in
+    let parts = parts-one (head_bytes first) (head_bytes second) (filled e ++ flat_map page_bytes pages) (filled_content h roots) (length-head_bytes first ∙ sym (length-head_bytes second)) same in
+    let kinds : 1 ≡ 2 = sym (kind-head_bytes first (omega arith)) ∙ ap (u32_at 8) parts.0 ∙ kind-head_bytes second (omega arith) in
+    absurd (omega (arith, kinds))
+
+pub kinds-apart : (before : Prefix) (e : Entry) (root : ℕ) (pages : List NodePage) (other : Prefix) (body : List ℕ) → IsBodyOf before e root pages body → IsCheckpointOf other body → ⊥
+kinds-apart before e root pages other body is marks =
+    apart (length before.entries + 1) e root pages other.entries other.roots (sym is.bytes ∙ marks.bytes)
+
 -- ---- bodies that lead from one prefix to another
 
 module _ (Rule : RootRule) where
   -- Bodies, and then others.
   pub LeadTo-append : (before : Prefix) (bodies : List (List ℕ)) (mid : Prefix) (more : List (List ℕ)) (after : Prefix) → LeadTo Rule before bodies mid → LeadTo Rule mid more after → LeadTo Rule before (bodies ++ more) after
   LeadTo-append before [] mid more after leads rest = subst (λ p. LeadTo Rule p more after) (sym leads) rest
-  LeadTo-append before (body ∷ bodies) mid more after leads rest = (
-    leads.0,
-    leads.1,
-    leads.2,
-    leads.3,
-    leads.4,
-    LeadTo-append (with_extent before leads.0 leads.2 body) bodies mid more after leads.5 rest,
-  )
+  LeadTo-append before (body ∷ bodies) mid more after leads rest = elim leads [
+    | inl x ↦ inl (
+      x.0,
+      x.1,
+      x.2,
+      x.3,
+      x.4,
+      LeadTo-append (with_extent before x.0 x.1 x.2 body) bodies mid more after x.5 rest,
+    )
+    | inr x ↦ inr (x.0, LeadTo-append (with_checkpoint before body) bodies mid more after x.1 rest)
+  ]
 
-  -- One more after others.
-  pub LeadTo-push : (before : Prefix) (bodies : List (List ℕ)) (at : Prefix) (e : Entry) (root : ℕ) (pages : List NodePage) (body : List ℕ) → LeadTo Rule before bodies at → IsBodyOf at e root pages body → Rule (pages_after at e pages) at.entries e root pages → LeadTo Rule before (bodies ++ body ∷ []) (with_extent at e pages body)
+  -- The body of an entry more after others.
+  pub LeadTo-push : (before : Prefix) (bodies : List (List ℕ)) (at : Prefix) (e : Entry) (root : ℕ) (pages : List NodePage) (body : List ℕ) → LeadTo Rule before bodies at → IsBodyOf at e root pages body → Rule (pages_after at e pages) at.entries e root pages → LeadTo Rule before (bodies ++ body ∷ []) (with_extent at e root pages body)
   LeadTo-push before bodies at e root pages body leads is keeps =
-      LeadTo-append before bodies at (body ∷ []) (with_extent at e pages body) leads (e, root, pages, is, keeps, refl)
+      LeadTo-append before bodies at (body ∷ []) (with_extent at e root pages body) leads (inl (e, root, pages, is, keeps, refl))
 
-  -- Each body is that of one entry.
-  pub LeadTo-length : (before : Prefix) (bodies : List (List ℕ)) (after : Prefix) → LeadTo Rule before bodies after → length after.entries ≡ length before.entries + length bodies
+  -- The body of a checkpoint more after others.
+  pub LeadTo-mark : (before : Prefix) (bodies : List (List ℕ)) (at : Prefix) (body : List ℕ) → LeadTo Rule before bodies at → IsCheckpointOf at body → LeadTo Rule before (bodies ++ body ∷ []) (with_checkpoint at body)
+  LeadTo-mark before bodies at body leads is =
+      LeadTo-append before bodies at (body ∷ []) (with_checkpoint at body) leads (inr (is, refl))
+
+  -- The prefix after the first bodies.
+  pub LeadTo-split : (before : Prefix) (bodies more : List (List ℕ)) (after : Prefix) → LeadTo Rule before (bodies ++ more) after → (mid : Prefix) × LeadTo Rule before bodies mid × LeadTo Rule mid more after
+  LeadTo-split before [] more after leads = (before, refl, leads)
+  LeadTo-split before (body ∷ bodies) more after leads = elim leads [
+    | inl x ↦
+        let rest = LeadTo-split (with_extent before x.0 x.1 x.2 body) bodies more after x.5 in
+        (rest.0, inl (x.0, x.1, x.2, x.3, x.4, rest.1), rest.2)
+    | inr x ↦
+        let rest = LeadTo-split (with_checkpoint before body) bodies more after x.1 in
+        (rest.0, inr (x.0, rest.1), rest.2)
+  ]
+
+  -- Each body is that of one entry at most.
+  pub LeadTo-length : (before : Prefix) (bodies : List (List ℕ)) (after : Prefix) → LeadTo Rule before bodies after → length after.entries ≤ length before.entries + length bodies
   LeadTo-length before [] after leads =
       let same : length before.entries ≡ length after.entries = ap (λ (p : Prefix). length p.entries) leads in
       omega (arith, same)
-  LeadTo-length before (body ∷ bodies) after leads =
-      omega (arith, LeadTo-length (with_extent before leads.0 leads.2 body) bodies after leads.5, length-append before.entries (leads.0 ∷ []))
+  LeadTo-length before (body ∷ bodies) after leads = elim leads [
+    | inl x ↦ omega (arith, LeadTo-length (with_extent before x.0 x.1 x.2 body) bodies after x.5, length-append before.entries (x.0 ∷ []))
+    | inr x ↦ omega (arith, LeadTo-length (with_checkpoint before body) bodies after x.1)
+  ]
+
+  -- Each entry has one root.
+  pub LeadTo-roots : (before : Prefix) (bodies : List (List ℕ)) (after : Prefix) → LeadTo Rule before bodies after → length before.roots ≡ length before.entries → length after.roots ≡ length after.entries
+  LeadTo-roots before [] after leads same = subst (λ (p : Prefix). length p.roots ≡ length p.entries) leads same
+  LeadTo-roots before (body ∷ bodies) after leads same = elim leads [
+    | inl x ↦
+        LeadTo-roots (with_extent before x.0 x.1 x.2 body) bodies after x.5 (omega (arith, same, length-append before.entries (x.0 ∷ []), length-append before.roots (x.1 ∷ [])))
+    | inr x ↦ LeadTo-roots (with_checkpoint before body) bodies after x.1 same
+  ]
 
   -- Each body has at least two blocks, with the gate after it.
   pub LeadTo-gate : (before : Prefix) (bodies : List (List ℕ)) (after : Prefix) → LeadTo Rule before bodies after → before.gate + 2 * length bodies ≤ after.gate
   LeadTo-gate before [] after leads =
       let same : before.gate ≡ after.gate = ap (λ (p : Prefix). p.gate) leads in
       omega (arith, same)
-  LeadTo-gate before (body ∷ bodies) after leads =
-      omega (arith, LeadTo-gate (with_extent before leads.0 leads.2 body) bodies after leads.5, least-IsBodyOf before leads.0 leads.1 leads.2 body leads.3)
+  LeadTo-gate before (body ∷ bodies) after leads = elim leads [
+    | inl x ↦
+        omega (arith, LeadTo-gate (with_extent before x.0 x.1 x.2 body) bodies after x.5, least-IsBodyOf before x.0 x.1 x.2 body x.3)
+    | inr x ↦
+        omega (arith, LeadTo-gate (with_checkpoint before body) bodies after x.1, least-IsCheckpointOf before body x.0)
+  ]
 
-  -- The same bodies lead to one prefix, if its gate and its entries have numbers of 64 bits.
-  pub LeadTo-one : (before : Prefix) (bodies : List (List ℕ)) (after other : Prefix) → length before.entries + length bodies < 2 ^ 64 → after.gate < 2 ^ 64 → LeadTo Rule before bodies after → LeadTo Rule before bodies other → after ≡ other
-  LeadTo-one before [] after other few short first second = sym first ∙ second
-  LeadTo-one before (body ∷ bodies) after other few short first second =
-      let next = with_extent before first.0 first.2 body in
-      let size : need body ≤ 2 ^ 64 = omega (arith, short, LeadTo-gate next bodies after first.5) in
-      let same = IsBodyOf-one before first.0 second.0 first.1 second.1 first.2 second.2 body (omega (arith, few)) size first.3 second.3 in
-      let here : with_extent before second.0 second.2 body ≡ next = λ i. with_extent before (sym same.0 i) (sym same.2 i) body in
-      LeadTo-one next bodies after other (omega (arith, few, length-append before.entries (first.0 ∷ []))) short first.5 (subst (λ p. LeadTo Rule p bodies other) here second.5)
+  -- Bodies that lead to one prefix by one rule and to another by another rule lead to the same, if its gate and its entries have numbers
+  -- of 64 bits.
+  pub LeadTo-one : (Other : RootRule) (before : Prefix) (bodies : List (List ℕ)) (after other : Prefix) → length before.entries + length bodies < 2 ^ 64 → after.gate < 2 ^ 64 → LeadTo Rule before bodies after → LeadTo Other before bodies other → after ≡ other
+  LeadTo-one Other before [] after other few short first second = sym first ∙ second
+  LeadTo-one Other before (body ∷ bodies) after other few short first second = elim first [
+    | inl x ↦ elim second [
+      | inl y ↦
+          let next = with_extent before x.0 x.1 x.2 body in
+          let size : need body ≤ 2 ^ 64 = omega (arith, short, LeadTo-gate next bodies after x.5) in
+          let same = IsBodyOf-one before x.0 y.0 x.1 y.1 x.2 y.2 body (omega (arith, few)) size x.3 y.3 in
+          let here : with_extent before y.0 y.1 y.2 body ≡ next = λ i. with_extent before (sym same.0 i) (sym same.1 i) (sym same.2 i) body in
+          LeadTo-one Other next bodies after other (omega (arith, few, length-append before.entries (x.0 ∷ []))) short x.5 (subst (λ p. LeadTo Other p bodies other) here y.5)
+      | inr y ↦ absurd (kinds-apart before x.0 x.1 x.2 before body x.3 y.0)
+    ]
+    | inr x ↦ elim second [
+      | inl y ↦ absurd (kinds-apart before y.0 y.1 y.2 before body y.3 x.0)
+      | inr y ↦ LeadTo-one Other (with_checkpoint before body) bodies after other (omega (arith, few)) short x.1 y.1
+    ]
+  ]

@@ -97,10 +97,10 @@ module _ {D : Type 0} {disk : Ghosts D} where
         subst (IsDurable (h ++ e ∷ []) calls entries new) (sym none) (durable_with calls entries new kept leaves (subst (IsDurable h calls entries old) none so_far) rest)
 
     -- An append that fails made no call of the device, or the device failed.
-    pub durable_of_fault : (calls entries : ℕ) (new : Engine D disk) (run : List ℕ) (fault : AppendFault) (answer : StepFault) (more : List Entry) → IsFalse (is_stopped old) → append.AppendCause old.log new.log run fault → board_of new ≡ board_of old → new.opened_with ≡ old.opened_with → new.synced ≡ old.synced → ((n left : ℕ) → fault ≡ Full n left → answer ≡ DeviceFull n left) → (fault ≡ Fault → answer ≡ DeviceFault) → KeepsOpening old new → ((t : ℕ) (c : Image) → t ≤ disk.calls (device new) → disk.images_now (device new) c → disk.images_since (device new) t c) → LeavesEither new → IsDurable h calls entries old more → IsDurable h calls entries new (in_flight_after (Err answer) more e)
-    durable_of_fault calls entries new run (Full n room) answer more runs cause same began synced is_full is_fault kept counts_now leaves so_far =
-        subst (λ a. IsDurable h calls entries new (in_flight_after (Err a) more e)) (sym (is_full n room refl)) (subst (λ g. IsDurable h calls entries g more) (sym (same_engine new old cause.4 same began synced)) so_far)
-    durable_of_fault calls entries new run Fault answer more runs cause same began synced is_full is_fault kept counts_now leaves so_far =
+    pub durable_of_fault : (calls entries : ℕ) (new : Engine D disk) (run : List ℕ) (fault : AppendFault) (answer : StepFault) (more : List Entry) → IsFalse (is_stopped old) → append.AppendCause old.log new.log run fault → board_of new ≡ board_of old → new.opened_with ≡ old.opened_with → new.chosen ≡ old.chosen → new.synced ≡ old.synced → ((n left : ℕ) → fault ≡ Full n left → answer ≡ DeviceFull n left) → (fault ≡ Fault → answer ≡ DeviceFault) → KeepsOpening old new → ((t : ℕ) (c : Image) → t ≤ disk.calls (device new) → disk.images_now (device new) c → disk.images_since (device new) t c) → LeavesEither new → IsDurable h calls entries old more → IsDurable h calls entries new (in_flight_after (Err answer) more e)
+    durable_of_fault calls entries new run (Full n room) answer more runs cause same began chosen synced is_full is_fault kept counts_now leaves so_far =
+        subst (λ a. IsDurable h calls entries new (in_flight_after (Err a) more e)) (sym (is_full n room refl)) (subst (λ g. IsDurable h calls entries g more) (sym (same_engine new old cause.4 same began chosen synced)) so_far)
+    durable_of_fault calls entries new run Fault answer more runs cause same began chosen synced is_full is_fault kept counts_now leaves so_far =
         subst (λ a. IsDurable h calls entries new (in_flight_after (Err a) more e)) (sym (is_fault refl)) (durable_without calls entries new kept leaves (subst (IsDurable h calls entries old) (so_far.runs runs) so_far) same cause.1.stopped counts_now)
-    durable_of_fault calls entries new run (AlreadyStopped n) answer more runs cause same began synced is_full is_fault kept counts_now leaves so_far =
+    durable_of_fault calls entries new run (AlreadyStopped n) answer more runs cause same began chosen synced is_full is_fault kept counts_now leaves so_far =
         let stopped = cause.0 in absurd (cc)

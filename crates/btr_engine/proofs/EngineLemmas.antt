@@ -20,7 +20,7 @@ pub known_below : (h : List Entry) (id stream : ℕ) → stream_of h id ≡ Some
 known_below h id stream is = omega (arith, found_below (nat_eq id) 0 (ids h) stream is)
 
 -- The whole history is a prefix of itself.
-take_whole : (h : List Entry) → take (length h) (h ++ []) ≡ h
+pub take_whole : (h : List Entry) → take (length h) (h ++ []) ≡ h
 take_whole h = ap (take (length h)) (append-nil h) ∙ take_all (length h) h (omega arith)
 
 module _ {D : Type 0} {disk : Ghosts D} (e : Engine D disk) where

@@ -1,32 +1,34 @@
 -- Which history is held: by images that agree, and after one entry more.
-use Rattle.std.specs.Prelude.{◌≡◌, ℕ, ◌+◌, ◌-◌, ◌*◌, ◌<◌, ◌≤◌, List, [], ◌∷◌, ◌++◌, None}
-use Rattle.std.proofs.Common.{sym, ◌∙◌, ap, subst, inl, inr, ⊎_elim, arith}
+use Rattle.std.specs.Prelude.{◌≡◌, ℕ, ◌+◌, ◌-◌, ◌*◌, ◌<◌, ◌≤◌, List, [], ◌∷◌, ◌++◌, length, None}
+use Rattle.std.proofs.Common.{refl, sym, ◌∙◌, ap, subst, inl, inr, ⊎_elim, arith, append_assoc}
 use Rattle.btr_disk.specs.Bytes.{Image, Same}
 use Rattle.btr_disk.specs.Gate.{IsClosed}
 use Rattle.btr_disk.proofs.ByteLemmas.{Has-along}
 use Rattle.btr_log.specs.Extents.{need, Extents, IsLog, first_gate}
-use Rattle.btr_log.proofs.ExtentLemmas.{IsOpen-along, Extents-le, IsLog-Same}
+use Rattle.btr_log.proofs.ExtentLemmas.{IsOpen-along, IsClosed-along, Extents-along, Extents-le, IsLog-Same}
 use Rattle.btr_log.specs.Append.{IsMoment}
 use Rattle.btr_super.specs.declared.superblock.Super.{Super}
 use Rattle.btr_super.specs.Super.{super_bytes}
 use Rattle.btr_super.proofs.SuperLemmas.{length-super_bytes}
 use Rattle.btr_super.specs.Choose.{HasSuper, IsChosen}
 use Rattle.btr_hist.specs.declared.entry.Entry.{Entry}
-use Rattle.btr_hist.specs.Legal.{rejection}
+use Rattle.btr_hist.specs.Legal.{rejection, Follows}
 use Rattle.btr_hist.proofs.HistoryLemmas.{follows-push}
 use Rattle.btr_node.specs.declared.page.NodePage.{NodePage}
-use Rattle.btr_engine.specs.Body.{Prefix, prefix_to, no_extents, pages_after, IsBodyOf, LeadTo, need_of}
+use Rattle.btr_engine.specs.Body.{Prefix, prefix_to, no_extents, pages_after, IsBodyOf, IsCheckpointOf, RootRule, LeadTo, LeadToHistory, need_of}
 use Rattle.btr_engine.specs.Roots.{IsRootOf}
 use Rattle.btr_engine.specs.Board.{Versions}
-use Rattle.btr_engine.specs.Stored.{AreStored}
-use Rattle.btr_engine.proofs.BodyLemmas.{LeadTo-push}
-use Rattle.btr_engine.specs.Holds.{HoldsHistoryTo}
+use Rattle.btr_engine.specs.Stored.{AreStored, HaveRoots}
+use Rattle.btr_engine.proofs.BodyLemmas.{LeadTo-push, LeadTo-mark, LeadTo-roots}
+use Rattle.btr_engine.specs.Holds.{StartsAt, HoldsHistoryTo}
 use Rattle.btr_engine.specs.Step.{IsBeforeOrAfter}
 
--- An image holds the history, and the trees of these streams are stored in its pages.
-abbrev pub HoldsTrees : ℕ → Image → ℕ → ℕ → List Entry → List Versions → Type 0
-HoldsTrees size image blocks tail h streams =
-    (holds : HoldsHistoryTo size image blocks tail h) × AreStored holds.leads.pages tail streams
+-- An image holds the history under this superblock. The trees of these streams are stored in its pages, and have the roots of its
+-- entries.
+abbrev pub HoldsTrees : ℕ → Image → ℕ → ℕ → List Entry → Super → List Versions → Type 0
+HoldsTrees size image blocks tail h s streams =
+    (holds : HoldsHistoryTo size image blocks tail h) × (holds.super ≡ s) × AreStored holds.leads.pages tail streams
+    × HaveRoots holds.leads.roots streams
 
 -- ---- the superblocks, in the first four blocks
 
@@ -46,7 +48,7 @@ HasSuper-along size old new s agree has =
       };
     }
 
-IsChosen-along : (size : ℕ) (old new : Image) (s : Super) → AgreeInPrefix old new → IsChosen size old s → IsChosen size new s
+pub IsChosen-along : (size : ℕ) (old new : Image) (s : Super) → AgreeInPrefix old new → IsChosen size old s → IsChosen size new s
 IsChosen-along size old new s agree chosen = record {
   stored = HasSuper-along size old new s agree chosen.stored;
   newest = λ opened.
@@ -63,21 +65,60 @@ tails-one first second gate (body ∷ list) tail other x y =
     tails-one first second (gate + need body) list tail other x.1 y.1
 
 -- With one body more they end after it.
-tails-push : (first second : Image) (gate : ℕ) (list : List (List ℕ)) (body : List ℕ) (tail other : ℕ) → Extents first gate list tail → Extents second gate (list ++ body ∷ []) other → other ≡ tail + need body
+pub tails-push : (first second : Image) (gate : ℕ) (list : List (List ℕ)) (body : List ℕ) (tail other : ℕ) → Extents first gate list tail → Extents second gate (list ++ body ∷ []) other → other ≡ tail + need body
 tails-push first second gate [] body tail other x y = sym y.1 ∙ ap (λ g. g + need body) x
 tails-push first second gate (f ∷ list) body tail other x y =
     tails-push first second (gate + need f) list body tail other x.1 y.1
 
+-- ---- where the log is read from
+
+-- A log with one extent more may be read from the same gate.
+pub starts-push : (Rule : RootRule) (bodies : List (List ℕ)) (body : List ℕ) (checkpoint tail : ℕ) → StartsAt Rule bodies checkpoint tail → StartsAt Rule (bodies ++ body ∷ []) checkpoint tail
+starts-push Rule bodies body checkpoint tail starts = elim starts [
+  | inl first ↦ inl first
+  | inr m ↦ inr (record {
+    before = m.before;
+    body = m.body;
+    after = m.after ++ body ∷ [];
+    parts = ap (λ l. l ++ body ∷ []) m.parts ∙ append_assoc m.before (m.body ∷ m.after) (body ∷ []);
+    log = m.log;
+    leads = m.leads;
+    is = m.is;
+    gate = m.gate;
+    next = m.next;
+  })
+]
+
+-- A log that ends with a checkpoint may be read from the gate after it.
+pub starts-last : (Rule : RootRule) (bodies : List (List ℕ)) (at : Prefix) (body : List ℕ) (checkpoint tail : ℕ) → LeadTo Rule no_extents bodies at → IsCheckpointOf at body → checkpoint ≡ at.gate → tail ≡ at.gate + need body → StartsAt Rule (bodies ++ body ∷ []) checkpoint tail
+starts-last Rule bodies at body checkpoint tail leads is gate next = inr (record {
+  before = bodies;
+  body = body;
+  after = [];
+  parts = refl;
+  log = at;
+  leads = leads;
+  is = is;
+  gate = gate;
+  next = next ∙ ap (λ n. n + need body) (sym gate);
+})
+
+-- ---- the history
+
 module _ (size : ℕ) (old : Image) (blocks tail : ℕ) (h : List Entry) (at : HoldsHistoryTo size old blocks tail h) where
   -- The prefix up to the tail.
   abbrev pub held : Prefix
-  held = prefix_to tail h at.leads.pages
+  held = prefix_to tail h at.leads.roots at.leads.pages
 
-  behind_prefix : 4 ≤ tail
+  -- Each entry has one root.
+  pub roots-held : length at.leads.roots ≡ length h
+  roots-held = LeadTo-roots IsRootOf no_extents at.bodies held at.leads.lead refl
+
+  pub behind_prefix : 4 ≤ tail
   behind_prefix = Extents-le old first_gate at.bodies tail at.extents
 
   -- If all below the tail is the same and the log has the same entries, the image holds the same history.
-  holds_as_before : (new : Image) → ((k : ℕ) → k < 4096 * tail → new k ≡ old k) → IsLog new first_gate at.bodies → HoldsHistoryTo size new blocks tail h
+  pub holds_as_before : (new : Image) → ((k : ℕ) → k < 4096 * tail → new k ≡ old k) → IsLog new first_gate at.bodies → HoldsHistoryTo size new blocks tail h
   holds_as_before new below log =
       let same : log.0 ≡ tail = tails-one new old first_gate at.bodies log.0 tail log.1 at.extents in
       let prefix : 4 ≤ tail = behind_prefix in
@@ -88,6 +129,7 @@ module _ (size : ℕ) (old : Image) (blocks tail : ℕ) (h : List Entry) (at : H
         bodies = at.bodies;
         extents = subst (Extents new first_gate at.bodies) same log.1;
         leads = at.leads;
+        starts = at.starts;
         closed = subst (IsClosed new) same log.2;
         inside = at.inside;
         follows = at.follows;
@@ -98,35 +140,44 @@ module _ (size : ℕ) (old : Image) (blocks tail : ℕ) (h : List Entry) (at : H
   holds_still new same =
       holds_as_before new (λ k lt. same k) (IsLog-Same old new first_gate at.bodies same (tail, at.extents, at.closed))
 
+  -- If all below the tail is the same, and the log has one extent more, with which its bodies lead to a history, the image holds that one.
+  abbrev pub holds_longer : (body : List ℕ) (end : ℕ) (longer : List Entry) → LeadToHistory IsRootOf (at.bodies ++ body ∷ []) end longer → Follows longer → tail + need body ≡ end → end < blocks → (new : Image) → ((k : ℕ) → k < 4096 * tail → new k ≡ old k) → IsLog new first_gate (at.bodies ++ body ∷ []) → HoldsHistoryTo size new blocks end longer
+  holds_longer body end longer leads follows ends fits new below log =
+      let same : log.0 ≡ end = tails-push old new first_gate at.bodies body tail log.0 at.extents log.1 ∙ ends in
+      let prefix : 4 ≤ tail = behind_prefix in
+      record {
+        super = at.super;
+        chosen = IsChosen-along size old new at.super (λ k lt. below k (omega arith)) at.chosen;
+        same_blocks = at.same_blocks;
+        bodies = at.bodies ++ body ∷ [];
+        extents = subst (Extents new first_gate (at.bodies ++ body ∷ [])) same log.1;
+        leads = leads;
+        starts = starts-push IsRootOf at.bodies body at.super.checkpoint at.super.tail at.starts;
+        closed = subst (IsClosed new) same log.2;
+        inside = fits;
+        follows = follows;
+      }
+
   module _ (e : Entry) (root : ℕ) (pages : List NodePage) (body : List ℕ) (is : IsBodyOf held e root pages body) (keeps : IsRootOf (pages_after held e pages) h e root pages) (allowed : rejection h e ≡ None) (needed : need body ≡ need_of h e) (fits : tail + need_of h e < blocks) where
     end_of : tail + need body ≡ tail + need_of h e
     end_of = ap (λ n. tail + n) needed
 
     -- If all below the tail is the same and the log has this entry too, the image holds the history with it.
     pub holds_with : (new : Image) → ((k : ℕ) → k < 4096 * tail → new k ≡ old k) → IsLog new first_gate (at.bodies ++ body ∷ []) → HoldsHistoryTo size new blocks (tail + need_of h e) (h ++ e ∷ [])
-    holds_with new below log =
-        let end : log.0 ≡ tail + need_of h e = tails-push old new first_gate at.bodies body tail log.0 at.extents log.1 ∙ end_of in
-        let prefix : 4 ≤ tail = behind_prefix in
-        record {
-          super = at.super;
-          chosen = IsChosen-along size old new at.super (λ k lt. below k (omega arith)) at.chosen;
-          same_blocks = at.same_blocks;
-          bodies = at.bodies ++ body ∷ [];
-          extents = subst (Extents new first_gate (at.bodies ++ body ∷ [])) end log.1;
-          leads = record {
-            pages = pages_after held e pages;
-            lead = subst (λ g. LeadTo IsRootOf no_extents (at.bodies ++ body ∷ []) (prefix_to g (h ++ e ∷ []) (pages_after held e pages))) end_of
-                (LeadTo-push IsRootOf no_extents at.bodies held e root pages body at.leads.lead is keeps);
-          };
-          closed = subst (IsClosed new) end log.2;
-          inside = fits;
-          follows = follows-push h e at.follows allowed;
-        }
+    holds_with =
+        holds_longer body (tail + need_of h e) (h ++ e ∷ [])
+        (record {
+          roots = at.leads.roots ++ root ∷ [];
+          pages = pages_after held e pages;
+          lead = subst (λ g. LeadTo IsRootOf no_extents (at.bodies ++ body ∷ []) (prefix_to g (h ++ e ∷ []) (at.leads.roots ++ root ∷ []) (pages_after held e pages))) end_of
+              (LeadTo-push IsRootOf no_extents at.bodies held e root pages body at.leads.lead is keeps);
+        })
+        (follows-push h e at.follows allowed) end_of fits
 
-    -- So it is with trees that are stored in the pages of the history and those of the entry.
-    pub holds_trees : (new : Image) → ((k : ℕ) → k < 4096 * tail → new k ≡ old k) → IsLog new first_gate (at.bodies ++ body ∷ []) → (streams : List Versions) → AreStored (pages_after held e pages) (tail + need_of h e) streams → HoldsTrees size new blocks (tail + need_of h e) (h ++ e ∷ []) streams
+    -- So it is with trees that are stored in the pages of the history and those of the entry, and have the roots of both.
+    pub holds_trees : (new : Image) → ((k : ℕ) → k < 4096 * tail → new k ≡ old k) → IsLog new first_gate (at.bodies ++ body ∷ []) → (s : Super) → at.super ≡ s → (streams : List Versions) → AreStored (pages_after held e pages) (tail + need_of h e) streams → HaveRoots (at.leads.roots ++ root ∷ []) streams → HoldsTrees size new blocks (tail + need_of h e) (h ++ e ∷ []) s streams
     unfolding holds_with
-    holds_trees new below log streams stored = (holds_with new below log, stored)
+    holds_trees new below log s under streams stored have = (holds_with new below log, under, stored, have)
 
     -- An image at a moment of an append holds one of the two.
     pub before_or_after : (image : Image) → IsMoment old tail at.bodies body image → IsBeforeOrAfter size h e image
@@ -139,3 +190,32 @@ module _ (size : ℕ) (old : Image) (blocks tail : ℕ) (h : List Entry) (at : H
           holds = holds_with image moment.below log;
         }))
         moment.log
+
+  -- If all from the first gate on is the same, and another superblock of as many blocks is chosen, which says that the log is read from its
+  -- beginning or from the gate after one of its checkpoints, the image holds the same history.
+  abbrev pub holds_under : (new : Image) (s : Super) → ((k : ℕ) → 16384 ≤ k → new k ≡ old k) → IsChosen size new s → s.blocks ≡ blocks → StartsAt IsRootOf at.bodies s.checkpoint s.tail → HoldsHistoryTo size new blocks tail h
+  holds_under new s agree chosen same starts =
+      let prefix : 4 ≤ tail = behind_prefix in
+      record {
+        super = s;
+        chosen = chosen;
+        same_blocks = same;
+        bodies = at.bodies;
+        extents = Extents-along old new first_gate at.bodies tail (λ k low high. agree k (omega (arith, low))) at.extents;
+        leads = at.leads;
+        starts = starts;
+        closed = IsClosed-along old new tail (λ k low high. agree k (omega (arith, low))) at.closed;
+        inside = at.inside;
+        follows = at.follows;
+      }
+
+  -- If all below the tail is the same and the log has a checkpoint too, the image holds the same history.
+  abbrev pub holds_marked : (body : List ℕ) → IsCheckpointOf held body → tail + need body < blocks → (new : Image) → ((k : ℕ) → k < 4096 * tail → new k ≡ old k) → IsLog new first_gate (at.bodies ++ body ∷ []) → HoldsHistoryTo size new blocks (tail + need body) h
+  holds_marked body is fits =
+      holds_longer body (tail + need body) h
+      (record {
+        roots = at.leads.roots;
+        pages = at.leads.pages;
+        lead = LeadTo-mark IsRootOf no_extents at.bodies held body at.leads.lead is;
+      })
+      at.follows refl fits

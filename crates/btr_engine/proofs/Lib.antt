@@ -4,14 +4,20 @@ pub mod EngineLemmas
 mod ExtentBytes
 mod Streams
 mod RejectionBounds
-mod HoldsLemmas
+pub mod HoldsLemmas
 mod Stepping
 mod Appending
 mod PendingLemmas
 mod Durable
+mod RollBody
+mod Marking
 pub mod BoardTrees
-mod BoardStreams
+pub mod BoardStreamLemmas
+pub mod NumberingLemmas
+pub mod RollingLemmas
+pub mod RollFits
 pub mod OutlineLemmas
+mod RolledOutline
 pub mod StreamsLemmas
 mod Crowded
 mod BoardCommits
@@ -20,5 +26,7 @@ mod BoardRead
 mod BoardReads
 pub mod Written
 pub mod StoredLemmas
+pub mod RestoringLemmas
+pub mod RootsLemmas
 mod Questions
 pub mod CrossingLemmas

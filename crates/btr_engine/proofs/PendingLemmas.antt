@@ -19,10 +19,10 @@ use Rattle.btr_engine.specs.declared.step.Pending.{Pending}
 use Rattle.btr_engine.specs.Body.{node_blocks, body_of, prefix_to, first_page, pages_after, commits_before, nodes_of, need_of}
 use Rattle.btr_engine.specs.Board.{Kept, IsBoardOf}
 use Rattle.btr_engine.specs.Roots.{LeadsToLatest, IsRootOf}
-use Rattle.btr_engine.specs.Stored.{AreStored}
+use Rattle.btr_engine.specs.Stored.{AreStored, HaveRoots}
 use Rattle.btr_engine.specs.Stage.{IsReceipt, MakesVersion, WritesCommit, WritesStream, WritesEntry, change}
 use Rattle.btr_engine.specs.Pending.{written_pages, IsMade, IsPending}
-use Rattle.btr_engine.proofs.BoardStreams.{commit-makes, distillate-makes}
+use Rattle.btr_engine.proofs.BoardStreamLemmas.{commit-makes, distillate-makes}
 use Rattle.btr_engine.proofs.BodyLemmas.{FitsBody}
 use Rattle.btr_engine.proofs.NeedLemmas.{few_nodes}
 use Rattle.btr_engine.proofs.Written.{nodes-counted, told, root-leads, stored-next, stored-new, pages-places}
@@ -69,14 +69,15 @@ module _ (h : List Entry) (b : Kept) (of : IsBoardOf h b) (tail : ℕ) where
     bytes = same ∙ made.bytes ∙ ap (λ n. body_of n e p.staged.root (written_pages p.staged) ++ zeros 4096) at;
   }
 
-  -- What an entry writes stands after the pages that stood, and stores the trees of the next board.
-  pub record WritesRightly (pages : Pages) (e : Entry) (s : Staged) : Type 0 where
-    pub stand : StandAfter (prefix_to tail h pages) e s.root (written_pages s)
-    pub stored : AreStored (pages_after (prefix_to tail h pages) e (written_pages s)) (tail + need_of h e) s.next.streams
+  -- What an entry writes stands after the pages that stood, and stores the trees of the next board, which have the roots of the entries.
+  pub record WritesRightly (roots : List ℕ) (pages : Pages) (e : Entry) (s : Staged) : Type 0 where
+    pub stand : StandAfter (prefix_to tail h roots pages) e s.root (written_pages s)
+    pub stored : AreStored (pages_after (prefix_to tail h roots pages) e (written_pages s)) (tail + need_of h e) s.next.streams
+    pub have : HaveRoots (roots ++ s.root ∷ []) s.next.streams
 
-  module _ (pages : Pages) (stored : AreStored pages tail b.streams) (some : 1 ≤ tail) (low : tail < 2 ^ 32) (few : (stream : ℕ) → latest h stream < MAX_VERSIONS) where
-    rightly-stream : (e : Entry) (s : Staged) (id : ℕ) (spec : _) → WritesStream b id spec s.next s.nodes.items s.root → nodes_of (commits_before h e) e ≡ 0 → ((known : Pages) → s.root ≡ 0 → IsRootOf known h e s.root (written_pages s)) → WritesRightly pages e s
-    rightly-stream e s id spec w none rule =
+  module _ (roots : List ℕ) (pages : Pages) (stored : AreStored pages tail b.streams) (some : 1 ≤ tail) (low : tail < 2 ^ 32) (few : (stream : ℕ) → latest h stream < MAX_VERSIONS) where
+    rightly-stream : (e : Entry) (s : Staged) (id : ℕ) (spec : _) → WritesStream b id spec s.next s.nodes.items s.root → nodes_of (commits_before h e) e ≡ 0 → ((known : Pages) → s.root ≡ 0 → IsRootOf known h e s.root (written_pages s)) → HaveRoots (roots ++ s.root ∷ []) s.next.streams → WritesRightly roots pages e s
+    rightly-stream e s id spec w none rule have =
         let empty : written_pages s ≡ [] = no-pages s.receipt.stream s.nodes.items w.none in
         record {
           stand = record {
@@ -86,10 +87,11 @@ module _ (h : List Entry) (b : Kept) (of : IsBoardOf h b) (tail : ℕ) where
           };
           stored = subst (λ l. AreStored (with_pages pages (first_page tail e) l) (tail + need_of h e) s.next.streams) (sym empty)
               (stored-new pages tail (first_page tail e) (tail + need_of h e) b s.next id spec stored w.adds (omega arith) (omega arith) some);
+          have = have;
         }
 
-    rightly-version : (e : Entry) (s : Staged) (stream : ℕ) (c : Change) (read : _) → MakesVersion e stream c read → WritesCommit b (first_page tail e) stream c read s.next s.nodes.items s.root → s.receipt.stream ≡ stream → IsSpelled e → ValuesFit c.added → stream < 2 ^ 32 → length c.added ≤ 2 ^ 34 → length c.cut ≤ 2 ^ 34 → nodes_of (commits_before h e) e ≡ node_blocks (commits h stream) c → ((known : Pages) → LeadsToLatest known (h ++ e ∷ []) stream s.root → IsRootOf known h e s.root (written_pages s)) → WritesRightly pages e s
-    rightly-version e s stream c read makes w of_stream spelled values small points ranges count rule =
+    rightly-version : (e : Entry) (s : Staged) (stream : ℕ) (c : Change) (read : _) → MakesVersion e stream c read → WritesCommit b (first_page tail e) stream c read s.next s.nodes.items s.root → s.receipt.stream ≡ stream → IsSpelled e → ValuesFit c.added → stream < 2 ^ 32 → length c.added ≤ 2 ^ 34 → length c.cut ≤ 2 ^ 34 → nodes_of (commits_before h e) e ≡ node_blocks (commits h stream) c → ((known : Pages) → LeadsToLatest known (h ++ e ∷ []) stream s.root → IsRootOf known h e s.root (written_pages s)) → HaveRoots (roots ++ s.root ∷ []) s.next.streams → WritesRightly roots pages e s
+    rightly-version e s stream c read makes w of_stream spelled values small points ranges count rule have =
         let first = first_page tail e in
         let nodes = s.nodes.items in
         let counted = nodes-counted h b s.next of e first stream c read makes nodes s.root w in
@@ -108,16 +110,17 @@ module _ (h : List Entry) (b : Kept) (of : IsBoardOf h b) (tail : ℕ) where
             keeps = rule _ (subst (λ l. LeadsToLatest (with_pages pages first l) (h ++ e ∷ []) stream s.root) its leads);
           };
           stored = subst (λ l. AreStored (with_pages pages first l) (tail + need_of h e) s.next.streams) its next;
+          have = have;
         }
 
-    pub writes-rightly : (e : Entry) (s : Staged) → WritesEntry b e tail s → IsReceipt h e s.receipt → IsSpelled e → WritesRightly pages e s
-    writes-rightly (Create id) s w receipt spelled = rightly-stream (Create id) s id _ w refl (λ known none_such. none_such)
-    writes-rightly (Define id spec) s w receipt spelled = rightly-stream (Define id spec) s id _ w refl (λ known none_such. none_such)
-    writes-rightly (Commit stream cut added) s w receipt spelled =
+    pub writes-rightly : (e : Entry) (s : Staged) → WritesEntry b e tail s → IsReceipt h e s.receipt → IsSpelled e → HaveRoots (roots ++ s.root ∷ []) s.next.streams → WritesRightly roots pages e s
+    writes-rightly (Create id) s w receipt spelled have = rightly-stream (Create id) s id _ w refl (λ known none_such. none_such) have
+    writes-rightly (Define id spec) s w receipt spelled have = rightly-stream (Define id spec) s id _ w refl (λ known none_such. none_such) have
+    writes-rightly (Commit stream cut added) s w receipt spelled have =
         let ranges = spelled.bounded.few_ranges in
         let points = spelled.bounded.few_points in
-        rightly-version (Commit stream cut added) s stream (change cut added) _ (commit-makes stream cut added) w receipt.stream spelled spelled.values_fit spelled.stream_fits (omega arith) (omega arith) refl (λ known leads. leads)
-    writes-rightly (Distillate stream cut added reads) s w receipt spelled =
+        rightly-version (Commit stream cut added) s stream (change cut added) _ (commit-makes stream cut added) w receipt.stream spelled spelled.values_fit spelled.stream_fits (omega arith) (omega arith) refl (λ known leads. leads) have
+    writes-rightly (Distillate stream cut added reads) s w receipt spelled have =
         let ranges = spelled.bounded.few_ranges in
         let points = spelled.bounded.few_points in
-        rightly-version (Distillate stream cut added reads) s stream (change cut added) _ (distillate-makes stream cut added reads) w receipt.stream spelled spelled.values_fit spelled.stream_fits (omega arith) (omega arith) refl (λ known leads. leads)
+        rightly-version (Distillate stream cut added reads) s stream (change cut added) _ (distillate-makes stream cut added reads) w receipt.stream spelled spelled.values_fit spelled.stream_fits (omega arith) (omega arith) refl (λ known leads. leads) have

@@ -51,17 +51,22 @@ module _ (number : ℕ) (e : Entry) (root : ℕ) (pages : List NodePage) (run : 
 module _ {D : Type 0} {disk : Ghosts D} where
   -- ---- a step that changes nothing
 
-  pub same_engine : (a b : Engine D disk) → a.log ≡ b.log → a.board ≡ b.board → a.opened_with ≡ b.opened_with → a.synced ≡ b.synced → a ≡ b
-  same_engine a b logs boards began synced = λ i. record {
+  pub same_engine : (a b : Engine D disk) → a.log ≡ b.log → a.board ≡ b.board → a.opened_with ≡ b.opened_with → a.chosen ≡ b.chosen → a.synced ≡ b.synced → a ≡ b
+  same_engine a b logs boards began chosen synced = λ i. record {
     log = logs i;
     board = boards i;
     opened_with = began i;
+    chosen = chosen i;
     synced = synced i;
-    counted = is_prop→PathP (λ j. (logs j).extents ≡ (boards j).entries) (λ j. ℕ_set (logs j).extents (boards j).entries) a.counted b.counted i;
+    counted = is_prop→PathP (λ j. (boards j).entries ≤ (logs j).extents) (λ j. le_prop) a.counted b.counted i;
     ends = is_prop→PathP (λ j. 2 * (logs j).extents + 4 ≤ (logs j).tail) (λ j. le_prop) a.ends b.ends i;
-    began = is_prop→PathP (λ j. began j ≤ (logs j).extents) (λ j. le_prop) a.began b.began i;
+    began = is_prop→PathP (λ j. began j ≤ (boards j).entries) (λ j. le_prop) a.began b.began i;
     called = is_prop→PathP (λ j. disk.calls (synced j).value ≤ disk.calls (log.log_device (logs j))) (λ j. le_prop) a.called b.called i;
     failed = is_prop→PathP (λ j. disk.faults (synced j).value ≤ log.faults_at (logs j)) (λ j. le_prop) a.failed b.failed i;
+    side = is_prop→PathP (λ j. (chosen j).side ≤ 1) (λ j. le_prop) a.side b.side i;
+    seq = is_prop→PathP (λ j. (chosen j).seq + 3 ≤ (logs j).tail) (λ j. le_prop) a.seq b.seq i;
+    large = is_prop→PathP (λ j. 8 ≤ (logs j).blocks) (λ j. le_prop) a.large b.large i;
+    same_blocks = is_prop→PathP (λ j. (chosen j).blocks ≡ (logs j).blocks) (λ j. ℕ_set (chosen j).blocks (logs j).blocks) a.same_blocks b.same_blocks i;
   }
 
   -- The device has the log of the bodies, at rest.

@@ -1,12 +1,12 @@
--- A board that has the streams of a history, whatever its trees are: when it is that of the history, and what the tests find.
-use Rattle.std.specs.Prelude.{◌≡◌, ℕ, ◌-◌, ◌<◌, ◌≤◌, nat_le, nat_lt, not, Bool, true, false, cond, List, [], ◌∷◌, length, slice_get, slice_index_or, Option, Some, None, IsNone}
-use Rattle.std.specs.Option.{option_map, unwrap_or, is_some}
-use Rattle.std.proofs.Common.{refl, sym, ap, ◌∙◌, arith, subst, inl, inr}
+-- A board that has the streams of a history, whatever its trees are: when it is that of the history, and that the outline of its roll is
+-- that of the history.
+use Rattle.std.specs.Prelude.{◌≡◌, ℕ, ◌+◌, ◌-◌, ◌<◌, ◌≤◌, nat_le, nat_lt, true, false, cond, List, [], ◌∷◌, length, map, slice_get, slice_index_or, Option, Some, None, IsNone}
+use Rattle.std.specs.Option.{option_map, unwrap_or}
+use Rattle.std.proofs.Common.{suc, refl, sym, ap, ◌∙◌, arith, subst, inl, inr}
 use Rattle.std.proofs.lemmas.List.{length-map, ext_get_or}
 use Rattle.std.proofs.lemmas.Option.{slice_get_within, slice_get-get_or, slice_get-map, get_or_from_slice_get}
-use Rattle.std.proofs.lemmas.Bool.{cases_lt, le-leb, lt-leb, lt-ltb, le-ltb}
+use Rattle.std.proofs.lemmas.Bool.{cases_lt, le-leb, lt-leb, lt-ltb}
 use Rattle.std.proofs.lemmas.Bool.Decides.{nat_tests}
-use Rattle.btr_base.specs.Commit.{Change}
 use Rattle.btr_base.specs.declared.limits.TheConstants.{MAX_VERSIONS}
 use Rattle.btr_tree.specs.History.{Opened}
 use Rattle.btr_tree.specs.Root.{root_part, TreeValue, WasOpened}
@@ -16,13 +16,16 @@ use Rattle.btr_hist.specs.declared.entry.Entry.{Entry}
 use Rattle.btr_hist.specs.declared.kernel.Spec.{Spec}
 use Rattle.btr_hist.specs.declared.kernel.Reads.{Reads}
 use Rattle.btr_hist.specs.declared.rejection.Rejection.{Rejection}
-use Rattle.btr_hist.specs.declared.rejection.Rejection.TheVariants.{NoStream, NotWritable, VersionLimit}
-use Rattle.btr_hist.specs.History.{ids, spec_of, latest}
-use Rattle.btr_hist.specs.Legal.{first_some, when, change_rejection, distillate_change_rejection, takes_reads, Follows}
+use Rattle.btr_hist.specs.declared.rejection.Rejection.TheVariants.{VersionLimit}
+use Rattle.btr_hist.specs.History.{ids, spec_of, latest, read_by}
+use Rattle.btr_hist.specs.Legal.{when, create_rejection, define_rejection, takes_reads, Follows}
 use Rattle.btr_hist.proofs.HistoryLemmas.{unknown}
 use Rattle.btr_engine.specs.Board.{Versions, Kept, HasPast, HasTrees, IsStreamOf, IsBoardOf, HasStreamOf, HasStreamsOf, latest_of, ids_of}
-use Rattle.btr_engine.specs.Outline.{outline_of, stream_at, takes_reads_in, commit_refusal, distillate_refusal}
-use Rattle.btr_engine.proofs.OutlineLemmas.{IsOutlineOf, outline-of, takes-here}
+use Rattle.btr_engine.specs.Rolling.{kept_stream, rolled}
+use Rattle.btr_engine.specs.Outline.{Outlined, outlined, outline_from, outline_of, outlined_in_roll, outline_in, stream_at, takes_reads_in}
+use Rattle.btr_engine.specs.Outline.{create_refusal, define_refusal, refusal}
+use Rattle.btr_engine.proofs.OutlineLemmas.{IsOutlineOf, outline-of, takes-here, create-same, define-same}
+use Rattle.btr_engine.proofs.RolledOutline.{latest-rolled, reads-rolled, at-rolled}
 
 -- A tree that was opened and whose span is the whole domain is that of some past.
 pub opened-past : (t : TreeValue) → WasOpened t → t.span ≡ root_part → HasPast t
@@ -42,7 +45,7 @@ room-if count none = elim (cases_lt MAX_VERSIONS count) [
 -- ---- boards of a history
 
 pub has-stream : (h : List Entry) (s : ℕ) (v : Versions) → IsStreamOf h s v → HasStreamOf h s v
-has-stream h s v is = record { named = is.named; defined = is.defined; counted = is.kept.counted; read = is.read }
+has-stream h s v is = record { named = is.named; defined = is.defined; counted = is.kept.counted; read = is.read; numbered = is.numbered }
 
 -- The board of a history has its streams.
 pub has-streams : (h : List Entry) (b : Kept) → IsBoardOf h b → HasStreamsOf h b
@@ -58,7 +61,7 @@ has-streams h b of = record {
 pub is-board : (h : List Entry) (b : Kept) → HasStreamsOf h b → ((s : ℕ) (d : Versions) → s < length (ids h) → HasTrees h s (slice_index_or b.streams s d).trees) → Follows h → IsBoardOf h b
 is-board h b has trees follows = record {
   counted = has.counted;
-  each = λ s d low. let is = has.each s d low in record { named = is.named; defined = is.defined; kept = trees s d low; read = is.read };
+  each = λ s d low. let is = has.each s d low in record { named = is.named; defined = is.defined; kept = trees s d low; read = is.read; numbered = is.numbered };
   entries = has.entries;
   follows = follows;
 }
@@ -74,7 +77,7 @@ module _ (h : List Entry) (b : Kept) (has : HasStreamsOf h b) where
   pub ids-of : ids_of b.streams ≡ ids h
   ids-of =
       let name : Versions → ℕ = λ s. s.id in
-      let d : Versions = record { id = 0; spec = None; trees = []; reads = [] } in
+      let d : Versions = record { id = 0; spec = None; trees = []; reads = []; numbers = [] } in
       let size : length (ids_of b.streams) ≡ length b.streams = length-map b.streams name in
       ext_get_or 0 (ids_of b.streams) (ids h) (size ∙ has.counted) (λ i low.
       let kept = slice_index_or b.streams i d in
@@ -104,47 +107,54 @@ module _ (h : List Entry) (b : Kept) (has : HasStreamsOf h b) where
       | false ↦ λ _. refl
     ] refl
 
-    -- ---- why a commit is refused
+-- ---- the outline of the board's roll
 
-    many : length b.streams ≤ s → nat_le (length (outline_of h)) s ≡ true
-    many past = le-leb (length (outline_of h)) s (omega (arith, outline-kept.counted, has.counted, past))
+stream-outlined : (h : List Entry) (stream : ℕ) (s : Versions) → HasStreamOf h stream s → outlined_in_roll (kept_stream s) ≡ outlined h stream s.id
+stream-outlined h stream s is =
+    let counted = is.counted in
+    let last : length s.trees - 1 ≡ latest h stream = omega arith in
+    let defined = sym is.defined in
+    let version = latest-rolled s ∙ last in
+    let read = reads-rolled s ∙ sym (is.read.each (length s.trees - 1)) ∙ ap (read_by h stream) last in
+    λ i. record { id = s.id; spec = defined i; latest = version i; reads = read i }
 
-    -- There is no such stream.
-    pub commit-unknown : (c : Change) → length b.streams ≤ s → commit_refusal (outline_of h) s c ≡ Some NoStream
-    commit-unknown c past =
-        let at = stream_at (outline_of h) s in
-        ap (λ t. first_some (when t NoStream ∷ when (is_some at.spec) NotWritable ∷ change_rejection c ∷ when (nat_le MAX_VERSIONS at.latest) VersionLimit ∷ [])) (many past)
+streams-outlined : (h : List Entry) (n : ℕ) (xs : List ℕ) (ss : List Versions) → length ss ≡ length xs → ((i : ℕ) (s : Versions) → slice_get ss i ≡ Some s → (outlined_in_roll (kept_stream s) ≡ outlined h (n + i) s.id) × (slice_get xs i ≡ Some s.id)) → outline_in (map kept_stream ss) ≡ outline_from h n xs
+streams-outlined h n [] [] long each = refl
+streams-outlined h n [] (s ∷ ss) long each = absurd (omega arith)
+streams-outlined h n (x ∷ xs) [] long each = absurd (omega arith)
+streams-outlined h n (x ∷ xs) (s ∷ ss) long each =
+    let here : n + 0 ≡ n = omega arith in
+    let first = each 0 s refl in
+    let named : s.id ≡ x = let same : Some x ≡ Some s.id = first.1 in cc in
+    let head : outlined_in_roll (kept_stream s) ≡ outlined h n x = first.0 ∙ ap (λ k. outlined h k s.id) here ∙ ap (outlined h n) named in
+    let step : (i : ℕ) → n + suc i ≡ (n + 1) + i = λ i. omega arith in
+    let rest = streams-outlined h (n + 1) xs ss (omega arith) (λ i v at. let is = each (suc i) v at in (is.0 ∙ ap (λ k. outlined h k v.id) (step i), is.1)) in
+    λ i. head i ∷ rest i
 
-    pub distillate-unknown : (c : Change) (new : Reads) → length b.streams ≤ s → distillate_refusal (outline_of h) s c new ≡ Some NoStream
-    distillate-unknown c new past =
-        let at = stream_at (outline_of h) s in
-        ap (λ t. first_some (when t NoStream ∷ when (not (takes_reads_in (outline_of h) at.spec at.reads new)) NotWritable ∷ distillate_change_rejection c ∷ when (nat_le MAX_VERSIONS at.latest) VersionLimit ∷ [])) (many past)
+-- The outline of a board's roll is that of the history whose streams the board has.
+pub rolled-outline : (h : List Entry) (b : Kept) → HasStreamsOf h b → outline_in (rolled b) ≡ outline_of h
+rolled-outline h b has =
+    streams-outlined h 0 (ids h) b.streams has.counted (λ i s at.
+    let is = stream-of h b has i s at in
+    let place : i ≡ 0 + i = omega arith in
+    (stream-outlined h i s is.1 ∙ ap (λ (k : ℕ). outlined h k s.id) place, is.1.named))
 
-    module _ (kept : Versions) (at : slice_get b.streams s ≡ Some kept) where
-      known : nat_le (length (outline_of h)) s ≡ false
-      known = lt-leb (length (outline_of h)) s (omega (arith, outline-kept.counted, (stream-of s kept at).0))
+-- What is refused by the outline of the roll is refused by that of the history.
+pub refusal-of : (h : List Entry) (b : Kept) → HasStreamsOf h b → (e : Entry) (found : Option Rejection) → found ≡ refusal (outline_in (rolled b)) e → found ≡ refusal (outline_of h) e
+refusal-of h b has e found is = is ∙ ap (λ o. refusal o e) (rolled-outline h b has)
 
-      limit : nat_le MAX_VERSIONS (stream_at (outline_of h) s).latest ≡ nat_lt MAX_VERSIONS (length kept.trees)
-      limit =
-          let same : (stream_at (outline_of h) s).latest ≡ latest h s = outline-kept.versions s in
-          let counted = (stream-of s kept at).1.counted in
-          elim (cases_lt MAX_VERSIONS (length kept.trees)) [
-            | inl more ↦ le-leb MAX_VERSIONS (stream_at (outline_of h) s).latest (omega arith) ∙ sym (lt-ltb MAX_VERSIONS (length kept.trees) more)
-            | inr few ↦ lt-leb MAX_VERSIONS (stream_at (outline_of h) s).latest (omega arith) ∙ sym (le-ltb MAX_VERSIONS (length kept.trees) few)
-          ]
+-- A stream may not be created after the history for the reason that the outline of the roll shows.
+pub create-of : (h : List Entry) (b : Kept) → HasStreamsOf h b → (id : ℕ) → create_refusal (outline_in (rolled b)) id ≡ create_rejection h id
+create-of h b has id =
+    ap (λ o. create_refusal o id) (rolled-outline h b has) ∙ sym (create-same h (outline_of h) (outline-kept h b has) id)
 
-      -- A user's commit is refused for what its tests find of the stream and of the change.
-      pub commit-refused : (output : Bool) (found : Option Rejection) (c : Change) → is_some kept.spec ≡ output → change_rejection c ≡ found → commit_refusal (outline_of h) s c ≡ first_some (when output NotWritable ∷ found ∷ when (nat_lt MAX_VERSIONS (length kept.trees)) VersionLimit ∷ [])
-      commit-refused output found c kind of_change =
-          let is_kind : is_some (stream_at (outline_of h) s).spec ≡ output = ap (is_some {T = Spec}) (outline-kept.specs s ∙ (stream-of s kept at).1.defined) ∙ kind in
-          let there = known in
-          let full = limit in
-          λ i. first_some (when (there i) NoStream ∷ when (is_kind i) NotWritable ∷ of_change i ∷ when (full i) VersionLimit ∷ [])
+pub define-of : (h : List Entry) (b : Kept) → HasStreamsOf h b → (id : ℕ) (spec : Spec) → define_refusal (outline_in (rolled b)) id spec ≡ define_rejection h id spec
+define-of h b has id spec =
+    ap (λ o. define_refusal o id spec) (rolled-outline h b has) ∙ sym (define-same h (outline_of h) (outline-kept h b has) id spec)
 
-      -- A distillate is refused for what its tests find of the stream, the reads and the change.
-      pub distillate-refused : (taken : Bool) (found : Option Rejection) (c : Change) (new : Reads) → takes_reads h s (spec_of h s) new ≡ taken → distillate_change_rejection c ≡ found → distillate_refusal (outline_of h) s c new ≡ first_some (when (not taken) NotWritable ∷ found ∷ when (nat_lt MAX_VERSIONS (length kept.trees)) VersionLimit ∷ [])
-      distillate-refused taken found c new reads of_change =
-          let takes : takes_reads_in (outline_of h) (stream_at (outline_of h) s).spec (stream_at (outline_of h) s).reads new ≡ taken = sym (takes-here h (outline_of h) outline-kept s new) ∙ reads in
-          let there = known in
-          let full = limit in
-          λ i. first_some (when (there i) NoStream ∷ when (not (takes i)) NotWritable ∷ of_change i ∷ when (full i) VersionLimit ∷ [])
+-- A distillate may have the reads after the history that it may have by the outline of the roll.
+pub takes-of : (h : List Entry) (b : Kept) → HasStreamsOf h b → (s : ℕ) (kept : Versions) → slice_get b.streams s ≡ Some kept → (new : Reads) → takes_reads_in (outline_in (rolled b)) kept.spec (outlined_in_roll (kept_stream kept)).reads new ≡ takes_reads h s (spec_of h s) new
+takes-of h b has s kept at new =
+    ap (λ (x : Outlined). takes_reads_in (outline_in (rolled b)) x.spec x.reads new) (sym (at-rolled b s kept at))
+    ∙ ap (λ o. takes_reads_in o (stream_at o s).spec (stream_at o s).reads new) (rolled-outline h b has)
+    ∙ sym (takes-here h (outline_of h) (outline-kept h b has) s new)

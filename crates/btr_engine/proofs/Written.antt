@@ -41,22 +41,25 @@ use Rattle.btr_engine.specs.Body.{node_blocks}
 use Rattle.btr_engine.specs.Board.{Versions, Kept, IsStreamOf, IsBoardOf}
 use Rattle.btr_engine.specs.Roots.{Stand, LeadsToLatest}
 use Rattle.btr_engine.specs.Stored.{tree_at, AreStored}
-use Rattle.btr_engine.specs.Stage.{MakesVersion, WritesCommit, AddsStream, with_version}
+use Rattle.btr_engine.specs.Stage.{MakesVersion, WritesCommit, AddsStream, with_version, new_stream}
 use Rattle.btr_engine.proofs.BoardTrees.{made_by, with_commits-push, before-commits_to}
-use Rattle.btr_engine.proofs.BoardStreams.{commits-more}
+use Rattle.btr_engine.proofs.BoardStreamLemmas.{commits-more}
 use Rattle.btr_engine.proofs.BoardCommits.{last-tree}
 use Rattle.btr_engine.proofs.BoardNext.{kept-stream}
 
 -- ---- the trees of a board
 
 -- An item of a list with one more is one of the list, or the last.
-or-last : {X : Type 0} (xs : List X) (x : X) (n : ℕ) (y : X) → slice_get (xs ++ x ∷ []) n ≡ Some y → (slice_get xs n ≡ Some y) ⊎ (y ≡ x)
+pub or-last : {X : Type 0} (xs : List X) (x : X) (n : ℕ) (y : X) → slice_get (xs ++ x ∷ []) n ≡ Some y → (slice_get xs n ≡ Some y) ⊎ ((y ≡ x) × (n ≡ length xs))
 or-last [] x zero y at =
     let same : y ≡ x = cc in
-    inr same
+    inr (same, refl)
 or-last [] x (suc n) y at = absurd (cc)
 or-last (z ∷ xs) x zero y at = inl at
-or-last (z ∷ xs) x (suc n) y at = or-last xs x n y at
+or-last (z ∷ xs) x (suc n) y at = elim (or-last xs x n y at) [
+  | inl old ↦ inl old
+  | inr last ↦ inr (last.0, ap (λ (k : ℕ). suc k) last.1)
+]
 
 -- The stream of a tree that a board has.
 record IsTreeAt (streams : List Versions) (stream version : ℕ) (t : TreeValue) : Type 0 where
@@ -81,13 +84,13 @@ tree-pushed streams new stream version t at =
     let of = its-tree (streams ++ new ∷ []) stream version t at in
     elim (or-last streams new stream of.versions of.there) [
       | inl old ↦ inl (tree-is streams stream version of.versions t old of.is)
-      | inr same ↦ inr (subst (λ (v : Versions). slice_get v.trees version ≡ Some t) same of.is)
+      | inr last ↦ inr (subst (λ (v : Versions). slice_get v.trees version ≡ Some t) last.0 of.is)
     ]
 
 -- A tree of the streams with one version more of one of them is one of theirs, or the new one.
-pub tree-grown : (streams : List Versions) (s : ℕ) (was : Versions) (new : TreeValue) (read : Option Reads) (stream version : ℕ) (t : TreeValue) → slice_get streams s ≡ Some was → tree_at (slice_set streams s (with_version was new read)) stream version ≡ Some t → (tree_at streams stream version ≡ Some t) ⊎ ((stream ≡ s) × (t ≡ new))
-tree-grown streams s was new read stream version t there at =
-    let grown : Versions = with_version was new read in
+pub tree-grown : (streams : List Versions) (s : ℕ) (was : Versions) (new : TreeValue) (read : Option Reads) (number : ℕ) (stream version : ℕ) (t : TreeValue) → slice_get streams s ≡ Some was → tree_at (slice_set streams s (with_version was new read number)) stream version ≡ Some t → (tree_at streams stream version ≡ Some t) ⊎ ((stream ≡ s) × (t ≡ new))
+tree-grown streams s was new read number stream version t there at =
+    let grown : Versions = with_version was new read number in
     let of = its-tree (slice_set streams s grown) stream version t at in
     elim (cases_eq stream s) [
       | inl same ↦
@@ -97,7 +100,7 @@ tree-grown streams s was new read stream version t there at =
           cc in
           elim (or-last was.trees new version t (subst (λ (v : Versions). slice_get v.trees version ≡ Some t) is of.is)) [
             | inl old ↦ inl (tree-is streams stream version was t (ap (slice_get streams) same ∙ there) old)
-            | inr last ↦ inr (same, last)
+            | inr last ↦ inr (same, last.0)
           ]
       | inr other ↦ inl (tree-is streams stream version of.versions t (sym (set-other streams s grown stream other) ∙ of.there) of.is)
     ]
@@ -152,15 +155,15 @@ no-node (suc k) s above h (Some n) none is =
 pub stored-stream : (pages : Pages) (gate first later : ℕ) (new : List NodePage) (b next : Kept) (id : ℕ) (spec : Option Spec) → AreStored pages gate b.streams → AddsStream b id spec next → AreKept (with_pages pages first new) → gate ≤ first → first + length new ≤ later → 1 ≤ later → AreStored (with_pages pages first new) later next.streams
 stored-stream pages gate first later new b next id spec stored adds kept behind all some =
     let P = with_pages pages first new in
-    let one : Versions = record { id = id; spec = spec; trees = adds.tree ∷ []; reads = [] } in
+    let one : Versions = new_stream id spec adds.tree (b.entries + 1) in
     let bare_tree : adds.tree.node ≡ None = no-node 10 FIRST above_root nothing adds.tree.node refl adds.empty.node in
     stored-with pages gate first later new b.streams next.streams stored kept behind all (λ stream version t at.
     elim (tree-pushed b.streams one stream version t (ap (λ l. tree_at l stream version) (sym adds.streams) ∙ at)) [
       | inl old ↦ inl old
       | inr fresh ↦ elim (or-last [] adds.tree version t fresh) [
         | inl none_such ↦ absurd (cc)
-        | inr same ↦
-            let none : t.node ≡ None = ap (λ (u : TreeValue). u.node) same ∙ bare_tree in
+        | inr last ↦
+            let none : t.node ≡ None = ap (λ (u : TreeValue). u.node) last.0 ∙ bare_tree in
             inr (subst (IsBelow (nodes_in P stream) later 10 FIRST) (sym none) (record { stored = tt; below = omega arith }))
       ]
     ])
@@ -173,11 +176,11 @@ stored-new pages gate first later b next id spec stored adds behind all some =
 -- ---- an entry that makes a version
 
 -- The trees of a board with one version more of a stream are stored in the pages with some more, if the new tree is.
-pub stored-version : (pages : Pages) (gate first later : ℕ) (new : List NodePage) (b next : Kept) (s : ℕ) (was : Versions) (t : TreeValue) (read : Option Reads) → AreStored pages gate b.streams → slice_get b.streams s ≡ Some was → next.streams ≡ slice_set b.streams s (with_version was t read) → AreKept (with_pages pages first new) → gate ≤ first → first + length new ≤ later → IsBelow (nodes_in (with_pages pages first new) s) later 10 FIRST t.node → AreStored (with_pages pages first new) later next.streams
+pub stored-version : (pages : Pages) (gate first later : ℕ) (new : List NodePage) (b next : Kept) (s : ℕ) (was : Versions) (t : TreeValue) (read : Option Reads) → AreStored pages gate b.streams → slice_get b.streams s ≡ Some was → next.streams ≡ slice_set b.streams s (with_version was t read (b.entries + 1)) → AreKept (with_pages pages first new) → gate ≤ first → first + length new ≤ later → IsBelow (nodes_in (with_pages pages first new) s) later 10 FIRST t.node → AreStored (with_pages pages first new) later next.streams
 stored-version pages gate first later new b next s was t read stored there grown kept behind all low =
     let P = with_pages pages first new in
     stored-with pages gate first later new b.streams next.streams stored kept behind all (λ stream version u at.
-    elim (tree-grown b.streams s was t read stream version u there (ap (λ l. tree_at l stream version) (sym grown) ∙ at)) [
+    elim (tree-grown b.streams s was t read (b.entries + 1) stream version u there (ap (λ l. tree_at l stream version) (sym grown) ∙ at)) [
       | inl old ↦ inl old
       | inr fresh ↦
           inr (subst (λ n. IsBelow (nodes_in P n) later 10 FIRST u.node) (sym fresh.0) (subst (λ (v : TreeValue). IsBelow (nodes_in P s) later 10 FIRST v.node) (sym fresh.1) low))

@@ -1,11 +1,11 @@
 -- The bytes of an entry's extent: the body of the entry with its number; and the blocks that entries need.
-use Rattle.std.specs.Prelude.{◌≡◌, ℕ, ◌+◌, ◌-◌, ◌*◌, ◌^◌, ◌<◌, List, [], ◌∷◌, ◌++◌, length}
+use Rattle.std.specs.Prelude.{◌≡◌, ◌⊎◌, ℕ, ◌+◌, ◌-◌, ◌*◌, ◌^◌, ◌<◌, List, [], ◌∷◌, ◌++◌, length}
 use Rattle.std.specs.List.{flat_map, AllByRecursion}
 use Rattle.btr_base.specs.Commit.{Change}
 use Rattle.btr_base.specs.declared.limits.TheConstants.{FIRST}
 use Rattle.btr_disk.specs.Gate.{zeros}
 use Rattle.btr_log.specs.Extents.{need, first_gate}
-use Rattle.btr_log.specs.Head.{content_blocks, head_bytes, entry_head}
+use Rattle.btr_log.specs.Head.{content_blocks, head_bytes, entry_head, checkpoint_head}
 use Rattle.btr_node.specs.Page.{page_bytes, Fits}
 use Rattle.btr_node.specs.declared.page.NodePage.{NodePage}
 use Rattle.btr_tree.specs.History.{nothing}
@@ -16,6 +16,8 @@ use Rattle.btr_hist.specs.declared.entry.Entry.{Entry}
 use Rattle.btr_hist.specs.declared.entry.Entry.TheVariants.{Create, Define, Commit, Distillate}
 use Rattle.btr_hist.specs.History.{commits}
 use Rattle.btr_entry.specs.Grammar.{spelling, IsSpelled}
+use Rattle.btr_roll.specs.Roll.{roll_bytes}
+use Rattle.btr_engine.specs.Rolling.{roll_of}
 use Rattle.btr_engine.specs.Past.{with_commits}
 
 -- ---- bodies
@@ -33,19 +35,20 @@ body_of number e root pages =
 
 -- ---- the part of a log before a gate
 
--- What is before a gate of a log: the entries of the extents, and the pages in their blocks.
+-- What is before a gate of a log: the entries of the extents, the root of each of them, and the pages in their blocks.
 pub record Prefix : Type 0 where
   pub gate : ℕ
   pub entries : List Entry
+  pub roots : List ℕ
   pub pages : Pages
 
--- The prefix up to this gate, with these entries and these pages.
-abbrev pub prefix_to : ℕ → List Entry → Pages → Prefix
-prefix_to gate h pages = record { gate = gate; entries = h; pages = pages }
+-- The prefix up to this gate, with these entries, their roots and these pages.
+abbrev pub prefix_to : ℕ → List Entry → List ℕ → Pages → Prefix
+prefix_to gate h roots pages = record { gate = gate; entries = h; roots = roots; pages = pages }
 
 -- Before the first gate there is no extent.
 abbrev pub no_extents : Prefix
-no_extents = prefix_to first_gate [] no_pages
+no_extents = prefix_to first_gate [] [] no_pages
 
 -- The block of the first page of an entry's extent, whose gate is this one.
 abbrev pub first_page : ℕ → Entry → ℕ
@@ -55,10 +58,10 @@ first_page gate e = gate + 1 + content_blocks (length (spelling e))
 abbrev pub pages_after : Prefix → Entry → List NodePage → Pages
 pages_after before e pages = with_pages before.pages (first_page before.gate e) pages
 
--- The prefix with the extent of an entry more, with these pages and this body.
-abbrev pub with_extent : Prefix → Entry → List NodePage → List ℕ → Prefix
-with_extent before e pages body =
-    prefix_to (before.gate + need body) (before.entries ++ e ∷ []) (pages_after before e pages)
+-- The prefix with the extent of an entry more, with this root, these pages and this body.
+abbrev pub with_extent : Prefix → Entry → ℕ → List NodePage → List ℕ → Prefix
+with_extent before e root pages body =
+    prefix_to (before.gate + need body) (before.entries ++ e ∷ []) (before.roots ++ root ∷ []) (pages_after before e pages)
 
 -- The body is that of this entry, which is the next one after the prefix, with this root and these pages. The pages stand rightly
 -- behind the gate, among those that stand before it.
@@ -69,24 +72,44 @@ pub record IsBodyOf (before : Prefix) (e : Entry) (root : ℕ) (pages : List Nod
   pub low : root < 2 ^ 64
   pub bytes : body ≡ body_of (length before.entries + 1) e root pages
 
+-- ---- checkpoints
+
+-- The body of a checkpoint after entries with these roots: its head, which has their number, its content, and zeros up to the end of the
+-- last block.
+unfoldable pub checkpoint_body : List Entry → List ℕ → List ℕ
+checkpoint_body h roots =
+    let content = roll_bytes (roll_of h roots) in
+    head_bytes (checkpoint_head (length h) (length content)) ++ (content ++ zeros (padding (length content)))
+
+-- The body is that of a checkpoint after the prefix: it has the streams of the prefix with all their versions.
+pub record IsCheckpointOf (before : Prefix) (body : List ℕ) : Type 0 where
+  pub room : content_blocks (length (roll_bytes (roll_of before.entries before.roots))) < 2 ^ 64
+  pub bytes : body ≡ checkpoint_body before.entries before.roots
+
+-- The prefix with the extent of a checkpoint more, with this body. It has no entry and no page.
+abbrev pub with_checkpoint : Prefix → List ℕ → Prefix
+with_checkpoint before body = prefix_to (before.gate + need body) before.entries before.roots before.pages
+
 -- ---- the history to which bodies lead
 
 -- A rule on the root of the next entry after others, and on the pages that its extent adds to those that stand.
 abbrev pub RootRule : Type 1
 RootRule = Pages → List Entry → Entry → ℕ → List NodePage → Type 0
 
--- The extents with these bodies lead from one prefix to another: each body is that of the next entry, and its root and its pages keep
--- the rule.
+-- The extents with these bodies lead from one prefix to another: each body is that of the next entry, whose root and pages keep the
+-- rule, or that of a checkpoint after those before it.
 abbrev pub LeadTo : RootRule → Prefix → List (List ℕ) → Prefix → Type 0
 LeadTo Rule before [] after = before ≡ after
 LeadTo Rule before (body ∷ bodies) after =
-    (e : Entry) × (root : ℕ) × (pages : List NodePage) × IsBodyOf before e root pages body
-    × Rule (pages_after before e pages) before.entries e root pages × LeadTo Rule (with_extent before e pages body) bodies after
+    ((e : Entry) × (root : ℕ) × (pages : List NodePage) × IsBodyOf before e root pages body
+    × Rule (pages_after before e pages) before.entries e root pages × LeadTo Rule (with_extent before e root pages body) bodies after)
+    ⊎ (IsCheckpointOf before body × LeadTo Rule (with_checkpoint before body) bodies after)
 
--- From the first gate of a log to this one the extents with these bodies lead to this history, and to some pages.
+-- From the first gate of a log to this one the extents with these bodies lead to this history, and to some roots and pages.
 pub record LeadToHistory (Rule : RootRule) (bodies : List (List ℕ)) (gate : ℕ) (h : List Entry) : Type 0 where
+  pub roots : List ℕ
   pub pages : Pages
-  pub lead : LeadTo Rule no_extents bodies (prefix_to gate h pages)
+  pub lead : LeadTo Rule no_extents bodies (prefix_to gate h roots pages)
 
 -- ---- the blocks of an entry
 

@@ -9,10 +9,11 @@ use Rattle.btr_disk.specs.Causes.{KeepsCounts}
 use Rattle.btr_log.specs.Extents.{left}
 use Rattle.btr_log.specs.Log as log
 use Rattle.btr_log.specs.declared.log.Log.{Log}
+use Rattle.btr_super.specs.declared.superblock.Super.{Super}
 use Rattle.btr_hist.specs.declared.entry.Entry.{Entry}
 use Rattle.btr_engine.specs.declared.engine.Engine.{Engine}
 use Rattle.btr_engine.specs.Board.{Kept, IsBoardOf}
-use Rattle.btr_engine.specs.Stored.{AreStored}
+use Rattle.btr_engine.specs.Stored.{AreStored, HaveRoots}
 use Rattle.btr_engine.specs.Holds.{HoldsHistoryTo, HoldsHistory}
 
 module _ {D : Type 0} {disk : Ghosts D} where
@@ -48,7 +49,11 @@ module _ {D : Type 0} {disk : Ghosts D} where
   abbrev pub room_of : Engine D disk → ℕ
   room_of e = left (blocks_of e) (tail_of e)
 
-  -- Whether the device failed in a step.
+  -- The superblock that is chosen on the device.
+  abbrev pub super_of : Engine D disk → Super
+  super_of e = e.chosen
+
+  -- Whether the device failed in a step or in a checkpoint.
   abbrev pub is_stopped : Engine D disk → Bool
   is_stopped e = log.is_log_stopped (log_of e)
 
@@ -73,7 +78,9 @@ module _ {D : Type 0} {disk : Ghosts D} where
   pub record IsAtRest (h : List Entry) (e : Engine D disk) : Type 0 where
     pub of : IsEngineOf h e
     pub holds : HoldsHistoryTo (disk.size (device e)) (disk.contents (device e)) (blocks_of e) (tail_of e) h
+    pub under : holds.super ≡ super_of e
     pub stored : AreStored holds.leads.pages (tail_of e) (board_of e).streams
+    pub roots : HaveRoots holds.leads.roots (board_of e).streams
     pub only : Only (disk.contents (device e)) (disk.images_now (device e))
 
   -- The engine is of this history. Every image since the call with this number, and every image now, holds it.
@@ -107,9 +114,10 @@ module _ {D : Type 0} {disk : Ghosts D} where
     pub synced : synced_of new ≡ synced_of old
     pub device_kept : KeepsCounts disk.size disk.calls disk.faults (device old) (device new)
 
-  -- The engine has this log and this board, and was opened by this sync, with as many entries as it has.
-  pub record IsMadeOf (l : Log D disk) (b : Kept) (synced : D) (e : Engine D disk) : Type 0 where
+  -- The engine has this log, this board and this superblock, and was opened by this sync, with as many entries as it has.
+  pub record IsMadeOf (l : Log D disk) (b : Kept) (chosen : Super) (synced : D) (e : Engine D disk) : Type 0 where
     pub same_log : log_of e ≡ l
     pub same_board : board_of e ≡ b
+    pub same_super : super_of e ≡ chosen
     pub same_synced : synced_of e ≡ synced
     pub same_entries : entries_at_open e ≡ entries_of e

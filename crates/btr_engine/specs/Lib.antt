@@ -1,6 +1,8 @@
--- the commits that a version has
+-- the commits that a version has, and the numbers of the entries that made the versions
 pub mod Past
--- the bytes of an entry's extent
+-- what a checkpoint has
+pub mod Rolling
+-- the bytes of an extent
 pub mod Body
 -- to which nodes roots lead
 pub mod Roots
@@ -11,10 +13,12 @@ pub mod Outline
 -- what is kept in memory of a history
 pub mod Board
 pub mod Stored
+pub mod Restoring
 pub mod Snapshot
 -- what contracts see of an engine, and what its calls do
 pub mod Engine
 pub mod Step
+pub mod Mark
 -- what the private functions promise
 pub mod Stage
 pub mod Pending

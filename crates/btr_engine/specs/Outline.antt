@@ -1,4 +1,5 @@
--- What shows of a history beside its points, its outline; and why an entry may not follow a history, by the outline and by the points.
+-- What shows of a history beside its points, its outline; the outline of a roll; and why an entry may not follow a history, by the
+-- outline and by the points.
 use Rattle.std.specs.Prelude.{◌≡◌, ℕ, ◌+◌, Bool, true, false, not, ◌&&◌, nat_eq, nat_lt, nat_le, List, [], ◌∷◌, length, map}
 use Rattle.std.specs.Prelude.{slice_index_or, Option, Some, None}
 use Rattle.std.specs.List.{list_any}
@@ -14,6 +15,8 @@ use Rattle.btr_hist.specs.declared.rejection.Rejection.TheVariants.{NoStream, St
 use Rattle.btr_hist.specs.Kernel.{is_good}
 use Rattle.btr_hist.specs.History.{ids, spec_of, latest, read_by, nothing_read}
 use Rattle.btr_hist.specs.Legal.{first_some, when, next_bag, change_rejection, distillate_change_rejection, points_rejection}
+use Rattle.btr_roll.specs.Roll.{RollStreamValue}
+use Rattle.btr_roll.specs.declared.roll.RollVersion.{RollVersion}
 
 -- ---- an outline
 
@@ -49,6 +52,22 @@ stream_at o stream = slice_index_or o stream no_stream
 -- The ids of the streams.
 abbrev pub ids_in : List Outlined → List ℕ
 ids_in o = map (λ s. s.id) o
+
+-- ---- the outline of a roll
+
+-- What the last of these versions has read, if it has read something.
+abbrev pub last_read : List RollVersion → Option Reads
+last_read [] = None
+last_read (v ∷ []) = v.reads
+last_read (v ∷ (w ∷ more)) = last_read (w ∷ more)
+
+-- The stream of a roll: its id, its spec, the number of its versions, and what the last one has read.
+abbrev pub outlined_in_roll : RollStreamValue → Outlined
+outlined_in_roll s = record { id = s.id; spec = s.spec; latest = length s.versions; reads = last_read s.versions }
+
+-- The outline of a roll, whose streams are in order of creation.
+abbrev pub outline_in : List RollStreamValue → List Outlined
+outline_in roll = map outlined_in_roll roll
 
 -- ---- why an entry may not follow, by the outline
 

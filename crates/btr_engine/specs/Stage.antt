@@ -28,7 +28,7 @@ use Rattle.btr_engine.specs.declared.board.PushFault.{PushFault}
 use Rattle.btr_engine.specs.declared.board.PushFault.TheVariants.{Rejected, Want}
 use Rattle.btr_engine.specs.Past.{commits_to}
 use Rattle.btr_engine.specs.Body.{first_page}
-use Rattle.btr_engine.specs.Board.{Versions, Kept, HasTrees, place_of, ids_of}
+use Rattle.btr_engine.specs.Board.{Versions, Kept, IsGrown, HasTrees, HasGoodSpec, place_of, ids_of}
 
 -- Memory may run out before the entry is rejected only while the points are tested that the stream would have. All other tests
 -- come first and take no memory.
@@ -89,9 +89,19 @@ IsNextTree h stream c t =
 abbrev pub OfEachStream : List TreeValue → (List Entry → ℕ → Type 0) → Type 0
 OfEachStream trees P = (h : List Entry) (stream : ℕ) → HasTrees h stream trees → P h stream
 
--- The stream with one version more, which has this tree and has read these versions or none.
-abbrev pub with_version : Versions → TreeValue → Option Reads → Versions
-with_version s t read = record { id = s.id; spec = s.spec; trees = s.trees ++ t ∷ []; reads = s.reads ++ option_to_list read }
+-- The stream with one version more, which has this tree, has read these versions or none, and was made by the entry of this number.
+abbrev pub with_version : Versions → TreeValue → Option Reads → ℕ → Versions
+with_version s t read number = record {
+  id = s.id;
+  spec = s.spec;
+  trees = s.trees ++ t ∷ [];
+  reads = s.reads ++ option_to_list read;
+  numbers = s.numbers ++ number ∷ [];
+}
+
+-- The stream at version 0, which has this tree and was made by the entry of this number: an output of this spec, or a plain stream.
+abbrev pub new_stream : ℕ → Option Spec → TreeValue → ℕ → Versions
+new_stream id spec t number = record { id = id; spec = spec; trees = t ∷ []; reads = []; numbers = number ∷ [] }
 
 -- ---- what an entry writes
 
@@ -120,14 +130,14 @@ pub record WritesCommit (b : Kept) (first stream : ℕ) (c : Change) (read : Opt
   pub last : TreeValue
   pub last_is : slice_get kept.trees (length kept.trees - 1) ≡ Some last
   pub new : TreeValue
-  pub streams : next.streams ≡ slice_set b.streams stream (with_version kept new read)
+  pub streams : next.streams ≡ slice_set b.streams stream (with_version kept new read (b.entries + 1))
   pub writes : WritesVersion first (length kept.trees) c last new nodes root
 
 -- The next board has one stream more, at version 0.
 pub record AddsStream (b : Kept) (id : ℕ) (spec : Option Spec) (next : Kept) : Type 0 where
   pub tree : TreeValue
   pub empty : IsTree nothing tree
-  pub streams : next.streams ≡ b.streams ++ record { id = id; spec = spec; trees = tree ∷ []; reads = [] } ∷ []
+  pub streams : next.streams ≡ b.streams ++ new_stream id spec tree (b.entries + 1) ∷ []
 
 -- The next board has one stream more, at version 0, which has no node and no root.
 pub record WritesStream (b : Kept) (id : ℕ) (spec : Option Spec) (next : Kept) (nodes : List NewNodeValue) (root : ℕ) : Type 0 where
@@ -149,22 +159,24 @@ WritesEntry b e tail s = WritesOn b e tail s.next s.nodes.items s.root
 
 -- ---- an entry whose tree was read
 
--- The board may have one stream more, with this id.
-pub record HasRoomForStream (b : Kept) (id : ℕ) : Type 0 where
+-- The board may have one stream more, with this id: an output of this spec, or a plain stream.
+pub record HasRoomForStream (b : Kept) (id : ℕ) (spec : Option Spec) : Type 0 where
   pub few : length b.streams < MAX_STREAMS
   pub fresh : place_of (ids_of b.streams) id ≡ None
+  pub good : HasGoodSpec spec
 
--- The stream may have one version more. It is an output, or a plain stream.
+-- The stream may have one version more, and keeps what each stream of a board keeps. It is an output, or a plain stream.
 pub record HasRoomForVersion (b : Kept) (stream : ℕ) (output : Bool) : Type 0 where
   pub kept : Versions
   pub there : slice_get b.streams stream ≡ Some kept
+  pub grown : IsGrown kept
   pub kind : is_some kept.spec ≡ output
   pub few : length kept.trees ≤ MAX_VERSIONS
 
 -- The board may have what the entry makes.
 abbrev pub HasRoomFor : Kept → Entry → Type 0
-HasRoomFor b (Create id) = HasRoomForStream b id
-HasRoomFor b (Define id spec) = HasRoomForStream b id
+HasRoomFor b (Create id) = HasRoomForStream b id None
+HasRoomFor b (Define id spec) = HasRoomForStream b id (Some spec)
 HasRoomFor b (Commit stream cut added) = HasRoomForVersion b stream false
 HasRoomFor b (Distillate stream cut added reads) = HasRoomForVersion b stream true
 
@@ -174,7 +186,7 @@ pub record ReadsVersion (b : Kept) (stream : ℕ) (read : Option Reads) (t : Tre
     (root : ℕ) : Type 0 where
   pub kept : Versions
   pub there : slice_get b.streams stream ≡ Some kept
-  pub streams : next.streams ≡ slice_set b.streams stream (with_version kept t read)
+  pub streams : next.streams ≡ slice_set b.streams stream (with_version kept t read (b.entries + 1))
   pub none : nodes ≡ []
   pub root_is : root ≡ block_of t.node
 

@@ -1,7 +1,8 @@
 //! The board: what an engine keeps of a history in memory, for its calls and questions.
-ghost use Rattle.std.specs.Prelude.{◌≡◌, ◌^◌, ◌<◌, List, [], length, IfOk, IfSome, MatchOption};
+ghost use Rattle.std.specs.Prelude.{◌≡◌, ◌-◌, ◌^◌, ◌<◌, List, [], length, slice_get, IfOk, IfSome, MatchOption, option_map};
 ghost use Rattle.btr_hist.specs.declared.entry.Entry.{Entry as EntrySpec};
 ghost use Rattle.btr_hist.specs.History.{ids, stream_of, spec_of, read_by};
+ghost use Rattle.btr_engine.specs.Past.{stream_numbers};
 ghost use Rattle.btr_engine.specs.Board.{IsBoardOf, HasStreamsOf, HasVersion, IsTreeOf, latest_of, read_at};
 ghost use Rattle.btr_engine.specs.Snapshot.{IsSnapshotOf};
 
@@ -23,13 +24,14 @@ pub enum PushFault {
 }
 
 /// A stream: its id, the trees of all its versions, from version 0 on, and if it is an output its spec and what its versions have
-/// read, from version 1 on. A plain stream has no reads.
+/// read, from version 1 on. A plain stream has no reads. And the numbers of the entries that made the versions, from version 0 on.
 #[derive(Drop)]
 pub(crate) struct Stream {
     pub(crate) id: u128,
     pub(crate) spec: Option<Spec>,
     pub(crate) trees: Trail<Tree>,
     pub(crate) reads: Trail<Reads>,
+    pub(crate) numbers: Trail<u64>,
 }
 
 impl Model for Stream {
@@ -41,11 +43,12 @@ impl Model for Stream {
 
     ghost coded = { Prim.hlevel (codes, tree_contract.the_row.coded) };
 
-    ghost view = { λ s. record { id = s.id; spec = s.spec; trees = s.trees; reads = s.reads } };
+    ghost view = { λ s. record { id = s.id; spec = s.spec; trees = s.trees; reads = s.reads; numbers = s.numbers } };
 }
 
-/// What a history's answers and tests need: of each stream the id, the spec, the tree of each version and what it has read; and
-/// the number of entries. The entries themselves are not kept. Each of them is accepted after those before it.
+/// What a history's answers and tests need: of each stream the id, the spec, the tree of each version, what it has read, and the
+/// number of the entry that made it; and the number of entries. The entries themselves are not kept. Each of them is accepted
+/// after those before it.
 ///
 /// A board is a value: [`Board::stage`] makes the next board and shares with this one all that does not change.
 #[derive(Drop)]
@@ -159,6 +162,7 @@ impl Board {
     pub fn latest(&self, stream: u32) -> Option<u64>
         ensures of { (h : List EntrySpec) → IsBoardOf h self.now → result ≡ latest_of h stream }
         ensures known { (h : List EntrySpec) → HasStreamsOf h self.now → result ≡ latest_of h stream }
+        ensures kept { result ≡ option_map (λ s. length s.trees - 1) (slice_get self.now.streams stream) }
         ensures few { IfSome result (λ version. version < 2 ^ 32) }
     {
         let kept = self.streams.get(stream as usize)?;
@@ -191,6 +195,15 @@ impl Board {
     {
         let kept = self.streams.get(stream as usize)?;
         read_at(&kept.reads, version)
+    }
+
+    /// Returns the number of the entry that made a version of a stream, counted from 1, or `None` if there is no such stream or
+    /// version. Version 0 is made with the stream. It costs logarithmic time and takes no memory.
+    pub fn number(&self, stream: u32, version: u64) -> Option<u64>
+        ensures { (h : List EntrySpec) → IsBoardOf h self.now → result ≡ slice_get (stream_numbers h stream) version }
+    {
+        let kept = self.streams.get(stream as usize)?;
+        kept.numbers.get(version as usize).copied()
     }
 
     /// Returns the number of entries, in constant time. It takes no memory.

@@ -1,59 +1,74 @@
 //! The engine: the board of a history, and the log that holds its entries.
 ghost use Rattle.std.specs.Prelude.{◌≡◌, ◌+◌, ◌*◌, ◌≤◌};
-ghost use Rattle.btr_log.specs.Log.{log_device as device_of, log_tail, extents_of, faults_at};
+ghost use Rattle.btr_log.specs.Log.{log_device as device_of, log_tail, log_blocks, extents_of, faults_at};
 
 use crate::board::Board;
 use crate::snapshot::Snapshot;
 use btr_disk::Disk;
 use btr_hist::Spec;
 use btr_log::Log;
+use btr_super::Super;
 use std::alloc::AllocError;
 use std::snapshot::Snapshot as State;
 
 /// An open store: the board of its history, and its device.
 ///
-/// An engine is stopped if its device fails in a step, and stays stopped: it accepts no more entries, but can still be asked
-/// through a snapshot. Only the next opening shows if the entry of that step is durable.
+/// An engine is stopped if its device fails in a step or in a checkpoint, and stays stopped: it accepts no more entries, but can still
+/// be asked through a snapshot. Only the next opening shows if the entry of that step is durable.
 #[derive(Drop)]
 pub struct Engine<D: Disk> {
     pub(crate) log: Log<D>,
     pub(crate) board: Board,
     /// The number of entries when the store was opened.
     pub(crate) opened_with: u64,
+    /// The superblock that is chosen on the device.
+    pub(crate) chosen: Super,
     /// The device after the first sync of the opening, for its counts. It has no bytes.
     pub(crate) synced: State<D>,
-    ghost counted: { extents_of log ≡ board.entries },
+    // Each entry has an extent. The other extents are those of checkpoints.
+    ghost counted: { board.entries ≤ extents_of log },
     // The first gate is block 4, and each extent has at least two blocks.
     ghost ends: { 2 * extents_of log + 4 ≤ log_tail log },
-    ghost began: { opened_with ≤ extents_of log },
+    ghost began: { opened_with ≤ board.entries },
     ghost called: { D.calls synced.value ≤ D.calls (device_of log) },
     ghost failed: { D.faults synced.value ≤ faults_at log },
+    // A superblock that replaces this one keeps the table: its number is one more, and its tail is a later gate of the log.
+    ghost side: { chosen.side ≤ 1 },
+    ghost seq: { chosen.seq + 3 ≤ log_tail log },
+    ghost large: { 8 ≤ log_blocks log },
+    ghost same_blocks: { chosen.blocks ≡ log_blocks log },
 }
 
 impl<D: Disk> Engine<D> {
     ghost use Rattle.std.specs.Prelude.{◌≡◌, ◌+◌, ◌*◌, ◌≤◌, List, IfOk, IsTrue, length};
     ghost use Rattle.btr_disk.specs.Causes.{Rose};
-    ghost use Rattle.btr_log.specs.Log.{log_device as device_of, log_tail, extents_of, faults_at};
+    ghost use Rattle.btr_log.specs.Log.{log_device as device_of, log_tail, log_blocks, extents_of, faults_at};
     ghost use Rattle.btr_hist.specs.declared.entry.Entry.{Entry as EntrySpec};
     ghost use Rattle.btr_hist.specs.History.{stream_of, spec_of};
     ghost use Rattle.btr_engine.specs.Board.{latest_of};
     ghost use Rattle.btr_engine.specs.Snapshot.{IsSnapshotOf};
     ghost use Rattle.btr_engine.specs.Engine.{device, entries_of, is_stopped, faults_at_open, IsEngineOf, IsMadeOf};
 
-    /// Returns the engine of a log, of a board with the log's entries, and of the device as the first sync of an opening left it.
-    /// It is for openings: it does not call the device, nor compare the board with it. It takes constant time and no memory.
-    pub fn over(log: Log<D>, board: Board, synced: State<D>) -> Engine<D>
-        requires counted { extents_of log ≡ board.entries }
+    /// Returns the engine of a log, of a board with the log's entries, of the superblock that is chosen on the device, and of the
+    /// device as the first sync of an opening left it. It is for openings: it does not call the device, nor compare the board or the
+    /// superblock with it. It takes constant time and no memory.
+    pub fn over(log: Log<D>, board: Board, chosen: Super, synced: State<D>) -> Engine<D>
+        requires counted { board.entries ≤ extents_of log }
         requires ends { 2 * extents_of log + 4 ≤ log_tail log }
         requires called { D.calls synced.value ≤ D.calls (device_of log) }
         requires failed { D.faults synced.value ≤ faults_at log }
-        ensures { IsMadeOf log board synced.value result }
+        requires side { chosen.side ≤ 1 }
+        requires seq { chosen.seq + 3 ≤ log_tail log }
+        requires large { 8 ≤ log_blocks log }
+        requires same_blocks { chosen.blocks ≡ log_blocks log }
+        ensures { IsMadeOf log board chosen synced.value result }
     {
-        let opened_with = log.extents();
+        let opened_with = board.entries();
         Engine {
             log,
             board,
             opened_with,
+            chosen,
             synced,
         }
     }

@@ -1,12 +1,15 @@
-//! The bytes of the extent of an entry.
-ghost use Rattle.std.specs.Prelude.{◌≡◌, ◌+◌, ◌^◌, ◌<◌, ◌≤◌, ◌++◌, length, IfOk, OnOk};
+//! The bytes of the extent of an entry, and of that of a checkpoint.
+ghost use Rattle.std.specs.Prelude.{◌≡◌, ◌+◌, ◌*◌, ◌^◌, ◌<◌, ◌≤◌, ◌++◌, length, IfOk, OnOk};
 ghost use Rattle.std.specs.List.{flat_map};
 ghost use Rattle.btr_disk.specs.Gate.{zeros};
 ghost use Rattle.btr_log.specs.Head.{content_blocks};
+ghost use Rattle.btr_log.specs.Append.{IsAppendRun};
 ghost use Rattle.btr_node.specs.Page.{page_bytes};
 ghost use Rattle.btr_pages.specs.Pages.{pages_of};
 ghost use Rattle.btr_entry.specs.Grammar.{spelling, IsSpelled, IsWithinBounds};
+ghost use Rattle.btr_roll.specs.Roll.{IsRollWithinBounds};
 ghost use Rattle.btr_engine.specs.Body.{padding, body_of};
+ghost use Rattle.btr_engine.specs.Mark.{body_of_roll};
 
 use btr_disk::BLOCK;
 use btr_entry::encode;
@@ -14,6 +17,7 @@ use btr_hist::Entry;
 use btr_log::{HEAD_BYTES, Head, blocks_of_content};
 use btr_node::{NodePage, PAGE, spell};
 use btr_pages::page_of;
+use btr_roll::{Roll, encode_roll};
 use btr_tree::NewNode;
 use std::alloc::{AllocError, Global};
 
@@ -47,6 +51,28 @@ pub(crate) fn encode_extent(
     Ok(extent)
 }
 
+/// Returns the body of a checkpoint with these streams after this number of entries, followed by one block of zeros, in a vector of
+/// exactly that capacity. It takes time linear in the streams and versions, and memory for the content beside the vector.
+pub(crate) fn encode_checkpoint(
+    alloc: Global,
+    roll: &Roll,
+    entries: u64,
+) -> Result<Vec<u8>, AllocError>
+    requires { IsRollWithinBounds roll.now }
+    ensures bytes { IfOk result (λ v. v.items ≡ body_of_roll entries roll.now ++ zeros 4096) }
+    ensures run { IfOk result (λ v. IsAppendRun v.items) }
+{
+    let content = encode_roll(alloc, roll)?;
+    let head = Head::for_checkpoint(entries, content.len() as u64);
+    let mut bytes = [0; HEAD_BYTES];
+    head.encode(&mut bytes);
+    let mut extent = Vec::with_capacity(alloc, bytes_of(head.n)?)?;
+    extent.extend_from_slice(&bytes)?;
+    put_content(&mut extent, &content)?;
+    extent.extend_from_slice(&[0; BLOCK])?;
+    Ok(extent)
+}
+
 /// Returns the number of bytes of a body of this many blocks and of the block after it. An `Err` is that no memory has so many.
 fn bytes_of(blocks: u64) -> Result<usize, AllocError> {
     let Some(length) = (blocks as usize).checked_mul(BLOCK) else {
@@ -55,11 +81,11 @@ fn bytes_of(blocks: u64) -> Result<usize, AllocError> {
     length.checked_add(BLOCK).ok_or(AllocError)
 }
 
-/// Appends the content of an entry to its head, and zeros up to the end of the last block of the content. An `Err` is out of
+/// Appends the content of an extent to its head, and zeros up to the end of the last block of the content. An `Err` is out of
 /// memory.
 fn put_content(extent: &mut Vec<u8>, content: &[u8]) -> Result<(), AllocError>
     requires head { length extent.old.items ≡ 64 }
-    requires few { length content.now < 2 ^ 39 }
+    requires few { 4096 * content_blocks (length content.now) < 2 ^ 64 }
     ensures { OnOk result (extent.new.items ≡ extent.old.items ++ (content.now ++ zeros (padding (length content.now)))) }
 {
     extent.extend_from_slice(content)?;

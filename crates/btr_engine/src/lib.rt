@@ -1,6 +1,7 @@
 //! The engine of a store: it adds entries to the history on a device, and gives snapshots of it, which answer questions.
 //!
 //! A step ([`Engine::step`]) adds one entry: a crash at any moment of it leaves the history as before, or with this entry.
+//! A checkpoint ([`Engine::checkpoint`]) leaves the history as it is, and adds what an opening needs of the entries before it.
 //! `specs/Holds.antt` says which history a device holds, byte by byte. The crate btr_open makes the engine of a device.
 #![tactic(auto)]
 
@@ -10,9 +11,12 @@ mod extent;
 mod answering;
 mod board;
 mod first_node;
+mod restoring;
+mod rolling;
 mod snapshot;
 mod staging;
 // the engine
+mod checkpoint;
 mod engine;
 mod step;
 

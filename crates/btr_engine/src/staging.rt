@@ -1,8 +1,8 @@
 //! The staging of an entry: its tests, in the order of `rejection`, and the next board.
-ghost use Rattle.std.specs.Prelude.{◌≡◌, ℕ, ◌+◌, ◌-◌, ◌^◌, ◌<◌, ◌≤◌, nat_le, nat_lt, ◌&&◌, true, false, List, [], ◌∷◌, ◌++◌, length};
+ghost use Rattle.std.specs.Prelude.{◌≡◌, ◌+◌, ◌-◌, ◌^◌, ◌<◌, ◌≤◌, nat_le, nat_lt, ◌&&◌, true, false, List, [], ◌∷◌, ◌++◌, length};
 ghost use Rattle.std.specs.Prelude.{slice_get, slice_set, IfOk, IfErr, IfSome, IsNone, IsTrue, OnOk, Some, None};
 ghost use Rattle.std.specs.List.{AllByRecursion};
-ghost use Rattle.std.specs.Option.{is_some, option_to_list};
+ghost use Rattle.std.specs.Option.{is_some, option_to_list, unwrap_or};
 ghost use Rattle.btr_base.specs.declared.point.Point.{Point as PointSpec};
 ghost use Rattle.btr_base.specs.declared.limits.TheConstants.{MAX_POINTS};
 ghost use Rattle.btr_base.specs.Bag.{IsInOrder};
@@ -13,15 +13,18 @@ ghost use Rattle.btr_tree.specs.Root.{TreeValue, IsTree, IsTreeFault};
 ghost use Rattle.btr_hist.specs.declared.entry.Entry.{Entry as EntrySpec};
 ghost use Rattle.btr_hist.specs.declared.entry.Entry.TheVariants as entry;
 ghost use Rattle.btr_hist.specs.Kernel.{is_good};
-ghost use Rattle.btr_hist.specs.History.{latest, spec_of, reads};
+ghost use Rattle.btr_hist.specs.History.{nothing_read};
 ghost use Rattle.btr_hist.specs.declared.rejection.Rejection.TheVariants.{VersionLimit};
-ghost use Rattle.btr_hist.specs.Legal.{when, rejection, points_rejection, has_inputs, is_stream, takes_reads, may_read, may_read_second};
+ghost use Rattle.btr_hist.specs.Legal.{when, rejection, points_rejection};
 ghost use Rattle.btr_entry.specs.Grammar.{IsWithinBounds, AreVersions};
-ghost use Rattle.btr_engine.specs.Board.{IsBoardOf, HasStreamOf, HasStreamsOf, IsGrown, HasPast, place_of, ids_of};
+ghost use Rattle.btr_engine.specs.Board.{IsBoardOf, HasStreamsOf, IsGrown, HasPast, HasGoodSpec, place_of, ids_of};
+ghost use Rattle.btr_engine.specs.Rolling.{rolled, kept_stream};
 ghost use Rattle.btr_engine.specs.Stage.{PushCause, IsReceipt, MakesStream, MakesVersion, IsNextTree, OfEachStream, change};
-ghost use Rattle.btr_engine.specs.Outline.{outline_of, commit_refusal, distillate_refusal, refusal};
+ghost use Rattle.btr_engine.specs.Outline.{outline_of, outline_in, outlined_in_roll, stream_at};
+ghost use Rattle.btr_engine.specs.Outline.{create_refusal, define_refusal, commit_refusal, distillate_refusal, refusal};
+ghost use Rattle.btr_engine.specs.Outline.{is_stream_in, has_inputs_in, may_read_in, may_read_second_in, takes_reads_in};
 ghost use Rattle.btr_engine.specs.Stage.{HasRoomFor, HasRoomForVersion, ReadsVersion, ReadsOn, ReadsEntry, IsTreeAfter};
-ghost use Rattle.btr_engine.specs.Stage.{version_rejection, with_version};
+ghost use Rattle.btr_engine.specs.Stage.{version_rejection, with_version, new_stream};
 ghost use Rattle.btr_engine.specs.Stage.{WritesNext, WritesCommit, AddsStream, WritesStream, WritesOn, WritesEntry};
 
 use crate::board::{Board, PushFault, Receipt, Staged, Stream, read_at};
@@ -88,10 +91,12 @@ impl Board {
     }
 
     /// Returns why an entry may not follow, whatever points its stream has, or `None` if nothing else shows against it. These are
-    /// the tests that [`Board::stage`] makes before it looks at points, in the same order. They do not look at the trees. It costs
-    /// logarithmic time, and the length of the entry, and takes no memory.
+    /// the tests that [`Board::stage`] makes before it looks at points, in the same order. They do not look at the trees. What they
+    /// find is said of any board, also of one that is that of no history. It costs logarithmic time, and the length of the entry,
+    /// and takes no memory.
     pub fn refusal(&self, entry: &Entry) -> Option<Rejection>
         ensures of { (h : List EntrySpec) → HasStreamsOf h self.now → result ≡ refusal (outline_of h) entry.now }
+        ensures rolled { result ≡ refusal (outline_in (rolled self.now)) entry.now }
         ensures room { IsNone result → HasRoomFor self.now entry.now }
     {
         match entry {
@@ -254,13 +259,14 @@ impl Board {
         requires few { self.now.entries < 2 ^ 64 - 1 }
         requires room { length self.now.streams < MAX_STREAMS }
         requires fresh { place_of (ids_of self.now.streams) id ≡ None }
+        requires good { HasGoodSpec spec }
         ensures next { (h : List EntrySpec) (e : EntrySpec) → IsBoardOf h self.now → MakesStream e id spec → rejection h e ≡ None
             → IfOk result (IsBoardOf (h ++ e ∷ [])) }
         ensures counted { IfOk result (λ b. b.entries ≡ self.now.entries + 1) }
         ensures adds { IfOk result (AddsStream self.now id spec) }
     {
         let number = self.streams.len() as u32;
-        let first = first_version(alloc, id, spec)?;
+        let first = first_version(alloc, id, spec, self.entries + 1)?;
         let streams = self.streams.push(alloc, first)?;
         let numbers = self.numbers.insert(alloc, id, number)?;
         Ok(Board {
@@ -401,9 +407,10 @@ impl Board {
         ensures next { (h : List EntrySpec) (e : EntrySpec) (c : Change) → IsBoardOf h self.now → MakesVersion e place c read
             → IsNextTree h place c tree → rejection h e ≡ None → IfOk result (IsBoardOf (h ++ e ∷ [])) }
         ensures counted { IfOk result (λ b. b.entries ≡ self.now.entries + 1) }
-        ensures streams { IfOk result (λ b. b.streams ≡ slice_set self.now.streams place (with_version kept.now tree read)) }
+        ensures streams { IfOk result (λ b. b.streams
+            ≡ slice_set self.now.streams place (with_version kept.now tree read (self.now.entries + 1))) }
     {
-        let next = next_stream(alloc, kept, tree, read)?;
+        let next = next_stream(alloc, kept, tree, read, self.entries + 1)?;
         let streams = self.streams.set(alloc, place, next)?;
         let numbers = self.numbers.share()?;
         Ok(Board {
@@ -415,8 +422,7 @@ impl Board {
 
     /// Returns why a user's commit may not follow, whatever points the stream has, or `None` if nothing else shows against it.
     fn commit_refusal(&self, stream: u32, cut: &Ranges, added: &Bag) -> Option<Rejection>
-        ensures of { (h : List EntrySpec) → HasStreamsOf h self.now
-            → result ≡ commit_refusal (outline_of h) stream (change cut.now added.now) }
+        ensures rolled { result ≡ commit_refusal (outline_in (rolled self.now)) stream (change cut.now added.now) }
         ensures room { IsNone result → HasRoomForVersion self.now stream false }
     {
         let Some(kept) = self.streams.get(stream as usize) else {
@@ -439,8 +445,7 @@ impl Board {
         added: &Bag,
         reads: &Reads,
     ) -> Option<Rejection>
-        ensures of { (h : List EntrySpec) → HasStreamsOf h self.now
-            → result ≡ distillate_refusal (outline_of h) stream (change cut.now added.now) reads.now }
+        ensures rolled { result ≡ distillate_refusal (outline_in (rolled self.now)) stream (change cut.now added.now) reads.now }
         ensures room { IsNone result → HasRoomForVersion self.now stream true }
     {
         let Some(kept) = self.streams.get(stream as usize) else {
@@ -457,7 +462,7 @@ impl Board {
 
     /// Returns why a stream with this id may not be created, or `None` if it may.
     fn create_rejection(&self, id: u128) -> Option<Rejection>
-        ensures of { (h : List EntrySpec) → HasStreamsOf h self.now → result ≡ rejection h (entry.Create id) }
+        ensures rolled { result ≡ create_refusal (outline_in (rolled self.now)) id }
         ensures room { IsNone result → length self.now.streams < MAX_STREAMS }
         ensures fresh { IsNone result → place_of (ids_of self.now.streams) id ≡ None }
     {
@@ -472,7 +477,7 @@ impl Board {
 
     /// Returns why an output with this id and spec may not be created, or `None` if it may.
     fn define_rejection(&self, id: u128, spec: &Spec) -> Option<Rejection>
-        ensures of { (h : List EntrySpec) → HasStreamsOf h self.now → result ≡ rejection h (entry.Define id spec.now) }
+        ensures rolled { result ≡ define_refusal (outline_in (rolled self.now)) id spec.now }
         ensures room { IsNone result → length self.now.streams < MAX_STREAMS }
         ensures fresh { IsNone result → place_of (ids_of self.now.streams) id ≡ None }
         ensures good { IsNone result → is_good spec.now ≡ true }
@@ -491,7 +496,7 @@ impl Board {
 
     /// Returns whether the inputs of a spec are streams.
     fn has_inputs(&self, spec: &Spec) -> bool
-        ensures { (h : List EntrySpec) → HasStreamsOf h self.now → result ≡ has_inputs h spec.now }
+        ensures { result ≡ has_inputs_in (outline_in (rolled self.now)) spec.now }
     {
         let has_second = match spec.second {
             Some(stream) => self.has_stream(stream),
@@ -502,15 +507,15 @@ impl Board {
 
     /// Returns whether there is a stream of this number.
     fn has_stream(&self, stream: u32) -> bool
-        ensures { (h : List EntrySpec) → HasStreamsOf h self.now → result ≡ is_stream h stream }
+        ensures { result ≡ is_stream_in (outline_in (rolled self.now)) stream }
     {
         (stream as usize) < self.streams.len()
     }
 
     /// Returns whether a stream is an output whose next distillate may read these versions.
     fn takes_reads(&self, kept: &Stream, new: &Reads) -> bool
-        ensures of { (h : List EntrySpec) (stream : ℕ) → HasStreamsOf h self.now → HasStreamOf h stream kept.now
-            → result ≡ takes_reads h stream (spec_of h stream) new.now }
+        ensures rolled { IsGrown kept.now
+            → result ≡ takes_reads_in (outline_in (rolled self.now)) kept.now.spec (outlined_in_roll (kept_stream kept.now)).reads new.now }
         ensures output { IsTrue result → is_some kept.now.spec ≡ true }
         ensures few { IsTrue result → AreVersions new.now }
     {
@@ -522,7 +527,7 @@ impl Board {
 
     /// Returns whether a distillate may read these versions of its inputs, if the last one read the old ones.
     fn may_read(&self, spec: &Spec, old: &Reads, new: &Reads) -> bool
-        ensures of { (h : List EntrySpec) → HasStreamsOf h self.now → result ≡ may_read h spec.now old.now new.now }
+        ensures rolled { result ≡ may_read_in (outline_in (rolled self.now)) spec.now old.now new.now }
         ensures few { IsTrue result → AreVersions new.now }
     {
         self.may_read_input(spec.first, old.first, new.first)
@@ -531,7 +536,7 @@ impl Board {
 
     /// Returns whether a version of a second input may be read, or there is neither.
     fn may_read_second(&self, stream: Option<u32>, old: Option<u64>, new: Option<u64>) -> bool
-        ensures of { (h : List EntrySpec) → HasStreamsOf h self.now → result ≡ may_read_second h stream old new }
+        ensures rolled { result ≡ may_read_second_in (outline_in (rolled self.now)) stream old new }
         ensures few { IsTrue result → IfSome new (λ version. version ≤ MAX_VERSIONS) }
     {
         match (stream, old, new) {
@@ -543,14 +548,22 @@ impl Board {
 
     /// Returns whether the stream has this version, and it is not before the old one.
     fn may_read_input(&self, stream: u32, old: u64, new: u64) -> bool
-        ensures of { (h : List EntrySpec) → HasStreamsOf h self.now → result ≡ (nat_le old new && nat_le new (latest h stream)) }
+        ensures rolled { result ≡ (nat_le old new && nat_le new (stream_at (outline_in (rolled self.now)) stream).latest) }
         ensures few { IsTrue result → new ≤ MAX_VERSIONS }
     {
-        let latest = match self.latest(stream) {
-            Some(latest) => latest,
-            None => 0,
-        };
+        let latest = self.latest_or_zero(stream);
         old <= new && new <= latest
+    }
+
+    /// Returns the latest version of a stream, or 0 if there is no such stream.
+    fn latest_or_zero(&self, stream: u32) -> u64
+        ensures latest { result ≡ (stream_at (outline_in (rolled self.now)) stream).latest }
+        ensures few { result ≤ MAX_VERSIONS }
+    {
+        match self.streams.get(stream as usize) {
+            Some(kept) => (kept.trees.len() - 1) as u64,
+            None => 0,
+        }
     }
 }
 
@@ -598,37 +611,48 @@ fn without_nodes(alloc: Global, board: Board) -> NextBoard
     }
 }
 
-/// Returns a stream at version 0: an output of this spec, or a plain stream.
-fn first_version(alloc: Global, id: u128, spec: Option<Spec>) -> Result<Stream, AllocError>
-    ensures { IfOk result (λ s. (t : TreeValue) × IsTree nothing t
-        × (s ≡ record { id = id; spec = spec; trees = t ∷ []; reads = [] })) }
+/// Returns a stream at version 0, made by the entry of this number: an output of this spec, or a plain stream.
+fn first_version(
+    alloc: Global,
+    id: u128,
+    spec: Option<Spec>,
+    number: u64,
+) -> Result<Stream, AllocError>
+    ensures { IfOk result (λ s. (t : TreeValue) × IsTree nothing t × (s ≡ new_stream id spec t number)) }
 {
-    let none = Trail::empty();
-    let trees = none.push(alloc, Tree::empty())?;
+    let no_trees = Trail::empty();
+    let trees = no_trees.push(alloc, Tree::empty())?;
+    let no_numbers = Trail::empty();
+    let numbers = no_numbers.push(alloc, number)?;
     Ok(Stream {
         id,
         spec,
         trees,
         reads: Trail::empty(),
+        numbers,
     })
 }
 
-/// Returns a stream with one version more, which has this tree and has read these versions, if any.
+/// Returns a stream with one version more, which has this tree, has read these versions, if any, and is made by the entry of this
+/// number.
 fn next_stream(
     alloc: Global,
     kept: &Stream,
     tree: Tree,
     read: Option<Reads>,
+    number: u64,
 ) -> Result<Stream, AllocError>
-    ensures { IfOk result (λ s. s ≡ with_version kept.now tree read) }
+    ensures { IfOk result (λ s. s ≡ with_version kept.now tree read number) }
 {
     let trees = kept.trees.push(alloc, tree)?;
     let reads = next_reads(alloc, &kept.reads, read)?;
+    let numbers = kept.numbers.push(alloc, number)?;
     Ok(Stream {
         id: kept.id,
         spec: kept.spec,
         trees,
         reads,
+        numbers,
     })
 }
 
@@ -649,8 +673,8 @@ fn next_reads(
 /// Returns the versions of the inputs that the latest version of an output of this spec stands for: what it has read, or version 0
 /// of each.
 fn latest_reads(kept: &Stream, spec: &Spec) -> Reads
-    ensures { (h : List EntrySpec) (stream : ℕ) → HasStreamOf h stream kept.now → kept.now.spec ≡ Some spec.now
-        → result ≡ reads h stream spec.now (latest h stream) }
+    ensures { IsGrown kept.now → kept.now.spec ≡ Some spec.now
+        → result ≡ unwrap_or (outlined_in_roll (kept_stream kept.now)).reads (nothing_read spec.now) }
 {
     match read_at(&kept.reads, kept.reads.len() as u64) {
         Some(read) => read,

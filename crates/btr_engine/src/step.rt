@@ -108,7 +108,7 @@ impl<D: Disk> Engine<D> {
 }
 
 /// Converts a fault of the append.
-fn step_fault(fault: AppendFault) -> StepFault
+pub(crate) fn step_fault(fault: AppendFault) -> StepFault
     ensures full { (need left : ℕ) → fault ≡ Full need left → result ≡ DeviceFull need left }
     ensures failed { fault ≡ Fault → result ≡ DeviceFault }
     ensures stopped { (extents : ℕ) → fault ≡ AlreadyStopped extents → result ≡ Stopped extents }

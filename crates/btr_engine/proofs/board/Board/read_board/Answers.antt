@@ -10,6 +10,12 @@ with_stream-requires-clause-room c = (subst (HasRoomFor c.args.self.now) c.in-Cr
 pub with_stream-requires-clause-fresh : goal.with_stream-requires-clause-fresh
 with_stream-requires-clause-fresh c = (subst (HasRoomFor c.args.self.now) c.in-Create.is c.requires.room).fresh
 
+pub with_stream-requires-clause-good : goal.with_stream-requires-clause-good
+with_stream-requires-clause-good c = (subst (HasRoomFor c.args.self.now) c.in-Create.is c.requires.room).good
+
+pub with_stream-requires-in-Define-clause-good : goal.with_stream-requires-in-Define-clause-good
+with_stream-requires-in-Define-clause-good c = (subst (HasRoomFor c.args.self.now) c.in-Define.is c.requires.room).good
+
 pub with_stream-requires-in-Define-clause-room : goal.with_stream-requires-in-Define-clause-room
 with_stream-requires-in-Define-clause-room c = (subst (HasRoomFor c.args.self.now) c.in-Define.is c.requires.room).few
 

@@ -8,7 +8,7 @@ use Rattle.btr_hist.specs.History.{ids, is_output}
 use Rattle.btr_hist.specs.Legal.{rejection, change_rejection}
 use Rattle.btr_engine.specs.Board.{Versions, Kept, IsBoardOf}
 use Rattle.btr_engine.specs.Stage.{PushCause, WritesCommit, change, version_rejection}
-use Rattle.btr_engine.proofs.BoardStreams.{commit-makes}
+use Rattle.btr_engine.proofs.BoardStreamLemmas.{commit-makes}
 use Rattle.btr_engine.proofs.BoardCommits.{same-change, change-times, commit-tests, if_both}
 use Rattle.btr_engine.proofs.BoardNext.{kept-stream}
 use Rattle.btr_engine.proofs.RejectionBounds.{change_bounded}

@@ -1,44 +1,40 @@
 use Rattle.std.specs.Prelude.{◌≡◌, ◌<◌, true, false, List, length, slice_get, Some, None, IfOk, IfErr}
 use Rattle.std.proofs.Common.{refl, sym, ap, ◌∙◌, subst}
-use Rattle.std.proofs.lemmas.Option.{slice_get_within, get_or_from_slice_get}
 use Rattle.std.proofs.lemmas.Result.{on_ok_weaker}
 use Rattle.btr_hist.specs.declared.entry.Entry.{Entry}
 use Rattle.btr_hist.specs.declared.entry.Entry.TheVariants.{Distillate}
 use Rattle.btr_hist.specs.History.{ids, spec_of}
 use Rattle.btr_hist.specs.Legal.{rejection, takes_reads, distillate_change_rejection}
-use Rattle.btr_engine.specs.Board.{Kept, IsGrown, IsBoardOf}
+use Rattle.btr_board.specs.Numbers.{number_of}
+use Rattle.btr_engine.specs.Board.{Kept, IsBoardOf}
 use Rattle.btr_engine.specs.Stage.{PushCause, WritesCommit, change, version_rejection}
-use Rattle.btr_engine.proofs.BoardStreams.{distillate-makes}
+use Rattle.btr_engine.proofs.BoardStreamLemmas.{distillate-makes}
 use Rattle.btr_engine.proofs.BoardCommits.{same-change, distillate-times, distillate-tests, if_both}
-use Rattle.btr_engine.proofs.StreamsLemmas.{has-stream, has-streams, stream-of}
-use Rattle.btr_engine.proofs.BoardNext.{kept-stream}
+use Rattle.btr_engine.proofs.StreamsLemmas.{has-streams, stream-of, takes-of}
+use Rattle.btr_engine.proofs.BoardNext.{stream-grown}
 use Rattle.btr_engine.proofs.RejectionBounds.{distillate_ranges, distillate_bounded}
-use Rattle.btr_engine.proofs.board.Board.stage_distillate.Goals.{In-Some, In_default-distillate_change_rejection}
+use Rattle.btr_engine.proofs.board.Board.stage_distillate.Goals.{After-takes_reads, In_default-distillate_change_rejection}
 use Rattle.btr_engine.proofs.board.Board.stage_distillate.Goals as goal
-
--- The stream is at its place.
-there : (c : In-Some) → slice_get c.args.self.now.streams c.args.stream ≡ Some c.in-Some.kept.now
-there c =
-    ap (λ (b : Kept). slice_get b.streams c.args.stream) (sym c.self.view_is) ∙ c.in-Some.ensures
 
 -- The change passes the tests that look at it alone.
 passes : (c : In_default-distillate_change_rejection) → distillate_change_rejection (change c.args.cut.now c.args.added.now) ≡ None
 passes c =
     same-change distillate_change_rejection c.args.cut.now c.as_slice.result.now c.args.added.now c.as_slice-2.result.now c.distillate_change_rejection.result c.as_slice.ensures.ranges c.as_slice-2.ensures.points c.distillate_change_rejection.ensures ∙ c.in_default-distillate_change_rejection.is
 
--- The stream is one of the history, and takes the reads.
-stream : (c : In_default-distillate_change_rejection) (h : List Entry) → IsBoardOf h c.args.self.now → (c.args.stream < length (ids h)) × (takes_reads h c.args.stream (spec_of h c.args.stream) c.args.reads.now ≡ true)
-stream c h of =
-    let b : Kept = record { streams = c.self.inside.streams; entries = c.self.inside.entries } in
-    let was : IsBoardOf h b = subst (IsBoardOf h) (sym c.self.view_is) of in
-    let is = kept-stream h b c.args.stream c.in-Some.kept.now was c.in-Some.ensures in
-    (is.0, sym (c.takes_reads.ensures.of h c.args.stream (has-streams h c.args.self.now of) (has-stream h c.args.stream c.in-Some.kept.now is.1)) ∙ c.if-not-takes_reads.false)
+-- The stream is one of the history, and takes the reads after the history if the test finds that it takes them.
+taken : (c : After-takes_reads) (h : List Entry) → IsBoardOf h c.args.self.now → (c.args.stream < length (ids h)) × (takes_reads h c.args.stream (spec_of h c.args.stream) c.args.reads.now ≡ c.takes_reads.result)
+taken c h of =
+    let b : Kept = c.args.self.now in
+    let kept = c.in-Some.kept.now in
+    let has = has-streams h b of in
+    let at : slice_get b.streams c.args.stream ≡ Some kept = ap (λ (x : Kept). slice_get x.streams c.args.stream) (sym c.self.view_is) ∙ c.in-Some.ensures in
+    let grown = stream-grown c.self.inside.streams (number_of c.self.inside.numbers) c.self.invariant c.args.stream kept c.in-Some.ensures in
+    ((stream-of h b has c.args.stream kept at).0, sym (takes-of h b has c.args.stream kept at c.args.reads.now) ∙ sym (c.takes_reads.ensures.rolled grown))
 
 -- Only the tests of the next version are left.
-left : (c : In_default-distillate_change_rejection) (h : List Entry) → IsBoardOf h c.args.self.now → rejection h (Distillate c.args.stream c.args.cut.now c.args.added.now c.args.reads.now) ≡ version_rejection h c.args.stream (change c.args.cut.now c.args.added.now)
-left c h of =
-    let is = stream c h of in
-    distillate-tests h c.args.stream (change c.args.cut.now c.args.added.now) c.args.reads.now is.0 true is.1 None (passes c)
+left : (c : In_default-distillate_change_rejection) (h : List Entry) → (c.args.stream < length (ids h)) × (takes_reads h c.args.stream (spec_of h c.args.stream) c.args.reads.now ≡ c.takes_reads.result) → rejection h (Distillate c.args.stream c.args.cut.now c.args.added.now c.args.reads.now) ≡ version_rejection h c.args.stream (change c.args.cut.now c.args.added.now)
+left c h is =
+    distillate-tests h c.args.stream (change c.args.cut.now c.args.added.now) c.args.reads.now is.0 true (is.1 ∙ c.if-not-takes_reads.false) None (passes c)
 
 pub node_of_distillate-first-requires-clause-ranges : goal.node_of_distillate-first-requires-clause-ranges
 node_of_distillate-first-requires-clause-ranges c = distillate_ranges (change c.args.cut.now c.args.added.now) (passes c)
@@ -48,39 +44,34 @@ stage_version-requires-clause-times c = distillate-times (change c.args.cut.now 
 
 pub stage_version-requires-clause-grown : goal.stage_version-requires-clause-grown
 stage_version-requires-clause-grown c =
-    let kept = c.in-Some.kept.now in
-    subst IsGrown (get_or_from_slice_get c.self.inside.streams c.args.stream kept kept c.in-Some.ensures) (c.self.invariant.each c.args.stream kept (slice_get_within c.self.inside.streams c.args.stream kept c.in-Some.ensures))
+    stream-grown c.self.inside.streams (number_of c.self.inside.numbers) c.self.invariant c.args.stream c.in-Some.kept.now c.in-Some.ensures
 
 pub returns-then-not-takes_reads-clause-cause : goal.returns-then-not-takes_reads-clause-cause
 returns-then-not-takes_reads-clause-cause c h of =
     let its_change = change c.args.cut.now c.args.added.now in
-    let has = has-streams h c.args.self.now of in
-    let is = stream-of h c.args.self.now has c.args.stream c.in-Some.kept.now (there (goal.at.returns-then-not-takes_reads-clause-cause c).In-Some) in
-    let untaken = sym (c.takes_reads.ensures.of h c.args.stream has is.1) ∙ c.if-not-takes_reads.true in
-    distillate-tests h c.args.stream its_change c.args.reads.now is.0 false untaken (distillate_change_rejection its_change) refl
+    let is = taken (goal.at.returns-then-not-takes_reads-clause-cause c).After-takes_reads h of in
+    distillate-tests h c.args.stream its_change c.args.reads.now is.0 false (is.1 ∙ c.if-not-takes_reads.true) (distillate_change_rejection its_change) refl
 
 pub returns-in-Some-distillate_change_rejection-clause-cause : goal.returns-in-Some-distillate_change_rejection-clause-cause
 returns-in-Some-distillate_change_rejection-clause-cause c h of =
     let its_change = change c.args.cut.now c.args.added.now in
-    let has = has-streams h c.args.self.now of in
-    let is = stream-of h c.args.self.now has c.args.stream c.in-Some.kept.now (there (goal.at.returns-in-Some-distillate_change_rejection-clause-cause c).In-Some) in
-    let taken = sym (c.takes_reads.ensures.of h c.args.stream has is.1) ∙ c.if-not-takes_reads.false in
+    let is = taken (goal.at.returns-in-Some-distillate_change_rejection-clause-cause c).After-takes_reads h of in
     let found = same-change distillate_change_rejection c.args.cut.now c.as_slice.result.now c.args.added.now c.as_slice-2.result.now c.distillate_change_rejection.result c.as_slice.ensures.ranges c.as_slice-2.ensures.points c.distillate_change_rejection.ensures ∙ c.in-Some-distillate_change_rejection.is in
-    distillate-tests h c.args.stream its_change c.args.reads.now is.0 true taken _ found
+    distillate-tests h c.args.stream its_change c.args.reads.now is.0 true (is.1 ∙ c.if-not-takes_reads.false) _ found
 
 pub returns-clause-allowed : goal.returns-clause-allowed
 returns-clause-allowed c h of =
-    on_ok_weaker c.stage_version.result (λ none. left (goal.at.returns-clause-allowed c).In_default-distillate_change_rejection h of ∙ none) (c.stage_version.ensures.allowed h of)
+    on_ok_weaker c.stage_version.result (λ none. left (goal.at.returns-clause-allowed c).In_default-distillate_change_rejection h (taken (goal.at.returns-clause-allowed c).After-takes_reads h of) ∙ none) (c.stage_version.ensures.allowed h of)
 
 pub returns-clause-staged : goal.returns-clause-staged
 returns-clause-staged c h of =
     let e = Distillate c.args.stream c.args.cut.now c.args.added.now c.args.reads.now in
-    let its_left = left (goal.at.returns-clause-staged c).In_default-distillate_change_rejection h of in
+    let its_left = left (goal.at.returns-clause-staged c).In_default-distillate_change_rejection h (taken (goal.at.returns-clause-staged c).After-takes_reads h of) in
     if_both _ c.stage_version.result (λ none. its_left ∙ none) (c.stage_version.ensures.allowed h of) (λ allowed. c.stage_version.ensures.staged h e of (distillate-makes c.args.stream c.args.cut.now c.args.added.now c.args.reads.now) allowed)
 
 pub returns-clause-cause : goal.returns-clause-cause
 returns-clause-cause c h of =
-    subst (λ o. IfErr c.stage_version.result (PushCause o)) (sym (left (goal.at.returns-clause-cause c).In_default-distillate_change_rejection h of)) (c.stage_version.ensures.cause h of)
+    subst (λ o. IfErr c.stage_version.result (PushCause o)) (sym (left (goal.at.returns-clause-cause c).In_default-distillate_change_rejection h (taken (goal.at.returns-clause-cause c).After-takes_reads h of))) (c.stage_version.ensures.cause h of)
 
 pub returns-clause-bounds : goal.returns-clause-bounds
 returns-clause-bounds c =

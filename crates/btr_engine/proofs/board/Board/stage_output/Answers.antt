@@ -6,17 +6,17 @@ use Rattle.btr_hist.specs.declared.entry.Entry.TheVariants.{Define}
 use Rattle.btr_hist.specs.Legal.{rejection}
 use Rattle.btr_engine.specs.Board.{IsBoardOf}
 use Rattle.btr_engine.specs.Stage.{MayLackMemory}
-use Rattle.btr_engine.proofs.BoardStreams.{define-makes}
-use Rattle.btr_engine.proofs.StreamsLemmas.{has-streams}
+use Rattle.btr_engine.proofs.BoardStreamLemmas.{define-makes}
+use Rattle.btr_engine.proofs.StreamsLemmas.{has-streams, define-of}
 use Rattle.btr_engine.proofs.board.Board.stage_output.Goals.{In_default}
 use Rattle.btr_engine.proofs.board.Board.stage_output.Goals as goal
 
 -- The entry passes its tests.
 passes : (c : In_default) (h : List Entry) → IsBoardOf h c.args.self.now → rejection h (Define c.args.id c.args.spec.now) ≡ None
-passes c h of = sym (c.define_rejection.ensures.of h (has-streams h c.args.self.now of)) ∙ c.in_default.is
+passes c h of = sym (define-of h c.args.self.now (has-streams h c.args.self.now of) c.args.id c.args.spec.now) ∙ sym c.define_rejection.ensures.rolled ∙ c.in_default.is
 
 pub returns-in-Some-clause-cause : goal.returns-in-Some-clause-cause
-returns-in-Some-clause-cause c h of = sym (c.define_rejection.ensures.of h (has-streams h c.args.self.now of)) ∙ c.in-Some.is
+returns-in-Some-clause-cause c h of = sym (define-of h c.args.self.now (has-streams h c.args.self.now of) c.args.id c.args.spec.now) ∙ sym c.define_rejection.ensures.rolled ∙ c.in-Some.is
 
 pub returns-in_err-board-clause-cause : goal.returns-in_err-board-clause-cause
 returns-in_err-board-clause-cause c h of =

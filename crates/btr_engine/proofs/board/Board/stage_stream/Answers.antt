@@ -6,17 +6,17 @@ use Rattle.btr_hist.specs.declared.entry.Entry.TheVariants.{Create}
 use Rattle.btr_hist.specs.Legal.{rejection}
 use Rattle.btr_engine.specs.Board.{IsBoardOf}
 use Rattle.btr_engine.specs.Stage.{MayLackMemory}
-use Rattle.btr_engine.proofs.BoardStreams.{create-makes}
-use Rattle.btr_engine.proofs.StreamsLemmas.{has-streams}
+use Rattle.btr_engine.proofs.BoardStreamLemmas.{create-makes}
+use Rattle.btr_engine.proofs.StreamsLemmas.{has-streams, create-of}
 use Rattle.btr_engine.proofs.board.Board.stage_stream.Goals.{In_default}
 use Rattle.btr_engine.proofs.board.Board.stage_stream.Goals as goal
 
 -- The entry passes its tests.
 passes : (c : In_default) (h : List Entry) → IsBoardOf h c.args.self.now → rejection h (Create c.args.id) ≡ None
-passes c h of = sym (c.create_rejection.ensures.of h (has-streams h c.args.self.now of)) ∙ c.in_default.is
+passes c h of = sym (create-of h c.args.self.now (has-streams h c.args.self.now of) c.args.id) ∙ sym c.create_rejection.ensures.rolled ∙ c.in_default.is
 
 pub returns-in-Some-clause-cause : goal.returns-in-Some-clause-cause
-returns-in-Some-clause-cause c h of = sym (c.create_rejection.ensures.of h (has-streams h c.args.self.now of)) ∙ c.in-Some.is
+returns-in-Some-clause-cause c h of = sym (create-of h c.args.self.now (has-streams h c.args.self.now of) c.args.id) ∙ sym c.create_rejection.ensures.rolled ∙ c.in-Some.is
 
 pub returns-in_err-board-clause-cause : goal.returns-in_err-board-clause-cause
 returns-in_err-board-clause-cause c h of =

@@ -11,7 +11,7 @@ invariant_of-result c =
     let first = c.in_ok-first.ensures in
     let room = subst (λ (b : Kept). length b.streams < MAX_STREAMS) (sym c.self.view_is) c.requires.room in
     let fresh = subst (λ (b : Kept). place_of (ids_of b.streams) c.args.id ≡ None) (sym c.self.view_is) c.requires.fresh in
-    formed-stream streams (number_of c.self.inside.numbers) c.self.invariant c.args.id c.args.spec first.0 (number_of c.in_ok-numbers.numbers) c.len-number.result c.in_ok-streams.streams first.1 room fresh (c.in_ok-streams.ensures ∙ ap (λ x. streams ++ x ∷ []) first.2) c.len-number.ensures c.in_ok-numbers.ensures
+    formed-stream streams (number_of c.self.inside.numbers) c.self.invariant c.args.id c.args.spec first.0 (c.self.inside.entries + 1) (number_of c.in_ok-numbers.numbers) c.len-number.result c.in_ok-streams.streams first.1 room fresh c.requires.good (c.in_ok-streams.ensures ∙ ap (λ x. streams ++ x ∷ []) first.2) c.len-number.ensures c.in_ok-numbers.ensures
 
 pub returns-clause-next : goal.returns-clause-next
 returns-clause-next c h e of makes allowed =

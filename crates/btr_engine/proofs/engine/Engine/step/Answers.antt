@@ -10,14 +10,17 @@ use Rattle.btr_engine.specs.declared.step.StepFault.{StepFault}
 use Rattle.btr_engine.specs.declared.step.StepFault.TheVariants.{Stopped}
 use Rattle.btr_engine.specs.Board.{Kept, IsBoardOf}
 use Rattle.btr_engine.specs.Body.{prefix_to, pages_after, need_of}
-use Rattle.btr_engine.specs.Stored.{AreStored}
-use Rattle.btr_engine.specs.Engine.{device, board_of, entries_of, tail_of, is_stopped, room_of, IsEngineOf, IsAtRest}
+use Rattle.btr_engine.specs.Stored.{AreStored, HaveRoots}
+use Rattle.btr_engine.specs.Engine.{device, board_of, blocks_of, entries_of, tail_of, is_stopped, room_of, IsEngineOf, IsAtRest}
 use Rattle.btr_engine.specs.Pending.{written_pages}
 use Rattle.btr_engine.specs.Stage.{IsReceipt}
 use Rattle.btr_engine.specs.Step.{IsBeforeOrAfter, HasResult, HasEffect}
 use Rattle.btr_engine.proofs.EngineLemmas.{durable_as, few_versions_of}
+use Rattle.btr_engine.proofs.HoldsLemmas.{roots-held}
+use Rattle.btr_engine.proofs.StreamsLemmas.{has-streams}
+use Rattle.btr_engine.proofs.RootsLemmas.{roots-written}
 use Rattle.btr_engine.proofs.Stepping.{is_append_run, log_at_rest, no_moment}
-use Rattle.btr_engine.proofs.Appending.{IsExtentOf, fits_unless_full, refused, effect_of_fault, moments, moments_of_fault, stepped, at_rest, ends_after, began_after}
+use Rattle.btr_engine.proofs.Appending.{IsExtentOf, fits_unless_full, refused, effect_of_fault, moments, moments_of_fault, stepped, at_rest, ends_after, large_after, blocks_after}
 use Rattle.btr_engine.proofs.PendingLemmas.{fits_pending, extent_of_pending, WritesRightly, writes-rightly}
 use Rattle.btr_engine.proofs.Written.{pages-places}
 use Rattle.btr_engine.proofs.Durable.{opening_kept, durable_taken, durable_of_fault}
@@ -38,10 +41,12 @@ its_extent g c h of =
     extent_of_pending h (board_of c.args.self.now) of (tail_of c.args.self.now) c.args.entry.now c.in_ok-pending.pending (entries_of c.args.self.now + 1) c.deref.result.now counted c.in_ok-pending.ensures.made (c.in_ok-pending.ensures.pending h of) c.in_ok-pending.ensures.writes c.deref.ensures.value
 
 -- what is written stands after the pages of the history, and stores the trees of the next board
-its_writing : (g : Over) (c : After-deref g) (h : List Entry) (rest : IsAtRest h c.args.self.now) → WritesRightly h (board_of c.args.self.now) rest.of (tail_of c.args.self.now) rest.holds.leads.pages c.args.entry.now c.in_ok-pending.pending.staged
+its_writing : (g : Over) (c : After-deref g) (h : List Entry) (rest : IsAtRest h c.args.self.now) → WritesRightly h (board_of c.args.self.now) rest.of (tail_of c.args.self.now) rest.holds.leads.roots rest.holds.leads.pages c.args.entry.now c.in_ok-pending.pending.staged
 its_writing g c h rest =
     let old = c.args.self.now in
-    writes-rightly h (board_of old) rest.of (tail_of old) rest.holds.leads.pages rest.stored (omega (arith, old.ends)) (omega (arith, old.log.tail_inside, old.log.addressable)) (few_versions_of h old rest.of) c.args.entry.now c.in_ok-pending.pending.staged c.in_ok-pending.ensures.writes (c.in_ok-pending.ensures.pending h rest.of).is_receipt c.in_ok-pending.ensures.made.spelled
+    let counted = roots-held (g.D.Disk.size (device old)) (g.D.Disk.contents (device old)) (blocks_of old) (tail_of old) h rest.holds in
+    let have = roots-written h (board_of old) (has-streams h (board_of old) rest.of) rest.holds.leads.roots counted rest.roots c.args.entry.now (tail_of old) c.in_ok-pending.pending.staged c.in_ok-pending.ensures.writes in
+    writes-rightly h (board_of old) rest.of (tail_of old) rest.holds.leads.roots rest.holds.leads.pages rest.stored (omega (arith, old.ends)) (omega (arith, old.log.tail_inside, old.log.addressable)) (few_versions_of h old rest.of) c.args.entry.now c.in_ok-pending.pending.staged c.in_ok-pending.ensures.writes (c.in_ok-pending.ensures.pending h rest.of).is_receipt c.in_ok-pending.ensures.made.spelled have
 
 -- the append failed, and left at each moment the history with the entry or without it
 left_by_fault : (g : Over) (c : In-Err g) → g.D.Disk.is_observable → (h : List Entry) → IsAtRest h c.args.self.now → log.LogLeaves c.args.self.now.log c.append.new.self (IsBeforeOrAfter (g.D.Disk.size (device c.args.self.now)) h c.args.entry.now)
@@ -67,11 +72,16 @@ of_next g c h of =
     subst (IsBoardOf (h ++ c.args.entry.now ∷ [])) (sym c.accept.ensures.next) (c.in_ok-pending.ensures.pending h of).of
 
 -- the trees of the next board are stored
-stored_next : (g : Over) (c : After-accept g) (h : List Entry) (rest : IsAtRest h c.args.self.now) → AreStored (pages_after (prefix_to (tail_of c.args.self.now) h rest.holds.leads.pages) c.args.entry.now (written_pages c.in_ok-pending.pending.staged)) (tail_of c.args.self.now + need_of h c.args.entry.now) c.accept.new.self.streams
+stored_next : (g : Over) (c : After-accept g) (h : List Entry) (rest : IsAtRest h c.args.self.now) → AreStored (pages_after (prefix_to (tail_of c.args.self.now) h rest.holds.leads.roots rest.holds.leads.pages) c.args.entry.now (written_pages c.in_ok-pending.pending.staged)) (tail_of c.args.self.now + need_of h c.args.entry.now) c.accept.new.self.streams
 stored_next g c h rest =
     let old = c.args.self.now in
-    let after = pages_after (prefix_to (tail_of old) h rest.holds.leads.pages) c.args.entry.now (written_pages c.in_ok-pending.pending.staged) in
+    let after = pages_after (prefix_to (tail_of old) h rest.holds.leads.roots rest.holds.leads.pages) c.args.entry.now (written_pages c.in_ok-pending.pending.staged) in
     subst (λ (b : Kept). AreStored after (tail_of old + need_of h c.args.entry.now) b.streams) (sym c.accept.ensures.next) (its_writing g (goal.at.After-accept g c).After-deref h rest).stored
+
+-- they have the roots of the entries
+roots_next : (g : Over) (c : After-accept g) (h : List Entry) (rest : IsAtRest h c.args.self.now) → HaveRoots (rest.holds.leads.roots ++ c.in_ok-pending.pending.staged.root ∷ []) c.accept.new.self.streams
+roots_next g c h rest =
+    subst (λ (b : Kept). HaveRoots (rest.holds.leads.roots ++ c.in_ok-pending.pending.staged.root ∷ []) b.streams) (sym c.accept.ensures.next) (its_writing g (goal.at.After-accept g c).After-deref h rest).have
 
 -- ---- the effect, of whatever history
 
@@ -98,7 +108,7 @@ pub returns-in-Err-clause-effect : goal.returns-in-Err-clause-effect
 returns-in-Err-clause-effect g c =
     let old = c.args.self.now in
     let runs = ran g (goal.at.returns-in-Err-clause-effect g c).After-stage in
-    stopped_runs old _ _ runs (effect_of_fault old _ c.deref.result.now c.in-Err.fault c.step_fault.result c.in-Err.ensures.cause refl refl refl c.step_fault.ensures.full c.step_fault.ensures.failed runs)
+    stopped_runs old _ _ runs (effect_of_fault old _ c.deref.result.now c.in-Err.fault c.step_fault.result c.in-Err.ensures.cause refl refl refl refl c.step_fault.ensures.full c.step_fault.ensures.failed runs)
 
 pub returns-clause-effect : goal.returns-clause-effect
 returns-clause-effect g c =
@@ -132,7 +142,7 @@ pub returns-in-Err-clause-cause : goal.returns-in-Err-clause-cause
 returns-in-Err-clause-cause g c h of =
     let old = c.args.self.now in
     refused h old c.args.entry.now _ _ c.deref.result.now (its_extent g (goal.at.returns-in-Err-clause-cause g c).After-deref h of) _ c.in-Err.fault c.step_fault.result (ran g (goal.at.returns-in-Err-clause-cause g c).After-stage)
-    c.in-Err.ensures.full c.in-Err.ensures.cause refl refl refl c.step_fault.ensures.full c.step_fault.ensures.failed
+    c.in-Err.ensures.full c.in-Err.ensures.cause refl refl refl refl c.step_fault.ensures.full c.step_fault.ensures.failed
 
 pub returns-in-Err-clause-moments : goal.returns-in-Err-clause-moments
 returns-in-Err-clause-moments g c is_observable h rest =
@@ -142,7 +152,7 @@ pub returns-in-Err-clause-durable : goal.returns-in-Err-clause-durable
 returns-in-Err-clause-durable g c is_observable h more calls entries rests so_far =
     let old = c.args.self.now in
     let runs = ran g (goal.at.returns-in-Err-clause-durable g c).After-stage in
-    durable_of_fault h old c.args.entry.now calls entries _ c.deref.result.now c.in-Err.fault c.step_fault.result more runs c.in-Err.ensures.cause refl refl refl c.step_fault.ensures.full c.step_fault.ensures.failed
+    durable_of_fault h old c.args.entry.now calls entries _ c.deref.result.now c.in-Err.fault c.step_fault.result more runs c.in-Err.ensures.cause refl refl refl refl c.step_fault.ensures.full c.step_fault.ensures.failed
     (opening_kept old _ c.append.ensures.kept refl refl) (g.met.D.Disk.counts_now is_observable _) (left_by_fault g (goal.at.returns-in-Err-clause-durable g c).In-Err is_observable h (rests runs)) so_far
 
 -- ---- the entry was taken
@@ -157,9 +167,13 @@ invariant_of-self-2 g c =
     record {
       counted = omega (arith, appended.extents, old.counted, entries);
       ends = ends_after old c.args.entry.now staged.root (written_pages staged) (pages-places staged.receipt.stream staged.nodes.items) c.deref.result.now (entries_of old + 1) (c.deref.ensures.value ∙ made.bytes) c.append.new.self appended;
-      began = began_after old c.args.entry.now staged.root (written_pages staged) (pages-places staged.receipt.stream staged.nodes.items) c.deref.result.now (entries_of old + 1) (c.deref.ensures.value ∙ made.bytes) c.append.new.self appended;
+      began = omega (arith, old.began, entries);
       called = omega (arith, old.called, c.append.ensures.kept.device_kept.more_calls);
       failed = omega (arith, old.failed, c.append.ensures.kept.faults);
+      side = old.side;
+      seq = omega (arith, old.seq, appended.tail);
+      large = large_after old c.append.new.self c.append.ensures.kept;
+      same_blocks = blocks_after old c.append.new.self c.append.ensures.kept;
     }
 
 pub returns-clause-stepped : goal.returns-clause-stepped
@@ -171,7 +185,7 @@ returns-clause-stepped g c h of =
 pub returns-clause-at_rest : goal.returns-clause-at_rest
 returns-clause-at_rest g c is_observable h rest =
     at_rest h c.args.self.now c.args.entry.now _ _ c.deref.result.now (its_extent g (goal.at.returns-clause-at_rest g c).After-deref h rest.of) _ (of_next g (goal.at.returns-clause-at_rest g c).After-accept h rest.of) c.in_default.ensures.appended
-    (fits g (goal.at.returns-clause-at_rest g c).In_default h rest.of) c.append.ensures.kept rest (its_writing g (goal.at.returns-clause-at_rest g c).After-deref h rest).stand (stored_next g (goal.at.returns-clause-at_rest g c).After-accept h rest) (c.in_default.ensures.written is_observable) (c.in_default.ensures.at_rest is_observable _ (log_at_rest h c.args.self.now rest))
+    (fits g (goal.at.returns-clause-at_rest g c).In_default h rest.of) c.append.ensures.kept refl rest (its_writing g (goal.at.returns-clause-at_rest g c).After-deref h rest).stand (stored_next g (goal.at.returns-clause-at_rest g c).After-accept h rest) (roots_next g (goal.at.returns-clause-at_rest g c).After-accept h rest) (c.in_default.ensures.written is_observable) (c.in_default.ensures.at_rest is_observable _ (log_at_rest h c.args.self.now rest))
 
 pub returns-clause-moments : goal.returns-clause-moments
 returns-clause-moments g c is_observable h rest =
@@ -181,7 +195,7 @@ pub returns-clause-acknowledged : goal.returns-clause-acknowledged
 returns-clause-acknowledged g c is_observable h rest =
     let e = c.args.entry.now in
     let rested = at_rest h c.args.self.now e _ _ c.deref.result.now (its_extent g (goal.at.returns-clause-acknowledged g c).After-deref h rest.of) _ (of_next g (goal.at.returns-clause-acknowledged g c).After-accept h rest.of) c.in_default.ensures.appended
-    (fits g (goal.at.returns-clause-acknowledged g c).In_default h rest.of) c.append.ensures.kept rest (its_writing g (goal.at.returns-clause-acknowledged g c).After-deref h rest).stand (stored_next g (goal.at.returns-clause-acknowledged g c).After-accept h rest) (c.in_default.ensures.written is_observable) (c.in_default.ensures.at_rest is_observable _ (log_at_rest h c.args.self.now rest)) in
+    (fits g (goal.at.returns-clause-acknowledged g c).In_default h rest.of) c.append.ensures.kept refl rest (its_writing g (goal.at.returns-clause-acknowledged g c).After-deref h rest).stand (stored_next g (goal.at.returns-clause-acknowledged g c).After-accept h rest) (roots_next g (goal.at.returns-clause-acknowledged g c).After-accept h rest) (c.in_default.ensures.written is_observable) (c.in_default.ensures.at_rest is_observable _ (log_at_rest h c.args.self.now rest)) in
     durable_as (h ++ e ∷ []) _ (length h + 1) (length-append h (e ∷ [])) (g.met.D.Disk.only_now is_observable c.append.new.self.disk) rested
 
 pub returns-clause-durable : goal.returns-clause-durable
@@ -190,5 +204,5 @@ returns-clause-durable g c is_observable h more calls entries rests so_far =
     let runs = ran g (goal.at.returns-clause-durable g c).After-stage in
     let rest = rests runs in
     let rested = at_rest h old c.args.entry.now _ _ c.deref.result.now (its_extent g (goal.at.returns-clause-durable g c).After-deref h rest.of) _ (of_next g (goal.at.returns-clause-durable g c).After-accept h rest.of) c.in_default.ensures.appended
-    (fits g (goal.at.returns-clause-durable g c).In_default h rest.of) c.append.ensures.kept rest (its_writing g (goal.at.returns-clause-durable g c).After-deref h rest).stand (stored_next g (goal.at.returns-clause-durable g c).After-accept h rest) (c.in_default.ensures.written is_observable) (c.in_default.ensures.at_rest is_observable _ (log_at_rest h old rest)) in
+    (fits g (goal.at.returns-clause-durable g c).In_default h rest.of) c.append.ensures.kept refl rest (its_writing g (goal.at.returns-clause-durable g c).After-deref h rest).stand (stored_next g (goal.at.returns-clause-durable g c).After-accept h rest) (roots_next g (goal.at.returns-clause-durable g c).After-accept h rest) (c.in_default.ensures.written is_observable) (c.in_default.ensures.at_rest is_observable _ (log_at_rest h old rest)) in
     durable_taken h old c.args.entry.now calls entries _ more runs (opening_kept old _ c.append.ensures.kept refl refl) rested (left_by_append g (goal.at.returns-clause-durable g c).In_default is_observable h rest) so_far

@@ -1,5 +1,5 @@
 -- The streams of a history with one entry more: their ids, their numbers, their kinds, their commits and what they have read.
-use Rattle.std.specs.Prelude.{◌≡◌, ℕ, ◌+◌, ◌<◌, ◌≤◌, Bool, true, false, cond, ◌==◌, ◌||◌, nat_eq, nat_le, List, [], ◌∷◌, ◌++◌, length, slice_index_or, Option, Some, None, is_some}
+use Rattle.std.specs.Prelude.{◌≡◌, ℕ, ◌+◌, ◌<◌, ◌≤◌, Bool, true, false, cond, ◌==◌, ◌||◌, nat_eq, List, [], ◌∷◌, ◌++◌, length, slice_index_or, Option, Some, None, is_some}
 use Rattle.std.specs.List.{list_any, position_from, filter_map, cons_option}
 use Rattle.std.proofs.Common.{zero, suc, refl, sym, ap, ◌∙◌, arith, inl, inr}
 use Rattle.std.proofs.lemmas.List.{append-nil, get_or_past}
@@ -7,16 +7,14 @@ use Rattle.std.proofs.lemmas.List.Elements.{filter_map-append}
 use Rattle.std.proofs.lemmas.Bool.{cases_eq, eq-eqb, ne_eqb}
 use Rattle.btr_base.specs.declared.point.Point.{Point}
 use Rattle.btr_base.specs.Range.{RangeValue}
-use Rattle.btr_base.specs.declared.limits.TheConstants.{MAX_STREAMS}
 use Rattle.btr_base.specs.Commit.{Change}
 use Rattle.btr_board.specs.Put.{put_at}
 use Rattle.btr_hist.specs.declared.entry.Entry.{Entry}
 use Rattle.btr_hist.specs.declared.entry.Entry.TheVariants.{Create, Commit, Define, Distillate}
 use Rattle.btr_hist.specs.declared.kernel.Spec.{Spec}
 use Rattle.btr_hist.specs.declared.kernel.Reads.{Reads}
-use Rattle.btr_hist.specs.declared.rejection.Rejection.TheVariants.{StreamExists, StreamLimit}
 use Rattle.btr_hist.specs.History.{new_id, new_kind, change_of, read_of, ids, kinds, spec_of, commits, recorded, read_by}
-use Rattle.btr_hist.specs.Legal.{first_some, when, create_rejection, Follows}
+use Rattle.btr_hist.specs.Legal.{Follows}
 use Rattle.btr_hist.proofs.HistoryLemmas.{length-kinds, length-recorded, unknown}
 use Rattle.btr_engine.specs.Board.{place_of}
 use Rattle.btr_engine.specs.Stage.{MakesStream, MakesVersion, change}
@@ -167,12 +165,6 @@ module _ (xs : List ℕ) (id : ℕ) where
         | inl same ↦ put q ∙ put-is id number f q ∙ ap (λ t. cond t (Some number) (f q)) (eq-eqb q id same) ∙ ap {A = ℕ} {B = Option ℕ} Some last ∙ sym (place-new none) ∙ ap (place_of (xs ++ id ∷ [])) (sym same)
         | inr other ↦ put q ∙ put-is id number f q ∙ ap (λ t. cond t (Some number) (f q)) (ne_eqb q id other) ∙ are q ∙ sym (place-other q other)
       ]
-
--- ---- why a stream may not be created
-
-pub creation_is : (h : List Entry) (id : ℕ) (has full : Bool) → list_any (nat_eq id) (ids h) ≡ has → nat_le MAX_STREAMS (length (ids h)) ≡ full → first_some (when has StreamExists ∷ when full StreamLimit ∷ []) ≡ create_rejection h id
-creation_is h id has full any limit =
-    sym (ap (λ t. first_some (when t StreamExists ∷ when (nat_le MAX_STREAMS (length (ids h))) StreamLimit ∷ [])) any ∙ ap (λ t. first_some (when has StreamExists ∷ when t StreamLimit ∷ [])) limit)
 
 -- ---- streams that the history does not have
 
