@@ -1,19 +1,20 @@
 -- The parts of a body: its head, the bytes of the content after it, zeros up to the end of the last block of the content, and node blocks.
-use Rattle.std.specs.Prelude.{◌≡◌, ℕ, ◌+◌, ◌-◌, ◌*◌, ◌<◌, ◌≤◌, ◌^◌, List, ◌++◌, length, take, drop, EachIndex, slice_index, Option, Some, None, IfNone}
-use Rattle.std.proofs.Common.{refl, sym, ◌∙◌, ap, arith, append_assoc, get_or, replicate}
-use Rattle.std.proofs.lemmas.List.{take_at, drop_at, drop-drop, length-take-le, length-drop, take-append-drop, ext_get_or, length-replicate, get_or-replicate}
+-- Those of a checkpoint have no node blocks.
+use Rattle.std.specs.Prelude.{◌≡◌, ℕ, ◌+◌, ◌-◌, ◌*◌, ◌<◌, ◌≤◌, ◌^◌, List, [], ◌∷◌, ◌++◌, length, take, drop, EachIndex, slice_index, Option, Some, None, IfNone}
+use Rattle.std.proofs.Common.{refl, sym, ◌∙◌, ap, inr, arith, ⊎_elim, append_assoc, get_or, replicate}
+use Rattle.std.proofs.lemmas.List.{take_at, drop_at, drop-drop, length-take-le, length-drop, take-append-drop, take_all, append-nil, ext_get_or, length-replicate, get_or-replicate}
 use Rattle.btr_disk.specs.Gate.{zeros}
 use Rattle.btr_disk.proofs.GateLemmas.{length-zeros}
 use Rattle.btr_log.specs.declared.head.Head.{Head}
 use Rattle.btr_log.specs.Extents.{IsBody}
-use Rattle.btr_log.specs.Head.{content_blocks, head_bytes, IsHead, entry_head}
+use Rattle.btr_log.specs.Head.{content_blocks, head_bytes, IsHead, entry_head, checkpoint_head}
 use Rattle.btr_log.proofs.HeadLemmas.{length-head_bytes, Spells-one}
 use Rattle.btr_hist.specs.declared.entry.Entry.{Entry}
 use Rattle.btr_entry.specs.Grammar.{spelling, IsEntry}
 use Rattle.btr_engine.specs.Body.{padding}
 use Rattle.btr_engine.proofs.BodyLemmas.{filled}
-use Rattle.btr_open.specs.Content.{content_of, HasContent, node_blocks_of}
-use Rattle.btr_open.proofs.ContentLemmas.{content_head, IsHead-content, content-parts}
+use Rattle.btr_open.specs.Content.{content_of, HasContent, HasCheckpoint, node_blocks_of}
+use Rattle.btr_open.proofs.ContentLemmas.{content_head, IsHead-content, content-parts, checkpoint-head}
 
 -- ---- zeros
 
@@ -105,7 +106,7 @@ module _ (number : ℕ) (body : List ℕ) (head : Head) (is : IsBody body head) 
     wanted = content_head number e root blocks body has
 
     -- The head of a body with a content is the content's.
-    heads : head ≡ wanted
+    pub heads : head ≡ wanted
     heads =
         let front : take 64 body ≡ head_bytes wanted =
         ap (take 64) (content-parts number e root blocks body has) ∙ take_at (head_bytes wanted) (filled e ++ blocks) 64 (length-head_bytes wanted) in
@@ -140,6 +141,90 @@ module _ (number : ℕ) (body : List ℕ) (head : Head) (is : IsBody body head) 
           is_spelled = has.spelled;
           bytes_are = (λ i. take (same i) (after-head i)) ∙ take_at (spelling e) (zeros (padding (length (spelling e))) ++ blocks) (length (spelling e)) refl;
         }
+
+-- ---- a checkpoint
+
+-- The kind, the number and the length determine the head of a checkpoint.
+head-of : (number length : ℕ) (head : Head) → IsHead head → head.kind ≡ 2 → head.number ≡ number → head.length ≡ length → head ≡ checkpoint_head number length
+head-of number length head is kind same long =
+    let none : (head.nodes ≡ 0) × (head.root ≡ 0) = ⊎_elim (λ e. let one = e.0 in absurd (omega (arith, one, kind))) (λ c. (c.1, c.2)) is.kind in
+    let format = is.format in
+    let n : head.n ≡ content_blocks length = is.blocks ∙ (λ i. content_blocks (long i) + none.0 i) ∙ omega arith in
+    let nodes = none.0 in
+    let root = none.1 in
+    λ i. record { kind = kind i; format = format i; number = same i; n = n i; length = long i; nodes = nodes i; root = root i }
+
+-- Each byte after the content is 0.
+abbrev pub ZerosAfter : ℕ → List ℕ → Type 0
+ZerosAfter from body =
+    let rest = take (length body - from) (drop from body) in EachIndex rest (λ k. slice_index rest k ≡ 0)
+
+module _ (number : ℕ) (content body : List ℕ) (head : Head) (is : IsBody body head) where
+  abbrev long : ℕ
+  long = length content
+
+  -- A body whose tests succeed is that of a checkpoint.
+  pub checkpoint-found : (end : ℕ) → end ≡ 64 + length content → head.kind ≡ 2 → head.number ≡ number → head.length ≡ length content → take (end - 64) (drop 64 body) ≡ content → ZerosAfter end body → HasCheckpoint number content body
+  checkpoint-found end ends kind same size text_is each =
+      let heads = head-of number long head is.spells.is_head kind same size in
+      let n : head.n ≡ content_blocks long = ap (λ (h : Head). h.n) heads in
+      let whole : length body ≡ 4096 * content_blocks long = is.whole ∙ ap (λ m. 4096 * m) n in
+      let front : take 64 body ≡ head_bytes (checkpoint_head number long) = is.spells.spelling ∙ ap head_bytes heads in
+      let at : end - 64 ≡ long = omega arith in
+      let texts : text long body ≡ content = ap (λ m. take m (drop 64 body)) (sym at) ∙ text_is in
+      let rest : List ℕ = take (length body - end) (drop end body) in
+      let size_rest : length body - end ≡ padding long = omega (arith, whole, ends) in
+      let here : rest ≡ behind long body = (λ i. take (size_rest i) (drop (ends i) body)) in
+      let pad : padding long ≤ length (drop (64 + long) body) = omega (arith, length-drop (64 + long) body, whole) in
+      let zero : behind long body ≡ zeros (padding long) =
+      sym here ∙ zeros-from-each rest each ∙ ap (λ l. zeros (length l)) here ∙ ap zeros (length-take-le (padding long) (drop (64 + long) body) pad) in
+      let none : others long body ≡ [] = no-more (others long body) (omega (arith, length-drop (4096 * content_blocks long) body, whole)) in
+      let parts : take 64 body ++ ((text long body ++ behind long body) ++ others long body) ≡ head_bytes (checkpoint_head number long) ++ ((content ++ zeros (padding long)) ++ []) =
+      λ i. front i ++ ((texts i ++ zero i) ++ none i) in
+      record {
+        room = omega (arith, is.spells.is_head.fits.n, n);
+        bytes = sym (all-parts long body) ∙ parts ∙ ap (λ l. head_bytes (checkpoint_head number long) ++ l) (append-nil (content ++ zeros (padding long)));
+      }
+    where
+      no-more : (xs : List ℕ) → length xs ≡ 0 → xs ≡ []
+      no-more [] none = refl
+      no-more (x ∷ xs) none = absurd (omega arith)
+
+  module _ (few : number < 2 ^ 64) (short : length content < 2 ^ 64) (has : HasCheckpoint number content body) where
+    -- The head of a checkpoint's body is the checkpoint's.
+    its-head : head ≡ checkpoint_head number long
+    its-head =
+        Spells-one (take 64 body) head (checkpoint_head number long) is.spells (record {
+          is_head = record {
+            kind = inr (refl, refl, refl);
+            format = refl;
+            blocks = omega arith;
+            fits = record { number = few; n = has.room; length = short; nodes = omega arith; root = omega arith };
+          };
+          spelling = checkpoint-head number content body has;
+        })
+
+    pub checkpoint-number : head.number ≡ number
+    checkpoint-number = ap (λ (h : Head). h.number) its-head
+
+    pub checkpoint-length : head.length ≡ length content
+    checkpoint-length = ap (λ (h : Head). h.length) its-head
+
+    after : drop 64 body ≡ content ++ zeros (padding long)
+    after = ap (drop 64) has.bytes ∙ drop_at (head_bytes (checkpoint_head number long)) (content ++ zeros (padding long)) 64 (length-head_bytes (checkpoint_head number long))
+
+    pub checkpoint-text : (end : ℕ) → end ≡ 64 + length content → take (end - 64) (drop 64 body) ≡ content
+    checkpoint-text end ends =
+        let at : end - 64 ≡ long = omega arith in
+        (λ i. take (at i) (after i)) ∙ take_at content (zeros (padding long)) long refl
+
+    pub checkpoint-zeros : (end : ℕ) → end ≡ 64 + length content → ZerosAfter end body
+    checkpoint-zeros end ends =
+        let pad = padding long in
+        let last : drop end body ≡ zeros pad = ap (λ m. drop m body) ends ∙ sym (drop-drop long 64 body) ∙ ap (drop long) after ∙ drop_at content (zeros pad) long refl in
+        let rest : List ℕ = take (length body - end) (drop end body) in
+        let all : rest ≡ zeros pad = take_all (length body - end) (drop end body) (omega (arith, length-drop end body)) ∙ last in
+        each-from-zeros pad rest all
 
 -- What holds of `None`, weakened.
 pub IfNone_then : {X : Type 0} (o : Option X) (P Q : Type 0) → (P → Q) → IfNone o P → IfNone o Q

@@ -1,11 +1,15 @@
--- Lemmas on the content of a body: a body has one, and the body of an entry is its content and then its pages.
-use Rattle.std.specs.Prelude.{◌≡◌, ℕ, ◌+◌, ◌<◌, ◌≤◌, ◌^◌, List, ◌++◌, length}
+-- Lemmas on the content of a body: a body has one, and not an entry's and a checkpoint's; and the body of an entry is its content and then
+-- its pages.
+use Rattle.std.specs.Prelude.{◌≡◌, ℕ, ◌+◌, ◌<◌, ◌≤◌, ◌^◌, List, ◌++◌, length, take}
 use Rattle.std.specs.List.{flat_map, AllByRecursion}
 use Rattle.std.proofs.Common.{sym, ◌∙◌, ap, arith, append_assoc, length-append}
+use Rattle.std.proofs.lemmas.List.{take_at}
+use Rattle.std.proofs.lemmas.Nat.{from_be_bytes-to_be_bytes_4}
 use Rattle.btr_disk.specs.Gate.{zeros}
+use Rattle.btr_disk.specs.Numbers.{u32_at}
 use Rattle.btr_log.specs.declared.head.Head.{Head}
 use Rattle.btr_log.specs.Extents.{need}
-use Rattle.btr_log.specs.Head.{head_bytes, IsHead, entry_head}
+use Rattle.btr_log.specs.Head.{head_bytes, IsHead, entry_head, checkpoint_head}
 use Rattle.btr_log.proofs.HeadLemmas.{length-head_bytes, head_bytes-one, IsHead-entry_head}
 use Rattle.btr_node.specs.Page.{page_bytes, Fits}
 use Rattle.btr_node.specs.declared.page.NodePage.{NodePage}
@@ -13,10 +17,13 @@ use Rattle.btr_pages.specs.Pages.{ArePages}
 use Rattle.btr_pages.proofs.BlockLemmas.{parts-one, each-places, length-pages}
 use Rattle.btr_hist.specs.declared.entry.Entry.{Entry}
 use Rattle.btr_entry.specs.Grammar.{spelling}
+use Rattle.btr_roll.specs.Roll.{roll_bytes}
+use Rattle.btr_entry.specs.Grammar.{IsSpelled}
 use Rattle.btr_entry.proofs.SpellingLemmas.{length-spelling, same_entry}
-use Rattle.btr_engine.specs.Body.{padding, body_of, Prefix, IsBodyOf, first_page}
+use Rattle.btr_engine.specs.Rolling.{roll_of}
+use Rattle.btr_engine.specs.Body.{padding, body_of, Prefix, IsBodyOf, first_page, checkpoint_body, IsCheckpointOf}
 use Rattle.btr_engine.proofs.BodyLemmas.{filled, need-body_of}
-use Rattle.btr_open.specs.Content.{content_of, HasContent}
+use Rattle.btr_open.specs.Content.{content_of, HasContent, HasCheckpoint}
 
 -- ---- the head of a content
 
@@ -54,6 +61,45 @@ content-one number e f q r x y body some few is is_too =
       contents.1,
     )
 
+-- ---- the content of a checkpoint
+
+-- The kind in the bytes of a head.
+kind-in : (head : Head) → head.kind < 2 ^ 32 → u32_at 8 (head_bytes head) ≡ head.kind
+unfolding head_bytes
+kind-in head small = from_be_bytes-to_be_bytes_4 head.kind small
+
+-- The body of a checkpoint begins with its head.
+pub checkpoint-head : (number : ℕ) (content body : List ℕ) → HasCheckpoint number content body → take 64 body ≡ head_bytes (checkpoint_head number (length content))
+checkpoint-head number content body has =
+    let head = checkpoint_head number (length content) in
+    ap (take 64) has.bytes ∙ take_at (head_bytes head) (content ++ zeros (padding (length content))) 64 (length-head_bytes head)
+
+-- A head that such a body begins with has the kind of a checkpoint.
+pub checkpoint-kind : (number : ℕ) (content body : List ℕ) (head : Head) → HasCheckpoint number content body → take 64 body ≡ head_bytes head → head.kind < 2 ^ 32 → head.kind ≡ 2
+checkpoint-kind number content body head has begins small =
+    sym (kind-in head small) ∙ ap (u32_at 8) (sym begins ∙ checkpoint-head number content body has) ∙ kind-in (checkpoint_head number (length content)) (omega arith)
+
+-- The body of a checkpoint of the entries of a prefix has the bytes of their roll as content, and the other way round.
+pub has-roll : (log : Prefix) (body : List ℕ) → IsCheckpointOf log body → HasCheckpoint (length log.entries) (roll_bytes (roll_of log.entries log.roots)) body
+unfolding checkpoint_body
+has-roll log body is = record { room = is.room; bytes = is.bytes }
+
+pub roll-has : (log : Prefix) (body : List ℕ) → HasCheckpoint (length log.entries) (roll_bytes (roll_of log.entries log.roots)) body → IsCheckpointOf log body
+unfolding checkpoint_body
+roll-has log body has = record { room = has.room; bytes = has.bytes }
+
+-- A body has not the content of an entry and that of a checkpoint.
+pub contents-apart : (number entries : ℕ) (e : Entry) (root : ℕ) (nodes content body : List ℕ) → HasContent number e root nodes body → HasCheckpoint entries content body → ⊥
+contents-apart number entries e root nodes content body has is =
+    let head = content_head number e root nodes body has in
+    let begins : take 64 body ≡ head_bytes head = ap (take 64) (content-parts number e root nodes body has) ∙ take_at (head_bytes head) (filled e ++ nodes) 64 (length-head_bytes head) in
+    let kinds : 1 ≡ 2 = checkpoint-kind entries content body head is begins (omega arith) in
+    absurd (omega (arith, kinds))
+
+pub content-apart : (log : Prefix) (e : Entry) (root : ℕ) (nodes body : List ℕ) → HasContent (length log.entries + 1) e root nodes body → IsCheckpointOf log body → ⊥
+content-apart log e root nodes body content is =
+    contents-apart (length log.entries + 1) (length log.entries) e root nodes (roll_bytes (roll_of log.entries log.roots)) body content (has-roll log body is)
+
 -- ---- the body of an entry
 
 -- The bytes of the body of an entry are its content and then its pages.
@@ -62,29 +108,36 @@ unfolding body_of content_of
 content-bytes number e root pages =
     sym (append_assoc (head_bytes (entry_head number (length (spelling e)) (length pages) root)) (filled e) (flat_map page_bytes pages))
 
--- The body of an entry has its content, and its node blocks are its pages.
-pub body-content : (before : Prefix) (e : Entry) (root : ℕ) (pages : List NodePage) (body : List ℕ) → before.gate + need body < 2 ^ 64 → IsBodyOf before e root pages body → HasContent (length before.entries + 1) e root (flat_map page_bytes pages) body
-body-content before e root pages body short is =
-    let places = each-places pages is.fits in
-    let needed = ap need is.bytes ∙ need-body_of (length before.entries + 1) e root pages places in
+-- The bytes of the body of an entry have its content, and its node blocks are its pages.
+pub content-of-bytes : (number : ℕ) (e : Entry) (root : ℕ) (pages : List NodePage) (body : List ℕ) → need body ≤ 2 ^ 64 → IsSpelled e → root < 2 ^ 64 → AllByRecursion Fits pages → body ≡ body_of number e root pages → HasContent number e root (flat_map page_bytes pages) body
+content-of-bytes number e root pages body short spelled low fits bytes =
+    let places = each-places pages fits in
+    let needed = ap need bytes ∙ need-body_of number e root pages places in
     record {
-      spelled = is.spelled;
-      low = is.low;
+      spelled = spelled;
+      low = low;
       nodes = length pages;
       whole = length-pages pages places;
       room = omega (arith, short, needed);
-      bytes = is.bytes ∙ content-bytes (length before.entries + 1) e root pages;
+      bytes = bytes ∙ content-bytes number e root pages;
     }
+
+pub body-content : (before : Prefix) (e : Entry) (root : ℕ) (pages : List NodePage) (body : List ℕ) → before.gate + need body < 2 ^ 64 → IsBodyOf before e root pages body → HasContent (length before.entries + 1) e root (flat_map page_bytes pages) body
+body-content before e root pages body short is =
+    content-of-bytes (length before.entries + 1) e root pages body (omega (arith, short)) is.spelled is.low is.fits is.bytes
+
+-- A content whose node blocks are pages has the bytes of the body of its entry.
+pub bytes-content : (number : ℕ) (e : Entry) (root : ℕ) (nodes : List ℕ) (pages : List NodePage) (body : List ℕ) → HasContent number e root nodes body → nodes ≡ flat_map page_bytes pages → AllByRecursion Fits pages → body ≡ body_of number e root pages
+bytes-content number e root nodes pages body has same fits =
+    let count : has.nodes ≡ length pages = omega (arith, has.whole, ap length same, length-pages pages (each-places pages fits)) in
+    has.bytes ∙ (λ i. content_of number e root (count i) ++ same i) ∙ sym (content-bytes number e root pages)
 
 -- A content whose node blocks are pages that stand rightly is the body of its entry.
 pub content-body : (before : Prefix) (e : Entry) (root : ℕ) (nodes : List ℕ) (pages : List NodePage) (body : List ℕ) → HasContent (length before.entries + 1) e root nodes body → nodes ≡ flat_map page_bytes pages → AllByRecursion Fits pages → ArePages before.pages (first_page before.gate e) pages → IsBodyOf before e root pages body
-content-body before e root nodes pages body has same fits stand =
-    let number = length before.entries + 1 in
-    let count : has.nodes ≡ length pages = omega (arith, has.whole, ap length same, length-pages pages (each-places pages fits)) in
-    record {
-      spelled = has.spelled;
-      fits = fits;
-      rightly = stand;
-      low = has.low;
-      bytes = has.bytes ∙ (λ i. content_of number e root (count i) ++ same i) ∙ sym (content-bytes number e root pages);
-    }
+content-body before e root nodes pages body has same fits stand = record {
+  spelled = has.spelled;
+  fits = fits;
+  rightly = stand;
+  low = has.low;
+  bytes = bytes-content (length before.entries + 1) e root nodes pages body has same fits;
+}

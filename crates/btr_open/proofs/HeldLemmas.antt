@@ -1,251 +1,251 @@
--- The tree of a root is that of the version that the entry makes, and it is stored, so the board with the entry is that of its entries.
-use Rattle.std.specs.Prelude.{◌≡◌, ◌⊎◌, ℕ, ◌+◌, ◌<◌, ◌≤◌, ℤ, ◌-◌, nat_eq, Bool, cond, List, [], ◌∷◌, ◌++◌, length, Option, Some, None}
-use Rattle.std.proofs.Common.{zero, suc, refl, sym, ap, ◌∙◌, arith, subst, inl, inr}
-use Rattle.std.proofs.lemmas.Bool.{eq-eqb}
-use Rattle.std.proofs.lemmas.Option.{slice_get_within}
-use Rattle.std.proofs.Math.Nat.{eq-or-lt_of_le}
-use Rattle.btr_base.specs.Agg.{agg}
-use Rattle.btr_base.specs.Commit.{Change}
-use Rattle.btr_base.specs.Point.{AreInDomain}
-use Rattle.btr_base.specs.declared.limits.TheConstants.{FIRST, MAX_POINTS}
-use Rattle.btr_base.specs.declared.point.Point.{Point}
-use Rattle.btr_tree.specs.declared.node.Link.{Link}
-use Rattle.btr_tree.specs.declared.node.NodeData.{NodeData, out-NodeData}
-use Rattle.btr_tree.specs.declared.node.NodeData.TheOpen.{NodeData-F}
-use Rattle.btr_tree.specs.declared.slots.Kept as slot
-use Rattle.btr_tree.specs.declared.slots.Slots.{Slots}
-use Rattle.btr_tree.specs.History.{Past, Opened, nothing, ◌▷◌, bag}
-use Rattle.btr_tree.specs.Leads.{Leads}
-use Rattle.btr_tree.specs.NewNodes.{NewNodeValue}
-use Rattle.btr_tree.specs.Nodes.{points_of, above_root}
-use Rattle.btr_tree.specs.Root.{TreeValue, IsTree}
-use Rattle.btr_tree.specs.Shape.{IsLeaf, IsInner, HasChildren, ByKind, IsChild}
-use Rattle.btr_tree.specs.Slots.{block_of}
-use Rattle.btr_tree.specs.Stored.{IsBelow}
-use Rattle.btr_tree.proofs.LeadsLemmas.{read-stored}
-use Rattle.btr_tree.proofs.ReadLemmas.{opened-is_tree}
-use Rattle.btr_tree.proofs.RootLemmas.{root-points, opened-whole}
-use Rattle.btr_node.specs.declared.page.NodePage.{NodePage}
-use Rattle.btr_pages.specs.Pages.{Pages, with_pages, nodes_in, MayBeRoot}
-use Rattle.btr_pages.specs.Known.{NodesValue, AreKnown, IsReadRoot}
-use Rattle.btr_pages.proofs.BlockLemmas.{each-places}
-use Rattle.btr_pages.proofs.ToldLemmas.{with-either}
+-- What a device that holds a history has, as an opening sees it: where the reading of its log starts, what is before that, and that the bodies
+-- after it lead on.
+use Rattle.std.specs.Prelude.{◌≡◌, ℕ, ◌+◌, ◌^◌, ◌<◌, List, [], ◌∷◌, ◌++◌, length}
+use Rattle.std.specs.List.{AllByRecursion}
+use Rattle.std.proofs.Common.{refl, sym, ◌∙◌, ap, subst, inl, inr, arith, append_assoc, length-append, ⊎_elim}
+use Rattle.btr_base.proofs.ListLemmas.{each-append}
+use Rattle.btr_disk.specs.Bytes.{Image}
+use Rattle.btr_log.specs.declared.head.Head.{Head}
+use Rattle.btr_log.specs.Extents.{need, IsExtent, Extents, first_gate}
+use Rattle.btr_log.proofs.ExtentLemmas.{Extents-push}
 use Rattle.btr_hist.specs.declared.entry.Entry.{Entry}
-use Rattle.btr_hist.specs.declared.entry.Entry.TheVariants.{Create, Define, Commit, Distillate}
-use Rattle.btr_hist.specs.History.{change_of, commits, latest}
-use Rattle.btr_hist.specs.Legal.{rejection, Follows}
-use Rattle.btr_hist.proofs.HistoryLemmas.{follows-last}
-use Rattle.btr_hist.proofs.OutputLemmas.{follows-sound}
-use Rattle.btr_hist.proofs.VersionLemmas.{commits-push}
-use Rattle.btr_log.specs.Extents.{need}
-use Rattle.btr_log.specs.Head.{content_blocks}
-use Rattle.btr_entry.specs.Grammar.{spelling}
-use Rattle.btr_engine.specs.declared.board.Staged.{Staged}
-use Rattle.btr_engine.specs.Past.{with_commits, commits_to}
-use Rattle.btr_engine.specs.Board.{Kept, HasPast, IsBoardOf}
-use Rattle.btr_engine.specs.Body.{Prefix, first_page, pages_after, with_extent, IsBodyOf}
-use Rattle.btr_engine.specs.Roots.{Stand, LeadsToLatest, IsRootOf}
-use Rattle.btr_engine.specs.Stage.{change, IsNextTree, ReadsEntry, IsTreeAfter}
-use Rattle.btr_engine.proofs.BoardTrees.{made_by, bag-commits_to, with_commits-push}
-use Rattle.btr_engine.proofs.BodyLemmas.{need-body_of}
-use Rattle.btr_engine.proofs.StoredLemmas.{IsTreeStored, stored-read, kept-with}
-use Rattle.btr_engine.proofs.Written.{commits-all}
-use Rattle.btr_open.specs.RootTest.{adds, MayLead}
-use Rattle.btr_open.specs.Reading.{IsStoredBoard, IsTreeOfRoot}
+use Rattle.btr_hist.specs.Legal.{Follows}
+use Rattle.btr_hist.proofs.HistoryLemmas.{follows-none, follows-prefix, follows-last}
+use Rattle.btr_entry.specs.Grammar.{IsSpelled}
+use Rattle.btr_roll.specs.Roll.{roll_bytes}
+use Rattle.btr_engine.specs.Body.{Prefix, prefix_to, no_extents, with_extent, with_checkpoint, IsCheckpointOf, checkpoint_body, LeadTo}
+use Rattle.btr_engine.specs.Holds.{IsMarked, HoldsHistoryTo}
+use Rattle.btr_engine.specs.Mark.{body_of_roll}
+use Rattle.btr_engine.specs.Outline.{refusal}
+use Rattle.btr_engine.specs.Rolling.{roll_of}
+use Rattle.btr_engine.specs.Roots.{IsRootOf}
+use Rattle.btr_engine.proofs.BodyLemmas.{LeadTo-mark, LeadTo-split, LeadTo-length, LeadTo-roots, LeadTo-gate, LeadTo-one, kinds-apart}
+use Rattle.btr_engine.proofs.RollFits.{roll-fits}
+use Rattle.btr_open.specs.Reached.{Reached, with_entry, pages_with}
+use Rattle.btr_open.specs.Below.{StandBelow}
+use Rattle.btr_open.specs.Start.{HasRoll, IsCheckpointStart, IsReadingStart}
+use Rattle.btr_open.specs.Walk.{FitsRoll, LeadOn}
+use Rattle.btr_open.proofs.ContentLemmas.{checkpoint-kind, has-roll}
+use Rattle.btr_open.proofs.OutlineLemmas.{decide}
+use Rattle.btr_open.proofs.HeldRolls.{roll-outline, roll-made, roll-next}
+use Rattle.btr_open.proofs.HeldRoots.{follows-before, root-may-lead}
+pub use Rattle.btr_open.proofs.HeldPages.{stand-held}
+pub use Rattle.btr_open.proofs.HeldRoots.{roots-held}
+pub use Rattle.btr_open.proofs.HeldTrees.{restored-held}
 
--- ---- no node
+-- What is before the gate after a prefix.
+abbrev pub reached_of : Prefix → Reached
+reached_of p = record { gate = p.gate; entries = length p.entries; roll = roll_of p.entries p.roots; pages = p.pages }
 
--- If a block that leads on is 0, the span has no point.
-leads-nowhere : (R : ℕ → NewNodeValue → Type 0) (k : ℕ) (s : ℤ) (above : List Point → Bool) (h : Past) (block : ℕ) → block ≡ 0 → Leads R k s above h block → points_of k s (bag h) ≡ []
-leads-nowhere R zero s above h block none leads =
-    elim leads [ inl nowhere ↦ nowhere.none | inr to ↦ let some = to.some in absurd (omega arith) ]
-leads-nowhere R (suc k) s above h block none leads =
-    elim leads [ inl nowhere ↦ nowhere.none | inr to ↦ let some = to.some in absurd (omega arith) ]
+-- ---- the body of a checkpoint
 
-no-kind : (d : NodeData-F NodeData Link slot.Kept Slots) → ByKind (λ v ps. IsLeaf 10 FIRST above_root nothing v ps) (λ v x. IsInner 9 FIRST above_root nothing v x × HasChildren 9 FIRST nothing x) d → ⊥
-no-kind (NodeData-F.Leaf b v ps) is =
-    let same = ap (length {A = Point}) is.same in
-    let some = is.some in
-    omega arith
-no-kind (NodeData-F.Inner b v x) is = let many = is.0.many in omega arith
+-- The body of a checkpoint after a history is that of its streams.
+roll-body : (h : List Entry) (roots : List ℕ) → checkpoint_body h roots ≡ body_of_roll (length h) (roll_of h roots)
+unfolding body_of_roll checkpoint_body
+roll-body h roots = refl
 
--- The tree of no commit has no node.
-bare-node : (child : Option NodeData) → IsChild 10 FIRST above_root nothing child → child ≡ None
-bare-node None is = refl
-bare-node (Some n) is = absurd (no-kind (out-NodeData n) is)
+-- Each entry has a spelling, and each root fits in eight bytes.
+abbrev Fit : Prefix → Type 0
+Fit p = AllByRecursion IsSpelled p.entries × AllByRecursion (λ root. root < 2 ^ 64) p.roots
 
--- ---- the tree of a root
+fit-on : (before : Prefix) (bodies : List (List ℕ)) (after : Prefix) → LeadTo IsRootOf before bodies after → Fit before → Fit after
+fit-on before [] after leads fit = subst Fit leads fit
+fit-on before (body ∷ bodies) after leads fit = elim leads [
+  | inl x ↦
+      fit-on (with_extent before x.0 x.1 x.2 body) bodies after x.5 (each-append IsSpelled before.entries (x.0 ∷ []) fit.0 (x.3.spelled, tt), each-append (λ root. root < 2 ^ 64) before.roots (x.1 ∷ []) fit.1 (x.3.low, tt))
+  | inr x ↦ fit-on (with_checkpoint before body) bodies after x.1 fit
+]
 
--- The tree of a root that may be that of a version is that of no commit, or it was read from the page of the root.
-abbrev HeldBy : Pages → ℕ → ℕ → ℕ → TreeValue → Type 0
-HeldBy known stream version root t = ((root ≡ 0) × IsTree nothing t) ⊎ IsReadRoot known stream version root t
-
-held : (known : Pages) (nodes : NodesValue) (stream version root : ℕ) (some : Bool) (t : TreeValue) → AreKnown known nodes → MayBeRoot known stream version some root → IsTreeOfRoot nodes root t → HeldBy known stream version root t
-held known nodes stream version root some t are may of =
-    let low : 0 ≤ root = omega arith in
-    elim (eq-or-lt_of_le low) [
-      | inl none ↦ inl (sym none, of.empty (sym none))
-      | inr above ↦ elim may [
-        | inl no_root ↦ let none = no_root.0 in absurd (omega arith)
-        | inr page ↦ inr (of.read above known stream version are page)
-      ]
-    ]
-
-one-node : (known : Pages) (stream block : ℕ) (p q : NewNodeValue) → Stand known stream block p → Stand known stream block q → p ≡ q
-one-node known stream block p q a b = let both : Some p ≡ Some q = sym a ∙ b in cc
-
-module _ (known : Pages) (stream version root : ℕ) (h : Past) (t : TreeValue) (leads : Leads (Stand known stream) 10 FIRST above_root h root) where
-  abbrev store : ℕ → Option NewNodeValue
-  store = nodes_in known stream
-
-  none-there : root ≡ 0 → points_of 10 FIRST (bag h) ≡ []
-  none-there none = leads-nowhere (Stand known stream) 10 FIRST above_root h root none leads
-
-  node-leads : block_of t.node ≡ root → Leads (Stand known stream) 10 FIRST above_root h (block_of t.node)
-  node-leads is = subst (Leads (Stand known stream) 10 FIRST above_root h) (sym is) leads
-
-  -- It is the tree of the past to whose nodes the root leads.
-  held-tree : HeldBy known stream version root t → AreInDomain (bag h) → length (bag h) ≤ MAX_POINTS → IsTree h t
-  held-tree by times few =
-      elim by [
-        | inl bare ↦
-            let none = none-there bare.0 in
-            let empty : bag h ≡ [] = sym (root-points (bag h) times) ∙ none in
-            record {
-              whole = bare.1.whole;
-              node = subst (IsChild 10 FIRST above_root h) (sym (bare-node t.node bare.1.node)) none;
-              total = bare.1.total ∙ ap agg (sym empty);
-              times = times;
-              few = few;
-            }
-        | inr read ↦ opened-is_tree store (Stand known stream) (one-node known stream) (λ block n at. at) h t read.opened read.its_span read.read (node-leads read.its_block) times few
-      ]
-
-  -- It is stored below each block above the root.
-  held-below : (later : ℕ) → HeldBy known stream version root t → root < later → IsBelow store later 10 FIRST t.node
-  held-below later by low =
-      elim by [
-        | inl bare ↦ subst (IsBelow store later 10 FIRST) (sym (bare-node t.node bare.1.node)) (record { stored = tt; below = omega arith })
-        | inr read ↦ record {
-          stored = read-stored store (Stand known stream) (one-node known stream) (λ block n at. at) 10 FIRST above_root h t.node read.read (node-leads read.its_block);
-          below = subst (λ b. b < later) (sym read.its_block) low;
-        }
-      ]
-
--- It is the tree of some past.
-held-past : (known : Pages) (stream version root : ℕ) (t : TreeValue) → HeldBy known stream version root t → HasPast t
-held-past known stream version root t by =
-    elim by [
-      | inl bare ↦ (nothing, bare.1)
-      | inr read ↦
-          let base = read.opened in
-          let high = ap (λ s. s.height) read.its_span in
-          (Opened base.0 base.1, opened-whole base.0 base.1 t base.2 (omega arith))
-    ]
-
--- ---- the version that a commit makes
-
--- The commits of a stream with the one of the next entry.
-next-past : (h : List Entry) (e : Entry) (stream : ℕ) (c : Change) → change_of stream e ≡ Some c → made_by (latest h stream + 1) c ▷ commits_to h stream (latest h stream) ≡ commits_to (h ++ e ∷ []) stream (latest (h ++ e ∷ []) stream)
-next-past h e stream c makes =
-    let made : latest h stream + 1 ≡ 0 + length (commits h stream) + 1 = omega arith in
-    ap (λ (p : Past). made_by (latest h stream + 1) c ▷ p) (commits-all h stream)
-    ∙ ap (λ (v : ℕ). made_by v c ▷ with_commits 0 nothing (commits h stream)) made
-    ∙ sym (with_commits-push 0 nothing (commits h stream) c)
-    ∙ ap (with_commits 0 nothing) (sym (commits-push h e stream (Some c) makes))
-    ∙ sym (commits-all (h ++ e ∷ []) stream)
-
-module _ (before : List Entry) (known : Pages) (nodes : NodesValue) (e : Entry) (stream : ℕ) (c : Change) (some : Bool) (root : ℕ) (t : TreeValue) (makes : change_of stream e ≡ Some c) (are : AreKnown known nodes) (may : MayBeRoot known stream (latest before stream + 1) some root) (of : IsTreeOfRoot nodes root t) (leads : LeadsToLatest known (before ++ e ∷ []) stream root) where
-  abbrev all : List Entry
-  all = before ++ e ∷ []
-
-  abbrev past : Past
-  past = commits_to all stream (latest all stream)
-
-  by : HeldBy known stream (latest before stream + 1) root t
-  by = held known nodes stream (latest before stream + 1) root some t are may of
-
-  version-tree : Follows all → IsNextTree before stream c t
-  version-tree follows =
-      let sound = follows-sound all follows in
-      let points = bag-commits_to all stream (latest all stream) in
-      let times = subst AreInDomain (sym points) (sound.in_domain stream (latest all stream)) in
-      let few = subst (λ b. length b ≤ MAX_POINTS) (sym points) (sound.bounded stream (latest all stream)) in
-      subst (λ p. IsTree p t) (sym (next-past before e stream c makes)) (held-tree known stream (latest before stream + 1) root past t leads by times few)
-
-  version-below : (later : ℕ) → root < later → IsBelow (nodes_in known stream) later 10 FIRST t.node
-  version-below later low = held-below known stream (latest before stream + 1) root past t leads later by low
-
--- A commit is one of its stream.
-its-change : (stream : ℕ) (c : Change) → cond (nat_eq stream stream) (Some c) None ≡ Some c
-its-change stream c = ap (λ t. cond t (Some c) None) (eq-eqb stream stream refl)
-
--- ---- an entry
-
--- The tree of a root is that of the version that the entry makes.
-pub tree-after : (before : List Entry) (known : Pages) (nodes : NodesValue) (e : Entry) (root : ℕ) (pages : List NodePage) (t : TreeValue) → AreKnown known nodes → MayLead known before e root pages → IsTreeOfRoot nodes root t → Follows (before ++ e ∷ []) → IsRootOf known before e root pages → IsTreeAfter before e t
-tree-after before known nodes (Create id) root pages t are may of follows leads = tt
-tree-after before known nodes (Define id spec) root pages t are may of follows leads = tt
-tree-after before known nodes (Commit stream cut added) root pages t are may of follows leads =
-    version-tree before known nodes (Commit stream cut added) stream (change cut added) (adds added) root t (its-change stream (change cut added)) are may of leads follows
-tree-after before known nodes (Distillate stream cut added reads) root pages t are may of follows leads =
-    version-tree before known nodes (Distillate stream cut added reads) stream (change cut added) (adds added) root t (its-change stream (change cut added)) are may of leads follows
-
--- It is stored in the pages, below each block that is above the root.
-pub tree-stored : (before : List Entry) (known : Pages) (nodes : NodesValue) (e : Entry) (root later : ℕ) (pages : List NodePage) (t : TreeValue) → AreKnown known nodes → MayLead known before e root pages → IsTreeOfRoot nodes root t → IsRootOf known before e root pages → root < later → IsTreeStored known later e t
-tree-stored before known nodes (Create id) root later pages t are may of leads low = tt
-tree-stored before known nodes (Define id spec) root later pages t are may of leads low = tt
-tree-stored before known nodes (Commit stream cut added) root later pages t are may of leads low =
-    version-below before known nodes (Commit stream cut added) stream (change cut added) (adds added) root t (its-change stream (change cut added)) are may of leads later low
-tree-stored before known nodes (Distillate stream cut added reads) root later pages t are may of leads low =
-    version-below before known nodes (Distillate stream cut added reads) stream (change cut added) (adds added) root t (its-change stream (change cut added)) are may of leads later low
-
--- The tree of a root that may be the entry's is that of some past.
-pub has-past : (before : List Entry) (known : Pages) (nodes : NodesValue) (e : Entry) (root : ℕ) (pages : List NodePage) (t : TreeValue) → AreKnown known nodes → MayLead known before e root pages → IsTreeOfRoot nodes root t → HasPast t
-has-past before known nodes (Create id) root pages t are may of = (nothing, of.empty may)
-has-past before known nodes (Define id spec) root pages t are may of = (nothing, of.empty may)
-has-past before known nodes (Commit stream cut added) root pages t are may of =
-    let version = latest before stream + 1 in
-    held-past known stream version root t (held known nodes stream version root (adds added) t are may of)
-has-past before known nodes (Distillate stream cut added reads) root pages t are may of =
-    let version = latest before stream + 1 in
-    held-past known stream version root t (held known nodes stream version root (adds added) t are may of)
-
--- ---- the board with the entry
-
--- A root that may be that of a version is below the block after the pages.
-page-low : (known : Pages) (first later : ℕ) (new : List NodePage) (stream version root : ℕ) (some : Bool) → first + length new ≤ later → 1 ≤ later → MayBeRoot (with_pages known first new) stream version some root → root < later
-page-low known first later new stream version root some behind least may =
-    elim may [
-      | inl no_root ↦ let none = no_root.0 in omega arith
-      | inr at ↦ elim (with-either known first new root at.page at.is) [
-        | inl old ↦ let low = old.0 in omega arith
-        | inr fresh ↦
-            let from = fresh.0 in
-            let place = slice_get_within new (root - first) at.page fresh.1 in
-            omega arith
-      ]
-    ]
-
-root-low : (known : Pages) (first later : ℕ) (new : List NodePage) (before : List Entry) (e : Entry) (root : ℕ) → first + length new ≤ later → 1 ≤ later → MayLead (with_pages known first new) before e root new → root < later
-root-low known first later new before (Create id) root behind least may = let none : root ≡ 0 = may in omega arith
-root-low known first later new before (Define id spec) root behind least may = let none : root ≡ 0 = may in omega arith
-root-low known first later new before (Commit stream cut added) root behind least may =
-    page-low known first later new stream (latest before stream + 1) root (adds added) behind least may
-root-low known first later new before (Distillate stream cut added reads) root behind least may =
-    page-low known first later new stream (latest before stream + 1) root (adds added) behind least may
-
--- The board with the entry is that of the entries, with its trees stored.
-pub board-stored : (before : Prefix) (board : Kept) (nodes : NodesValue) (e : Entry) (root : ℕ) (pages : List NodePage) (body : List ℕ) (t : TreeValue) (s : Staged) → IsBodyOf before e root pages body → AreKnown (pages_after before e pages) nodes → MayLead (pages_after before e pages) before.entries e root pages → IsTreeOfRoot nodes root t → ReadsEntry board e t s → (rejection before.entries e ≡ None → IsTreeAfter before.entries e t → IsBoardOf (before.entries ++ e ∷ []) s.next) → IsStoredBoard before board → Follows (before.entries ++ e ∷ []) → IsRootOf (pages_after before e pages) before.entries e root pages → IsStoredBoard (with_extent before e pages body) s.next
-board-stored before board nodes e root pages body t s is are may of reads staged old follows leads =
-    let first = first_page before.gate e in
-    let later = before.gate + need body in
-    let known = pages_after before e pages in
-    let needed : need body ≡ content_blocks (length (spelling e)) + length pages + 1 = ap need is.bytes ∙ need-body_of (length before.entries + 1) e root pages (each-places pages is.fits) in
-    let behind : first + length pages ≤ later = omega arith in
-    let least : 1 ≤ later = omega arith in
-    let low = root-low before.pages first later pages before.entries e root behind least may in
+-- The body of a checkpoint of a history has the streams of the history, which a checkpoint can have.
+pub roll-held : (bodies : List (List ℕ)) (p : Prefix) (body : List ℕ) → LeadTo IsRootOf no_extents bodies p → Follows p.entries → p.gate < 2 ^ 64 → IsCheckpointOf p body → HasRoll p.gate (length p.entries) (roll_of p.entries p.roots) body
+roll-held bodies p body leads follows short is =
+    let fit = fit-on no_extents bodies p leads (tt, tt) in
+    let many = LeadTo-length IsRootOf no_extents bodies p leads in
+    let far = LeadTo-gate IsRootOf no_extents bodies p leads in
     record {
-      of = staged (follows-last before.entries e follows) (tree-after before.entries known nodes e root pages t are may of follows leads);
-      stored = stored-read before.pages before.gate first later pages board e t s old.stored reads (kept-with before.pages first pages old.stored.kept is.rightly is.fits) (omega arith) behind least (tree-stored before.entries known nodes e root later pages t are may of leads low);
+      is_roll = roll-fits p.entries p.roots follows fit.0 fit.1 (omega (arith, many, far, short));
+      bound = omega (arith, many, far);
+      made = roll-made p.entries p.roots;
+      room = is.room;
+      bytes = is.bytes ∙ roll-body p.entries p.roots;
     }
+
+-- ---- the bodies lead on
+
+-- The outline of the streams shows no reason why an accepted entry may not follow.
+fits-roll : (h : List Entry) (roots : List ℕ) (e : Entry) → Follows (h ++ e ∷ []) → FitsRoll (roll_of h roots) e
+fits-roll h roots e follows =
+    ap (λ o. refusal o e) (roll-outline h roots)
+    ∙ ((decide h e (follows-prefix h (e ∷ []) follows)).1.1 (follows-last h e follows)).outline
+
+lead-from : (p : Prefix) (bodies : List (List ℕ)) (q : Prefix) → length p.roots ≡ length p.entries → LeadTo IsRootOf p bodies q → Follows q.entries → LeadOn (reached_of p) bodies (reached_of q)
+lead-from p [] q counted leads follows = ap reached_of leads
+lead-from p (body ∷ bodies) q counted leads follows = elim leads [
+  | inl x ↦
+      let e = x.0 in
+      let root = x.1 in
+      let pages = x.2 in
+      let next = with_extent p e root pages body in
+      let here : Follows (p.entries ++ e ∷ []) = follows-before next bodies q x.5 follows in
+      let rest = lead-from next bodies q (omega (arith, counted, length-append p.entries (e ∷ []), length-append p.roots (root ∷ []))) x.5 follows in
+      let number = length-append p.entries (e ∷ []) in
+      let roll = roll-next p.entries p.roots e root here counted in
+      let same : reached_of next ≡ with_entry (reached_of p) e root pages body = λ i. record { gate = next.gate; entries = number i; roll = roll i; pages = next.pages } in
+      inl (
+        e,
+        root,
+        pages,
+        record {
+          spelled = x.3.spelled;
+          fits = x.3.fits;
+          rightly = x.3.rightly;
+          low = x.3.low;
+          bytes = x.3.bytes;
+          may_lead = root-may-lead (pages_with (reached_of p) e pages) p.entries p.roots e root pages here x.4;
+          allowed = fits-roll p.entries p.roots e here;
+        },
+        subst (λ r. LeadOn r bodies (reached_of q)) same rest,
+      )
+  | inr x ↦ inr (record { room = x.0.room; bytes = x.0.bytes ∙ roll-body p.entries p.roots }, lead-from (with_checkpoint p body) bodies q counted x.1 follows)
+]
+
+-- Bodies that lead from one part of a history to another lead on from what is before the first to what is before the other.
+pub lead-on : (p q : Prefix) (bodies some : List (List ℕ)) → LeadTo IsRootOf no_extents some p → LeadTo IsRootOf p bodies q → Follows q.entries → q.gate < 2 ^ 64 → LeadOn (reached_of p) bodies (reached_of q)
+lead-on p q bodies some leads more follows short =
+    lead-from p bodies q (LeadTo-roots IsRootOf no_extents some p leads refl) more follows
+
+-- ---- where the reading starts
+
+-- The reading of the log of a history starts at the gate after a part of it: the part that is before the gate that the superblock names. The
+-- bodies after it lead on to the history.
+pub record IsStartOf {size : ℕ} {image : Image} {blocks tail : ℕ} {h : List Entry} (holds : HoldsHistoryTo size image blocks tail h) (at : Prefix) : Type 0 where
+  pub before : List (List ℕ)
+  pub after : List (List ℕ)
+  pub parts : holds.bodies ≡ before ++ after
+  pub leads : LeadTo IsRootOf no_extents before at
+  pub more : LeadTo IsRootOf at after (prefix_to tail h holds.leads.roots holds.leads.pages)
+  pub extents : Extents image at.gate after tail
+  pub gate : at.gate ≡ holds.super.tail
+  pub starts : IsReadingStart image holds.super (reached_of at)
+  pub stand : StandBelow image at.gate at.pages
+  pub follows : Follows at.entries
+
+-- The first extents, and the others.
+Extents-split : (image : Image) (gate : ℕ) (first others : List (List ℕ)) (tail : ℕ) → Extents image gate (first ++ others) tail → (mid : ℕ) × Extents image gate first mid × Extents image mid others tail
+Extents-split image gate [] others tail extents = (gate, refl, extents)
+Extents-split image gate (body ∷ first) others tail extents =
+    let rest = Extents-split image (gate + need body) first others tail extents.1 in
+    (rest.0, (extents.0, rest.1), rest.2)
+
+-- Extents with bodies that lead to a prefix end at its gate.
+extents-end : (image : Image) (before : Prefix) (bodies : List (List ℕ)) (after : Prefix) (tail : ℕ) → LeadTo IsRootOf before bodies after → Extents image before.gate bodies tail → tail ≡ after.gate
+extents-end image before [] after tail leads extents = sym extents ∙ ap (λ (p : Prefix). p.gate) leads
+extents-end image before (body ∷ bodies) after tail leads extents = elim leads [
+  | inl x ↦ extents-end image (with_extent before x.0 x.1 x.2 body) bodies after tail x.5 extents.1
+  | inr x ↦ extents-end image (with_checkpoint before body) bodies after tail x.1 extents.1
+]
+
+module _ (size : ℕ) (image : Image) (blocks tail : ℕ) (h : List Entry) (holds : HoldsHistoryTo size image blocks tail h) where
+  -- The prefix with all entries.
+  abbrev final : Prefix
+  final = prefix_to tail h holds.leads.roots holds.leads.pages
+
+  short : tail < 2 ^ 64
+  short = omega (arith, holds.inside, holds.same_blocks, holds.chosen.stored.spelled.keeps.blocks_to)
+
+  from-beginning : holds.super.checkpoint ≡ 0 → holds.super.tail ≡ first_gate → IsStartOf holds no_extents
+  from-beginning none first = record {
+    before = [];
+    after = holds.bodies;
+    parts = refl;
+    leads = refl;
+    more = holds.leads.lead;
+    extents = holds.extents;
+    gate = sym first;
+    starts = inl (none, first, refl);
+    stand = λ block low. tt;
+    follows = follows-none;
+  }
+
+  module _ (m : IsMarked IsRootOf holds.bodies holds.super.checkpoint holds.super.tail) where
+    -- The prefix up to the gate after the checkpoint.
+    abbrev at : Prefix
+    at = with_checkpoint m.log m.body
+
+    on-log : LeadTo IsRootOf m.log (m.body ∷ m.after) final
+    on-log =
+        let split = LeadTo-split IsRootOf no_extents m.before (m.body ∷ m.after) final (subst (λ l. LeadTo IsRootOf no_extents l final) m.parts holds.leads.lead) in
+        let mid = split.0 in
+        let long = LeadTo-gate IsRootOf mid (m.body ∷ m.after) final split.2 in
+        let longer = LeadTo-gate IsRootOf no_extents m.before mid split.1 in
+        let place : mid ≡ m.log = LeadTo-one IsRootOf IsRootOf no_extents m.before mid m.log (omega (arith, long, longer, short)) (omega (arith, long, short)) split.1 m.leads in
+        subst (λ (p : Prefix). LeadTo IsRootOf p (m.body ∷ m.after) final) place split.2
+
+    on : LeadTo IsRootOf at m.after final
+    on = elim on-log [ inl x ↦ absurd (kinds-apart m.log x.0 x.1 x.2 m.log m.body x.3 m.is) | inr x ↦ x.1 ]
+
+    follows-log : Follows m.log.entries
+    follows-log = follows-before m.log (m.body ∷ m.after) final on-log holds.follows
+
+    short-log : m.log.gate < 2 ^ 64
+    short-log = omega (arith, short, LeadTo-gate IsRootOf m.log (m.body ∷ m.after) final on-log)
+
+    -- The extents before the checkpoint, that of the checkpoint, and those after it.
+    abbrev Parts : ℕ → Type 0
+    Parts gate = Extents image first_gate m.before gate × Extents image gate (m.body ∷ m.after) tail
+
+    parts-of : Parts m.log.gate
+    parts-of =
+        let split = Extents-split image first_gate m.before (m.body ∷ m.after) tail (subst (λ l. Extents image first_gate l tail) m.parts holds.extents) in
+        subst Parts (extents-end image no_extents m.before m.log split.0 m.leads split.1) (split.1, split.2)
+
+    abbrev its-head : Head
+    its-head = parts-of.1.0.0
+
+    its-extent : IsExtent image m.log.gate m.body its-head
+    its-extent = parts-of.1.0.1
+
+    its-kind : its-head.kind ≡ 2
+    its-kind =
+        let small : its-head.kind < 2 ^ 32 = ⊎_elim (λ e. let kind = e.0 in omega (arith, kind)) (λ c. let kind = c.0 in omega (arith, kind)) its-extent.is_body.spells.is_head.kind in
+        checkpoint-kind (length m.log.entries) (roll_bytes (roll_of m.log.entries m.log.roots)) m.body its-head (has-roll m.log m.body m.is) its-extent.is_body.spells.spelling small
+
+    gate-is : at.gate ≡ holds.super.tail
+    gate-is = ap (λ g. g + need m.body) (sym m.gate) ∙ sym m.next
+
+    starts : IsCheckpointStart image holds.super (reached_of at)
+    starts =
+        let stand = stand-held image m.before m.log m.leads parts-of.0 in
+        record {
+          body = m.body;
+          extent = record { head = its-head; extent = subst (λ g. IsExtent image g m.body its-head) (sym m.gate) its-extent; kind = its-kind; next = m.next };
+          has = subst (λ g. HasRoll g (length m.log.entries) (roll_of m.log.entries m.log.roots) m.body) (sym m.gate) (roll-held m.before m.log m.body m.leads follows-log short-log m.is);
+          gate = gate-is;
+          stand = subst (λ g. StandBelow image g m.log.pages) (sym m.gate) stand.0;
+          beyond = λ block high. stand.1 block (omega (arith, high, m.gate));
+          roots = roots-held m.before m.log m.leads follows-log;
+        }
+
+    from-checkpoint : IsStartOf holds at
+    from-checkpoint =
+        let leads = LeadTo-mark IsRootOf no_extents m.before m.log m.body m.leads m.is in
+        let extents = Extents-push image first_gate m.before m.log.gate m.body its-head parts-of.0 its-extent in
+        record {
+          before = m.before ++ m.body ∷ [];
+          after = m.after;
+          parts = m.parts ∙ sym (append_assoc m.before (m.body ∷ []) m.after);
+          leads = leads;
+          more = on;
+          extents = parts-of.1.1;
+          gate = gate-is;
+          starts = inr (omega (arith, m.gate, LeadTo-gate IsRootOf no_extents m.before m.log m.leads), starts);
+          stand = (stand-held image (m.before ++ m.body ∷ []) at leads extents).0;
+          follows = follows-log;
+        }
+
+-- The reading of the log of a history starts at the gate after a part of it.
+pub start-held : (size : ℕ) (image : Image) (blocks tail : ℕ) (h : List Entry) (holds : HoldsHistoryTo size image blocks tail h) → (at : Prefix) × IsStartOf holds at
+start-held size image blocks tail h holds = elim holds.starts [
+  | inl first ↦ (no_extents, from-beginning size image blocks tail h holds first.0 first.1)
+  | inr m ↦ (with_checkpoint m.log m.body, from-checkpoint size image blocks tail h holds m)
+]

@@ -1,29 +1,65 @@
 -- Why an opening fails: what the faults of a log and of a choice mean for a store.
-use Rattle.std.specs.Prelude.{◌≡◌, ℕ, ◌≤◌, ◌↔◌, Result, Err}
+use Rattle.std.specs.Prelude.{◌≡◌, ℕ, ◌+◌, ◌*◌, ◌<◌, ◌≤◌, ◌↔◌, List, Result, Err}
 use Rattle.std.proofs.Common.{refl, sym, subst, arith, inl, inr}
-use Rattle.btr_disk.specs.Bytes.{Image}
+use Rattle.btr_disk.specs.Bytes.{Image, Has}
+use Rattle.btr_disk.specs.Gate.{IsOpen}
 use Rattle.btr_disk.specs.Causes.{CausesFault}
 use Rattle.btr_log.specs.declared.found.ExtentFault.{ExtentFault}
 use Rattle.btr_log.specs.declared.found.ExtentFault.TheVariants as log
-use Rattle.btr_log.specs.Found.{IsDamagedExtent, FindCause}
+use Rattle.btr_log.specs.declared.head.Head.{Head}
+use Rattle.btr_log.specs.Extents.{need, IsExtent}
+use Rattle.btr_log.specs.Found.{IsDamagedExtent, IsWholeExtent, FindCause}
+use Rattle.btr_log.proofs.ExtentLemmas.{IsBody-blocks}
 use Rattle.btr_super.specs.declared.superblock.Super.{Super}
-use Rattle.btr_super.specs.Choose.{HasNoSuper, IsDamagedSuper}
+use Rattle.btr_super.specs.Choose.{HasNoSuper, IsChosen, IsDamagedSuper}
 use Rattle.btr_super.specs.declared.choosing.ChooseFault.{ChooseFault}
 use Rattle.btr_super.specs.declared.choosing.ChooseFault.TheVariants as chosen
-use Rattle.btr_engine.specs.Body.{Prefix}
 use Rattle.btr_open.specs.declared.opening.OpenCause.{OpenCause}
 use Rattle.btr_open.specs.declared.opening.OpenCause.TheVariants.{NotAStore, Damaged, Fault, Want}
-use Rattle.btr_open.specs.Walk.{IsWalk, IsDamagedEntry, IsDamagedLog}
-use Rattle.btr_open.specs.Damage.{FitsOutline, IsDamaged}
+use Rattle.btr_open.specs.Reached.{Reached}
+use Rattle.btr_open.specs.Start.{IsWrongStart}
+use Rattle.btr_open.specs.Walk.{IsWalk, BreaksBody, IsDamagedNext}
+use Rattle.btr_open.specs.Damage.{IsDamaged}
 use Rattle.btr_open.specs.Opening.{OpenCauseHolds}
-use Rattle.btr_open.specs.Reading.{IsStoreOf}
 
-module _ (size : ℕ) (image : Image) (blocks : ℕ) (log : Prefix) where
+-- A block that breaks the format of the start that the superblock names is damaged.
+pub damaged_start : (size : ℕ) (image : Image) (found : Super) (block : ℕ) → IsWrongStart image found block → IsChosen size image found → IsDamaged size image block
+damaged_start size image found block wrong chosen = inr (found, chosen, inl wrong)
+
+-- What is before the gate, to which a walk leads.
+module _ (size : ℕ) (image : Image) (found : Super) (log : Reached) where
   -- The next extent is damaged in this block.
-  pub damaged_next : (block : ℕ) → IsDamagedEntry FitsOutline image blocks log block → IsWalk FitsOutline image log → IsStoreOf size image blocks → IsDamaged size image block
-  damaged_next block damage walk store =
-      let damaged : IsDamagedLog FitsOutline image blocks block = record { log = log; walk = walk; damage = damage } in
-      inr (store.0, store.1, subst (λ b. IsDamagedLog FitsOutline image b block) (sym store.2) damaged)
+  pub damaged_next : (block : ℕ) → IsDamagedNext image found log block → IsWalk image found log → IsChosen size image found → IsDamaged size image block
+  damaged_next block damage walk chosen =
+      inr (found, chosen, inr (record { log = log; walk = walk; damage = damage }))
+
+  -- The log finds no extent at the gate: this block breaks the format.
+  pub damaged_extent : (blocks gate block : ℕ) → blocks ≡ found.blocks → log.gate ≡ gate → IsDamagedExtent image blocks gate block → IsWalk image found log → IsChosen size image found → IsDamaged size image block
+  damaged_extent blocks gate block same at damage walk chosen =
+      damaged_next block (inl (subst (λ n. IsDamagedExtent image n log.gate block) same (subst (λ g. IsDamagedExtent image blocks g block) (sym at) damage))) walk chosen
+
+  -- The body of the next extent breaks the format in this block.
+  pub broken_next : (blocks gate block : ℕ) (body : List ℕ) (head : Head) → blocks ≡ found.blocks → log.gate ≡ gate → IsExtent image gate body head → gate + need body < blocks → BreaksBody image found.checkpoint log body block → IsWalk image found log → IsChosen size image found → IsDamaged size image block
+  broken_next blocks gate block body head same at extent inside breaks walk chosen =
+      damaged_next block (inr (record {
+        head = head;
+        body = body;
+        extent = subst (λ g. IsExtent image g body head) (sym at) extent;
+        inside = omega (arith, same, at, inside);
+        breaks = breaks;
+      })) walk chosen
+
+-- The extent that a log finds, on a device that is observable.
+pub found-extent : (image : Image) (blocks gate : ℕ) (head : Head) (body : List ℕ) (next : ℕ) → IsWholeExtent blocks gate head body next → IsOpen image gate × Has image (4096 * (gate + 1)) body → IsExtent image gate body head × (gate + need body < blocks)
+found-extent image blocks gate head body next whole matches = (
+  record { is_open = matches.0; is_body = whole.is_body; stored = matches.1 },
+  omega (arith, whole.follows, whole.inside, IsBody-blocks body head whole.is_body),
+)
+
+-- The gate after an extent that a log finds.
+pub found-next : (blocks gate : ℕ) (head : Head) (body : List ℕ) (next : ℕ) → IsWholeExtent blocks gate head body next → next ≡ gate + need body
+found-next blocks gate head body next whole =
+    omega (arith, whole.follows, IsBody-blocks body head whole.is_body)
 
 module _ (is_observable read : Type 0) (size : ℕ) (image : Image) (blocks gate before after : ℕ) (told : read → is_observable) (damages : read → (block : ℕ) → IsDamagedExtent image blocks gate block → IsDamaged size image block) where
   -- A fault of the log is a cause of an opening.

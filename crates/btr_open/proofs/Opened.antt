@@ -1,35 +1,28 @@
 -- What an opening returns, from the choice of the superblock and the reading of the log.
-use Rattle.std.specs.Prelude.{◌≡◌, ℕ, ◌+◌, ◌^◌, ◌<◌, ◌≤◌, List, length, Result, Ok, Err, IfOk, IfErr}
-use Rattle.std.proofs.Common.{refl, sym, ◌∙◌, ap, subst, arith}
+use Rattle.std.specs.Prelude.{◌≡◌, ℕ, ◌<◌, ◌≤◌, List, Result, Ok, Err, IfOk, IfErr}
+use Rattle.std.proofs.Common.{sym, ◌∙◌, ap, subst, arith}
 use Rattle.btr_disk.specs.declared.disk.Disk.{Ghosts}
 use Rattle.btr_disk.specs.Bytes.{Image}
 use Rattle.btr_disk.specs.Gate.{IsClosed}
 use Rattle.btr_disk.proofs.ByteLemmas.{Same-is}
 use Rattle.btr_disk.proofs.MomentLemmas.{left_now}
-use Rattle.btr_log.specs.Extents.{Extents, first_gate}
-use Rattle.btr_log.proofs.ExtentLemmas.{Extents-one}
 use Rattle.btr_super.specs.declared.superblock.Super.{Super}
 use Rattle.btr_super.specs.Choose.{IsChosen}
 use Rattle.btr_super.proofs.ChoiceLemmas.{one_chosen}
 use Rattle.btr_hist.specs.declared.entry.Entry.{Entry}
-use Rattle.btr_hist.specs.Legal.{Follows}
 use Rattle.btr_engine.specs.declared.engine.Engine.{Engine}
-use Rattle.btr_engine.specs.Body.{Prefix, prefix_to, no_extents, LeadTo}
-use Rattle.btr_engine.specs.Roots.{IsRootOf}
-use Rattle.btr_engine.specs.Board.{Versions, Kept}
-use Rattle.btr_engine.specs.Stored.{AreStored}
+use Rattle.btr_engine.specs.Board.{Kept, IsBoardOf}
+use Rattle.btr_engine.specs.Stored.{AreStored, HaveRoots}
 use Rattle.btr_engine.specs.Engine.{device, tail_of, blocks_of, board_of, entries_of, synced_of, entries_at_open, calls_at_open, IsAtRest, IsHeldSince}
 use Rattle.btr_engine.specs.Holds.{HoldsHistoryTo, HoldsHistory}
-use Rattle.btr_engine.proofs.BodyLemmas.{LeadTo-gate}
+use Rattle.btr_engine.proofs.HoldsLemmas.{HoldsTrees}
 use Rattle.btr_engine.proofs.EngineLemmas.{holds_in, durable_held}
 use Rattle.btr_open.specs.declared.opening.OpenFault.{OpenFault}
 use Rattle.btr_open.specs.Damage.{IsUndamaged}
 use Rattle.btr_open.specs.Opening.{KeepsDisk, SyncsFirst, IsOpenedEngine, IsOpenedOn, IsNotOpened}
-use Rattle.btr_open.specs.RootTest.{MayLead}
-use Rattle.btr_open.specs.Reading.{IsStoredBoard, IsStoreOf, LogCause, OnlyReads, IsWholeLog, IsReadEngine}
+use Rattle.btr_open.specs.Reading.{LogCause, OnlyReads, IsWholeLog, IsReadEngine}
 use Rattle.btr_open.proofs.Synced.{unwritten_on, counts-trans, reads_on}
-use Rattle.btr_open.proofs.LeadLemmas.{LeadTo-same}
-use Rattle.btr_open.proofs.Sound.{whole_sound}
+use Rattle.btr_open.proofs.Sound.{whole-sound}
 use Rattle.btr_open.proofs.OpenCauses.{OpenCauseHolds-along}
 
 -- ---- an engine that was opened
@@ -54,72 +47,34 @@ opened_on old h e told entries rest synced =
 
 -- ---- the log that was read, and the history that the device held
 
--- An image holds the history, and the trees of these streams are stored in its pages.
-abbrev HoldsTrees : ℕ → Image → ℕ → ℕ → List Entry → List Versions → Type 0
-HoldsTrees size image blocks tail h streams =
-    (holds : HoldsHistoryTo size image blocks tail h) × AreStored holds.leads.pages tail streams
-
-module _ (size : ℕ) (image : Image) (found : Super) (tail : ℕ) (board : Kept) (chosen : IsChosen size image found) (whole : IsWholeLog (Unit {0}) image found.blocks tail board) where
-  low : tail < 2 ^ 64
-  low = omega (arith, whole.inside, chosen.stored.spelled.keeps.blocks_to)
-
-  few : length no_extents.entries + length whole.bodies < 2 ^ 64
-  few =
-      omega (arith, low, whole.at, LeadTo-gate MayLead no_extents whole.bodies whole.log whole.leads)
-
+module _ (size : ℕ) (image : Image) (found : Super) (tail : ℕ) (board : Kept) (chosen : IsChosen size image found) (whole : IsWholeLog size image found tail board) where
   -- No block is damaged.
-  pub undamaged : IsUndamaged size image
-  undamaged =
-      whole_sound size image found whole.log whole.bodies chosen (omega (arith, whole.at, whole.inside)) whole.leads whole.may (subst (Extents image first_gate whole.bodies) (sym whole.at) (whole.extents tt)) (subst (IsClosed image) (sym whole.at) (whole.closed tt))
+  pub undamaged : tail < found.blocks → IsUndamaged size image
+  undamaged inside =
+      whole-sound size image found whole.log chosen whole.walk (omega (arith, whole.at, inside)) (subst (IsClosed image) (sym whole.at) whole.closed)
 
   module _ (h : List Entry) (holds : HoldsHistory size image h) where
     abbrev to : HoldsHistoryTo size image holds.blocks holds.tail h
     to = holds.holds
 
-    abbrev held : Prefix
-    held = prefix_to holds.tail h to.leads.pages
+    under : to.super ≡ found
+    under = one_chosen size image to.super found to.chosen chosen
 
     same_blocks : holds.blocks ≡ found.blocks
-    same_blocks =
-        sym to.same_blocks ∙ ap (λ (s : Super). s.blocks) (one_chosen size image to.super found to.chosen chosen)
+    same_blocks = sym to.same_blocks ∙ ap (λ (s : Super). s.blocks) under
 
-    both : (to.bodies ≡ whole.bodies) × (holds.tail ≡ tail)
-    both =
-        Extents-one image first_gate to.bodies whole.bodies holds.tail tail to.extents to.closed (whole.extents tt) (whole.closed tt)
+    abbrev found_there : (holds.tail ≡ tail) × IsBoardOf h board × AreStored to.leads.pages tail board.streams × HaveRoots to.leads.roots board.streams
+    found_there = whole.held holds.blocks holds.tail h to under
 
-    leads : LeadTo IsRootOf no_extents whole.bodies held
-    leads = subst (λ l. LeadTo IsRootOf no_extents l held) both.0 to.leads.lead
+    -- The board is that of the history.
+    pub board_is : IsBoardOf h board
+    board_is = found_there.1
 
-    -- The history's prefix is the one that was read.
-    place : whole.log ≡ held
-    place = LeadTo-same MayLead IsRootOf no_extents whole.bodies whole.log held few (omega (arith, low, whole.at)) whole.leads leads
-
-    -- So the board is that of the history, with its trees stored.
-    pub stored : IsStoredBoard held board
-    stored =
-        subst (λ p. IsStoredBoard p board) place
-        (whole.stored (subst (LeadTo IsRootOf no_extents whole.bodies) (sym place) leads) (subst (λ (p : Prefix). Follows p.entries) (sym place) to.follows))
-
-    pub trees : HoldsTrees size image found.blocks tail h board.streams
+    -- Its trees are stored, and have the roots of the history's entries.
+    pub trees : HoldsTrees size image found.blocks tail h found board.streams
     trees =
-        subst (λ b. HoldsTrees size image b tail h board.streams) same_blocks
-        (subst (λ t. HoldsTrees size image holds.blocks t h board.streams) both.1 (to, stored.stored))
-
--- What is known of a log on an observable device.
-observed : (is_observable : Type 0) (image : Image) (blocks tail : ℕ) (board : Kept) → is_observable → IsWholeLog is_observable image blocks tail board → IsWholeLog (Unit {0}) image blocks tail board
-observed is_observable image blocks tail board told whole = record {
-  log = whole.log;
-  at = whole.at;
-  inside = whole.inside;
-  bodies = whole.bodies;
-  leads = whole.leads;
-  may = whole.may;
-  counted = whole.counted;
-  ends = whole.ends;
-  extents = λ _. whole.extents told;
-  closed = λ _. whole.closed told;
-  stored = whole.stored;
-}
+        subst (λ b. HoldsTrees size image b tail h found board.streams) same_blocks
+        (subst (λ t. (holds_to : HoldsHistoryTo size image holds.blocks t h) × (holds_to.super ≡ found) × AreStored holds_to.leads.pages tail board.streams × HaveRoots holds_to.leads.roots board.streams) found_there.0 (to, under, found_there.2, found_there.3))
 
 -- ---- the opening
 
@@ -132,12 +87,9 @@ module _ {D : Type 0} (disk : Ghosts D) (old mid : D) (found : Super) (counts_no
   same_bytes : disk.is_observable → disk.contents mid ≡ disk.contents old
   same_bytes told = Same-is (disk.contents old) (disk.contents mid) (kept.unwritten told).same
 
-  chosen_then : disk.is_observable → IsStoreOf (disk.size mid) (disk.contents mid) found.blocks
-  chosen_then told = (
-    found,
-    subst (λ n. IsChosen n (disk.contents mid) found) (sym kept.counts.same_size) (subst (λ i. IsChosen (disk.size old) i found) (sym (same_bytes told)) (chosen told)),
-    refl,
-  )
+  chosen_then : disk.is_observable → IsChosen (disk.size mid) (disk.contents mid) found
+  chosen_then told =
+      subst (λ n. IsChosen n (disk.contents mid) found) (sym kept.counts.same_size) (subst (λ i. IsChosen (disk.size old) i found) (sym (same_bytes told)) (chosen told))
 
   keeps : (new : D) → OnlyReads disk mid new → KeepsDisk disk old new
   keeps new reads = record {
@@ -145,16 +97,16 @@ module _ {D : Type 0} (disk : Ghosts D) (old mid : D) (found : Super) (counts_no
     unwritten = λ told. unwritten_on disk.calls disk.contents disk.images_now disk.images_since old mid new (kept.unwritten told) (back told) (reads.nothing told);
   }
 
-  module _ (e : Engine D disk) (synced : D) (first : SyncsFirst disk old synced mid) (read : IsReadEngine disk found.blocks mid synced e) where
+  module _ (e : Engine D disk) (synced : D) (first : SyncsFirst disk old synced mid) (read : IsReadEngine disk found mid synced e) where
     so_far : SyncsFirst disk old (synced_of e) (device e)
     so_far =
         subst (λ s. SyncsFirst disk old s (device e)) (sym read.synced) (reads_on disk old synced mid (device e) first read.reads (λ told. counts_now told (device e)))
 
     -- The log that was read is that of the device as it was.
-    whole : disk.is_observable → IsWholeLog (Unit {0}) (disk.contents old) found.blocks (tail_of e) (board_of e)
+    whole : disk.is_observable → IsWholeLog (disk.size old) (disk.contents old) found (tail_of e) (board_of e)
     whole told =
-        subst (λ i. IsWholeLog (Unit {0}) i found.blocks (tail_of e) (board_of e)) (same_bytes told)
-        (observed disk.is_observable (disk.contents mid) found.blocks (tail_of e) (board_of e) told read.whole)
+        subst (λ n. IsWholeLog n (disk.contents old) found (tail_of e) (board_of e)) kept.counts.same_size
+        (subst (λ i. IsWholeLog (disk.size mid) i found (tail_of e) (board_of e)) (same_bytes told) (read.whole told))
 
     -- If the device held a history, the engine is of it.
     at_rest : disk.is_observable → (h : List Entry) → HoldsHistory (disk.size old) (disk.contents old) h → IsAtRest h e
@@ -163,16 +115,18 @@ module _ {D : Type 0} (disk : Ghosts D) (old mid : D) (found : Super) (counts_no
         let bytes : disk.contents old ≡ disk.contents (device e) = sym (Same-is (disk.contents old) (disk.contents (device e)) (on.unwritten told).same) in
         let size : disk.size old ≡ disk.size (device e) = sym on.counts.same_size in
         let streams = (board_of e).streams in
-        let there : HoldsTrees (disk.size (device e)) (disk.contents (device e)) (blocks_of e) (tail_of e) h streams =
-        subst (λ n. HoldsTrees n (disk.contents (device e)) (blocks_of e) (tail_of e) h streams) size
-        (subst (λ i. HoldsTrees (disk.size old) i (blocks_of e) (tail_of e) h streams) bytes
-        (subst (λ b. HoldsTrees (disk.size old) (disk.contents old) b (tail_of e) h streams) (sym read.blocks_are)
+        let there : HoldsTrees (disk.size (device e)) (disk.contents (device e)) (blocks_of e) (tail_of e) h found streams =
+        subst (λ n. HoldsTrees n (disk.contents (device e)) (blocks_of e) (tail_of e) h found streams) size
+        (subst (λ i. HoldsTrees (disk.size old) i (blocks_of e) (tail_of e) h found streams) bytes
+        (subst (λ b. HoldsTrees (disk.size old) (disk.contents old) b (tail_of e) h found streams) (sym read.blocks_are)
         (trees (disk.size old) (disk.contents old) found (tail_of e) (board_of e) (chosen told) (whole told) h holds)))
         in
         record {
-          of = (stored (disk.size old) (disk.contents old) found (tail_of e) (board_of e) (chosen told) (whole told) h holds).of;
+          of = board_is (disk.size old) (disk.contents old) found (tail_of e) (board_of e) (chosen told) (whole told) h holds;
           holds = there.0;
-          stored = there.1;
+          under = there.1 ∙ sym read.under;
+          stored = there.2;
+          roots = there.3;
           only = so_far.now told;
         }
 
@@ -182,11 +136,12 @@ module _ {D : Type 0} (disk : Ghosts D) (old mid : D) (found : Super) (counts_no
       synced = so_far;
       runs = read.runs;
       entries = read.entries;
+      chosen = λ told. subst (IsChosen (disk.size old) (disk.contents old)) (sym read.under) (chosen told);
       stood = λ told h holds. opened_on old h e told read.entries (at_rest told h holds) so_far;
-      sound = λ told. undamaged (disk.size old) (disk.contents old) found (tail_of e) (board_of e) (chosen told) (whole told);
+      sound = λ told. undamaged (disk.size old) (disk.contents old) found (tail_of e) (board_of e) (chosen told) (whole told) read.inside;
     }
 
-  pub opened : (result : Result (Engine D disk) (OpenFault D)) (synced : D) → SyncsFirst disk old synced mid → IfOk result (IsReadEngine disk found.blocks mid synced) → IfOk result (IsOpenedEngine disk old)
+  pub opened : (result : Result (Engine D disk) (OpenFault D)) (synced : D) → SyncsFirst disk old synced mid → IfOk result (IsReadEngine disk found mid synced) → IfOk result (IsOpenedEngine disk old)
   opened (Ok e) synced first read = opened_engine e synced first read
   opened (Err f) synced first read = tt
 
@@ -195,11 +150,11 @@ module _ {D : Type 0} (disk : Ghosts D) (old mid : D) (found : Super) (counts_no
   stood (Ok e) is told h holds = is.stood told h holds
   stood (Err f) is told h holds = tt
 
-  pub refused : (result : Result (Engine D disk) (OpenFault D)) → IfErr result (λ f. OnlyReads disk mid f.disk) → IfErr result (λ f. LogCause disk found.blocks mid f.disk f.cause) → IfErr result (IsNotOpened disk old)
+  pub refused : (result : Result (Engine D disk) (OpenFault D)) → IfErr result (λ f. OnlyReads disk mid f.disk) → IfErr result (λ f. LogCause disk found mid f.disk f.cause) → IfErr result (IsNotOpened disk old)
   refused (Ok e) reads cause = tt
   refused (Err f) reads cause = record {
     kept = keeps f.disk reads;
-    cause = OpenCauseHolds-along (disk.is_observable × IsStoreOf (disk.size mid) (disk.contents mid) found.blocks) disk.is_observable (disk.size mid) (disk.size old) (disk.contents mid) (disk.contents old)
+    cause = OpenCauseHolds-along (disk.is_observable × IsChosen (disk.size mid) (disk.contents mid) found) disk.is_observable (disk.size mid) (disk.size old) (disk.contents mid) (disk.contents old)
         (disk.faults old) (disk.faults mid) (disk.faults f.disk) (disk.faults f.disk) f.cause
         (λ told. (told, chosen_then told))
         (λ told. (kept.counts.same_size, same_bytes told)) kept.counts.more_faults (omega arith) cause;

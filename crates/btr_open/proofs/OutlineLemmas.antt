@@ -1,5 +1,5 @@
 -- The outline of a history and the points decide whether an entry is rejected after it.
-use Rattle.std.specs.Prelude.{List, take, drop}
+use Rattle.std.specs.Prelude.{◌≡◌, ℕ, List, take, drop, slice_get, Some}
 use Rattle.std.proofs.Common.{sym, ◌∙◌, subst}
 use Rattle.std.proofs.lemmas.List.{take-append-drop}
 use Rattle.btr_hist.specs.declared.entry.Entry.{Entry}
@@ -7,7 +7,6 @@ use Rattle.btr_hist.specs.Legal.{Follows}
 use Rattle.btr_hist.proofs.HistoryLemmas.{follows-prefix}
 use Rattle.btr_engine.specs.Outline.{outline_of, refusal, points_refusal, MayFollow}
 use Rattle.btr_engine.proofs.OutlineLemmas.{outline-is, both-none, from-none, rejection-by}
-use Rattle.btr_open.specs.Walk.{EachMay}
 use Rattle.btr_open.specs.Laws.{OutlineAndPointsDecide}
 
 pub decide : OutlineAndPointsDecide
@@ -21,6 +20,6 @@ decide h e follows =
     )
 
 -- If each entry of a history is accepted after those before it, each may follow them.
-pub follows-may : (h : List Entry) → Follows h → EachMay MayFollow h
+pub follows-may : (h : List Entry) → Follows h → (n : ℕ) (e : Entry) → slice_get h n ≡ Some e → MayFollow (take n h) e
 follows-may h follows n e at =
     (decide (take n h) e (follows-prefix (take n h) (drop n h) (subst Follows (sym (take-append-drop n h)) follows))).1.1 (follows n e at)

@@ -1,4 +1,5 @@
--- The body of an entry that may follow, with a root that may be its own, breaks the format nowhere, and neither does its extent.
+-- The body of the next entry, or of a checkpoint, breaks the format nowhere, and neither does its extent. What is before its gate is known
+-- but for pages below a limit, of which some are given that stand rightly there.
 use Rattle.std.specs.Prelude.{◌≡◌, ◌⊎◌, ℕ, ◌+◌, ◌*◌, ◌<◌, ◌≤◌, ◌^◌, List, [], ◌∷◌, ◌++◌, length, take, drop}
 use Rattle.std.specs.List.{flat_map, AllByRecursion}
 use Rattle.std.proofs.Common.{refl, sym, ◌∙◌, ap, subst, arith, ⊎_elim, length-append}
@@ -7,11 +8,12 @@ use Rattle.std.proofs.lemmas.List.Concat.{flat_map-cons}
 use Rattle.btr_disk.specs.Bytes.{Image, Has}
 use Rattle.btr_disk.proofs.ByteLemmas.{Has-one, Has-take}
 use Rattle.btr_log.specs.declared.head.Head.{Head}
-use Rattle.btr_log.specs.Head.{head_bytes}
-use Rattle.btr_log.proofs.HeadLemmas.{length-head_bytes, head_bytes-one}
+use Rattle.btr_log.specs.Head.{head_bytes, Spells}
+use Rattle.btr_log.proofs.HeadLemmas.{length-head_bytes, head_bytes-one, Spells-one}
 use Rattle.btr_log.specs.Extents.{need, IsExtent}
 use Rattle.btr_log.proofs.ExtentLemmas.{IsBody-one, IsBody-blocks}
 use Rattle.btr_log.specs.Found.{SpellsAt, IsDamagedExtent}
+use Rattle.btr_super.specs.declared.superblock.Super.{Super}
 use Rattle.btr_node.specs.Page.{page_bytes, Fits}
 use Rattle.btr_node.specs.declared.page.NodePage.{NodePage}
 use Rattle.btr_node.proofs.PageLemmas.{page-once}
@@ -20,13 +22,20 @@ use Rattle.btr_pages.specs.Blocks.{block_of_bytes, IsNoPage}
 use Rattle.btr_pages.proofs.BlockLemmas.{parts-one, length-pages, each-places}
 use Rattle.btr_pages.proofs.PagesLemmas.{right-next}
 use Rattle.btr_hist.specs.declared.entry.Entry.{Entry}
-use Rattle.btr_engine.specs.Body.{Prefix, first_page, pages_after, IsBodyOf}
+use Rattle.btr_engine.specs.Body.{first_page}
 use Rattle.btr_open.specs.Content.{HasContent}
-use Rattle.btr_open.specs.RootTest.{MayLead, MayLeadIn}
-use Rattle.btr_open.specs.Walk.{IsNoEntryBody, IsForbiddenBody, HasWrongRoot, IsOutOfPlace, HasWrongNode, BreaksBody}
-use Rattle.btr_open.specs.Walk.{IsBrokenExtent, IsDamagedEntry}
-use Rattle.btr_open.proofs.ContentLemmas.{content-one, body-content}
+use Rattle.btr_open.specs.Reached.{Reached, with_other_pages}
+use Rattle.btr_open.specs.RootTest.{MayLeadIn}
+use Rattle.btr_open.specs.Below.{StandBelow}
+use Rattle.btr_open.specs.Walk.{FitsRoll, IsNextBody, IsCheckpointBody, IsNoNextBody, IsForbiddenBody, pages_from}
+use Rattle.btr_open.specs.Walk.{HasWrongRoot, IsOutOfPlace, HasWrongNode, BreaksBody, IsBrokenExtent, IsDamagedNext}
+use Rattle.btr_open.proofs.ContentLemmas.{content-one}
 use Rattle.btr_open.proofs.RootLemmas.{may-lead-in, pages-keep}
+use Rattle.btr_open.proofs.UniqueLemmas.{next-content, marks-apart}
+
+-- The same, but for the pages below the limit, which are these.
+abbrev pub with_below : ℕ → Pages → Reached → Reached
+with_below limit below log = with_other_pages log (pages_from limit below log)
 
 -- ---- pages of which some are known
 
@@ -82,70 +91,82 @@ split (b ∷ bs) (p ∷ ps) fit fits within same =
       block = ap (block_of_bytes (flat_map page_bytes (p ∷ ps))) count ∙ further-block p ps fits.0 n ∙ rest.block;
     }
 
--- The block of a page that stands rightly is not damaged.
-not-damaged : (pages : Pages) (block : ℕ) (bytes : List ℕ) (page : NodePage) → Fits page → bytes ≡ page_bytes page → IsPageAt pages block page → IsNoPage bytes ⊎ IsOutOfPlace pages block bytes → ⊥
-not-damaged pages block bytes page fits same stands damaged =
-    ⊎_elim
-    (λ none. none page fits (record { keeps = stands.keeps; bytes_are = same }))
-    (λ (out : IsOutOfPlace pages block bytes).
-    out.wrong (subst (IsPageAt pages block) (page-once page out.page fits out.fits (sym same ∙ out.spells.bytes_are)) stands))
-    damaged
-
 -- ---- a body
 
--- The numbers of the entry fit eight bytes. The entry may follow those before it, and its root may be its own.
-module _ (May : List Entry → Entry → Type 0) (log : Prefix) (e : Entry) (root : ℕ) (pages : List NodePage) (body : List ℕ) (block : ℕ) (few : length log.entries + 1 < 2 ^ 64) (short : log.gate + need body < 2 ^ 64) (is : IsBodyOf log e root pages body) (keeps : MayLead (pages_after log e pages) log.entries e root pages) (allowed : May log.entries e) where
-  abbrev number : ℕ
-  number = length log.entries + 1
+module _ (image : Image) (limit : ℕ) (below : Pages) (stand : StandBelow image limit below) (log : Reached) where
+  -- The block of a page that stands rightly is not damaged.
+  not-damaged : (first block : ℕ) (new : List NodePage) (bytes : List ℕ) (page : NodePage) → Fits page → bytes ≡ page_bytes page → IsPageAt (with_pages (pages_from limit below log) first new) block page → IsNoPage bytes ⊎ IsOutOfPlace image limit log first new block bytes → ⊥
+  not-damaged first block new bytes page fits same stands damaged =
+      ⊎_elim
+      (λ none. none page fits (record { keeps = stands.keeps; bytes_are = same }))
+      (λ (out : IsOutOfPlace image limit log first new block bytes).
+      out.wrong below stand (subst (IsPageAt (with_pages (pages_from limit below log) first new) block) (page-once page out.page fits out.fits (sym same ∙ out.spells.bytes_are)) stands))
+      damaged
 
-  abbrev nodes : List ℕ
-  nodes = flat_map page_bytes pages
+  -- The body of the next entry. Its numbers fit eight bytes.
+  module _ (e : Entry) (root : ℕ) (pages : List NodePage) (body : List ℕ) (block : ℕ) (few : log.entries + 1 < 2 ^ 64) (short : need body ≤ 2 ^ 64) (is : IsNextBody (with_below limit below log) e root pages body) where
+    abbrev number : ℕ
+    number = log.entries + 1
 
-  content : HasContent number e root nodes body
-  content = body-content log e root pages body short is
+    abbrev nodes : List ℕ
+    nodes = flat_map page_bytes pages
 
-  -- Whatever content the body has, it is this one.
-  one-content : (f : Entry) (r : ℕ) (y : List ℕ) → HasContent number f r y body → (e ≡ f) × (root ≡ r) × (nodes ≡ y)
-  one-content f r y other = content-one number e f root r nodes y body (omega arith) few content other
+    abbrev known : Pages
+    known = pages_from limit below log
 
-  has-entry : IsNoEntryBody log body block → ⊥
-  has-entry n = n.none e root nodes content
+    content : HasContent number e root nodes body
+    content = next-content (with_below limit below log) e root pages body is short
 
-  not-forbidden : IsForbiddenBody May log body block → ⊥
-  not-forbidden f =
-      f.forbidden (subst (May log.entries) (one-content f.entry f.root f.nodes f.content).0 allowed)
+    -- Whatever content the body has, it is this one.
+    one-content : (f : Entry) (r : ℕ) (y : List ℕ) → HasContent number f r y body → (e ≡ f) × (root ≡ r) × (nodes ≡ y)
+    one-content f r y other = content-one number e f root r nodes y body (omega arith) few content other
 
-  right-root : HasWrongRoot May log body block → ⊥
-  right-root w =
-      let same = one-content w.entry w.root w.nodes w.content in
-      let may = may-lead-in log.pages log.entries e (first_page log.gate e) root pages nodes refl is.fits (pages-keep log.pages (first_page log.gate e) pages is.rightly) keeps in
-      let there : MayLeadIn log.pages log.entries w.entry (first_page log.gate w.entry) w.nodes w.root = subst {A = Entry × ℕ × List ℕ} (λ c. MayLeadIn log.pages log.entries c.0 (first_page log.gate c.0) c.2 c.1) (λ i. (same.0 i, same.1 i, same.2 i)) may in
-      w.wrong there
+    has-entry : IsNoNextBody log body block → ⊥
+    has-entry n = n.no_entry e root nodes content
 
-  right-nodes : HasWrongNode May log body block → ⊥
-  right-nodes w =
-      let same = one-content w.entry w.root w.nodes w.content in
-      let first = first_page log.gate e in
-      let n = length w.before in
-      let within : n < length pages = omega (arith, w.within, ap (length {A = ℕ}) same.2, length-pages pages (each-places pages is.fits)) in
-      let start : take (4096 * n) nodes ≡ flat_map page_bytes w.before = ap (take (4096 * n)) same.2 ∙ w.bytes in
-      let parts = split w.before pages w.fit is.fits within start in
-      let here : block_of_bytes w.nodes n ≡ page_bytes parts.page = ap (λ xs. block_of_bytes xs n) (sym same.2) ∙ parts.block in
-      let right : IsPageAt (with_pages log.pages first w.before) (first + n) parts.page = right-next log.pages first w.before parts.more parts.page (subst (ArePages log.pages first) {y = w.before ++ parts.page ∷ parts.more} parts.are is.rightly) in
-      let firsts : first ≡ first_page log.gate w.entry = ap (first_page log.gate) same.0 in
-      let at : first + n ≡ block = ap (λ b. b + n) firsts ∙ sym w.next in
-      let there = with_pages log.pages (first_page log.gate w.entry) w.before in
-      let stands : IsPageAt there block parts.page = subst {A = ℕ × ℕ} (λ c. IsPageAt (with_pages log.pages c.0 w.before) c.1 parts.page) (λ i. (firsts i, at i)) right in
-      not-damaged there block (block_of_bytes w.nodes n) parts.page parts.fits here stands w.damaged
+    not-forbidden : IsForbiddenBody log body block → ⊥
+    not-forbidden f =
+        f.forbidden (subst (FitsRoll log.roll) (one-content f.entry f.root f.nodes f.content).0 is.allowed)
 
-  pub body-unbroken : BreaksBody May log body block → ⊥
-  body-unbroken breaks =
-      ⊎_elim has-entry (λ f. ⊎_elim not-forbidden (λ w. ⊎_elim right-root right-nodes w) f) breaks
+    right-root : HasWrongRoot image limit log body block → ⊥
+    right-root w =
+        let same = one-content w.entry w.root w.nodes w.content in
+        let may = may-lead-in known log.roll e (first_page log.gate e) root pages nodes refl is.fits (pages-keep known (first_page log.gate e) pages is.rightly) is.may_lead in
+        let there : MayLeadIn known log.roll w.entry (first_page log.gate w.entry) w.nodes w.root = subst {A = Entry × ℕ × List ℕ} (λ c. MayLeadIn known log.roll c.0 (first_page log.gate c.0) c.2 c.1) (λ i. (same.0 i, same.1 i, same.2 i)) may in
+        w.wrong below stand there
+
+    right-nodes : HasWrongNode image limit log body block → ⊥
+    right-nodes w =
+        let same = one-content w.entry w.root w.nodes w.content in
+        let first = first_page log.gate e in
+        let n = length w.before in
+        let within : n < length pages = omega (arith, w.within, ap (length {A = ℕ}) same.2, length-pages pages (each-places pages is.fits)) in
+        let start : take (4096 * n) nodes ≡ flat_map page_bytes w.before = ap (take (4096 * n)) same.2 ∙ w.bytes in
+        let parts = split w.before pages w.fit is.fits within start in
+        let here : block_of_bytes w.nodes n ≡ page_bytes parts.page = ap (λ xs. block_of_bytes xs n) (sym same.2) ∙ parts.block in
+        let right : IsPageAt (with_pages known first w.before) (first + n) parts.page = right-next known first w.before parts.more parts.page (subst (ArePages known first) {y = w.before ++ parts.page ∷ parts.more} parts.are is.rightly) in
+        let firsts : first ≡ first_page log.gate w.entry = ap (first_page log.gate) same.0 in
+        let at : first + n ≡ block = ap (λ b. b + n) firsts ∙ sym w.next in
+        let there = first_page log.gate w.entry in
+        let stands : IsPageAt (with_pages known there w.before) block parts.page = subst {A = ℕ × ℕ} (λ c. IsPageAt (with_pages known c.0 w.before) c.1 parts.page) (λ i. (firsts i, at i)) right in
+        not-damaged there block w.before (block_of_bytes w.nodes n) parts.page parts.fits here stands w.damaged
+
+    body-unbroken : BreaksBody image limit log body block → ⊥
+    body-unbroken breaks =
+        ⊎_elim has-entry (λ f. ⊎_elim not-forbidden (λ w. ⊎_elim right-root right-nodes w) f) breaks
+
+  -- A body that is that of a checkpoint of what is before it has no content of an entry.
+  checkpoint-unbroken : (body : List ℕ) (block : ℕ) → IsCheckpointBody log body → BreaksBody image limit log body block → ⊥
+  checkpoint-unbroken body block is breaks =
+      let number = log.entries + 1 in
+      ⊎_elim
+      (λ (n : IsNoNextBody log body block). n.no_checkpoint is)
+      (λ f. ⊎_elim (λ (x : IsForbiddenBody log body block). marks-apart log number x.entry x.root x.nodes body x.content is) (λ w. ⊎_elim (λ (x : HasWrongRoot image limit log body block). marks-apart log number x.entry x.root x.nodes body x.content is) (λ (x : HasWrongNode image limit log body block). marks-apart log number x.entry x.root x.nodes body x.content is) w) f)
+      breaks
 
 -- ---- an extent
 
--- The extent is inside the blocks of a log.
-module _ (image : Image) (blocks block gate : ℕ) (body : List ℕ) (head : Head) (extent : IsExtent image gate body head) (inside : gate + need body < blocks) where
+module _ (image : Image) (gate : ℕ) (body : List ℕ) (head : Head) (extent : IsExtent image gate body head) where
   head-stands : Has image (4096 * (gate + 1)) (head_bytes head)
   head-stands =
       subst (Has image (4096 * (gate + 1))) extent.is_body.spells.spelling (Has-take image (4096 * (gate + 1)) 64 body extent.stored)
@@ -156,29 +177,46 @@ module _ (image : Image) (blocks block gate : ℕ) (body : List ℕ) (head : Hea
       head_bytes-one other head at.is_head extent.is_body.spells.is_head
       (Has-one image (4096 * (gate + 1)) (head_bytes other) (head_bytes head) (length-head_bytes other ∙ sym (length-head_bytes head)) at.stored head-stands)
 
-  has-room : (other : Head) → SpellsAt image (gate + 1) other → blocks ≤ gate + other.n + 1 → ⊥
-  has-room other at much =
+  has-room : (blocks : ℕ) (other : Head) → gate + need body < blocks → SpellsAt image (gate + 1) other → blocks ≤ gate + other.n + 1 → ⊥
+  has-room blocks other inside at much =
       let n : other.n ≡ head.n = ap (λ (h : Head). h.n) (one-head other at) in
       omega (arith, n, much, inside, IsBody-blocks body head extent.is_body)
 
   -- The bytes in the image are one body.
-  one-body : (other : List ℕ) (h : Head) → IsExtent image gate other h → other ≡ body
+  pub one-body : (other : List ℕ) (h : Head) → IsExtent image gate other h → other ≡ body
   one-body other h at =
       IsBody-one image (4096 * (gate + 1)) other body h head at.is_body extent.is_body at.stored extent.stored
 
-  extent-unbroken : IsDamagedExtent image blocks gate block → ⊥
-  extent-unbroken damaged =
+  -- It has one head.
+  pub head-of-body : (other : List ℕ) (h : Head) → IsExtent image gate other h → h ≡ head
+  head-of-body other h at =
+      Spells-one (take 64 body) h head (subst (λ b. Spells (take 64 b) h) (one-body other h at) at.is_body.spells) extent.is_body.spells
+
+  -- The extent, inside these blocks, is not damaged itself.
+  pub extent-unbroken : (blocks block : ℕ) → gate + need body < blocks → IsDamagedExtent image blocks gate block → ⊥
+  extent-unbroken blocks block inside damaged =
       ⊎_elim
       (λ end. let at = end.0 in omega (arith, at, inside))
-      (λ cause. ⊎_elim (λ none. none head (record { is_head = extent.is_body.spells.is_head; stored = head-stands })) (λ much. has-room much.0 much.1 much.2) cause.2)
+      (λ cause. ⊎_elim (λ none. none head (record { is_head = extent.is_body.spells.is_head; stored = head-stands })) (λ much. has-room blocks much.0 inside much.1 much.2) cause.2)
       damaged.damage
 
--- The next extent of a log, inside its blocks, is not damaged.
-pub entry-undamaged : (May : List Entry → Entry → Type 0) (image : Image) (blocks block : ℕ) (log : Prefix) (e : Entry) (root : ℕ) (pages : List NodePage) (body : List ℕ) (head : Head) → blocks ≤ 2 ^ 64 → length log.entries + 1 < 2 ^ 64 → IsBodyOf log e root pages body → MayLead (pages_after log e pages) log.entries e root pages → May log.entries e → IsExtent image log.gate body head → log.gate + need body < blocks → IsDamagedEntry May image blocks log block → ⊥
-entry-undamaged May image blocks block log e root pages body head limit few is keeps allowed extent inside damage =
+-- An extent of a log, inside the blocks of the store, is damaged only if its body breaks the format.
+extent-undamaged : (image : Image) (s : Super) (block : ℕ) (log : Reached) (body : List ℕ) (head : Head) → (BreaksBody image s.checkpoint log body block → ⊥) → IsExtent image log.gate body head → log.gate + need body < s.blocks → IsDamagedNext image s log block → ⊥
+extent-undamaged image s block log body head unbroken extent inside damage =
     ⊎_elim
-    (extent-unbroken image blocks block log.gate body head extent inside)
-    (λ (b : IsBrokenExtent May image blocks log block).
-    let same = one-body image blocks block log.gate body head extent inside b.body b.head b.extent in
-    body-unbroken May log e root pages body block few (omega (arith, limit, inside)) is keeps allowed (subst (λ c. BreaksBody May log c block) same b.breaks))
+    (extent-unbroken image log.gate body head extent s.blocks block inside)
+    (λ (b : IsBrokenExtent image s log block).
+    let same = one-body image log.gate body head extent b.body b.head b.extent in
+    unbroken (subst (λ c. BreaksBody image s.checkpoint log c block) same b.breaks))
     damage
+
+module _ (image : Image) (s : Super) (block : ℕ) (below : Pages) (stand : StandBelow image s.checkpoint below) (log : Reached) (body : List ℕ) (head : Head) (extent : IsExtent image log.gate body head) (inside : log.gate + need body < s.blocks) where
+  -- The extent of the next entry is not damaged.
+  pub entry-undamaged : (e : Entry) (root : ℕ) (pages : List NodePage) → s.blocks ≤ 2 ^ 64 → log.entries + 1 < 2 ^ 64 → IsNextBody (with_below s.checkpoint below log) e root pages body → IsDamagedNext image s log block → ⊥
+  entry-undamaged e root pages limit few is damage =
+      extent-undamaged image s block log body head (body-unbroken image s.checkpoint below stand log e root pages body block few (omega (arith, limit, inside)) is) extent inside damage
+
+  -- The extent of a checkpoint of what is before it is not damaged.
+  pub checkpoint-undamaged : IsCheckpointBody log body → IsDamagedNext image s log block → ⊥
+  checkpoint-undamaged is damage =
+      extent-undamaged image s block log body head (checkpoint-unbroken image s.checkpoint below stand log body block is) extent inside damage

@@ -1,8 +1,8 @@
--- What the body of an extent has: an entry with its number and its root, and the blocks of its pages.
+-- What the body of an extent has: an entry with its number and its root, and the blocks of its pages; or the content of a checkpoint.
 use Rattle.std.specs.Prelude.{◌≡◌, ℕ, ◌+◌, ◌*◌, ◌^◌, ◌<◌, List, ◌++◌, length, drop}
 use Rattle.btr_disk.specs.Gate.{zeros}
 use Rattle.btr_log.specs.declared.head.Head.{Head}
-use Rattle.btr_log.specs.Head.{content_blocks, head_bytes, entry_head}
+use Rattle.btr_log.specs.Head.{content_blocks, head_bytes, entry_head, checkpoint_head}
 use Rattle.btr_hist.specs.declared.entry.Entry.{Entry}
 use Rattle.btr_entry.specs.Grammar.{spelling, IsSpelled}
 use Rattle.btr_engine.specs.Body.{padding}
@@ -29,3 +29,9 @@ HasNoContent number body = (e : Entry) (root : ℕ) (blocks : List ℕ) → HasC
 -- The bytes of the node blocks of a body with this head.
 abbrev pub node_blocks_of : Head → List ℕ → List ℕ
 node_blocks_of head body = drop (4096 * content_blocks head.length) body
+
+-- The body is that of a checkpoint after this number of entries, with this content: the head, the content, and zeros up to the end of the
+-- last block.
+pub record HasCheckpoint (number : ℕ) (content body : List ℕ) : Type 0 where
+  pub room : content_blocks (length content) < 2 ^ 64
+  pub bytes : body ≡ head_bytes (checkpoint_head number (length content)) ++ (content ++ zeros (padding (length content)))

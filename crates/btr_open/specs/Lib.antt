@@ -1,7 +1,13 @@
 -- what the body of an extent has
 pub mod Content
+-- how far a log was read
+pub mod Reached
 -- which block may be a root
 pub mod RootTest
+-- the pages below a checkpoint
+pub mod Below
+-- where the reading of a log starts
+pub mod Start
 -- a walk over the log of a device
 pub mod Walk
 -- what breaks the format of a store
@@ -12,5 +18,9 @@ pub mod Opening
 pub mod Laws
 -- what the private functions promise
 pub mod Reading
+-- how far a log was read
+pub mod Place
 -- what the functions promise that add an extent
 pub mod Loading
+-- what the functions promise that read a checkpoint
+pub mod Checkpoint

@@ -7,20 +7,20 @@ use Rattle.btr_pages.specs.Pages.{Pages, IsRootPage, MayBeRoot}
 use Rattle.btr_pages.specs.Blocks.{block_of_bytes, IsNoPage}
 use Rattle.btr_hist.specs.declared.entry.Entry.{Entry}
 use Rattle.btr_hist.specs.declared.entry.Entry.TheVariants.{Create, Define, Commit, Distillate}
-use Rattle.btr_hist.specs.History.{latest}
-use Rattle.btr_engine.specs.Body.{RootRule}
+use Rattle.btr_roll.specs.Roll.{RollStreamValue}
+use Rattle.btr_open.specs.Reached.{next_version}
 
 -- A commit adds a point.
 abbrev pub adds : List Point → Bool
 adds added = nat_lt 0 (length added)
 
--- The rule on roots that an opening tests. An entry that makes a stream has no root. The root of a commit is 0, if the commit adds no
--- point, or it is the block of the page of a root of its stream that is not newer than the version.
-abbrev pub MayLead : RootRule
-MayLead known before (Create id) root pages = root ≡ 0
-MayLead known before (Define id spec) root pages = root ≡ 0
-MayLead known before (Commit stream cut added) root pages = MayBeRoot known stream (latest before stream + 1) (adds added) root
-MayLead known before (Distillate stream cut added reads) root pages = MayBeRoot known stream (latest before stream + 1) (adds added) root
+-- The root of an entry after these streams may be this block, as an opening tests it. An entry that makes a stream has no root. The root
+-- of a commit is 0, if the commit adds no point, or it is the block of the page of a root of its stream that is not newer than the version.
+abbrev pub MayLead : Pages → List RollStreamValue → Entry → ℕ → Type 0
+MayLead known roll (Create id) root = root ≡ 0
+MayLead known roll (Define id spec) root = root ≡ 0
+MayLead known roll (Commit stream cut added) root = MayBeRoot known stream (next_version roll stream) (adds added) root
+MayLead known roll (Distillate stream cut added reads) root = MayBeRoot known stream (next_version roll stream) (adds added) root
 
 -- The page that a block has: one below the node blocks of an extent, or the one that a node block of the extent is. The node blocks
 -- begin at the block `first`.
@@ -40,14 +40,14 @@ abbrev pub MayBeRootIn : Pages → ℕ → List ℕ → ℕ → ℕ → Bool →
 MayBeRootIn known first blocks stream version some root =
     ((root ≡ 0) × (some ≡ false)) ⊎ HasRootIn known first blocks stream version root
 
--- The block may be the root of an entry, after these entries.
-abbrev pub MayLeadIn : Pages → List Entry → Entry → ℕ → List ℕ → ℕ → Type 0
-MayLeadIn known before (Create id) first blocks root = root ≡ 0
-MayLeadIn known before (Define id spec) first blocks root = root ≡ 0
-MayLeadIn known before (Commit stream cut added) first blocks root =
-    MayBeRootIn known first blocks stream (latest before stream + 1) (adds added) root
-MayLeadIn known before (Distillate stream cut added reads) first blocks root =
-    MayBeRootIn known first blocks stream (latest before stream + 1) (adds added) root
+-- The block may be the root of an entry, after these streams.
+abbrev pub MayLeadIn : Pages → List RollStreamValue → Entry → ℕ → List ℕ → ℕ → Type 0
+MayLeadIn known roll (Create id) first blocks root = root ≡ 0
+MayLeadIn known roll (Define id spec) first blocks root = root ≡ 0
+MayLeadIn known roll (Commit stream cut added) first blocks root =
+    MayBeRootIn known first blocks stream (next_version roll stream) (adds added) root
+MayLeadIn known roll (Distillate stream cut added reads) first blocks root =
+    MayBeRootIn known first blocks stream (next_version roll stream) (adds added) root
 
 -- The block is one of the node blocks of an extent, but it is no page.
 pub record IsNoPageIn (first : ℕ) (blocks : List ℕ) (block : ℕ) : Type 0 where

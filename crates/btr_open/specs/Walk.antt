@@ -1,76 +1,118 @@
--- A walk over the log of a device: the entries and the pages up to a gate, each of which may follow those before it, and the block after
+-- A walk over the log of a device: the extents from the start to a gate, each of which may follow those before it; and the block after
 -- them that breaks the format.
-use Rattle.std.specs.Prelude.{◌≡◌, ◌⊎◌, ℕ, ◌+◌, ◌*◌, ◌<◌, List, take, slice_get, length, Some}
+use Rattle.std.specs.Prelude.{◌≡◌, ◌⊎◌, ℕ, ◌+◌, ◌*◌, ◌^◌, ◌<◌, List, [], ◌∷◌, take, length, None}
 use Rattle.std.specs.List.{flat_map, AllByRecursion}
 use Rattle.btr_disk.specs.Bytes.{Image}
 use Rattle.btr_log.specs.declared.head.Head.{Head}
-use Rattle.btr_log.specs.Extents.{need, IsExtent, Extents, first_gate}
+use Rattle.btr_log.specs.Head.{content_blocks}
+use Rattle.btr_log.specs.Extents.{need, IsExtent, Extents}
 use Rattle.btr_log.specs.Found.{IsDamagedExtent}
+use Rattle.btr_super.specs.declared.superblock.Super.{Super}
 use Rattle.btr_node.specs.Page.{page_bytes, Spells, Fits}
 use Rattle.btr_node.specs.declared.page.NodePage.{NodePage}
 use Rattle.btr_pages.specs.Pages.{Pages, with_pages, IsPageAt, ArePages}
 use Rattle.btr_pages.specs.Blocks.{block_of_bytes, IsNoPage}
 use Rattle.btr_hist.specs.declared.entry.Entry.{Entry}
-use Rattle.btr_engine.specs.Body.{Prefix, no_extents, first_page, LeadTo}
+use Rattle.btr_entry.specs.Grammar.{IsSpelled}
+use Rattle.btr_roll.specs.Roll.{RollStreamValue, roll_bytes}
+use Rattle.btr_engine.specs.Body.{first_page, body_of}
+use Rattle.btr_engine.specs.Mark.{body_of_roll}
+use Rattle.btr_engine.specs.Outline.{outline_in, refusal}
 use Rattle.btr_open.specs.Content.{HasContent, HasNoContent}
+use Rattle.btr_open.specs.Reached.{Reached, pages_with, with_entry, passed}
 use Rattle.btr_open.specs.RootTest.{MayLead, MayLeadIn, IsNamedRoot}
+use Rattle.btr_open.specs.Below.{StandBelow, pages_joined}
+use Rattle.btr_open.specs.Start.{IsReadingStart}
 
--- ---- a walk
+-- ---- bodies that may follow
 
--- Each entry may follow those before it. `May` says which entry may follow which.
-abbrev pub EachMay : (List Entry → Entry → Type 0) → List Entry → Type 0
-EachMay May h = (n : ℕ) (e : Entry) → slice_get h n ≡ Some e → May (take n h) e
+-- The outline of these streams shows no reason why an entry may not follow. Points are not looked at.
+abbrev pub FitsRoll : List RollStreamValue → Entry → Type 0
+FitsRoll roll e = refusal (outline_in roll) e ≡ None
 
--- From the first gate on, extents follow one another up to the gate after the prefix. Their bodies are those of its entries, each root
--- may be that of its entry, and each entry may follow those before it.
-pub record IsWalk (May : List Entry → Entry → Type 0) (image : Image) (log : Prefix) : Type 0 where
+-- The body is that of this entry with the next number, which may follow, with this root, which may be its own, and these pages, which stand
+-- rightly after those before.
+pub record IsNextBody (before : Reached) (e : Entry) (root : ℕ) (pages : List NodePage) (body : List ℕ) : Type 0 where
+  pub spelled : IsSpelled e
+  pub fits : AllByRecursion Fits pages
+  pub rightly : ArePages before.pages (first_page before.gate e) pages
+  pub low : root < 2 ^ 64
+  pub bytes : body ≡ body_of (before.entries + 1) e root pages
+  pub may_lead : MayLead (pages_with before e pages) before.roll e root
+  pub allowed : FitsRoll before.roll e
+
+-- The body is that of a checkpoint: it has the number of entries, and the streams with their versions.
+pub record IsCheckpointBody (before : Reached) (body : List ℕ) : Type 0 where
+  pub room : content_blocks (length (roll_bytes before.roll)) < 2 ^ 64
+  pub bytes : body ≡ body_of_roll before.entries before.roll
+
+-- The extents with these bodies lead from one gate to another: each body is that of an entry that may follow, or of a checkpoint.
+abbrev pub LeadOn : Reached → List (List ℕ) → Reached → Type 0
+LeadOn before [] after = before ≡ after
+LeadOn before (body ∷ bodies) after =
+    ((e : Entry) × (root : ℕ) × (pages : List NodePage) × IsNextBody before e root pages body
+    × LeadOn (with_entry before e root pages body) bodies after)
+    ⊎ (IsCheckpointBody before body × LeadOn (passed before body) bodies after)
+
+-- From the start that the superblock names, extents follow one another and lead to this gate and what is before it.
+pub record IsWalk (image : Image) (s : Super) (log : Reached) : Type 0 where
+  pub start : Reached
+  pub starts : IsReadingStart image s start
   pub bodies : List (List ℕ)
-  pub extents : Extents image first_gate bodies log.gate
-  pub leads : LeadTo MayLead no_extents bodies log
-  pub may : EachMay May log.entries
+  pub extents : Extents image start.gate bodies log.gate
+  pub leads : LeadOn start bodies log
 
 -- ---- a body that breaks the format
 
--- The body has no content of the next entry. Its first block breaks the format.
-pub record IsNoEntryBody (log : Prefix) (body : List ℕ) (block : ℕ) : Type 0 where
-  pub none : HasNoContent (length log.entries + 1) body
+-- The body has no content of the next entry, and is not that of a checkpoint of what is before it. Its first block breaks the format.
+pub record IsNoNextBody (log : Reached) (body : List ℕ) (block : ℕ) : Type 0 where
+  pub no_entry : HasNoContent (log.entries + 1) body
+  pub no_checkpoint : IsCheckpointBody log body → ⊥
   pub first : block ≡ log.gate + 1
 
 -- The entry of the body may not follow. The body's first block breaks the format.
-pub record IsForbiddenBody (May : List Entry → Entry → Type 0) (log : Prefix) (body : List ℕ) (block : ℕ) : Type 0 where
+pub record IsForbiddenBody (log : Reached) (body : List ℕ) (block : ℕ) : Type 0 where
   pub entry : Entry
   pub root : ℕ
   pub nodes : List ℕ
-  pub content : HasContent (length log.entries + 1) entry root nodes body
-  pub forbidden : May log.entries entry → ⊥
+  pub content : HasContent (log.entries + 1) entry root nodes body
+  pub forbidden : FitsRoll log.roll entry → ⊥
   pub first : block ≡ log.gate + 1
 
--- The entry of the body may follow, but its root is wrong.
-pub record HasWrongRoot (May : List Entry → Entry → Type 0) (log : Prefix) (body : List ℕ) (block : ℕ) : Type 0 where
+-- The pages before a gate, if below the limit they are these.
+abbrev pub pages_from : ℕ → Pages → Reached → Pages
+pages_from limit below log = pages_joined limit below log.pages
+
+-- The entry of the body may follow, but its root is wrong, whatever pages stand rightly below the limit.
+pub record HasWrongRoot (image : Image) (limit : ℕ) (log : Reached) (body : List ℕ) (block : ℕ) : Type 0 where
   pub entry : Entry
   pub root : ℕ
   pub nodes : List ℕ
-  pub content : HasContent (length log.entries + 1) entry root nodes body
-  pub allowed : May log.entries entry
-  pub wrong : MayLeadIn log.pages log.entries entry (first_page log.gate entry) nodes root → ⊥
+  pub content : HasContent (log.entries + 1) entry root nodes body
+  pub allowed : FitsRoll log.roll entry
+  pub wrong : (below : Pages) → StandBelow image limit below
+      → MayLeadIn (pages_from limit below log) log.roll entry (first_page log.gate entry) nodes root → ⊥
   pub named : IsNamedRoot log.gate entry (first_page log.gate entry) nodes root block
 
--- These bytes are those of a page that does not stand rightly in a block, after these pages.
-pub record IsOutOfPlace (pages : Pages) (block : ℕ) (bytes : List ℕ) : Type 0 where
+-- These bytes are those of a page that does not stand rightly in a block after `new`, which are from the block `first` on, whatever pages
+-- stand rightly below the limit.
+pub record IsOutOfPlace (image : Image) (limit : ℕ) (log : Reached) (first : ℕ) (new : List NodePage) (block : ℕ) (bytes : List ℕ)
+    : Type 0 where
   pub page : NodePage
   pub fits : Fits page
   pub spells : Spells bytes page
-  pub wrong : IsPageAt pages block page → ⊥
+  pub wrong : (below : Pages) → StandBelow image limit below
+      → IsPageAt (with_pages (pages_from limit below log) first new) block page → ⊥
 
 -- The entry of the body may follow, and its root is right. The first node blocks are pages that stand rightly, but the next one, which
 -- is this block, is no page, or one that does not stand rightly after them.
-pub record HasWrongNode (May : List Entry → Entry → Type 0) (log : Prefix) (body : List ℕ) (block : ℕ) : Type 0 where
+pub record HasWrongNode (image : Image) (limit : ℕ) (log : Reached) (body : List ℕ) (block : ℕ) : Type 0 where
   pub entry : Entry
   pub root : ℕ
   pub nodes : List ℕ
-  pub content : HasContent (length log.entries + 1) entry root nodes body
-  pub allowed : May log.entries entry
-  pub right : MayLeadIn log.pages log.entries entry (first_page log.gate entry) nodes root
+  pub content : HasContent (log.entries + 1) entry root nodes body
+  pub allowed : FitsRoll log.roll entry
+  pub right : MayLeadIn log.pages log.roll entry (first_page log.gate entry) nodes root
   pub before : List NodePage
   pub within : 4096 * length before < length nodes
   pub bytes : take (4096 * length before) nodes ≡ flat_map page_bytes before
@@ -79,33 +121,31 @@ pub record HasWrongNode (May : List Entry → Entry → Type 0) (log : Prefix) (
   pub next : block ≡ first_page log.gate entry + length before
   pub damaged :
       IsNoPage (block_of_bytes nodes (length before))
-      ⊎ IsOutOfPlace (with_pages log.pages (first_page log.gate entry) before) block (block_of_bytes nodes (length before))
+      ⊎ IsOutOfPlace image limit log (first_page log.gate entry) before block (block_of_bytes nodes (length before))
 
--- This block is the first one of a body that breaks the format, after the prefix. The tests are in this order: the content, whether the
--- entry may follow, its root, its node blocks.
-abbrev pub BreaksBody : (List Entry → Entry → Type 0) → Prefix → List ℕ → ℕ → Type 0
-BreaksBody May log body block =
-    IsNoEntryBody log body block
-    ⊎ (IsForbiddenBody May log body block ⊎ (HasWrongRoot May log body block ⊎ HasWrongNode May log body block))
+-- This block is the first one of a body that breaks the format. The tests are in this order: the content, whether the entry may follow,
+-- its root, its node blocks. A checkpoint has no more than its content. Pages below the limit are read one by one.
+abbrev pub BreaksBody : Image → ℕ → Reached → List ℕ → ℕ → Type 0
+BreaksBody image limit log body block =
+    IsNoNextBody log body block
+    ⊎ (IsForbiddenBody log body block ⊎ (HasWrongRoot image limit log body block ⊎ HasWrongNode image limit log body block))
 
 -- ---- a log that breaks the format
 
--- After the gate at the end of the prefix, which is open, there is an extent inside the log's blocks whose body breaks the format.
-pub record IsBrokenExtent (May : List Entry → Entry → Type 0) (image : Image) (blocks : ℕ) (log : Prefix) (block : ℕ) : Type 0 where
+-- The gate is open, and there is an extent inside the log's blocks whose body breaks the format.
+pub record IsBrokenExtent (image : Image) (s : Super) (log : Reached) (block : ℕ) : Type 0 where
   pub head : Head
   pub body : List ℕ
   pub extent : IsExtent image log.gate body head
-  pub inside : log.gate + need body < blocks
-  pub breaks : BreaksBody May log body block
+  pub inside : log.gate + need body < s.blocks
+  pub breaks : BreaksBody image s.checkpoint log body block
 
--- The gate after the prefix is open, but this block is the first one that breaks the format of an extent with the next entry.
-abbrev pub IsDamagedEntry : (List Entry → Entry → Type 0) → Image → ℕ → Prefix → ℕ → Type 0
-IsDamagedEntry May image blocks log block =
-    IsDamagedExtent image blocks log.gate block ⊎ IsBrokenExtent May image blocks log block
+-- The gate is open, but this block is the first one that breaks the format of an extent with the next entry or with a checkpoint.
+abbrev pub IsDamagedNext : Image → Super → Reached → ℕ → Type 0
+IsDamagedNext image s log block = IsDamagedExtent image s.blocks log.gate block ⊎ IsBrokenExtent image s log block
 
--- This block is the first one of the log that breaks the format: it breaks it at the gate to which a walk leads, after the entries of
--- the walk.
-pub record IsDamagedLog (May : List Entry → Entry → Type 0) (image : Image) (blocks block : ℕ) : Type 0 where
-  pub log : Prefix
-  pub walk : IsWalk May image log
-  pub damage : IsDamagedEntry May image blocks log block
+-- This block is the first one of the log that breaks the format, at the gate to which a walk leads.
+pub record IsDamagedLog (image : Image) (s : Super) (block : ℕ) : Type 0 where
+  pub log : Reached
+  pub walk : IsWalk image s log
+  pub damage : IsDamagedNext image s log block

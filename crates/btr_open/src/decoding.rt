@@ -45,7 +45,7 @@ fn is_entry_head(head: &Head, number: u64) -> bool
 }
 
 /// Returns whether each byte is 0.
-fn are_zeros(bytes: &[u8]) -> bool
+pub(crate) fn are_zeros(bytes: &[u8]) -> bool
     ensures { IsTrue result ↔ EachIndex bytes.now (λ k. slice_index bytes.now k ≡ 0) }
 {
     bytes.iter().all(|b| *b == 0)

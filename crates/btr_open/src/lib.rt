@@ -1,13 +1,27 @@
 //! The opening of a store: it makes the engine of the history that a device holds.
 //!
-//! [`open_store`] makes the trees of all versions from the pages that a device has, and returns an engine of the history that the
-//! device holds. `specs/Damage.antt` says which block of a device breaks the format of a store.
+//! [`open_store`] reads a log from its beginning, or from the checkpoint that the superblock names. It makes the trees of all versions
+//! from the pages that a device has, and returns an engine of the history that the device holds. `specs/Damage.antt` says which block of
+//! a device breaks the format of a store.
 #![tactic(auto)]
 
 // the entry in the bytes of an extent
 mod decoding;
 // the test of an entry's root
 mod roots;
+// the test of a checkpoint
+mod checkpoint;
+// how far a log was read
+mod place;
+// the pages below the checkpoint from which a log is read
+mod below;
+// the start of a reading
+mod start;
+// the content of the checkpoint from which a log is read, its roots and their trees
+mod roll_content;
+mod roll_lengths;
+mod roll_roots;
+mod roll_trees;
 // what was read so far, and one extent more
 mod loading;
 // the opening

@@ -1,16 +1,16 @@
 //! What an opening has read so far, and the reading of the body of one extent more.
-ghost use Rattle.std.specs.Prelude.{◌≡◌, ◌+◌, ◌-◌, ◌^◌, ◌<◌, ◌≤◌, IfOk, IfSome, IfNone, List, []};
+ghost use Rattle.std.specs.Prelude.{◌≡◌, ◌≢◌, ◌+◌, ◌-◌, ◌^◌, ◌<◌, ◌≤◌, IfOk, IfSome, IfNone, List, []};
 ghost use Rattle.btr_log.specs.Extents.{IsBody, need};
 ghost use Rattle.btr_tree.specs.Root.{TreeValue};
-ghost use Rattle.btr_hist.specs.declared.entry.Entry.{Entry as EntrySpec};
-ghost use Rattle.btr_engine.specs.Board.{HasPast, HasStreamsOf, IsBoardOf};
-ghost use Rattle.btr_engine.specs.Body.{Prefix};
+ghost use Rattle.btr_engine.specs.Board.{HasPast, IsBoardOf};
+ghost use Rattle.btr_engine.specs.Rolling.{rolled};
 ghost use Rattle.btr_engine.specs.Stage.{HasRoomFor};
 ghost use Rattle.btr_open.specs.Content.{HasContent, node_blocks_of};
-ghost use Rattle.btr_open.specs.Damage.{FitsOutline};
-ghost use Rattle.btr_open.specs.Loading.{AddsTree};
-ghost use Rattle.btr_open.specs.Reading.{BreaksNext, HasAdded, IsReadInto, IsTreeOfRoot};
+ghost use Rattle.btr_open.specs.Walk.{FitsRoll};
+ghost use Rattle.btr_open.specs.Loading.{AddsTree, BreaksNext, HasAdded, IsTreeOfRoot, IsCheckpointRead};
+ghost use Rattle.btr_open.specs.Reading.{WasReadTo};
 
+use crate::checkpoint::is_checkpoint;
 use crate::decoding::decode_extent;
 use crate::roots::wrong_root;
 use btr_disk::BLOCK;
@@ -47,8 +47,32 @@ impl Loader {
         }
     }
 
-    /// Adds the entry and the pages of the body after the gate at this block. Returns the first block of the body that breaks the
-    /// format, if there is one. An `Err` is out of memory. After both the loader may have some of the pages.
+    /// Tests the body of a checkpoint after the gate at this block. Returns its first block if it is not that of a checkpoint of what
+    /// was read. An `Err` is out of memory.
+    pub(crate) fn test_checkpoint(
+        &self,
+        alloc: Global,
+        head: &Head,
+        body: &[u8],
+        gate: u64,
+    ) -> Result<Option<u64>, AllocError>
+        requires body { IsBody body.now head.now }
+        requires kind { head.now.kind ≡ 2 }
+        requires few { self.now.board.entries < 2 ^ 64 - 1 }
+        requires room { gate + need body.now < 2 ^ 33 }
+        ensures right { IfOk result (λ o. IfNone o (IsCheckpointRead body.now self.now)) }
+        ensures damaged { IfOk result (λ o. IfSome o (BreaksNext gate body.now (node_blocks_of head.now body.now) head.now.root self.now)) }
+    {
+        if is_checkpoint(alloc, &self.board, head, body)? {
+            Ok(None)
+        } else {
+            Ok(Some(gate + 1))
+        }
+    }
+
+    /// Adds the entry and the pages of the body after the gate at this block, which is not that of a checkpoint. Returns the first
+    /// block of the body that breaks the format, if there is one. An `Err` is out of memory. After both the loader may have some of
+    /// the pages.
     pub(crate) fn add(
         &mut self,
         alloc: Global,
@@ -57,11 +81,12 @@ impl Loader {
         gate: u64,
     ) -> Result<Option<u64>, AllocError>
         requires body { IsBody body.now head.now }
+        requires kind { head.now.kind ≢ 2 }
         requires few { self.old.board.entries < 2 ^ 64 - 1 }
         requires room { gate + need body.now < 2 ^ 33 }
-        requires read { (before : Prefix) × (before.gate ≡ gate) × IsReadInto before self.old }
+        requires read { WasReadTo gate self.old }
         ensures added { IfOk result (λ o. IfNone o (HasAdded gate body.now self.old self.new)) }
-        ensures damaged { IfOk result (λ o. IfSome o (BreaksNext gate body.now self.old)) }
+        ensures damaged { IfOk result (λ o. IfSome o (BreaksNext gate body.now (node_blocks_of head.now body.now) head.now.root self.old)) }
     {
         let number = self.board.entries() + 1;
         let Some(entry) = decode_extent(alloc, body, head, number)? else {
@@ -87,14 +112,14 @@ impl Loader {
         requires room { gate + need body.now < 2 ^ 33 }
         requires content { HasContent (self.old.board.entries + 1) entry.now head.now.root (node_blocks_of head.now body.now) body.now }
         requires may { HasRoomFor self.old.board entry.now }
-        requires allowed { (h : List EntrySpec) → HasStreamsOf h self.old.board → FitsOutline h entry.now }
-        requires read { (before : Prefix) × (before.gate ≡ gate) × IsReadInto before self.old }
+        requires allowed { FitsRoll (rolled self.old.board) entry.now }
+        requires read { WasReadTo gate self.old }
         ensures added { IfOk result (λ o. IfNone o (HasAdded gate body.now self.old self.new)) }
-        ensures damaged { IfOk result (λ o. IfSome o (BreaksNext gate body.now self.old)) }
+        ensures damaged { IfOk result (λ o. IfSome o (BreaksNext gate body.now (node_blocks_of head.now body.now) head.now.root self.old)) }
     {
         let content = blocks_of_content(head.length);
         let first = gate + 1 + content;
-        let pages = &body[content as usize * BLOCK..];
+        let pages = node_blocks(head, body);
         let wrong = wrong_root(
             &self.board,
             &self.nodes,
@@ -127,4 +152,12 @@ impl Loader {
         self.board.accept(staged);
         Ok(())
     }
+}
+
+/// The node blocks of a body, after its content.
+pub(crate) fn node_blocks<'a>(head: &Head, body: &'a [u8]) -> &'a [u8]
+    requires body { IsBody body.now head.now }
+    ensures { result.now ≡ node_blocks_of head.now body.now }
+{
+    &body[blocks_of_content(head.length) as usize * BLOCK..]
 }

@@ -1,24 +1,31 @@
 //! The opening of a store: which history a device holds.
-ghost use Rattle.std.specs.Prelude.{◌≡◌, ℕ, ◌+◌, ◌-◌, ◌<◌, ◌≤◌, ◌^◌, List, [], IfErr, IfOk, IfSome, IfNone, IsTrue, IsFalse};
+ghost use Rattle.std.specs.Prelude.{◌≡◌, ℕ, ◌+◌, ◌-◌, ◌*◌, ◌<◌, ◌≤◌, ◌^◌, List, [], IfErr, IfOk, IfSome, IfNone, IsTrue, IsFalse};
 ghost use Rattle.btr_disk.specs.Causes.{KeepsCounts};
 ghost use Rattle.btr_disk.specs.Gate.{IsClosed};
 ghost use Rattle.btr_log.specs.Log.{log_device as disk_of, log_blocks};
-ghost use Rattle.btr_log.specs.Piece.{IsPieceOf};
+ghost use Rattle.btr_log.specs.Extents.{IsBody, need};
+ghost use Rattle.btr_pages.specs.Pages.{Pages};
+ghost use Rattle.btr_pages.specs.Known.{AreKnown};
 ghost use Rattle.btr_super.specs.Super.{IsSuper};
 ghost use Rattle.btr_super.specs.Choose.{IsChosen};
 ghost use Rattle.btr_hist.specs.declared.entry.Entry.{Entry as EntrySpec};
 ghost use Rattle.btr_engine.specs.Board.{IsBoardOf};
-ghost use Rattle.btr_engine.specs.Body.{Prefix};
 ghost use Rattle.btr_engine.specs.Holds.{HoldsHistory};
 ghost use Rattle.btr_open.specs.Opening.{KeepsDisk, SyncsFirst, IsOpenedEngine, IsOpenedOn, IsNotOpened};
-ghost use Rattle.btr_open.specs.Reading.{IsReadInto, IsReadTo, CauseBetween, LogCause, OnlyReads};
-ghost use Rattle.btr_open.specs.Reading.{IsReadEngine, ReadsLog, AddsExtent, IsWholeLog};
+ghost use Rattle.btr_open.specs.Reading.{CauseBetween, LogCause, BlockCause, OnlyReads};
+ghost use Rattle.btr_open.specs.Reading.{IsReadEngine, ReadsLog, WasRead, WasReadTo, IsWholeLog};
+ghost use Rattle.btr_open.specs.Below.{StandBelow};
+ghost use Rattle.btr_open.specs.Loading.{IsReaderOf, ReadsThrough, ReadsBody, BreaksAfter};
+ghost use Rattle.btr_open.specs.Place.{IsPlaceIn, IsNextPlace};
 
-use crate::loading::Loader;
+use crate::below::BlockReader;
+use crate::loading::{Loader, node_blocks};
+use crate::place::Place;
+use crate::start::read_start;
 use btr_disk::{Disk, Failed};
 use btr_engine::Engine;
-use btr_log::{ExtentFault, Found, Log, Piece};
-use btr_super::{ChooseFault, LOG_START, Super, choose};
+use btr_log::{ExtentFault, Found, Head, Log};
+use btr_super::{ChooseFault, Super, choose};
 use std::alloc::{AllocError, Global};
 use std::snapshot::Snapshot;
 
@@ -52,17 +59,24 @@ pub struct OpenFault<D> {
 /// The first call is a sync. All later calls are reads, so nothing is written. After the sync a crash leaves exactly what a
 /// read returns: all that the engine answers from is durable.
 ///
-/// The opening chooses the superblock and reads the extents from block 4 on, up to the first closed gate. Each entry is tested
-/// against those before it: the id and the spec of a new stream; of a commit the stream, its times, its size and the number of
-/// versions; of a distillate also what it has read. The trees of all versions are made of the pages in the node blocks: nothing is
-/// computed anew from the entries. Each page is tested by itself and against those of its children, and each root by its page. It
-/// is not tested that the points of a tree are those of the entries, or that the cut and the points of a distillate are those of
-/// the definition. The first block that breaks the format is named; `specs/Walk.antt` says which one it is. An observable device
-/// without a store, or with a damaged block, is not opened.
+/// The opening chooses the superblock. If it names a checkpoint, the opening reads that, the pages to which its roots lead, and the extents
+/// after it, up to the first closed gate; what is before the checkpoint is not read, but for pages. If it names none, the opening reads the
+/// extents from block 4 on.
 ///
-/// The time is linear in the log, but for logarithms of the streams, versions and ids. The device is read in pieces of 1 MiB, or of
-/// an extent that is larger. The engine keeps all nodes and no entries. While the log is read, a piece and about 128 bytes for each
-/// node are kept beside them.
+/// Each entry is tested against what is before it: the id and the spec of a new stream; of a commit the stream, its times, its size and
+/// the number of versions; of a distillate also what it has read. The trees of all versions are made of the pages: nothing is computed
+/// anew from the entries. Each page is tested by itself and against those of its children, and each root by its page. It is not tested
+/// that the points of a tree are those of the entries, that the first checkpoint has the streams of the entries before it, or that the
+/// cut and the points of a distillate are those of the definition. A later checkpoint is compared with what is before it.
+///
+/// The block that is named breaks the format: `specs/Start.antt` says which ones may be named of a checkpoint and the pages before it,
+/// `specs/Walk.antt` which one is named of the log after it, where it is the first. An observable device without a store, or with a
+/// damaged block, is not opened.
+///
+/// The time is linear in what is read, but for logarithms of the streams, versions and ids. The log is read in pieces of 1 MiB, or of an
+/// extent that is larger. Pages before a checkpoint are read in runs of up to 1 MiB, in the order of the versions' roots. The engine keeps
+/// all nodes and no entries. Beside them about 128 bytes for each node and 4 bytes for each block of the log are kept while the log is
+/// read; at a checkpoint also the streams with their versions, as a list and as bytes.
 pub fn open_store<D: Disk>(alloc: Global, disk: D) -> Result<Engine<D>, OpenFault<D>>
     ensures opened { IfOk result (IsOpenedEngine ⟦<D as Disk>⟧ disk) }
     ensures stood { D.is_observable → (h : List EntrySpec) → HoldsHistory (D.size disk) (D.contents disk) h
@@ -71,7 +85,7 @@ pub fn open_store<D: Disk>(alloc: Global, disk: D) -> Result<Engine<D>, OpenFaul
 {
     let mut disk = disk;
     match read_super(&mut disk) {
-        Ok((found, synced)) => open_log(alloc, disk, synced, found.blocks),
+        Ok((found, synced)) => open_log(alloc, disk, synced, found),
         Err(cause) => Err(OpenFault { cause, disk }),
     }
 }
@@ -127,29 +141,26 @@ fn cause_of_choice(fault: ChooseFault) -> OpenCause
     }
 }
 
-/// Reads the log of a store with this number of blocks, on a device that was synced, and returns its engine.
+/// Reads the log of the store of this superblock, on a device that was synced, and returns its engine.
 fn open_log<D: Disk>(
     alloc: Global,
     disk: D,
     synced: Snapshot<D>,
-    blocks: u64,
+    found: Super,
 ) -> Result<Engine<D>, OpenFault<D>>
-    requires least { 4 < blocks }
-    requires inside { blocks ≤ D.size disk }
-    requires addressable { blocks ≤ 2 ^ 32 }
+    requires table { IsSuper (D.size disk) found }
     requires synced { KeepsCounts D.size D.calls D.faults synced.value disk }
-    ensures read { IfOk result (IsReadEngine ⟦<D as Disk>⟧ blocks disk synced.value) }
+    ensures read { IfOk result (IsReadEngine ⟦<D as Disk>⟧ found disk synced.value) }
     ensures reads { IfErr result (λ f. OnlyReads ⟦<D as Disk>⟧ disk f.disk) }
-    ensures cause { IfErr result (λ f. LogCause ⟦<D as Disk>⟧ blocks disk f.disk f.cause) }
+    ensures cause { IfErr result (λ f. LogCause ⟦<D as Disk>⟧ found disk f.disk f.cause) }
 {
-    let mut log = Log::at(disk, LOG_START, blocks, 0);
+    let mut log = Log::at(disk, found.tail, found.blocks, 0);
     let mut loader = Loader::empty(alloc);
-    match read_log(alloc, &mut log, &mut loader) {
-        Ok(tail) => {
+    match read_log(alloc, &mut log, &mut loader, found) {
+        Ok(place) => {
             let Loader { board, .. } = loader;
-            let entries = board.entries();
-            let log = Log::at(log.into_disk(), tail, blocks, entries);
-            Ok(Engine::over(log, board, synced))
+            let log = Log::at(log.into_disk(), place.gate, found.blocks, place.extents);
+            Ok(Engine::over(log, board, found, synced))
         }
         Err(cause) => Err(OpenFault {
             cause,
@@ -158,61 +169,122 @@ fn open_log<D: Disk>(
     }
 }
 
-/// Reads the extents of a log into a loader that has nothing, from the first gate on. Returns the first closed gate.
-fn read_log<D: Disk>(alloc: Global, log: &mut Log<D>, loader: &mut Loader) -> Result<u64, OpenCause>
-    requires least { 4 < log_blocks log.old }
+/// Reads the log of this superblock into a loader that has nothing: from where the superblock says, up to the first closed gate. Returns
+/// the place of that gate.
+fn read_log<D: Disk>(
+    alloc: Global,
+    log: &mut Log<D>,
+    loader: &mut Loader,
+    found: Super,
+) -> Result<Place, OpenCause>
+    requires table { IsSuper (D.size (disk_of log.old)) found }
+    requires blocks { log_blocks log.old ≡ found.blocks }
     requires board { IsBoardOf [] loader.old.board }
     requires nodes { loader.old.nodes ≡ [] }
     ensures reads { ReadsLog log.old log.new }
-    ensures read { IfOk result (λ tail. IsWholeLog D.is_observable (D.contents (disk_of log.old)) (log_blocks log.old) tail
-        loader.new.board) }
-    ensures cause { IfErr result (LogCause ⟦<D as Disk>⟧ (log_blocks log.old) (disk_of log.old) (disk_of log.new)) }
+    ensures place { IfOk result (IsPlaceIn found loader.new.board.entries) }
+    ensures read { IfOk result (λ place. WasRead ⟦<D as Disk>⟧ (disk_of log.old) found place.gate loader.new) }
+    ensures closed { D.is_observable → IfOk result (λ place. IsClosed (D.contents (disk_of log.old)) place.gate) }
+    ensures cause { IfErr result (LogCause ⟦<D as Disk>⟧ found (disk_of log.old) (disk_of log.new)) }
 {
-    let mut piece = Piece::new(alloc);
-    let mut gate = LOG_START;
-    while let Some(next) = read_next(alloc, log, &mut piece, loader, gate)? {
-        gate = next;
+    let mut reader = BlockReader::new(alloc, found.checkpoint);
+    let mut place = read_start(alloc, log, &mut reader, loader, found)?;
+    while let Some(next) = read_next(alloc, log, &mut reader, loader, found, place.gate)? {
+        place = place.after(next);
     }
-    Ok(gate)
+    Ok(place)
 }
 
-/// Reads the extent at this gate into the loader, and returns the gate after it. It returns `None` exactly if the gate is closed.
+/// Reads the extent at this gate of the log of this superblock into the loader, and returns the gate after it. It returns `None` exactly if
+/// the gate is closed.
 fn read_next<D: Disk>(
     alloc: Global,
     log: &mut Log<D>,
-    piece: &mut Piece,
+    reader: &mut BlockReader,
     loader: &mut Loader,
+    found: Super,
     gate: u64,
 ) -> Result<Option<u64>, OpenCause>
-    requires inside { gate < log_blocks log.old }
-    requires piece { D.is_observable → IsPieceOf (D.contents (disk_of log.old)) piece.old }
-    requires few { loader.old.board.entries < 2 ^ 64 - 1 }
-    requires read { (before : Prefix) × (before.gate ≡ gate) × IsReadInto before loader.old }
+    requires table { IsSuper (D.size (disk_of log.old)) found }
+    requires blocks { log_blocks log.old ≡ found.blocks }
+    requires inside { gate < found.blocks }
+    requires behind { found.tail ≤ gate }
+    requires few { 2 * loader.old.board.entries + 4 ≤ gate }
+    requires limit { reader.old.limit ≡ found.checkpoint }
+    requires holds { D.is_observable → IsReaderOf (D.contents (disk_of log.old)) reader.old }
+    requires into { WasReadTo gate loader.old }
+    requires read { WasRead ⟦<D as Disk>⟧ (disk_of log.old) found gate loader.old }
     ensures reads { ReadsLog log.old log.new }
-    ensures piece { D.is_observable → IsPieceOf (D.contents (disk_of log.new)) piece.new }
-    ensures same { IfOk result (λ o. IfNone o (loader.new ≡ loader.old)) }
+    ensures holds { D.is_observable → IsReaderOf (D.contents (disk_of log.new)) reader.new }
+    ensures limit { reader.new.limit ≡ reader.old.limit }
     ensures closed { D.is_observable → IfOk result (λ o. IfNone o (IsClosed (D.contents (disk_of log.old)) gate)) }
-    ensures next { IfOk result (λ o. IfSome o (AddsExtent log.old gate loader.old loader.new)) }
-    ensures cause { (before : Prefix) → before.gate ≡ gate → IsReadInto before loader.old
-        → IfErr result (CauseBetween ⟦<D as Disk>⟧
-        (IsReadTo D.is_observable (D.size (disk_of log.old)) (D.contents (disk_of log.old)) (log_blocks log.old) before)
-        (disk_of log.old) (disk_of log.new)) }
+    ensures same { IfOk result (λ o. IfNone o (loader.new ≡ loader.old)) }
+    ensures into { IfOk result (λ o. IfSome o (λ next. WasReadTo next loader.new)) }
+    ensures next { IfOk result (λ o. IfSome o (λ next. IsNextPlace found.blocks gate loader.old loader.new next)) }
+    ensures read { IfOk result (λ o. IfSome o (λ next. WasRead ⟦<D as Disk>⟧ (disk_of log.old) found next loader.new)) }
+    ensures cause { IfErr result (LogCause ⟦<D as Disk>⟧ found (disk_of log.old) (disk_of log.new)) }
 {
-    let found = match log.read_ahead(alloc, gate, piece) {
-        Ok(found) => found,
+    let found_there = match log.read_ahead(alloc, gate, &mut reader.piece) {
+        Ok(found_there) => found_there,
         Err(fault) => return Err(cause_of(fault)),
     };
-    let Found::Extent { head, body, next } = found else {
+    let Found::Extent { head, body, next } = found_there else {
         return Ok(None);
     };
-    match loader.add(alloc, &head, &body, gate)? {
+    match read_body(alloc, &mut log.disk, reader, loader, &head, &body, gate)? {
         Some(block) => Err(OpenCause::Damaged { block }),
         None => Ok(Some(next)),
     }
 }
 
+/// Reads the body after this gate into the loader: tests it if it is that of a checkpoint, or else adds its entry. Returns the first block
+/// of the body that breaks the format, if there is one. The pages that the entry needs below the limit are read before.
+fn read_body<D: Disk>(
+    alloc: Global,
+    disk: &mut D,
+    reader: &mut BlockReader,
+    loader: &mut Loader,
+    head: &Head,
+    body: &[u8],
+    gate: u64,
+) -> Result<Option<u64>, OpenCause>
+    requires body { IsBody body.now head.now }
+    requires few { loader.old.board.entries < 2 ^ 64 - 1 }
+    requires room { gate + need body.now < 2 ^ 33 }
+    requires behind { reader.old.limit ≤ gate }
+    requires inside { reader.old.limit ≤ D.size disk.old }
+    requires addressable { reader.old.limit ≤ 2 ^ 32 }
+    requires holds { D.is_observable → IsReaderOf (D.contents disk.old) reader.old }
+    requires into { WasReadTo gate loader.old }
+    requires own { D.is_observable
+        → (own : Pages) × StandBelow (D.contents disk.old) reader.old.limit own × AreKnown own loader.old.nodes }
+    ensures limit { reader.new.limit ≡ reader.old.limit }
+    ensures reads { OnlyReads ⟦<D as Disk>⟧ disk.old disk.new }
+    ensures holds { D.is_observable → IsReaderOf (D.contents disk.new) reader.new }
+    ensures into { IfOk result (λ o. IfNone o (ReadsThrough gate body.now loader.old loader.new)) }
+    ensures read { D.is_observable
+        → IfOk result (λ o. IfNone o (ReadsBody (D.contents disk.old) reader.old.limit gate body.now loader.old loader.new)) }
+    ensures damaged { D.is_observable
+        → IfOk result (λ o. IfSome o (BreaksAfter (D.contents disk.old) reader.old.limit gate body.now loader.old)) }
+    ensures cause { IfErr result (BlockCause ⟦<D as Disk>⟧ disk.old disk.new) }
+{
+    if head.kind == 2 {
+        return Ok(loader.test_checkpoint(alloc, head, body, gate)?);
+    }
+    let nodes = node_blocks(head, body);
+    reader.fetch_needed(
+        alloc,
+        disk,
+        &mut loader.nodes,
+        &mut loader.steps,
+        head.root,
+        nodes,
+    )?;
+    Ok(loader.add(alloc, head, body, gate)?)
+}
+
 /// Converts a fault of the log.
-fn cause_of(fault: ExtentFault) -> OpenCause
+pub(crate) fn cause_of(fault: ExtentFault) -> OpenCause
     ensures damaged { (block : ℕ) → fault ≡ ExtentFault.Damaged block → result ≡ OpenCause.Damaged block }
     ensures fault { fault ≡ ExtentFault.Fault → result ≡ OpenCause.Fault }
     ensures want { fault ≡ ExtentFault.Want → result ≡ OpenCause.Want }

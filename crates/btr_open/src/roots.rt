@@ -1,10 +1,10 @@
 //! The test of an entry's root, before the pages of its own extent are read.
-ghost use Rattle.std.specs.Prelude.{◌≡◌, ◌≢◌, ◌↔◌, ◌+◌, ◌-◌, ◌*◌, ◌^◌, ◌%◌, ◌<◌, ◌≤◌, List, length, take, drop, IfSome, IsNone, IsTrue, true, false};
+ghost use Rattle.std.specs.Prelude.{◌≡◌, ◌≢◌, ◌↔◌, ◌+◌, ◌-◌, ◌*◌, ◌^◌, ◌%◌, ◌<◌, ◌≤◌, length, take, drop};
+ghost use Rattle.std.specs.Prelude.{IfSome, IsNone, IsTrue, true, false};
 ghost use Rattle.btr_node.specs.Page.{Keeps};
 ghost use Rattle.btr_pages.specs.Pages.{Pages, IsRootPage};
 ghost use Rattle.btr_pages.specs.Known.{AreKnown};
-ghost use Rattle.btr_hist.specs.declared.entry.Entry.{Entry as EntrySpec};
-ghost use Rattle.btr_engine.specs.Board.{HasStreamsOf};
+ghost use Rattle.btr_engine.specs.Rolling.{rolled};
 ghost use Rattle.btr_open.specs.RootTest.{IsNamedRoot, IsNoPageIn, MayBeRootIn, MayLeadIn};
 
 use btr_base::ROOT_HEIGHT;
@@ -39,10 +39,10 @@ pub(crate) fn wrong_root(
 ) -> Option<u64>
     requires gate { gate < 2 ^ 64 - 1 }
     requires whole { length bytes.now % 4096 ≡ 0 }
-    ensures right { (h : List EntrySpec) (pages : Pages) → HasStreamsOf h board.now → AreKnown pages nodes.now
-        → IsNone result → MayLeadIn pages h entry.now first bytes.now root }
-    ensures wrong { (h : List EntrySpec) (pages : Pages) → HasStreamsOf h board.now → AreKnown pages nodes.now
-        → IfSome result (λ block. MayLeadIn pages h entry.now first bytes.now root → ⊥) }
+    ensures right { (pages : Pages) → AreKnown pages nodes.now
+        → IsNone result → MayLeadIn pages (rolled board.now) entry.now first bytes.now root }
+    ensures wrong { (pages : Pages) → AreKnown pages nodes.now
+        → IfSome result (λ block. MayLeadIn pages (rolled board.now) entry.now first bytes.now root → ⊥) }
     ensures named { IfSome result (IsNamedRoot gate entry.now first bytes.now root) }
 {
     let (stream, some) = match entry {
@@ -128,7 +128,7 @@ fn is_root_page(page: &NodePage, stream: u32, version: u64) -> bool
 }
 
 /// The block of bytes from the index `at` on.
-fn block_at(bytes: &[u8], at: usize) -> [u8; PAGE]
+pub(crate) fn block_at(bytes: &[u8], at: usize) -> [u8; PAGE]
     requires { at + 4096 ≤ length bytes.now }
     ensures { result ≡ take 4096 (drop at bytes.now) }
 {

@@ -1,6 +1,6 @@
 -- The superblock of an empty store is chosen, and its first gate is closed.
 use Rattle.std.specs.Prelude.{[]}
-use Rattle.std.proofs.Common.{refl, arith}
+use Rattle.std.proofs.Common.{refl, inl, arith}
 use Rattle.btr_pages.specs.Pages.{no_pages}
 use Rattle.btr_super.specs.Super.{first_super}
 use Rattle.btr_hist.proofs.HistoryLemmas.{follows-none}
@@ -13,7 +13,8 @@ returns c = λ size blocks image is. record {
   same_blocks = refl;
   bodies = [];
   extents = refl;
-  leads = record { pages = no_pages; lead = refl };
+  leads = record { roots = []; pages = no_pages; lead = refl };
+  starts = inl (refl, refl);
   closed = is.no_entry;
   inside = omega (arith, is.chosen.stored.spelled.keeps.blocks_from);
   follows = follows-none;

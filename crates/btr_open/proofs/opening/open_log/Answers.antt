@@ -1,13 +1,19 @@
 use Rattle.std.proofs.Common.{sym, subst}
-use Rattle.btr_log.specs.Log.{log_device, log_blocks}
+use Rattle.btr_log.specs.Log.{log_device}
 use Rattle.btr_open.specs.Reading.{LogCause}
+use Rattle.btr_open.proofs.WholeLemmas.{engine-read}
 use Rattle.btr_open.proofs.opening.open_log.Goals as goal
+
+pub returns-in-Ok-clause-read : goal.returns-in-Ok-clause-read
+returns-in-Ok-clause-read g c =
+    let read = c.in-Ok.ensures in
+    engine-read c.args.found c.args.disk c.into_disk.result c.args.synced.value c.at-log.result c.read_log.new.log c.at-log-in-Ok.result c.read_log.new.loader c.in-Ok.place c.over.result
+    c.at-log.ensures c.read_log.ensures.reads read.place read.read read.closed c.into_disk.ensures c.at-log-in-Ok.ensures c.over.ensures
 
 pub returns-in-Err-clause-cause : goal.returns-in-Err-clause-cause
 returns-in-Err-clause-cause g c =
     let disk = g.D.Disk in
     let log = c.at-log.result in
     let left = c.into_disk-in-Err.result in
-    let here = subst (λ d. LogCause disk (log_blocks log) (log_device log) d c.in-Err.cause) (sym c.into_disk-in-Err.ensures) c.in-Err.ensures.cause in
-    subst (λ d. LogCause disk c.args.blocks d left c.in-Err.cause) c.at-log.ensures.same_device
-    (subst (λ b. LogCause disk b (log_device log) left c.in-Err.cause) c.at-log.ensures.same_blocks here)
+    let here = subst (λ d. LogCause disk c.args.found (log_device log) d c.in-Err.cause) (sym c.into_disk-in-Err.ensures) c.in-Err.ensures.cause in
+    subst (λ d. LogCause disk c.args.found d left c.in-Err.cause) c.at-log.ensures.same_device here

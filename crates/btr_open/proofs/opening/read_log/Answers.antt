@@ -1,36 +1,32 @@
 use Rattle.std.specs.Option.{IfSome}
-use Rattle.std.proofs.Common.{ap, subst}
+use Rattle.std.proofs.Common.{subst}
 use Rattle.std.proofs.lemmas.Result.{err_from_is_err_and}
 use Rattle.btr_log.specs.Log.{log_device}
-use Rattle.btr_log.specs.Piece.{PieceValue}
-use Rattle.btr_open.specs.Reading.{AddsExtent}
-use Rattle.btr_open.proofs.Reading.{none_read, read_more, cause_so_far}
-use Rattle.btr_open.proofs.opening.read_log.Given.{Over}
-use Rattle.btr_open.proofs.opening.read_log.Goals.{In-Some}
+use Rattle.btr_open.specs.Place.{IsNextPlace}
+use Rattle.btr_open.specs.Reading.{WasRead, WasReadTo}
+use Rattle.btr_open.proofs.WholeLemmas.{read-now, cause-before, read-more}
 use Rattle.btr_open.proofs.opening.read_log.Goals as goal
+
+pub read_next-requires-clause-read : goal.read_next-requires-clause-read
+read_next-requires-clause-read g c =
+    let l = c.loop-reader in
+    read-now c.args.found c.args.log.now l.log l.reader l.loader l.place l.invariant l.place.gate l.loader l.invariant.read
 
 pub returns-in_err-next-clause-cause : goal.returns-in_err-next-clause-cause
 returns-in_err-next-clause-cause g c =
-    let p = err_from_is_err_and c.from_residual.result c.from_residual.ensures.1 in
-    let l = c.loop-piece in
-    let log = l.invariant.0 in
-    let so_far = l.invariant.1 in
-    rw (p.1, p.2) (cause_so_far c.args.log.now l.log l.piece l.loader l.gate log so_far c.read_next.new.log c.in_err-next.field-0.0 (c.in_err-next.ensures.cause log so_far.at so_far.into))
+    let p = err_from_is_err_and c.from_residual-in_err-next.result c.from_residual-in_err-next.ensures.1 in
+    let l = c.loop-reader in
+    rw (p.1, p.2) (cause-before c.args.found c.args.log.now l.log l.reader l.loader l.place l.invariant c.read_next.new.log c.in_err-next.field-0.0 c.in_err-next.ensures.cause)
 
-pub loop-piece-init : goal.loop-piece-init
-loop-piece-init g c =
-    let log = c.args.log.now in
-    none_read log c.new-piece.result c.args.loader.now (λ told. g.met.D.Disk.only_now told (log_device log)) (ap (λ (p : PieceValue). p.bytes) c.new-piece.ensures) c.requires.board c.requires.nodes c.requires.least
-
--- the extent that was read
-next_extent : (g : Over) (c : In-Some g) → AddsExtent c.loop-piece.log c.loop-piece.gate c.loop-piece.loader c.read_next.new.loader c.in-Some.next
-next_extent g c =
-    let l = c.loop-piece in
-    subst (λ o. IfSome o (AddsExtent l.log l.gate l.loader c.read_next.new.loader)) c.in-Some.is c.in_ok-next.ensures.next
-
-pub loop-piece-preserved : goal.loop-piece-preserved
-loop-piece-preserved g c =
-    let l = c.loop-piece in
-    let log = l.invariant.0 in
-    let so_far = l.invariant.1 in
-    read_more c.args.log.now l.log l.piece l.loader l.gate log so_far c.read_next.new.log c.read_next.new.piece c.args.log.now.addressable c.read_next.ensures.reads c.read_next.ensures.piece c.in-Some.next c.read_next.new.loader (next_extent g (goal.at.loop-piece-preserved g c).In-Some)
+pub loop-reader-preserved : goal.loop-reader-preserved
+loop-reader-preserved g c =
+    let l = c.loop-reader in
+    let new = c.read_next.new in
+    let ok = c.in_ok-next.ensures in
+    let some = c.in-Some.is in
+    let next = c.in-Some.next in
+    let into = subst (λ o. IfSome o (λ n. WasReadTo n new.loader)) some ok.into in
+    let at = subst (λ o. IfSome o (IsNextPlace c.args.found.blocks l.place.gate l.loader new.loader)) some ok.next in
+    let read = subst (λ o. IfSome o (λ n. WasRead g.D.Disk (log_device l.log) c.args.found n new.loader)) some ok.read in
+    read-more c.args.found c.args.log.now l.log l.reader l.loader l.place l.invariant new.log c.read_next.ensures.reads new.reader new.loader next c.after-place.result
+    c.read_next.ensures.limit c.read_next.ensures.holds into at read c.after-place.ensures

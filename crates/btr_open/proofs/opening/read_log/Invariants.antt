@@ -1,10 +1,9 @@
 use Rattle.std.specs.Prelude.{◌-◌}
-use Rattle.btr_log.specs.Log.{log_blocks}
-use Rattle.btr_open.proofs.Reading.{HasRead}
+use Rattle.btr_open.proofs.WholeLemmas.{IsReadSoFar}
 use Rattle.btr_open.proofs.opening.read_log.Given as goal
 
-abbrev pub invariant-loop-piece : goal.invariant-loop-piece
-invariant-loop-piece g l = HasRead l.fn.log l.log l.piece l.loader l.gate
+abbrev pub invariant-loop-reader : goal.invariant-loop-reader
+invariant-loop-reader g l = IsReadSoFar l.found l.fn.log l.log l.reader l.loader l.place
 
-abbrev pub decreases-loop-piece : goal.decreases-loop-piece
-decreases-loop-piece g l = log_blocks l.fn.log - l.gate
+abbrev pub decreases-loop-reader : goal.decreases-loop-reader
+decreases-loop-reader g l = l.found.blocks - l.place.gate

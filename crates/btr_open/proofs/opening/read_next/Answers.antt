@@ -1,19 +1,111 @@
-use Rattle.std.proofs.Common.{sym, subst, inl}
+use Rattle.std.specs.Prelude.{◌≡◌, ℕ, IfSome, IfNone, List}
+use Rattle.std.proofs.Common.{sym, subst, arith}
+use Rattle.btr_disk.specs.Bytes.{Image}
 use Rattle.btr_log.specs.Log.{log_device as disk_of, log_blocks}
-use Rattle.btr_log.specs.Found.{IsDamagedExtent}
-use Rattle.btr_open.specs.Reading.{IsReadTo}
-use Rattle.btr_open.proofs.OpenCauses.{damaged_next, cause_along}
+use Rattle.btr_log.specs.Piece.{IsPieceOf}
+use Rattle.btr_log.specs.Extents.{IsExtent}
+use Rattle.btr_log.specs.Found.{IsDamagedExtent, IsWhole, IsWholeExtent, MatchesDevice}
+use Rattle.btr_super.specs.Choose.{IsChosen}
+use Rattle.btr_open.specs.Below.{StandBelow}
+use Rattle.btr_open.specs.Reading.{OnlyReads}
+use Rattle.btr_open.specs.Loading.{ReadsBody, BreaksAfter}
+use Rattle.btr_open.proofs.OnlyReading.{OnlyReads-trans, same-bytes}
+use Rattle.btr_open.proofs.OpenCauses.{found-extent, found-next, cause_along}
+use Rattle.btr_open.proofs.NextLemmas.{start-low, read-on, body-damaged, gate-damaged}
+use Rattle.btr_open.proofs.opening.read_next.Given.{Over}
+use Rattle.btr_open.proofs.opening.read_next.Goals.{In-Extent}
 use Rattle.btr_open.proofs.opening.read_next.Goals as goal
 
 pub returns-in-Err-clause-cause : goal.returns-in-Err-clause-cause
-returns-in-Err-clause-cause g c before at into =
+returns-in-Err-clause-cause g c =
     let disk = g.D.Disk in
-    let d0 = disk_of c.args.log.now in
+    let a = c.args in
+    let d0 = disk_of a.log.now in
     let d1 = disk_of c.read_ahead.new.self in
     let size = disk.size d0 in
     let image = disk.contents d0 in
-    let blocks = log_blocks c.args.log.now in
-    cause_along disk.is_observable (IsReadTo disk.is_observable size image blocks before) size image blocks c.args.gate (disk.faults d0) (disk.faults d1)
-    (λ r. r.0)
-    (λ r block damage. damaged_next size image blocks before block (inl (subst (λ n. IsDamagedExtent image blocks n block) (sym at) damage)) r.1 r.2)
+    cause_along disk.is_observable (disk.is_observable × IsChosen size image a.found) size image (log_blocks a.log.now) a.gate (disk.faults d0) (disk.faults d1) (λ r. r.0)
+    (λ r block damage. gate-damaged size image a.found a.gate a.loader.now block (c.requires.read r.0) (subst (λ n. IsDamagedExtent image n a.gate block) c.requires.blocks damage) r.1)
     c.in-Err.fault c.cause_of.result c.cause_of.ensures.damaged c.cause_of.ensures.fault c.cause_of.ensures.want c.in-Err.ensures.cause
+
+-- The first call of the log only reads.
+first-reads : (g : Over) (c : In-Extent g) → OnlyReads g.D.Disk (disk_of c.args.log.now) (disk_of c.read_ahead.new.self)
+first-reads g c = record { counts = c.read_ahead.ensures.log_device; nothing = λ told. c.read_ahead.ensures.unwritten told }
+
+-- So the bytes of the device are as before.
+bytes-same : (g : Over) (c : In-Extent g) → g.D.Disk.is_observable → g.D.Disk.contents (disk_of c.args.log.now) ≡ g.D.Disk.contents (disk_of c.read_ahead.new.self)
+bytes-same g c told = same-bytes (disk_of c.args.log.now) (disk_of c.read_ahead.new.self) (first-reads g c) told
+
+whole : (g : Over) (c : In-Extent g) → IsWholeExtent (log_blocks c.args.log.now) c.args.gate c.in-Extent.head c.in-Extent.body.items c.in-Extent.next
+whole g c = subst (IsWhole (log_blocks c.args.log.now) c.args.gate) c.in-Extent.is c.in-Ok.ensures.whole
+
+extent : (g : Over) (c : In-Extent g) → g.D.Disk.is_observable → IsExtent (g.D.Disk.contents (disk_of c.args.log.now)) c.args.gate c.in-Extent.body.items c.in-Extent.head
+extent g c told =
+    let image = g.D.Disk.contents (disk_of c.args.log.now) in
+    (found-extent image (log_blocks c.args.log.now) c.args.gate c.in-Extent.head c.in-Extent.body.items c.in-Extent.next (whole g c) (subst (MatchesDevice image c.args.gate) c.in-Extent.is (c.in-Ok.ensures.matches told))).0
+
+pub read_body-requires-clause-holds : goal.read_body-requires-clause-holds
+read_body-requires-clause-holds g c told =
+    let at = (goal.at.read_body-requires-clause-holds g c).In-Extent in
+    let same = bytes-same g at told in
+    let holds = c.requires.holds told in
+    record {
+      extents = c.read_ahead.ensures.piece told;
+      ahead = subst (λ (i : Image). IsPieceOf i c.args.reader.now.ahead) same holds.ahead;
+      one = subst (λ (i : Image). IsPieceOf i c.args.reader.now.one) same holds.one;
+    }
+
+pub read_body-requires-clause-own : goal.read_body-requires-clause-own
+read_body-requires-clause-own g c told =
+    let at = (goal.at.read_body-requires-clause-own g c).In-Extent in
+    let image = g.D.Disk.contents (disk_of c.read_ahead.new.self) in
+    let read = c.requires.read told in
+    let pages = read.log.pages in
+    (pages, subst (λ n. StandBelow image n pages) (sym c.requires.limit) (subst (λ (i : Image). StandBelow i c.args.found.checkpoint pages) (bytes-same g at told) read.stand), read.into.known)
+
+pub returns-in-Some-clause-cause : goal.returns-in-Some-clause-cause
+returns-in-Some-clause-cause g c known =
+    let disk = g.D.Disk in
+    let a = c.args in
+    let at = (goal.at.returns-in-Some-clause-cause g c).In-Extent in
+    let d0 = disk_of a.log.now in
+    let d1 = disk_of c.read_ahead.new.self in
+    let body = c.in-Extent.body.items in
+    let block = c.in-Some.block in
+    let told = known.0 in
+    let here : BreaksAfter (disk.contents d1) a.reader.now.limit a.gate c.deref.result.now a.loader.now block = subst (λ o. IfSome o (BreaksAfter (disk.contents d1) a.reader.now.limit a.gate c.deref.result.now a.loader.now)) c.in-Some.is (c.in_ok-block.ensures.damaged told) in
+    let breaks : BreaksAfter (disk.contents d0) a.found.checkpoint a.gate body a.loader.now block =
+    subst (λ (i : Image). BreaksAfter i a.found.checkpoint a.gate body a.loader.now block) (sym (bytes-same g at told))
+    (subst (λ n. BreaksAfter (disk.contents d1) n a.gate body a.loader.now block) c.requires.limit
+    (subst (λ (b : List ℕ). BreaksAfter (disk.contents d1) a.reader.now.limit a.gate b a.loader.now block) c.deref.ensures.value here))
+    in
+    let is = whole g at in
+    body-damaged (disk.size d0) (disk.contents d0) a.found a.gate (start-low (disk.size d0) a.found a.gate c.requires.table c.requires.behind) body c.in-Extent.head (extent g at told) a.loader.now (c.requires.read told) block
+    (omega (arith, is.inside, found-next (log_blocks a.log.now) a.gate c.in-Extent.head body c.in-Extent.next is, c.requires.blocks)) breaks known.1
+
+pub returns-clause-reads : goal.returns-clause-reads
+returns-clause-reads g c =
+    let at = (goal.at.returns-clause-reads g c).In-Extent in
+    let kept = c.read_ahead.ensures.kept in
+    record {
+      kept = record { tail = kept.tail; blocks = kept.blocks; extents = kept.extents; stopped = kept.stopped; faults = kept.faults };
+      reads = OnlyReads-trans (disk_of c.args.log.now) (disk_of c.read_ahead.new.self) c.read_body.new.disk (first-reads g at) c.read_body.ensures.reads;
+    }
+
+pub returns-clause-read : goal.returns-clause-read
+returns-clause-read g c told =
+    let disk = g.D.Disk in
+    let a = c.args in
+    let at = (goal.at.returns-clause-read g c).In-Extent in
+    let d0 = disk_of a.log.now in
+    let d1 = disk_of c.read_ahead.new.self in
+    let body = c.in-Extent.body.items in
+    let new = c.read_body.new.loader in
+    let here : ReadsBody (disk.contents d1) a.reader.now.limit a.gate c.deref.result.now a.loader.now new = subst (λ o. IfNone o (ReadsBody (disk.contents d1) a.reader.now.limit a.gate c.deref.result.now a.loader.now new)) c.in-None.is (c.in_ok-block.ensures.read told) in
+    let reads : ReadsBody (disk.contents d0) a.found.checkpoint a.gate body a.loader.now new =
+    subst (λ (i : Image). ReadsBody i a.found.checkpoint a.gate body a.loader.now new) (sym (bytes-same g at told))
+    (subst (λ n. ReadsBody (disk.contents d1) n a.gate body a.loader.now new) c.requires.limit
+    (subst (λ (b : List ℕ). ReadsBody (disk.contents d1) a.reader.now.limit a.gate b a.loader.now new) c.deref.ensures.value here))
+    in
+    read-on (disk.size d0) (disk.contents d0) a.found a.gate (start-low (disk.size d0) a.found a.gate c.requires.table c.requires.behind) body c.in-Extent.head (extent g at told) a.loader.now (c.requires.read told) new c.in-Extent.next
+    (found-next (log_blocks a.log.now) a.gate c.in-Extent.head body c.in-Extent.next (whole g at)) reads

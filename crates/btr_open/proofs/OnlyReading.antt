@@ -1,0 +1,34 @@
+-- Calls of a device and of a log that only read.
+use Rattle.std.specs.Prelude.{◌≡◌}
+use Rattle.std.proofs.Common.{sym, ◌∙◌}
+use Rattle.btr_disk.specs.declared.disk.Disk.{Ghosts}
+use Rattle.btr_disk.proofs.ByteLemmas.{Same-is}
+use Rattle.btr_disk.proofs.MomentLemmas.{nothing_composes}
+use Rattle.btr_log.specs.declared.log.Log.{Log}
+use Rattle.btr_log.specs.Log.{log_device}
+use Rattle.btr_open.specs.Reading.{OnlyReads, ReadsLog}
+use Rattle.btr_open.proofs.Synced.{counts-trans}
+
+module _ {D : Type 0} {disk : Ghosts D} where
+  -- Calls that only read, followed by others that only read.
+  pub OnlyReads-trans : (old mid new : D) → OnlyReads disk old mid → OnlyReads disk mid new → OnlyReads disk old new
+  OnlyReads-trans old mid new first second = record {
+    counts = counts-trans disk old mid new first.counts second.counts;
+    nothing = λ told. nothing_composes disk.calls disk.images_since disk.contents disk.images_now old mid new (first.nothing told) (second.nothing told);
+  }
+
+  pub ReadsLog-trans : (old mid new : Log D disk) → ReadsLog old mid → ReadsLog mid new → ReadsLog old new
+  ReadsLog-trans old mid new first second = record {
+    kept = record {
+      tail = second.kept.tail ∙ first.kept.tail;
+      blocks = second.kept.blocks ∙ first.kept.blocks;
+      extents = second.kept.extents ∙ first.kept.extents;
+      stopped = second.kept.stopped ∙ first.kept.stopped;
+      faults = second.kept.faults ∙ first.kept.faults;
+    };
+    reads = OnlyReads-trans (log_device old) (log_device mid) (log_device new) first.reads second.reads;
+  }
+
+  -- The device has the same bytes.
+  pub same-bytes : (old new : D) → OnlyReads disk old new → disk.is_observable → disk.contents old ≡ disk.contents new
+  same-bytes old new reads told = sym (Same-is (disk.contents old) (disk.contents new) (reads.nothing told).same)
