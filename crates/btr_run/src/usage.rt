@@ -1,12 +1,13 @@
 //! What is said on standard error of words that are refused.
 
 /// The commands, with their options and numbers, as COMMANDS has them.
-const COMMANDS: [&str; 6] = [
+const COMMANDS: [&str; 7] = [
     "format --blocks N",
     "live [--materialize] [--batch B]",
     "ask",
     "load [--workers K] [--batch B]",
     "distil [--workers K]",
+    "checkpoint",
     "sample NUMBER STREAMS POINTS",
 ];
 

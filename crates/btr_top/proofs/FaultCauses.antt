@@ -6,7 +6,7 @@ use Rattle.btr_io.specs.declared.sink.Sink.{Ghosts as SinkGhosts}
 use Rattle.btr_disk.specs.declared.disk.Disk.{Ghosts}
 use Rattle.btr_disk.specs.Causes.{Rose}
 use Rattle.btr_words.specs.declared.command.Command.{Command}
-use Rattle.btr_words.specs.declared.command.Command.TheVariants.{Format, Load, Ask, Distil, Live, Sample}
+use Rattle.btr_words.specs.declared.command.Command.TheVariants.{Format, Load, Ask, Distil, Live, Sample, Checkpoint}
 use Rattle.btr_rows.specs.Rows.{rows_of}
 use Rattle.btr_rows.specs.Streams.{list_of}
 use Rattle.btr_text.specs.Input.{questions_of, script_of}
@@ -20,10 +20,11 @@ use Rattle.btr_store.specs.Live.{LivesStore}
 use Rattle.btr_store.specs.Distil.{DistilsStore}
 use Rattle.btr_store.specs.SampleLaw.{SamplesStore}
 use Rattle.btr_top.specs.declared.ending.Ending.{Ending}
-use Rattle.btr_top.specs.declared.ending.Ending.TheVariants.{Usage, NoSource, TooLong, OutOfMemory, NoDevice, NoStore, Damaged, Occupied, TooSmall, Formatted, Replied}
+use Rattle.btr_top.specs.declared.ending.Ending.TheVariants.{Usage, NoSource, TooLong, OutOfMemory, NoDevice, NoStore, Damaged, Occupied, TooSmall, Formatted, Checkpointed, Full, Replied}
 use Rattle.btr_top.specs.Ending.{status_of, text_of, Writes, Shows}
 use Rattle.btr_top.specs.Command.{InputCause, CommandCause}
 use Rattle.btr_top.specs.Format.{FormatCause}
+use Rattle.btr_top.specs.Checkpoint.{CheckpointEnds}
 use Rattle.btr_top.specs.Work.{WorkSays, WorkCause, RowsCause}
 use Rattle.btr_top.specs.Ask.{QuestionsCause}
 use Rattle.btr_top.specs.Live.{ScriptCause}
@@ -74,6 +75,8 @@ module _ {D : Type 0} (disk : Ghosts D) (old new : D) where
   work_fault What Occupied why five = absurd why.0
   work_fault What (TooSmall asked has) why five = absurd why.0
   work_fault What (Formatted made) why five = absurd why.0
+  work_fault What (Checkpointed entries) why five = absurd why.0
+  work_fault What (Full need room) why five = absurd why.0
   work_fault What (Replied transcript) why five = why.plain.faulted (fault_of_code transcript.status five)
 
   asked_fault : (lines : List ScriptLine) (e : Ending) → QuestionsCause disk lines old new e → status_of e ≡ 5 → Failed
@@ -87,6 +90,8 @@ module _ {D : Type 0} (disk : Ghosts D) (old new : D) where
   asked_fault lines Occupied why five = absurd why.0
   asked_fault lines (TooSmall asked has) why five = absurd why.0
   asked_fault lines (Formatted made) why five = absurd why.0
+  asked_fault lines (Checkpointed entries) why five = absurd why.0
+  asked_fault lines (Full need room) why five = absurd why.0
   asked_fault lines (Replied transcript) why five = why.plain.faulted (fault_of_code transcript.status five)
 
   format_fault : (blocks : ℕ) (e : Ending) → FormatCause disk blocks old new e → status_of e ≡ 5 → Failed
@@ -100,7 +105,24 @@ module _ {D : Type 0} (disk : Ghosts D) (old new : D) where
   format_fault blocks Occupied why five = absurd (omega (arith, five))
   format_fault blocks (TooSmall asked has) why five = absurd (omega (arith, five))
   format_fault blocks (Formatted made) why five = absurd (omega (arith, five))
+  format_fault blocks (Checkpointed entries) why five = absurd why
+  format_fault blocks (Full need room) why five = absurd why
   format_fault blocks (Replied transcript) why five = absurd why
+
+  checkpoint_fault : (e : Ending) → CheckpointEnds disk old new e → status_of e ≡ 5 → Failed
+  checkpoint_fault Usage why five = absurd why.0
+  checkpoint_fault NoSource why five = absurd why.0
+  checkpoint_fault TooLong why five = absurd why.0
+  checkpoint_fault OutOfMemory why five = absurd (omega (arith, five))
+  checkpoint_fault NoDevice why five = why.0
+  checkpoint_fault NoStore why five = absurd (omega (arith, five))
+  checkpoint_fault (Damaged block) why five = absurd (omega (arith, five))
+  checkpoint_fault Occupied why five = absurd why.0
+  checkpoint_fault (TooSmall asked has) why five = absurd why.0
+  checkpoint_fault (Formatted made) why five = absurd why.0
+  checkpoint_fault (Checkpointed entries) why five = absurd (omega (arith, five))
+  checkpoint_fault (Full need room) why five = absurd (omega (arith, five))
+  checkpoint_fault (Replied transcript) why five = absurd why.0
 
 -- An input that was not read is no fault of the device.
 input_five : {S : Type 0} (source : SourceGhosts S) (given rest : S) (e : Ending) → InputCause source given rest e → status_of e ≡ 5 → ⊥
@@ -114,6 +136,8 @@ input_five source given rest (Damaged block) why five = why
 input_five source given rest Occupied why five = why
 input_five source given rest (TooSmall asked has) why five = why
 input_five source given rest (Formatted made) why five = why
+input_five source given rest (Checkpointed entries) why five = why
+input_five source given rest (Full need room) why five = why
 input_five source given rest (Replied transcript) why five = why
 
 -- ---- runs
@@ -143,6 +167,7 @@ module _ {S D : Type 0} (source : SourceGhosts S) (disk : Ghosts D) (given rest 
       work_fault disk old new (λ said start log own. DistilsStore start log workers said own) e why.1 five
   cause_fault (Some (Sample number streams points)) e why five =
       work_fault disk old new (λ said start log own. SamplesStore number streams points start log said own) e why.1 five
+  cause_fault (Some Checkpoint) e why five = checkpoint_fault disk old new e why.1 five
 
   run_fault : (command : Option Command) (e : Ending) → RunCause source disk command given rest old new e → status_of e ≡ 5 → Failed disk old new
   run_fault command e why five =

@@ -1,5 +1,9 @@
+-- what a device holds
+mod OneStore
 -- why a format ends so
 mod FormatCauses
+-- why a checkpoint ends so
+mod CheckpointCauses
 -- why a command ends so
 mod LineLists
 mod AskedLines
@@ -24,4 +28,5 @@ mod LiveCompletes
 mod WorkCompletes
 mod AskCompletes
 mod FormatCompletes
+mod CheckpointCompletes
 mod RunCompletes

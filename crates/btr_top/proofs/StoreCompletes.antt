@@ -1,13 +1,10 @@
 -- Work on a device that holds a store, if nothing fails: the store is opened, and no step fails.
 use Rattle.std.specs.Prelude.{◌≡◌, ℕ, Bool, true, false, List, Option, Some, None, Ok}
 use Rattle.std.specs.Option.{is_some}
-use Rattle.std.proofs.Common.{refl, sym, ◌∙◌, ap, inr}
+use Rattle.std.proofs.Common.{refl, ◌∙◌, ap, inr}
 use Rattle.btr_disk.specs.declared.disk.Disk.{Ghosts}
 use Rattle.btr_disk.specs.Causes.{Rose}
-use Rattle.btr_super.specs.declared.superblock.Super.{Super}
-use Rattle.btr_super.proofs.ChoiceLemmas.{one_chosen}
-use Rattle.btr_log.specs.Extents.{left, first_gate}
-use Rattle.btr_log.proofs.ExtentLemmas.{Extents-one}
+use Rattle.btr_log.specs.Extents.{left}
 use Rattle.btr_hist.specs.declared.entry.Entry.{Entry}
 use Rattle.btr_engine.specs.Holds.{HoldsHistory, HoldsHistoryTo}
 use Rattle.btr_open.specs.Laws.{HeldIsSound, OneHistoryIsHeld}
@@ -16,10 +13,11 @@ use Rattle.btr_store.specs.declared.transcript.Transcript.{Transcript}
 use Rattle.btr_store.specs.Completes.{IsBenign}
 use Rattle.btr_store.specs.Work.{HoldsStart, DoesRightly}
 use Rattle.btr_top.specs.declared.ending.Ending.{Ending}
-use Rattle.btr_top.specs.declared.ending.Ending.TheVariants.{Usage, NoSource, TooLong, OutOfMemory, NoDevice, NoStore, Damaged, Occupied, TooSmall, Formatted, Replied}
+use Rattle.btr_top.specs.declared.ending.Ending.TheVariants.{Usage, NoSource, TooLong, OutOfMemory, NoDevice, NoStore, Damaged, Occupied, TooSmall, Formatted, Checkpointed, Full, Replied}
 use Rattle.btr_top.specs.Ending.{status_of}
 use Rattle.btr_top.specs.Work.{WorkSays, WorkCause}
 use Rattle.btr_top.specs.Run.{IsPlainStatus}
+use Rattle.btr_top.proofs.OneStore.{one_store}
 use Rattle.btr_top.proofs.BenignStatuses.{benign_code}
 
 none_if : {A : Type 0} (o : Option A) → (is_some o ≡ true → ⊥) → o ≡ None
@@ -33,12 +31,8 @@ module _ {D : Type 0} (disk : Ghosts D) (old new : D) (history : List Entry) (bl
   -- The device holds one store.
   same_room : (first : StoreState) → HoldsStart disk old first → first.left ≡ left blocks tail
   same_room first is =
-      let size = disk.size old in
-      let image = disk.contents old in
-      let supers : is.holds.super ≡ holds.super = one_chosen size image is.holds.super holds.super is.holds.chosen holds.chosen in
-      let sizes : is.blocks ≡ blocks = sym is.holds.same_blocks ∙ ap (λ (s : Super). s.blocks) supers ∙ holds.same_blocks in
-      let tails : is.tail ≡ tail = (Extents-one image first_gate is.holds.bodies holds.bodies is.tail tail is.holds.extents is.holds.closed holds.extents holds.closed).1 in
-      is.same_left ∙ ap (λ b. left b is.tail) sizes ∙ ap (λ t. left blocks t) tails
+      let one_of = one_store (disk.size old) (disk.contents old) is.blocks is.tail first.history is.holds (disk.size old) (disk.contents old) refl refl blocks tail history holds in
+      is.same_left ∙ ap (λ (b : ℕ). left b is.tail) one_of.same_blocks ∙ ap (λ (t : ℕ). left blocks t) one_of.same_tail
 
   -- The store that the device holds.
   abbrev pub opened : StoreState
@@ -75,4 +69,6 @@ module _ {D : Type 0} (disk : Ghosts D) (old new : D) (history : List Entry) (bl
   plain_work What benign Occupied why = absurd why.0
   plain_work What benign (TooSmall asked has) why = absurd why.0
   plain_work What benign (Formatted made) why = absurd why.0
+  plain_work What benign (Checkpointed entries) why = absurd why.0
+  plain_work What benign (Full need room) why = absurd why.0
   plain_work What benign (Replied transcript) why = benign_code transcript.status (benign transcript (why.rightly told history held))

@@ -6,6 +6,7 @@ pub mod Work
 pub mod Live
 pub mod Ask
 pub mod Format
+pub mod Checkpoint
 -- the whole run
 pub mod Ending
 pub mod Run

@@ -7,7 +7,7 @@ use Rattle.btr_io.specs.Faults.{Rose as StreamRose}
 use Rattle.btr_disk.specs.declared.disk.Disk.{Ghosts}
 use Rattle.btr_disk.specs.Causes.{Rose}
 use Rattle.btr_words.specs.declared.command.Command.{Command}
-use Rattle.btr_words.specs.declared.command.Command.TheVariants.{Format, Load, Ask, Distil, Live, Sample}
+use Rattle.btr_words.specs.declared.command.Command.TheVariants.{Format, Load, Ask, Distil, Live, Sample, Checkpoint}
 use Rattle.btr_top.specs.declared.ending.Ending.{Ending}
 use Rattle.btr_top.specs.declared.ending.Ending.TheVariants.{Usage, OutOfMemory}
 use Rattle.btr_top.specs.declared.command.TheConstants.{MAX_INPUT}
@@ -15,6 +15,7 @@ use Rattle.btr_top.specs.Command.{IsKept}
 use Rattle.btr_top.specs.Live.{LiveCause, CanLive}
 use Rattle.btr_top.specs.Ask.{AskCause, CanAsk}
 use Rattle.btr_top.specs.Format.{FormatCause, FormatLeaves, CanFormat}
+use Rattle.btr_top.specs.Checkpoint.{CheckpointEnds, CanCheckpoint}
 use Rattle.btr_top.specs.Work.{LoadCause, DistilCause, SampleCause, CanLoad, CanDistil, CanSample}
 use Rattle.btr_top.specs.Ending.{Shows}
 
@@ -29,6 +30,7 @@ Cause source disk (Some (Load workers batch)) given rest old new e = LoadCause s
 Cause source disk (Some (Distil workers)) given rest old new e = (rest ≡ given) × DistilCause disk workers old new e
 Cause source disk (Some (Sample number streams points)) given rest old new e =
     (rest ≡ given) × SampleCause disk number streams points old new e
+Cause source disk (Some Checkpoint) given rest old new e = (rest ≡ given) × CheckpointEnds disk old new e
 
 -- There was no memory to read the words, and nothing was done.
 abbrev pub WordsLackMemory : {S D : Type 0} → S → S → D → D → Ending → Type 0
@@ -49,6 +51,7 @@ CanRun source disk (Some Ask) given old = CanAsk source disk given old
 CanRun source disk (Some (Load workers batch)) given old = CanLoad source disk batch given old
 CanRun source disk (Some (Distil workers)) given old = CanDistil disk old
 CanRun source disk (Some (Sample number streams points)) given old = CanSample disk number streams points old
+CanRun source disk (Some Checkpoint) given old = CanCheckpoint disk old
 
 -- The status is 0 if all was done, 1 if something was refused, and 9 if memory ran out.
 abbrev pub IsPlainStatus : ℕ → Type 0

@@ -24,7 +24,7 @@ pub enum Ending {
     TooLong,
 
     /// There was no memory: for the words, for the input or what it says, for an opening, for a hall, for the lines of a script and their
-    /// replies, for the snapshot of `ask`, or for a text.
+    /// replies, for the snapshot of `ask`, for a checkpoint, or for a text.
     OutOfMemory,
 
     /// A call of the device failed.
@@ -44,6 +44,12 @@ pub enum Ending {
 
     /// An empty store of this many blocks was made.
     Formatted { blocks: u64 },
+
+    /// A checkpoint was added to the log. It has the streams of this many entries, which are all.
+    Checkpointed { entries: u64 },
+
+    /// A checkpoint needs more blocks than are left.
+    Full { need: u64, left: u64 },
 
     /// The command did its work, and says this of it: a reply to each line of the input, lines of its own, or both.
     Replied(Transcript),
@@ -109,6 +115,8 @@ fn status_of(ending: &Ending) -> u8
         Ending::Occupied => 6,
         Ending::TooSmall { .. } => 8,
         Ending::Formatted { .. } => 0,
+        Ending::Checkpointed { .. } => 0,
+        Ending::Full { .. } => 8,
         Ending::Replied(transcript) => transcript.status.code(),
     }
 }
@@ -127,8 +135,10 @@ fn text_of(alloc: Global, ending: &Ending) -> Result<Vec<u8>, AllocError>
         Ending::NoStore => line(alloc, b"no", &[b"store"]),
         Ending::Damaged { block } => numbered_text(alloc, b"damaged", *block),
         Ending::Occupied => line(alloc, b"no", &[b"occupied"]),
-        Ending::TooSmall { asked, blocks } => too_small_text(alloc, *asked, *blocks),
-        Ending::Formatted { blocks } => formatted_text(alloc, *blocks),
+        Ending::TooSmall { asked, blocks } => two_numbers_text(alloc, b"small", *asked, *blocks),
+        Ending::Formatted { blocks } => done_text(alloc, b"formatted", *blocks),
+        Ending::Checkpointed { entries } => done_text(alloc, b"checkpoint", *entries),
+        Ending::Full { need, left } => two_numbers_text(alloc, b"full", *need, *left),
         Ending::Replied(_) => Ok(Vec::new(alloc)),
     }
 }
@@ -141,9 +151,14 @@ fn numbered_text(alloc: Global, word: &[u8], number: u64) -> Result<Vec<u8>, All
     line(alloc, b"no", &[word, text.format(number).as_bytes()])
 }
 
-/// Returns the line that a device has fewer blocks than were asked for.
-fn too_small_text(alloc: Global, asked: u64, blocks: u64) -> Result<Vec<u8>, AllocError>
-    ensures { IfOk result (λ t. t.items ≡ line_text (codes "no" ∷ codes "small" ∷ decimal asked ∷ decimal blocks ∷ [])) }
+/// Returns the line of a refusal with two numbers, which are in blocks: those that were wanted, and those that there are.
+fn two_numbers_text(
+    alloc: Global,
+    word: &[u8],
+    wanted: u64,
+    found: u64,
+) -> Result<Vec<u8>, AllocError>
+    ensures { IfOk result (λ t. t.items ≡ line_text (codes "no" ∷ word.now ∷ decimal wanted ∷ decimal found ∷ [])) }
 {
     let mut first = Buffer::new();
     let mut second = Buffer::new();
@@ -151,19 +166,19 @@ fn too_small_text(alloc: Global, asked: u64, blocks: u64) -> Result<Vec<u8>, All
         alloc,
         b"no",
         &[
-            b"small",
-            first.format(asked).as_bytes(),
-            second.format(blocks).as_bytes(),
+            word,
+            first.format(wanted).as_bytes(),
+            second.format(found).as_bytes(),
         ],
     )
 }
 
-/// Returns the line that an empty store was made.
-fn formatted_text(alloc: Global, blocks: u64) -> Result<Vec<u8>, AllocError>
-    ensures { IfOk result (λ t. t.items ≡ line_text (codes "formatted" ∷ decimal blocks ∷ [])) }
+/// Returns the line that work was done, with one number.
+fn done_text(alloc: Global, word: &[u8], number: u64) -> Result<Vec<u8>, AllocError>
+    ensures { IfOk result (λ t. t.items ≡ line_text (word.now ∷ decimal number ∷ [])) }
 {
     let mut text = Buffer::new();
-    line(alloc, b"formatted", &[text.format(blocks).as_bytes()])
+    line(alloc, word, &[text.format(number).as_bytes()])
 }
 
 /// Returns a line of these words.

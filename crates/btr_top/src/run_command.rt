@@ -9,6 +9,7 @@ ghost use Rattle.btr_top.specs.Format.{FormatCause, FormatLeaves};
 ghost use Rattle.btr_top.specs.Run.{RunCause, Runs};
 
 use crate::ask::run_ask;
+use crate::checkpoint::run_checkpoint;
 use crate::command::CommandResult;
 use crate::distil::run_distil;
 use crate::ending::{Ending, show};
@@ -121,6 +122,7 @@ fn dispatch<R: Threads + Wait + Sync, S: Source, D: Disk + Send, P: Pace + Sync>
                 },
             ),
         ) => run_sample(rt, alloc, number, streams, points, disk, pace),
+        Ok(Some(Command::Checkpoint)) => run_checkpoint(alloc, disk),
     }
 }
 

@@ -10,7 +10,7 @@ use Rattle.std.proofs.lemmas.Slice.Eq.{bytes_eq-Decides}
 use Rattle.std.proofs.lemmas.Bool.{eqb-true}
 use Rattle.clap.specs.Lexer.{long_of, short_of}
 use Rattle.clap.specs.ValueTests.{is_unsigned_in}
-use Rattle.clap.specs.Walk.{Row, Rule, Text, arg_by_index, at_row, finished, has_row, is_empty, more_values, row_text, settled_rows, takes_several, used, with_default}
+use Rattle.clap.specs.Walk.{Row, Rule, Text, arg_by_index, at_row, finished, has_row, more_values, row_text, settled_rows, takes_several, used, with_default}
 use Rattle.clap.specs.Takes.{is_given}
 use Rattle.clap.specs.Faults.{check_fault, default_fault, defaults_fault, settle_fault, use_fault}
 use Rattle.clap.specs.Kinds.{Kinds, check_kinds, or_else}

@@ -14,7 +14,7 @@ use Rattle.btr_words.specs.declared.command.Command.{Command}
 use Rattle.btr_words.specs.Words.{Argument, Found, Takes, argument_named, between, is_end, is_flag, nothing, numbers_of, options_after, others, taken, takes_nothing}
 use Rattle.btr_words.proofs.WordCases.{HasNoShorts, dashes, held}
 use Rattle.btr_words.proofs.Turns.{After, Gives, IsFault, at, ending, fault_from, first_fault, is_fault, refused_gives, rows_from, turn_cases}
-use Rattle.btr_words.proofs.Found.{Reads, Stands, has_row_more, named_in_others, named_is, read_more, row, same_text}
+use Rattle.btr_words.proofs.Found.{Reads, has_row_more, named_in_others, named_is, read_more, row, same_text}
 use Rattle.btr_words.proofs.Leaf.{Blank, Use, UseFault, accepted, dashes_long, ends_with, first_use, given, leaf, not_end, numeral_dashes, numeral_long, numeral_of, numeral_short}
 use Rattle.btr_words.proofs.Leaf.{plain, refused, repeated, rule}
 

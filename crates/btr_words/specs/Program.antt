@@ -8,7 +8,7 @@ use Rattle.clap.specs.Simple.{new_shape}
 use Rattle.clap.specs.declared.builder.action.ArgAction.TheVariants as action
 use Rattle.clap.specs.declared.builder.value_parser.ValueParser.TheVariants as vp
 use Rattle.btr_words.specs.declared.command.Command.{Command}
-use Rattle.btr_words.specs.declared.command.Command.TheVariants.{Format, Load, Ask, Distil, Live}
+use Rattle.btr_words.specs.declared.command.Command.TheVariants.{Format, Load, Ask, Distil, Live, Checkpoint}
 use Rattle.btr_words.specs.Words.{Text, number_of, sample_within}
 
 -- An option of this name that takes a number.
@@ -59,6 +59,9 @@ points_rule = value_in (codes "points") 1 1000000
 abbrev pub sample_app : App
 sample_app = with_rule (with_rule (with_rule (new_app (codes "sample")) number_rule) streams_rule) points_rule
 
+abbrev pub checkpoint_app : App
+checkpoint_app = new_app (codes "checkpoint")
+
 abbrev pub program_shape : Shape
 program_shape = record (new_shape (codes "btr")) {
   no_binary_name = true;
@@ -74,7 +77,8 @@ first_app = with_subcommand (with_subcommand (with_subcommand (record { top = pr
     ask_app.top
 
 abbrev pub program_app : App
-program_app = with_subcommand (with_subcommand (with_subcommand first_app distil_app.top) live_app.top) sample_app.top
+program_app = with_subcommand (with_subcommand (with_subcommand (with_subcommand first_app distil_app.top) live_app.top) sample_app.top)
+    checkpoint_app.top
 
 -- The number that the rows have for an argument.
 abbrev pub number_in : Text → List Row → ℕ → Option ℕ
@@ -107,7 +111,8 @@ command_with_rows name rows =
     else (if bytes_eq name (codes "distil") then Some (Distil (workers_in rows))
     else (if bytes_eq name (codes "live") then Some (live_in rows)
     else (if bytes_eq name (codes "sample") then sample_in rows
-    else Some Ask))))
+    else (if bytes_eq name (codes "checkpoint") then Some Checkpoint
+    else Some Ask)))))
 
 -- The command of the subcommand that was found.
 abbrev pub command_of_rows : Option (Text × List Row) → Option Command

@@ -35,4 +35,7 @@ pub enum Command {
         streams: u32,
         points: u32,
     },
+
+    /// `checkpoint`: write a checkpoint, which has all streams with their versions, to the store, and a superblock that names it.
+    Checkpoint,
 }

@@ -14,7 +14,8 @@ pub(crate) fn program<'a>(alloc: Global) -> Result<Command<'a>, AllocError>
     first_commands(alloc)?
         .subcommand(distil_command(alloc)?)?
         .subcommand(live_command(alloc)?)?
-        .subcommand(sample_command(alloc)?)
+        .subcommand(sample_command(alloc)?)?
+        .subcommand(Command::new(alloc, "checkpoint"))
 }
 
 /// Returns the description of the first three commands. An `Err` means out of memory.

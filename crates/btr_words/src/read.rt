@@ -48,6 +48,8 @@ fn command_in(matches: &ArgMatches) -> Option<Command>
         Some(live_in(arguments))
     } else if name == "sample" {
         sample_in(arguments)
+    } else if name == "checkpoint" {
+        Some(Command::Checkpoint)
     } else {
         Some(Command::Ask)
     }

@@ -25,3 +25,6 @@ returns-in-Ok-Some-Format-clause-format_leaves g c = λ told blocks is.
 
 pub returns-in-Ok-Some-Sample-clause-input : goal.returns-in-Ok-Some-Sample-clause-input
 returns-in-Ok-Some-Sample-clause-input g c = λ told. gives_none 268435457 (g.S.Source.left c.args.source.now)
+
+pub returns-in-Ok-Some-Checkpoint-clause-input : goal.returns-in-Ok-Some-Checkpoint-clause-input
+returns-in-Ok-Some-Checkpoint-clause-input g c = λ told. gives_none 268435457 (g.S.Source.left c.args.source.now)

@@ -1,0 +1,155 @@
+-- Why `checkpoint` ends so: from what the opening says of the engine, and what the checkpoint of the engine says of its answer.
+use Rattle.std.specs.Prelude.{◌≡◌, ◌⊎◌, ℕ, ◌+◌, ◌≤◌, List, length}
+use Rattle.std.proofs.Common.{refl, sym, ◌∙◌, ap, subst, inl, inr, arith}
+use Rattle.btr_disk.specs.declared.disk.Disk.{Ghosts}
+use Rattle.btr_disk.specs.Bytes.{Image}
+use Rattle.btr_disk.specs.Causes.{Rose}
+use Rattle.btr_disk.specs.Moments.{Leaves}
+use Rattle.btr_disk.proofs.ByteLemmas.{Same-is}
+use Rattle.btr_disk.proofs.MomentLemmas.{composes, weakens, left_now}
+use Rattle.btr_log.specs.Extents.{left}
+use Rattle.btr_log.specs.Head.{content_blocks}
+use Rattle.btr_hist.specs.declared.entry.Entry.{Entry}
+use Rattle.btr_roll.specs.Roll.{RollStreamValue, roll_bytes}
+use Rattle.btr_engine.specs.declared.engine.Engine.{Engine}
+use Rattle.btr_engine.specs.declared.step.StepFault.TheVariants as faults
+use Rattle.btr_engine.specs.Holds.{HoldsHistory, HoldsHistoryTo}
+use Rattle.btr_engine.specs.Engine.{device, board_of, tail_of, blocks_of, room_of, IsAtRest, EngineLeaves, KeepsOpening}
+use Rattle.btr_engine.specs.Mark as mark
+use Rattle.btr_engine.specs.Mark.{need_of_board, IsNamed, IsCheckpointed}
+use Rattle.btr_engine.proofs.RollingLemmas.{rolled-is}
+use Rattle.btr_engine.proofs.StreamsLemmas.{has-streams}
+use Rattle.btr_open.specs.Opening.{IsOpenedEngine}
+use Rattle.btr_top.specs.declared.ending.Ending.{Ending}
+use Rattle.btr_top.specs.declared.ending.Ending.TheVariants.{Usage, NoSource, TooLong, OutOfMemory, NoDevice, NoStore, Damaged, Occupied, TooSmall, Formatted, Checkpointed, Full, Replied}
+use Rattle.btr_top.specs.Command.{IsKept, OpeningCause}
+use Rattle.btr_top.specs.Checkpoint.{need_of_checkpoint, Lasts, AddsCheckpoint, CheckpointEnds}
+use Rattle.btr_top.proofs.OneStore.{AreOne, one_store}
+
+-- A fault after others is one since then.
+rose_since : (old mid new : ℕ) → old ≤ mid → Rose mid new → Rose old new
+rose_since old mid new later rose = omega (arith, later, rose)
+
+module _ {D : Type 0} (disk : Ghosts D) where
+  -- The law of the device: an image now is one since any call number up to now.
+  abbrev pub CountsNow : Type 0
+  CountsNow =
+      disk.is_observable → (d : D) (t : ℕ) (c : Image) → t ≤ disk.calls d → disk.images_now d c → disk.images_since d t c
+
+  -- What a crash leaves of a history that lasts from the device `old` on.
+  abbrev pub LeftSince : List Entry → D → Image → Type 0
+  LeftSince h old c = disk.images_now old c ⊎ HoldsHistory (disk.size old) c h
+
+  module _ (counts_now : CountsNow) (told : disk.is_observable) (h : List Entry) (old new : D) where
+    -- What lasts at each moment lasts now.
+    pub lasts : Leaves disk.calls disk.images_since old new (LeftSince h old) → Lasts disk h old new
+    lasts leaves = record {
+      moments = leaves;
+      now = left_now disk.calls disk.images_since old new (LeftSince h old) (disk.images_now new) (counts_now told new) leaves;
+    }
+
+    -- A device that is kept leaves what it might have left before.
+    pub kept_lasts : IsKept disk old new → Lasts disk h old new
+    kept_lasts kept =
+        lasts (weakens disk.calls disk.images_since old new (disk.images_now old) (LeftSince h old) (λ c left. inl left) (kept told).moments)
+
+  module _ (counts_now : CountsNow) (old new : D) where
+    -- The store was not opened.
+    pub refused_cause : (e : Ending) → OpeningCause disk old new e → IsKept disk old new → CheckpointEnds disk old new e
+    refused_cause Usage why kept = absurd why
+    refused_cause NoSource why kept = absurd why
+    refused_cause TooLong why kept = absurd why
+    refused_cause OutOfMemory why kept = kept
+    refused_cause NoDevice why kept = (why, λ told h blocks tail holds. kept_lasts counts_now told h old new kept)
+    refused_cause NoStore why kept = (why, kept)
+    refused_cause (Damaged block) why kept = (why, kept)
+    refused_cause Occupied why kept = absurd why
+    refused_cause (TooSmall asked has) why kept = absurd why
+    refused_cause (Formatted made) why kept = absurd why
+    refused_cause (Checkpointed entries) why kept = absurd why
+    refused_cause (Full need room) why kept = absurd why
+    refused_cause (Replied transcript) why kept = absurd why
+
+module _ {D : Type 0} (disk : Ghosts D) (counts_now : CountsNow disk) (old : D) (engine : Engine D disk) (opened : IsOpenedEngine disk old engine) where
+  -- A crash at any moment of the checkpoint leaves the history.
+  abbrev pub LeavesHistory : Engine D disk → Type 0
+  LeavesHistory new =
+      disk.is_observable → (h : List Entry) → IsAtRest h engine → EngineLeaves engine new (λ c. HoldsHistory (disk.size (device engine)) c h)
+
+  module _ (told : disk.is_observable) (h : List Entry) (blocks tail : ℕ) (holds : HoldsHistoryTo (disk.size old) (disk.contents old) blocks tail h) where
+    rests : IsAtRest h engine
+    rests = (opened.stood told h (record { blocks = blocks; tail = tail; holds = holds })).at_rest
+
+    -- The device of the engine holds the same store.
+    same_store : AreOne blocks tail h holds.leads.roots (blocks_of engine) (tail_of engine) h rests.holds.leads.roots
+    same_store =
+        one_store (disk.size old) (disk.contents old) blocks tail h holds (disk.size (device engine)) (disk.contents (device engine)) (sym opened.kept.counts.same_size)
+        (sym (Same-is (disk.contents old) (disk.contents (device engine)) (opened.kept.unwritten told).same)) (blocks_of engine) (tail_of engine) h rests.holds
+
+    need_is : need_of_board (board_of engine) ≡ need_of_checkpoint h holds.leads.roots
+    need_is =
+        ap (λ (roll : List RollStreamValue). content_blocks (length (roll_bytes roll)) + 1) (rolled-is h rests.holds.leads.roots (board_of engine) (has-streams h (board_of engine) rests.of) rests.roots)
+        ∙ ap (λ (roots : List ℕ). need_of_checkpoint h roots) (sym same_store.same_roots)
+
+    room_is : room_of engine ≡ left blocks tail
+    room_is =
+        ap (λ (b : ℕ). left b (tail_of engine)) (sym same_store.same_blocks) ∙ ap (λ (t : ℕ). left blocks t) (sym same_store.same_tail)
+
+    -- The history lasts through the opening and the checkpoint.
+    lasts_through : (new : Engine D disk) → LeavesHistory new → Lasts disk h old (device new)
+    lasts_through new leaves =
+        let sized : disk.size (device engine) ≡ disk.size old = opened.kept.counts.same_size in
+        lasts disk counts_now told h old (device new)
+        (composes disk.calls disk.images_since old (device engine) (device new) (LeftSince disk h old)
+        (weakens disk.calls disk.images_since old (device engine) (disk.images_now old) (LeftSince disk h old) (λ c left. inl left) (opened.kept.unwritten told).moments)
+        (weakens disk.calls disk.images_since (device engine) (device new) (λ c. HoldsHistory (disk.size (device engine)) c h) (LeftSince disk h old)
+        (λ c held. inr (subst (λ (n : ℕ). HoldsHistory n c h) sized held)) (leaves told h rests)))
+
+    adds : (new : Engine D disk) (entries : ℕ) → IsCheckpointed engine new entries → KeepsOpening engine new → IsAtRest h new → ((c : Image) → disk.images_now (device new) c → IsNamed (disk.size (device new)) c (blocks_of new) (tail_of new) h) → LeavesHistory new → AddsCheckpoint disk entries old (device new) h holds.leads.roots blocks tail
+    adds new entries is kept after named leaves =
+        let need : ℕ = need_of_checkpoint h holds.leads.roots in
+        let tails : tail_of new ≡ tail + need =
+        is.tail ∙ ap (λ (t : ℕ). t + need_of_board (board_of engine)) (sym same_store.same_tail) ∙ ap (λ (n : ℕ). tail + n) need_is in
+        let image : Image = disk.contents (device new) in
+        record {
+          counted = is.entries ∙ rests.of.entries;
+          fits = subst (λ (n : ℕ). n ≤ left blocks tail) need_is (subst (λ (r : ℕ). need_of_board (board_of engine) ≤ r) room_is is.fits);
+          lasts = lasts_through new leaves;
+          safely = record { holds = record { blocks = blocks_of new; tail = tail_of new; holds = after.holds }; only = after.only };
+          named =
+              subst (λ (b : ℕ). IsNamed (disk.size (device new)) image b (tail + need) h) (kept.blocks ∙ sym same_store.same_blocks)
+              (subst (λ (t : ℕ). IsNamed (disk.size (device new)) image (blocks_of new) t h) tails (named image (after.only.itself image (λ k. refl))));
+        }
+
+  -- The checkpoint was added.
+  pub added_cause : (new : Engine D disk) (end : D) (entries : ℕ) → end ≡ device new → IsCheckpointed engine new entries → KeepsOpening engine new → (disk.is_observable → (h : List Entry) → IsAtRest h engine → IsAtRest h new) → (disk.is_observable → (h : List Entry) → IsAtRest h engine → (c : Image) → disk.images_now (device new) c → IsNamed (disk.size (device new)) c (blocks_of new) (tail_of new) h) → LeavesHistory new → CheckpointEnds disk old end (Checkpointed entries)
+  added_cause new end entries same is kept after named leaves =
+      subst (λ (d : D). CheckpointEnds disk old d (Checkpointed entries)) (sym same)
+      (λ told h blocks tail holds.
+      let before = rests told h blocks tail holds in
+      adds told h blocks tail holds new entries is kept (after told h before) (named told h before) leaves)
+
+  -- The engine is as the opening left it.
+  unchanged : (new : Engine D disk) (end : D) → end ≡ device new → new ≡ engine → IsKept disk old end
+  unchanged new end same as_before =
+      subst (λ (d : D). IsKept disk old d) (sym (same ∙ ap (λ (e : Engine D disk). device e) as_before)) opened.kept.unwritten
+
+  -- There was no memory for it.
+  pub want_cause : (new : Engine D disk) (end : D) → end ≡ device new → mark.CheckpointCause engine new faults.Want → CheckpointEnds disk old end OutOfMemory
+  want_cause new end same why = unchanged new end same why.1
+
+  -- There was no room for it.
+  pub full_cause : (new : Engine D disk) (end : D) (need room : ℕ) → end ≡ device new → mark.CheckpointCause engine new (faults.DeviceFull need room) → CheckpointEnds disk old end (Full need room)
+  full_cause new end need room same why = (
+    why.3,
+    unchanged new end same why.4,
+    λ told h blocks tail holds. (why.1 ∙ need_is told h blocks tail holds, why.2 ∙ room_is told h blocks tail holds),
+  )
+
+  -- The device failed.
+  pub fault_cause : (new : Engine D disk) (end : D) → end ≡ device new → mark.CheckpointCause engine new faults.DeviceFault → LeavesHistory new → CheckpointEnds disk old end NoDevice
+  fault_cause new end same why leaves =
+      subst (λ (d : D). CheckpointEnds disk old d NoDevice) (sym same) (
+        rose_since (disk.faults old) (disk.faults (device engine)) (disk.faults (device new)) opened.kept.counts.more_faults why.2.rose,
+        λ told h blocks tail holds. lasts_through told h blocks tail holds new leaves,
+      )

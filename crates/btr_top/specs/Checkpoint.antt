@@ -1,0 +1,61 @@
+-- The command `checkpoint`: what a crash leaves of it, and why it ends as it does.
+use Rattle.std.specs.Prelude.{◌≡◌, ◌⊎◌, ℕ, ◌+◌, ◌<◌, ◌≤◌, List, length}
+use Rattle.btr_disk.specs.declared.disk.Disk.{Ghosts}
+use Rattle.btr_disk.specs.Bytes.{Image}
+use Rattle.btr_disk.specs.Causes.{Rose}
+use Rattle.btr_disk.specs.Moments.{Leaves}
+use Rattle.btr_log.specs.Extents.{left}
+use Rattle.btr_log.specs.Head.{content_blocks}
+use Rattle.btr_hist.specs.declared.entry.Entry.{Entry}
+use Rattle.btr_roll.specs.Roll.{roll_bytes}
+use Rattle.btr_engine.specs.Rolling.{roll_of}
+use Rattle.btr_engine.specs.Holds.{HoldsHistory, HoldsHistoryTo}
+use Rattle.btr_engine.specs.Mark.{IsNamed}
+use Rattle.btr_store.specs.Work.{HoldsSafely}
+use Rattle.btr_top.specs.declared.ending.Ending.{Ending}
+use Rattle.btr_top.specs.declared.ending.Ending.TheVariants.{OutOfMemory, NoDevice, Checkpointed, Full}
+use Rattle.btr_top.specs.Command.{IsKept, OpeningCause}
+
+-- The blocks that a checkpoint needs after a history whose entries have these roots: those of its content, and the gate after them.
+abbrev pub need_of_checkpoint : List Entry → List ℕ → ℕ
+need_of_checkpoint h roots = content_blocks (length (roll_bytes (roll_of h roots))) + 1
+
+module _ {D : Type 0} (disk : Ghosts D) where
+  -- The device is observable, and as it reads it holds this history in a store of so many blocks, up to the gate at the tail. `P` is true
+  -- of the history, the roots of its entries, the blocks and the tail.
+  abbrev pub OfHeld : D → (List Entry → List ℕ → ℕ → ℕ → Type 0) → Type 0
+  OfHeld old P =
+      disk.is_observable → (h : List Entry) (blocks tail : ℕ)
+      → (holds : HoldsHistoryTo (disk.size old) (disk.contents old) blocks tail h) → P h holds.leads.roots blocks tail
+
+  -- The history lasts from the device `old` to the device `new`: a crash at any moment leaves it, or what a crash might have left before.
+  pub record Lasts (h : List Entry) (old new : D) : Type 0 where
+    pub moments : Leaves disk.calls disk.images_since old new (λ c. disk.images_now old c ⊎ HoldsHistory (disk.size old) c h)
+    pub now : (c : Image) → disk.images_now new c → disk.images_now old c ⊎ HoldsHistory (disk.size old) c h
+
+  -- A checkpoint of the whole history was added after the tail. There was room for it. The history lasts; from then on a crash leaves the
+  -- device as it reads. The superblock that is chosen then names the checkpoint, and the gate after it is the new tail.
+  pub record AddsCheckpoint (entries : ℕ) (old new : D) (h : List Entry) (roots : List ℕ) (blocks tail : ℕ) : Type 0 where
+    pub counted : entries ≡ length h
+    pub fits : need_of_checkpoint h roots ≤ left blocks tail
+    pub lasts : Lasts h old new
+    pub safely : HoldsSafely disk new h
+    pub named : IsNamed (disk.size new) (disk.contents new) blocks (tail + need_of_checkpoint h roots) h
+
+  -- Why `checkpoint` ends so.
+  abbrev pub CheckpointEnds : D → D → Ending → Type 0
+  CheckpointEnds old new (Checkpointed entries) = OfHeld old (AddsCheckpoint entries old new)
+  CheckpointEnds old new (Full need room) =
+      (room < need) × IsKept disk old new
+      × OfHeld old (λ h roots blocks tail. (need ≡ need_of_checkpoint h roots) × (room ≡ left blocks tail))
+  CheckpointEnds old new NoDevice = Rose (disk.faults old) (disk.faults new) × OfHeld old (λ h roots blocks tail. Lasts h old new)
+  CheckpointEnds old new OutOfMemory = IsKept disk old new
+  CheckpointEnds old new e = OpeningCause disk old new e × IsKept disk old new
+
+  -- The device holds a store with room for a checkpoint.
+  pub record CanCheckpoint (old : D) : Type 0 where
+    pub history : List Entry
+    pub blocks : ℕ
+    pub tail : ℕ
+    pub holds : HoldsHistoryTo (disk.size old) (disk.contents old) blocks tail history
+    pub fits : need_of_checkpoint history holds.leads.roots ≤ left blocks tail

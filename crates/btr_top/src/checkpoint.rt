@@ -1,0 +1,49 @@
+//! The command `checkpoint`, which adds a checkpoint to the log of a store.
+ghost use Rattle.std.specs.Prelude.{◌≡◌, false};
+ghost use Rattle.btr_engine.specs.Engine.{is_stopped};
+ghost use Rattle.btr_open.specs.Opening.{IsOpenedEngine};
+ghost use Rattle.btr_top.specs.Checkpoint.{CheckpointEnds};
+
+use crate::command::{CommandResult, open_refusal};
+use crate::ending::Ending;
+use btr_disk::Disk;
+use btr_engine::{Engine, StepFault};
+use btr_open::open_store;
+use std::alloc::Global;
+
+/// `checkpoint`: opens the store, adds a checkpoint of its whole history to the log, and replaces the superblock by one that names it. It
+/// reads no input.
+///
+/// It costs an opening, and then time and memory linear in the numbers of streams and of versions. After the opening it makes nine calls
+/// of the device or eleven, fewer if one fails, and none if there is no memory or no room for the checkpoint.
+pub(crate) fn run_checkpoint<D: Disk>(alloc: Global, disk: D) -> CommandResult<D>
+    ensures size { D.size result.disk ≡ D.size disk }
+    ensures cause { CheckpointEnds ⟦<D as Disk>⟧ disk result.disk result.ending }
+{
+    match open_store(alloc, disk) {
+        Ok(engine) => mark_opened(alloc, engine),
+        Err(fault) => open_refusal(fault),
+    }
+}
+
+/// Adds a checkpoint to the log of a store that was opened.
+fn mark_opened<D: Disk>(alloc: Global, engine: Engine<D>) -> CommandResult<D>
+    requires runs { is_stopped engine ≡ false }
+    ensures size { (old : D) → IsOpenedEngine ⟦<D as Disk>⟧ old engine → D.size result.disk ≡ D.size old }
+    ensures cause { (old : D) → IsOpenedEngine ⟦<D as Disk>⟧ old engine
+        → CheckpointEnds ⟦<D as Disk>⟧ old result.disk result.ending }
+{
+    let mut engine = engine;
+    let ending = match engine.checkpoint(alloc) {
+        Ok(entries) => Ending::Checkpointed { entries },
+        Err(StepFault::Want) => Ending::OutOfMemory,
+        Err(StepFault::DeviceFull { need, left }) => Ending::Full { need, left },
+        Err(StepFault::DeviceFault) => Ending::NoDevice,
+        // the engine ran, and a checkpoint adds no entry
+        Err(StepFault::Stopped { .. } | StepFault::Rejected(_)) => unreachable!(),
+    };
+    CommandResult {
+        ending,
+        disk: engine.into_disk(),
+    }
+}
