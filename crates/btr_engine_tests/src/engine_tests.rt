@@ -3,6 +3,7 @@ use crate::fixture::no_wrong;
 use btr_base::{Bag, Point, Ranges};
 use btr_engine::*;
 use btr_hist::{Answer, At, Entry, Query, Rejection, Rows};
+use btr_roll::RollStream;
 use std::alloc::{AllocError, Global};
 use std::test::Fail;
 
@@ -144,6 +145,59 @@ fn a_snapshot_has_streams_and_versions(rt: HostRuntime) -> Result<(), Fail> {
     assert!(rt; found == [Some(0), Some(1), None]);
     assert!(rt; latest == [Some(0), Some(1), None]);
     assert!(rt; points_of_none(alloc)? == None);
+    Ok(())
+}
+
+/// The numbers of the entries that made the versions 0 of both streams and version 1 of the second, and those of a version and of a stream
+/// that are not there.
+fn numbers(alloc: Global) -> Result<[Option<u64>; 5], Fail> {
+    let board = small(alloc)?;
+    Ok([
+        board.number(0, 0),
+        board.number(1, 0),
+        board.number(1, 1),
+        board.number(1, 2),
+        board.number(2, 0),
+    ])
+}
+
+#[test]
+fn a_board_has_the_number_of_each_entry(rt: HostRuntime) -> Result<(), Fail> {
+    assert!(rt; numbers(rt.alloc())? == [Some(1), Some(2), Some(3), None, None]);
+    Ok(())
+}
+
+/// The id of a plain stream of a roll, the number of its entry, and of its version, if it has one, the number of the entry and the root.
+type Rolled = (u128, u64, Option<(u64, u64)>);
+
+/// What a roll has of a plain stream with one version at most.
+fn rolled(stream: &RollStream) -> Option<Rolled> {
+    let version = match stream.versions.as_slice() {
+        [] => None,
+        [version] => Some((version.entry, version.root)),
+        _ => return None,
+    };
+    match stream.spec {
+        None => Some((stream.id, stream.entry, version)),
+        Some(_) => None,
+    }
+}
+
+/// What the roll of the board has of its two streams, if it has two.
+fn rolled_streams(alloc: Global) -> Result<Option<[Option<Rolled>; 2]>, Fail> {
+    let board = small(alloc)?;
+    let roll = board.roll(alloc)?;
+    match roll.streams.as_slice() {
+        [first, second] => Ok(Some([rolled(first), rolled(second)])),
+        _ => Ok(None),
+    }
+}
+
+#[test]
+fn a_board_has_a_roll_of_its_streams(rt: HostRuntime) -> Result<(), Fail> {
+    // the commit was staged after the gate 4: its head is block 5, its leaf block 6
+    let second = (8, 2, Some((3, 6)));
+    assert!(rt; rolled_streams(rt.alloc())? == Some([Some((7, 1, None)), Some(second)]));
     Ok(())
 }
 

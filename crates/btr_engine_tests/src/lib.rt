@@ -2,6 +2,8 @@
 #![tactic(auto)]
 
 #[cfg(test)]
+mod checkpoint_tests;
+#[cfg(test)]
 mod core_tests;
 #[cfg(test)]
 mod damage_tests;
@@ -17,5 +19,9 @@ mod log_tests;
 mod open_tests;
 #[cfg(test)]
 mod plan_tests;
+#[cfg(test)]
+mod replace_tests;
+#[cfg(test)]
+mod start_tests;
 #[cfg(test)]
 mod super_tests;

@@ -7,7 +7,7 @@ ghost use Rattle.btr_log.specs.Append.{IsAppendRun};
 
 use crate::fixture::no_wrong;
 use btr_disk::bytes::put;
-use btr_disk::{BLOCK, Capacity, GATE_MARK, MemDisk, is_open_gate};
+use btr_disk::{BLOCK, Capacity, Disk, GATE_MARK, MemDisk, is_open_gate};
 use btr_log::laws::is_same_head;
 use btr_log::*;
 use std::alloc::{AllocError, Global};
@@ -42,6 +42,31 @@ fn a_head_is_spelled_as_by_hand(rt: HostRuntime) {
     assert!(rt; bytes == ENTRY);
     assert!(rt; Head::decode(&ENTRY) == Some(head));
     assert!(rt; is_same_head(&head, &head));
+}
+
+/// The head of a checkpoint after 2 entries, with 53 bytes of content, written out by hand.
+const CHECKPOINT: [u8; HEAD_BYTES] = [
+    0x42, 0x54, 0x52, 0x2d, 0x42, 0x4f, 0x44, 0x59, 0, 0, 0, 2, 0, 0, 0, 1, 0, 0, 0, 0, 0, 0, 0, 2,
+    0, 0, 0, 0, 0, 0, 0, 1, 0, 0, 0, 0, 0, 0, 0, 53, 0, 0, 0, 0, 0, 0, 0, 0, 0, 0, 0, 0, 0, 0, 0,
+    0, 0, 0, 0, 0, 0, 0, 0, 0,
+];
+
+#[test]
+fn a_head_of_a_checkpoint_is_spelled_as_by_hand(rt: HostRuntime) {
+    let head = Head {
+        kind: 2,
+        format: 1,
+        number: 2,
+        n: 1,
+        length: 53,
+        nodes: 0,
+        root: 0,
+    };
+    assert!(rt; Head::for_checkpoint(2, 53) == head);
+    let mut bytes = [7; HEAD_BYTES];
+    head.encode(&mut bytes);
+    assert!(rt; bytes == CHECKPOINT);
+    assert!(rt; Head::decode(&CHECKPOINT) == Some(head));
 }
 
 /// A body with this head, and sevens after it.
@@ -142,6 +167,24 @@ fn an_append_moves_the_tail(rt: HostRuntime) -> Result<(), Fail> {
     let (_, second) = two_appended(alloc)?;
     assert!(rt; first == (6, 9, 1, false));
     assert!(rt; second == (9, 6, 2, false));
+    Ok(())
+}
+
+/// What a log says whose holder has stopped it after a failed call, and what an append gives then.
+fn stopped_by_its_holder(alloc: Global) -> Result<(State, Result<(), AppendFault>), Fail> {
+    let mut log = log_of(alloc, 16, vec![in alloc; 0]?)?;
+    if log.disk.sync().is_err() {
+        log.stop();
+    }
+    let appended = log.append(&run_of(alloc, &entry(1, 1, 4032))?);
+    Ok((state_of(&log), appended))
+}
+
+#[test]
+fn a_log_is_stopped_by_its_holder(rt: HostRuntime) -> Result<(), Fail> {
+    let (state, appended) = stopped_by_its_holder(rt.alloc())?;
+    assert!(rt; state == (4, 11, 0, true));
+    assert!(rt; appended == Err(AppendFault::Stopped { extents: 0 }));
     Ok(())
 }
 

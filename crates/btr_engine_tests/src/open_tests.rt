@@ -1,7 +1,7 @@
 //! Tests of an engine from its opening on, over a device in memory.
 ghost use Rattle.std.specs.Prelude.{◌≡◌, ◌%◌, ◌<◌, ◌≤◌, ◌^◌, length};
 
-use crate::fixture::no_wrong;
+use crate::fixture::{mark, no_wrong};
 use btr_base::{Agg, Bag, END, FIRST, Point, Range, Ranges, Toward};
 use btr_disk::{Capacity, Disk, MemDisk};
 use btr_engine::{Engine, Receipt, Snapshot, StepFault};
@@ -498,16 +498,43 @@ fn add_at(alloc: Global, engine: &mut Engine<MemDisk>, index: u32) -> Result<(),
     add(alloc, engine, &entry)
 }
 
-/// Returns a snapshot of an engine of those six entries.
-fn snapshot_of_six(alloc: Global) -> Result<Snapshot, Fail> {
+/// Adds the entries of that history from one index up to another.
+fn add_from(alloc: Global, engine: &mut Engine<MemDisk>, from: u32, to: u32) -> Result<(), Fail> {
+    for index in from..to {
+        add_at(alloc, engine, index)?;
+    }
+    Ok(())
+}
+
+/// Returns an engine of the first entries of that history.
+fn engine_of(alloc: Global, count: u32) -> Result<Engine<MemDisk>, Fail> {
     let capacity = Capacity {
-        calls: 64,
+        calls: 96,
         blocks: 256,
     };
     let mut engine = opened(alloc, whole_store(alloc, capacity)?)?;
-    for index in 0..6 {
-        add_at(alloc, &mut engine, index)?;
-    }
+    add_from(alloc, &mut engine, 0, count)?;
+    Ok(engine)
+}
+
+/// Returns a snapshot of an engine of those six entries.
+fn snapshot_of_six(alloc: Global) -> Result<Snapshot, Fail> {
+    Ok(engine_of(alloc, 6)?.admit()?)
+}
+
+/// Returns an engine of the first entries of that history, opened from a checkpoint after them.
+fn opened_from(alloc: Global, count: u32) -> Result<Engine<MemDisk>, Fail> {
+    let mut engine = engine_of(alloc, count)?;
+    mark(alloc, &mut engine, u64::from(count))?;
+    opened(alloc, engine.into_disk())
+}
+
+/// Returns a snapshot of an engine of those six entries, which was opened from a checkpoint after so many of them. The others were added
+/// then, and it was opened once more.
+fn reopened_from(alloc: Global, count: u32) -> Result<Snapshot, Fail> {
+    let mut engine = opened_from(alloc, count)?;
+    add_from(alloc, &mut engine, count, 6)?;
+    let engine = opened(alloc, engine.into_disk())?;
     Ok(engine.admit()?)
 }
 
@@ -550,6 +577,26 @@ fn first_other(
 fn the_engine_answers_as_the_history(rt: HostRuntime) -> Result<(), Fail> {
     let alloc = rt.alloc();
     let snapshot = snapshot_of_six(alloc)?;
+    let history = history_of_six(alloc)?;
+    no_wrong(first_other(alloc, &snapshot, &history)?)
+}
+
+#[test]
+fn the_engine_answers_as_the_history_after_a_checkpoint_of_all(
+    rt: HostRuntime,
+) -> Result<(), Fail> {
+    let alloc = rt.alloc();
+    let snapshot = reopened_from(alloc, 6)?;
+    let history = history_of_six(alloc)?;
+    no_wrong(first_other(alloc, &snapshot, &history)?)
+}
+
+#[test]
+fn the_engine_answers_as_the_history_after_a_checkpoint_of_some(
+    rt: HostRuntime,
+) -> Result<(), Fail> {
+    let alloc = rt.alloc();
+    let snapshot = reopened_from(alloc, 4)?;
     let history = history_of_six(alloc)?;
     no_wrong(first_other(alloc, &snapshot, &history)?)
 }
@@ -774,12 +821,18 @@ fn add_derived(alloc: Global, engine: &mut Engine<MemDisk>, index: u32) -> Resul
     add(alloc, engine, &entry)
 }
 
-/// Returns an engine of that history. Its extents have two blocks each, from block 4 on.
+/// Adds the entries of that history from one index up to the sixth.
+fn add_derived_from(alloc: Global, engine: &mut Engine<MemDisk>, from: u32) -> Result<(), Fail> {
+    for index in from..6 {
+        add_derived(alloc, engine, index)?;
+    }
+    Ok(())
+}
+
+/// Returns an engine of that history. The body of its last extent is block 18.
 fn with_output(alloc: Global) -> Result<Engine<MemDisk>, Fail> {
     let mut engine = opened(alloc, whole_store(alloc, CAPACITY)?)?;
-    for index in 0..6 {
-        add_derived(alloc, &mut engine, index)?;
-    }
+    add_derived_from(alloc, &mut engine, 0)?;
     Ok(engine)
 }
 
@@ -941,6 +994,53 @@ fn an_output_is_the_same_after_reopening(rt: HostRuntime) -> Result<(), Fail> {
     assert!(rt; specs == (None, Some(SPEC), None));
     assert!(rt; reads == (None, None, None));
     Ok(())
+}
+
+/// Returns an engine of the first four entries of that history, opened from a checkpoint after them.
+fn output_opened(alloc: Global) -> Result<Engine<MemDisk>, Fail> {
+    let mut engine = opened(alloc, whole_store(alloc, CAPACITY)?)?;
+    for index in 0..4 {
+        add_derived(alloc, &mut engine, index)?;
+    }
+    mark(alloc, &mut engine, 4)?;
+    opened(alloc, engine.into_disk())
+}
+
+/// Returns an engine of that history, opened from a checkpoint after all of it. There is also one after four entries.
+fn output_reopened(alloc: Global) -> Result<Engine<MemDisk>, Fail> {
+    let mut engine = output_opened(alloc)?;
+    add_derived_from(alloc, &mut engine, 4)?;
+    mark(alloc, &mut engine, 6)?;
+    opened(alloc, engine.into_disk())
+}
+
+/// What that engine refuses: the number of the first distillate that is not rejected, and the results of a user's commit and of the streams
+/// of the ids again.
+fn refused_after(alloc: Global) -> Result<(Option<usize>, [Stepped; 3]), Fail> {
+    let mut engine = output_reopened(alloc)?;
+    let wrong = first_not_rejected(alloc, &mut engine)?;
+    let user = step_user(alloc, &mut engine)?;
+    let first = step(alloc, &mut engine, &Entry::Create { id: 7 });
+    let second = step(alloc, &mut engine, &Entry::Create { id: 8 });
+    Ok((wrong, [user, first, second]))
+}
+
+/// Returns whether that engine has the stream and the output, with its spec and what its versions have read.
+fn has_output_after(alloc: Global) -> Result<bool, Fail> {
+    let snapshot = output_reopened(alloc)?.admit()?;
+    let has_spec = snapshot.spec(0) == None && snapshot.spec(1) == Some(SPEC);
+    Ok(has_spec && has_output(alloc, &snapshot)?)
+}
+
+#[test]
+fn an_output_goes_on_after_a_checkpoint(rt: HostRuntime) -> Result<(), Fail> {
+    let alloc = rt.alloc();
+    assert!(rt; has_output_after(alloc)?);
+    let (wrong, refused) = refused_after(alloc)?;
+    let not_writable = Err(StepFault::Rejected(Rejection::NotWritable));
+    let exists = Err(StepFault::Rejected(Rejection::StreamExists));
+    assert!(rt; refused == [not_writable, exists, exists]);
+    no_wrong(wrong)
 }
 
 /// Returns a device with these bytes.

@@ -1,5 +1,6 @@
 //! What the tests of several modules share: halls over devices in memory, paces by which turns meet, and the end of a table.
-ghost use Rattle.std.specs.Prelude.{◌≤◌, IfOk};
+ghost use Rattle.std.specs.Prelude.{◌≡◌, ◌≤◌, IfOk};
+ghost use Rattle.btr_super.specs.Super.{first_super};
 ghost use Rattle.btr_hall.specs.Session.{IsSessionOf, IsAlone};
 ghost use Rattle.btr_jobs.specs.Jobs.{IsAt};
 
@@ -9,6 +10,7 @@ use btr_engine::{Board, Engine};
 use btr_hall::{Hall, Session};
 use btr_jobs::Pace;
 use btr_log::Log;
+use btr_super::Super;
 use std::alloc::{AllocError, Global};
 use std::snapshot::Snapshot as State;
 use std::sync::atomic::{AtomicU32, Ordering};
@@ -54,7 +56,21 @@ pub(crate) fn empty(
     let disk = MemDisk::new(alloc, count, capacity, failing.to_vec(alloc)?)?;
     let synced = State::of(&disk);
     let log = Log::at(disk, 4, u64::from(blocks), 0);
-    Ok(Engine::over(log, Board::empty(), synced))
+    Ok(Engine::over(log, Board::empty(), first_super(blocks), synced))
+}
+
+/// Returns the superblock of an empty store of this many blocks. The engines of these tests are not opened, so no device has it.
+fn first_super(blocks: u32) -> Super
+    ensures { result ≡ first_super blocks }
+{
+    Super {
+        seq: 1,
+        side: 0,
+        blocks: u64::from(blocks),
+        tail: 4,
+        checkpoint: 0,
+        format: 1,
+    }
 }
 
 /// Makes a hall of an engine, and its first session.

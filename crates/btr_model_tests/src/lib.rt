@@ -19,3 +19,5 @@ mod hist_tests;
 mod io_tests;
 #[cfg(test)]
 mod node_tests;
+#[cfg(test)]
+mod roll_tests;

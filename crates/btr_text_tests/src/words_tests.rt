@@ -32,6 +32,8 @@ impl Row for Words {
 const COMMANDS: &[Words] = &[
     Words(&["ask"], Some(Command::Ask)),
     Words(&["ask", "--"], Some(Command::Ask)),
+    Words(&["checkpoint"], Some(Command::Checkpoint)),
+    Words(&["checkpoint", "--"], Some(Command::Checkpoint)),
     Words(
         &["live"],
         Some(Command::Live {
@@ -393,6 +395,29 @@ const WRONG_OPTIONS: &[Words] = &[
 #[test]
 fn wrong_options_give_none(rt: HostRuntime) -> Result<(), Fail> {
     all_hold(rt.alloc(), WRONG_OPTIONS)
+}
+
+const WRONG_CHECKPOINTS: &[Words] = &[
+    // words after the command, and other spellings of it
+    Words(&["checkpoint", "1"], None),
+    Words(&["checkpoint", ""], None),
+    Words(&["checkpoint", "checkpoint"], None),
+    Words(&["checkpoint", "--", "--"], None),
+    Words(&["checkpoint", "--blocks", "8"], None),
+    Words(&["checkpoint", "--workers", "1"], None),
+    Words(&["checkpoint", "--batch=8"], None),
+    Words(&["checkpoint", "--materialize"], None),
+    Words(&["checkpoint", "--help"], None),
+    Words(&["check"], None),
+    Words(&["checkpoints"], None),
+    Words(&["Checkpoint"], None),
+    Words(&["--checkpoint"], None),
+    Words(&["--", "checkpoint"], None),
+];
+
+#[test]
+fn wrong_words_of_a_checkpoint_give_none(rt: HostRuntime) -> Result<(), Fail> {
+    all_hold(rt.alloc(), WRONG_CHECKPOINTS)
 }
 
 const WRONG_FLAGS: &[Words] = &[

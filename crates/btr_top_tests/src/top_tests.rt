@@ -1,5 +1,6 @@
 //! Tests of whole runs on devices in memory.
 mod bulk;
+mod checkpoints;
 mod crashes;
 mod device;
 mod fixture;

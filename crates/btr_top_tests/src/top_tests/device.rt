@@ -30,7 +30,7 @@ fn says(
 }
 
 /// Returns the bytes with one bit of a byte turned.
-fn turned(bytes: Vec<u8>, at: usize) -> Vec<u8>
+pub(super) fn turned(bytes: Vec<u8>, at: usize) -> Vec<u8>
     ensures { length result.items ≡ length bytes.items }
 {
     let byte = bytes.get(at).copied().unwrap_or(0);
@@ -122,24 +122,40 @@ const BYTES: [(usize, &[u8]); 10] = [
     ),
 ];
 
-/// Returns the bytes of the device, by hand.
-fn by_hand(rt: &impl AllocGlobal) -> Result<Vec<u8>, Fail> {
-    let mut want = vec![in rt.alloc(); 0; 64 * 4096]?;
-    for (at, bytes) in BYTES {
-        want = with_piece(want, at, bytes);
+/// Bytes with their addresses.
+type Pieces<'a> = &'a [(usize, &'a [u8])];
+
+/// Returns the bytes, but for these pieces.
+fn with_pieces(bytes: Vec<u8>, pieces: Pieces<'_>) -> Vec<u8> {
+    let mut bytes = bytes;
+    for (at, piece) in pieces {
+        bytes = with_piece(bytes, *at, piece);
+    }
+    bytes
+}
+
+/// Returns the bytes of the device, by hand, with more pieces after those of the two entries.
+fn by_hand(rt: &impl AllocGlobal, more: &[Pieces<'_>]) -> Result<Vec<u8>, Fail> {
+    let mut want = with_pieces(vec![in rt.alloc(); 0; 64 * 4096]?, &BYTES);
+    for pieces in more {
+        want = with_pieces(want, pieces);
     }
     Ok(want)
 }
 
-/// Returns the number of calls of a device, and whether its bytes are those by hand.
-fn has_bytes(rt: &impl AllocGlobal, disk: MemDisk) -> Result<(u64, bool), Fail> {
-    let want = by_hand(rt)?;
+/// Returns the number of calls of a device, and whether its bytes are those by hand, with more pieces after those of the two entries.
+pub(super) fn has_bytes(
+    rt: &impl AllocGlobal,
+    disk: MemDisk,
+    more: &[Pieces<'_>],
+) -> Result<(u64, bool), Fail> {
+    let want = by_hand(rt, more)?;
     let calls = disk.calls();
     Ok((calls, disk.into_bytes().as_slice() == want.as_slice()))
 }
 
 /// Writes one entry of each of two kinds. Returns the device.
-fn written(rt: &(impl AllocGlobal + Threads + Wait + Sync)) -> Result<MemDisk, Fail> {
+pub(super) fn written(rt: &(impl AllocGlobal + Threads + Wait + Sync)) -> Result<MemDisk, Fail> {
     let script = b"create U\ninsert U 0 5 3 7 4 -2\n";
     Ok(run_on(rt, "live", script, store_of(rt, "64")?)?.disk)
 }
@@ -153,8 +169,8 @@ fn asked(rt: &(impl AllocGlobal + Threads + Wait + Sync)) -> Result<MemDisk, Fai
 #[test]
 fn the_bytes_of_the_device_are_those_of_its_format(rt: HostRuntime) -> Result<(), Fail> {
     // eight calls to format, three to open, and four for each entry
-    assert!(rt; has_bytes(&rt, written(&rt)?)? == (19, true));
+    assert!(rt; has_bytes(&rt, written(&rt)?, &[])? == (19, true));
     // questions write nothing; a sync, a read of the superblocks, and a read of the log, which is less than 1 MiB, are all
-    assert!(rt; has_bytes(&rt, asked(&rt)?)? == (3, true));
+    assert!(rt; has_bytes(&rt, asked(&rt)?, &[])? == (3, true));
     Ok(())
 }
