@@ -262,6 +262,37 @@ impl BlockReader {
         if nodes.get(slot.child).is_some() {
             return Ok(None);
         }
+        self.make_unknown(alloc, disk, nodes, steps, block, page, i, slot)
+    }
+
+    /// Does what [`BlockReader::make_child`] does if the slot has a point, and the child is in a lower block of which no tree was made. It is
+    /// apart because it holds a page, which the other slots need not pay for.
+    #[cycle(make)]
+    fn make_unknown<D: Disk>(
+        &mut self,
+        alloc: Global,
+        disk: &mut D,
+        nodes: &mut Nodes,
+        steps: &mut Steps<OpenWalk>,
+        block: u64,
+        page: &NodePage,
+        i: u8,
+        slot: &PageSlot,
+    ) -> Result<Option<u64>, OpenCause>
+        requires reader { CanRead ⟦<D as Disk>⟧ self.old disk.old }
+        requires page { IsReadPage block self.old.limit page.now }
+        requires slot { slice_get (slots_of_page page.now) i ≡ Some slot.now }
+        requires some { 0 < slot.now.agg.count }
+        requires lower { slot.now.child < block }
+        requires fresh { IsNone (node_at nodes.old slot.now.child) }
+        requires device { D.is_observable → IsStoredWith (D.contents disk.old) self.old.limit block page.now nodes.old }
+        ensures reads { HasReadBelow ⟦<D as Disk>⟧ self.old self.new disk.old disk.new }
+        ensures only { OnOk result (HasNoneFrom block nodes.old nodes.new) }
+        ensures grows { OnOk result (GrowsBelow self.old.limit nodes.old nodes.new) }
+        ensures made { D.is_observable → IfOk result (MakesBelow (D.contents disk.old) self.old.limit block page.now nodes.old nodes.new
+            (KnowsChild block nodes.new slot.now)) }
+        ensures cause { IfErr result (BlockCause ⟦<D as Disk>⟧ disk.old disk.new) }
+    {
         let Some(child) = self.page(disk, slot.child)? else {
             return Ok(Some(slot.child));
         };

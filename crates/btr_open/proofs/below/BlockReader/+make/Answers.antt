@@ -85,25 +85,54 @@ make_child-returns-then-is_some-clause-made g t c told =
     made-nothing (g.D.Disk.contents c.args.disk.now) c.args.self.now.limit c.args.block c.args.page.now c.args.nodes.now (KnowsChild c.args.block c.args.nodes.now slot) None
     (λ some. (omega (arith, c.if-slot-block.false), some-got (λ k. k.now) c.get.result (node_at c.args.nodes.now slot.child) c.get.ensures (sym c.is_some.ensures ∙ c.if-is_some.true)))
 
-pub make_child-returns-in_default-clause-made : goal.make_child-returns-in_default-clause-made
-make_child-returns-in_default-clause-made g t c told =
+pub make_child-make_unknown-requires : goal.make_child-make_unknown-requires
+make_child-make_unknown-requires g t c κs within =
+    let d = c.decreases in
+    let slot = c.args.slot.now in (
+      omega arith,
+      (
+        within,
+        (
+          c.requires.reader,
+          (
+            c.requires.page,
+            (
+              c.requires.slot,
+              (
+                omega (arith, c.count_of.ensures, c.if-count_of-eq0.false),
+                (
+                  omega (arith, c.if-slot-block.false),
+                  (
+                    none-got (λ k. k.now) c.get.result (node_at c.args.nodes.now slot.child) c.get.ensures (sym c.is_some.ensures ∙ c.if-is_some.false),
+                    c.requires.device,
+                  ),
+                ),
+              ),
+            ),
+          ),
+        ),
+      ),
+    )
+
+pub make_unknown-returns-in_default-clause-made : goal.make_unknown-returns-in_default-clause-made
+make_unknown-returns-in_default-clause-made g t c told =
     let image = g.D.Disk.contents c.args.disk.now in
     let slot = c.args.slot.now in
-    let some : 0 < slot.agg.count = omega (arith, c.count_of.ensures, c.if-count_of-eq0.false) in
+    let some = c.requires.some in
     let none : HasNoPage image slot.child = subst (λ o. MatchOption o (HasNoPage image slot.child) (IsStoredPage image slot.child)) c.in_default.is (c.in_ok-child.ensures.stored told) in
-    made-wrong image c.args.self.now.limit c.args.block c.args.i c.args.page.now slot (c.requires.device told).stored c.requires.slot some c.args.nodes.now (KnowsChild c.args.block c.args.nodes.now slot) slot.child (inr (inl (omega (arith, c.if-slot-block.false), none, refl)))
+    made-wrong image c.args.self.now.limit c.args.block c.args.i c.args.page.now slot (c.requires.device told).stored c.requires.slot some c.args.nodes.now (KnowsChild c.args.block c.args.nodes.now slot) slot.child (inr (inl (c.requires.lower, none, refl)))
 
-pub make_child-returns-then-not-is_child-clause-made : goal.make_child-returns-then-not-is_child-clause-made
-make_child-returns-then-not-is_child-clause-made g t c told =
+pub make_unknown-returns-then-not-is_child-clause-made : goal.make_unknown-returns-then-not-is_child-clause-made
+make_unknown-returns-then-not-is_child-clause-made g t c told =
     let image = g.D.Disk.contents c.args.disk.now in
     let child = c.in-Some.child in
     let slot = c.args.slot.now in
-    let some : 0 < slot.agg.count = omega (arith, c.count_of.ensures, c.if-count_of-eq0.false) in
+    let some = c.requires.some in
     let stored = subst (λ o. MatchOption o (HasNoPage image slot.child) (IsStoredPage image slot.child)) c.in-Some.is (c.in_ok-child.ensures.stored told) in
-    made-wrong image c.args.self.now.limit c.args.block c.args.i c.args.page.now slot (c.requires.device told).stored c.requires.slot some c.args.nodes.now (KnowsChild c.args.block c.args.nodes.now slot) c.args.block (inr (inr (omega (arith, c.if-slot-block.false), child, stored, (λ fits. absurd (let yes = c.is_child.ensures.1 fits in let no = c.if-not-is_child.true in cc)), refl)))
+    made-wrong image c.args.self.now.limit c.args.block c.args.i c.args.page.now slot (c.requires.device told).stored c.requires.slot some c.args.nodes.now (KnowsChild c.args.block c.args.nodes.now slot) c.args.block (inr (inr (c.requires.lower, child, stored, (λ fits. absurd (let yes = c.is_child.ensures.1 fits in let no = c.if-not-is_child.true in cc)), refl)))
 
-pub make_child-make-requires : goal.make_child-make-requires
-make_child-make-requires g t c κs within =
+pub make_unknown-make-requires : goal.make_unknown-make-requires
+make_unknown-make-requires g t c κs within =
     let d = c.decreases in
     let child = c.in-Some.child in
     let slot = c.args.slot.now in
@@ -117,7 +146,7 @@ make_child-make-requires g t c κs within =
           (
             read-still slot.child c.args.self.now.limit c.page.new.self.limit child c.page.ensures.reads.limit (subst (λ o. IfSome o (IsReadPage slot.child c.args.self.now.limit)) c.in-Some.is c.in_ok-child.ensures.found),
             (
-              none-got (λ k. k.now) c.get.result (node_at c.args.nodes.now slot.child) c.get.ensures (sym c.is_some.ensures ∙ c.if-is_some.false),
+              c.requires.fresh,
               λ told. device-still g.D.Disk c.args.disk.now c.page.new.disk c.args.self.now c.page.new.self slot.child child c.args.nodes.now c.page.ensures.reads told (record {
                 stored = subst (λ o. MatchOption o (HasNoPage (g.D.Disk.contents c.args.disk.now) slot.child) (IsStoredPage (g.D.Disk.contents c.args.disk.now) slot.child)) c.in-Some.is (c.in_ok-child.ensures.stored told);
                 own = (c.requires.device told).own;
@@ -128,13 +157,13 @@ make_child-make-requires g t c κs within =
       ),
     )
 
-pub make_child-returns-clause-made : goal.make_child-returns-clause-made
-make_child-returns-clause-made g t c told =
+pub make_unknown-returns-clause-made : goal.make_unknown-returns-clause-made
+make_unknown-returns-clause-made g t c told =
     let image = g.D.Disk.contents c.args.disk.now in
     let child = c.in-Some.child in
     let slot = c.args.slot.now in
-    let some : 0 < slot.agg.count = omega (arith, c.count_of.ensures, c.if-count_of-eq0.false) in
+    let some = c.requires.some in
     let stored = subst (λ o. MatchOption o (HasNoPage image slot.child) (IsStoredPage image slot.child)) c.in-Some.is (c.in_ok-child.ensures.stored told) in
     let fits : IsChildPage c.args.page.now c.args.i slot child = c.is_child.ensures.0 c.if-not-is_child.false in
     ok-weaker c.make.result (λ o made.
-    made-down image c.args.self.now.limit c.args.block c.args.i c.args.page.now slot (c.requires.device told).stored c.requires.slot some child c.args.nodes.now c.make.new.nodes o c.requires.page.below (omega (arith, c.if-slot-block.false)) stored fits (made-in g.D.Disk c.args.disk.now c.page.new.disk c.args.self.now c.page.new.self slot.child child c.args.nodes.now c.make.new.nodes (IsSome (node_at c.make.new.nodes slot.child)) o c.page.ensures.reads told made)) (c.make.ensures.made told)
+    made-down image c.args.self.now.limit c.args.block c.args.i c.args.page.now slot (c.requires.device told).stored c.requires.slot some child c.args.nodes.now c.make.new.nodes o c.requires.page.below c.requires.lower stored fits (made-in g.D.Disk c.args.disk.now c.page.new.disk c.args.self.now c.page.new.self slot.child child c.args.nodes.now c.make.new.nodes (IsSome (node_at c.make.new.nodes slot.child)) o c.page.ensures.reads told made)) (c.make.ensures.made told)
