@@ -142,9 +142,9 @@ unseen() {
     expect "$1" "$(ended), $(run checkpoint)" "0: $answer, 0: checkpoint 2/"
 }
 
-# The entries of this store have the gates 4 and 6 and the bodies 5 and 7, and the page of the version is block 8. The checkpoint has the gate
-# 9 and the body 10, and superblock B names it. In the body the id of the stream ends at offset 83, the root of the version at 116. In a
-# superblock the tail ends at offset 39, the checkpoint at 47. In a page the stream ends at offset 23.
+# The entries of this store have the gates 4 and 6 and the bodies 5 and 7, and the page of the version is block 8. The checkpoint has the
+# gate 9 and the body 10, and superblock B names it. In the body the id of the stream ends at offset 83, the root of the version at 116. In
+# a superblock the tail ends at offset 39, the checkpoint at 47. In a page the stream ends at offset 23.
 rm -f device
 make_store device
 run checkpoint >found

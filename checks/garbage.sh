@@ -11,7 +11,7 @@ fi
 
 make_store before
 
-# So many random bytes.
+# The given number of random bytes.
 random() {
     head -c "$1" /dev/urandom
 }

@@ -8,7 +8,7 @@ u=11111111-1111-4111-8111-111111111111
 v=22222222-2222-4222-8222-222222222222
 w=33333333-3333-4333-8333-333333333333
 
-# Makes a store of so many blocks: FILE BLOCKS.
+# Makes a store with a number of blocks: FILE BLOCKS.
 fresh() {
     rm -f "$1"
     play "$1" format --blocks "$2" </dev/null

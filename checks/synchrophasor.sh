@@ -27,7 +27,7 @@ angles() {
         }' | sort -k1,1n -k2,2n
 }
 
-# The rows of windows over angles, each so many seconds: FROM TO SECONDS, of the file `angles`.
+# The rows of windows over angles, each of SECONDS seconds: FROM TO SECONDS, of the file `angles`.
 windows() {
     awk -v from="$1" -v to="$2" -v width="$3" '
         $1 >= from && $1 < to {

@@ -1,5 +1,5 @@
 #!/usr/bin/env bash
-# `distil` with 1, 2, 4 and 16 workers, on outputs of so many points that several threads compute one of them: what it leaves is the
+# `distil` with 1, 2, 4 and 16 workers, on outputs with enough points that several threads compute one of them: what it leaves is the
 # same for any number of workers, also after late data in the middle. And no run has more threads than workers.
 # shellcheck source=checks/common.sh
 . "$(dirname "$0")/common.sh"
@@ -117,7 +117,7 @@ threads() {
     echo "$most"
 }
 
-# Whether a run with so many workers had more threads than one with one worker, and not too many: STORE WORKERS.
+# Whether a run with WORKERS workers had more threads than one with one worker, and not too many: STORE WORKERS.
 shared() {
     local most
     most=$(threads "$1" "$2")
