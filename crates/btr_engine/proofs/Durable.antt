@@ -1,25 +1,19 @@
 -- What is durable after a step.
-use Rattle.std.specs.Prelude.{◌≡◌, ◌⊎◌, ℕ, ◌≤◌, true, List, [], ◌∷◌, ◌++◌, length, take, Err, IsFalse}
+use Rattle.std.specs.Prelude.{◌≡◌, ◌⊎◌, ℕ, ◌≤◌, true, List, [], ◌∷◌, ◌++◌, length, take, IsFalse}
 use Rattle.std.proofs.Common.{refl, sym, ◌∙◌, subst, inl, inr, ⊎_elim, arith, length-append}
 use Rattle.std.proofs.lemmas.Bool.{cases_lt}
 use Rattle.std.proofs.lemmas.List.{append-nil, take_all, take-append-le}
 use Rattle.btr_disk.specs.declared.disk.Disk.{Ghosts}
 use Rattle.btr_disk.specs.Bytes.{Image}
 use Rattle.btr_disk.proofs.MomentLemmas.{left_now}
-use Rattle.btr_log.specs.declared.append.AppendFault.{AppendFault}
-use Rattle.btr_log.specs.declared.append.AppendFault.TheVariants.{Full, Fault, Stopped as AlreadyStopped}
-use Rattle.btr_log.specs.Append as append
 use Rattle.btr_log.specs.Log as log
 use Rattle.btr_hist.specs.declared.entry.Entry.{Entry}
 use Rattle.btr_engine.specs.declared.engine.Engine.{Engine}
-use Rattle.btr_engine.specs.declared.step.StepFault.{StepFault}
-use Rattle.btr_engine.specs.declared.step.StepFault.TheVariants.{DeviceFull, DeviceFault}
 use Rattle.btr_engine.specs.Holds.{HoldsHistory}
 use Rattle.btr_engine.specs.Board.{IsBoardOf}
-use Rattle.btr_engine.specs.Engine.{device, board_of, is_stopped, entries_at_open, synced_of, IsAtRest, IsDurable, EngineLeaves, KeepsOpening}
-use Rattle.btr_engine.specs.Step.{IsBeforeOrAfter, in_flight_after}
+use Rattle.btr_engine.specs.Engine.{log_of, device, board_of, is_stopped, entries_at_open, synced_of, IsAtRest, IsDurable, EngineLeaves, KeepsOpening}
+use Rattle.btr_engine.specs.Step.{IsBeforeOrAfter}
 use Rattle.btr_engine.proofs.EngineLemmas.{holds_in}
-use Rattle.btr_engine.proofs.Stepping.{same_engine}
 
 -- ---- prefixes of a history
 
@@ -42,7 +36,7 @@ module _ {D : Type 0} {disk : Ghosts D} where
   -- ---- after a step of an engine that was not stopped
 
   -- The log keeps its bounds, and the opening is the same.
-  pub opening_kept : (old new : Engine D disk) → log.KeepsBounds old.log new.log → entries_at_open new ≡ entries_at_open old → synced_of new ≡ synced_of old → KeepsOpening old new
+  pub opening_kept : (old new : Engine D disk) → log.KeepsBounds (log_of old) (log_of new) → entries_at_open new ≡ entries_at_open old → synced_of new ≡ synced_of old → KeepsOpening old new
   opening_kept old new kept entries synced =
       record { blocks = kept.blocks; entries = entries; synced = synced; device_kept = kept.device_kept }
 
@@ -96,11 +90,7 @@ module _ {D : Type 0} {disk : Ghosts D} where
         let none : more ≡ [] = so_far.runs runs in
         subst (IsDurable (h ++ e ∷ []) calls entries new) (sym none) (durable_with calls entries new kept leaves (subst (IsDurable h calls entries old) none so_far) rest)
 
-    -- An append that fails made no call of the device, or the device failed.
-    pub durable_of_fault : (calls entries : ℕ) (new : Engine D disk) (run : List ℕ) (fault : AppendFault) (answer : StepFault) (more : List Entry) → IsFalse (is_stopped old) → append.AppendCause old.log new.log run fault → board_of new ≡ board_of old → new.opened_with ≡ old.opened_with → new.chosen ≡ old.chosen → new.synced ≡ old.synced → ((n left : ℕ) → fault ≡ Full n left → answer ≡ DeviceFull n left) → (fault ≡ Fault → answer ≡ DeviceFault) → KeepsOpening old new → ((t : ℕ) (c : Image) → t ≤ disk.calls (device new) → disk.images_now (device new) c → disk.images_since (device new) t c) → LeavesEither new → IsDurable h calls entries old more → IsDurable h calls entries new (in_flight_after (Err answer) more e)
-    durable_of_fault calls entries new run (Full n room) answer more runs cause same began chosen synced is_full is_fault kept counts_now leaves so_far =
-        subst (λ a. IsDurable h calls entries new (in_flight_after (Err a) more e)) (sym (is_full n room refl)) (subst (λ g. IsDurable h calls entries g more) (sym (same_engine new old cause.4 same began chosen synced)) so_far)
-    durable_of_fault calls entries new run Fault answer more runs cause same began chosen synced is_full is_fault kept counts_now leaves so_far =
-        subst (λ a. IsDurable h calls entries new (in_flight_after (Err a) more e)) (sym (is_fault refl)) (durable_without calls entries new kept leaves (subst (IsDurable h calls entries old) (so_far.runs runs) so_far) same cause.1.stopped counts_now)
-    durable_of_fault calls entries new run (AlreadyStopped n) answer more runs cause same began chosen synced is_full is_fault kept counts_now leaves so_far =
-        let stopped = cause.0 in absurd (cc)
+    -- The device failed.
+    pub durable_failed : (calls entries : ℕ) (new : Engine D disk) (more : List Entry) → IsFalse (is_stopped old) → KeepsOpening old new → board_of new ≡ board_of old → is_stopped new ≡ true → ((t : ℕ) (c : Image) → t ≤ disk.calls (device new) → disk.images_now (device new) c → disk.images_since (device new) t c) → LeavesEither new → IsDurable h calls entries old more → IsDurable h calls entries new (e ∷ [])
+    durable_failed calls entries new more runs kept same stopped counts_now leaves so_far =
+        durable_without calls entries new kept leaves (subst (IsDurable h calls entries old) (so_far.runs runs) so_far) same stopped counts_now

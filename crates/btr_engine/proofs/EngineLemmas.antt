@@ -11,7 +11,7 @@ use Rattle.btr_hist.specs.declared.entry.Entry.{Entry}
 use Rattle.btr_hist.specs.History.{ids, stream_of, latest}
 use Rattle.btr_engine.specs.declared.engine.Engine.{Engine}
 use Rattle.btr_engine.specs.Holds.{HoldsHistory}
-use Rattle.btr_engine.specs.Engine.{device, blocks_of, tail_of, is_stopped, faults_at_open, IsEngineOf, IsAtRest, IsHeldSince, IsDurable}
+use Rattle.btr_engine.specs.Engine.{log_of, device, blocks_of, tail_of, is_stopped, faults_at_open, IsEngineOf, IsAtRest, IsHeldSince, IsDurable}
 use Rattle.btr_engine.proofs.HoldsLemmas.{holds_still}
 use Rattle.btr_engine.proofs.Streams.{found_below, few_versions}
 
@@ -27,7 +27,7 @@ module _ {D : Type 0} {disk : Ghosts D} (e : Engine D disk) where
   -- The device of a stopped engine has failed since the opening.
   pub stopped_by_fault : is_stopped e ≡ true → Rose (faults_at_open e) (disk.faults (device e))
   stopped_by_fault stopped =
-      let rose = (holds_of_log e.log).rose stopped in
+      let rose = (holds_of_log (log_of e)).rose stopped in
       omega (arith, rose, e.failed)
 
 module _ {D : Type 0} {disk : Ghosts D} (h : List Entry) (e : Engine D disk) where
@@ -72,4 +72,4 @@ module _ {D : Type 0} {disk : Ghosts D} (h : List Entry) (e : Engine D disk) whe
   -- A stream has fewer versions than it may have: the device has too few blocks for more.
   pub few_versions_of : IsEngineOf h e → (stream : ℕ) → latest h stream < MAX_VERSIONS
   few_versions_of of stream =
-      omega (arith, few_versions h stream, of.entries, e.counted, e.ends, e.log.tail_inside, e.log.addressable)
+      omega (arith, few_versions h stream, of.entries, e.counted, e.ends, (log_of e).tail_inside, (log_of e).addressable)

@@ -5,10 +5,12 @@ mod ExtentBytes
 mod Streams
 mod RejectionBounds
 pub mod HoldsLemmas
-mod Stepping
+pub mod Stepping
 mod Appending
 mod PendingLemmas
 mod Durable
+mod Settling
+pub mod TravelLemmas
 mod RollBody
 mod Marking
 pub mod BoardTrees

@@ -36,12 +36,12 @@ use Rattle.btr_engine.specs.Body.{prefix_to, no_extents, IsCheckpointOf, LeadTo}
 use Rattle.btr_engine.specs.Roots.{IsRootOf}
 use Rattle.btr_engine.specs.Holds.{HoldsHistoryTo, HoldsHistory}
 use Rattle.btr_engine.specs.Stored.{tree_at, AreStored, HaveRoots}
-use Rattle.btr_engine.specs.Engine.{device, board_of, blocks_of, entries_of, tail_of, room_of, super_of, is_stopped, synced_of, entries_at_open, IsAtRest, IsDurable, EngineLeaves, KeepsOpening}
+use Rattle.btr_engine.specs.Engine.{log_of, device, board_of, is_home, blocks_of, entries_of, tail_of, room_of, super_of, is_stopped, synced_of, entries_at_open, IsAtRest, IsDurable, EngineLeaves, KeepsOpening}
 use Rattle.btr_engine.specs.Mark.{body_of_roll, run_of_board, need_of_board, next_super, IsNamed, CountsMark, StopsByMark, CheckpointCause}
 use Rattle.btr_engine.proofs.RollBody.{need-body_of_roll, brings-roll, body-of-history}
 use Rattle.btr_engine.proofs.EngineLemmas.{holds_in, take_whole}
 use Rattle.btr_engine.proofs.HoldsLemmas.{HoldsTrees, IsChosen-along, held, starts-last, holds_as_before, holds_under, holds_marked}
-use Rattle.btr_engine.proofs.Stepping.{same_engine}
+use Rattle.btr_engine.proofs.Stepping.{same_at_home}
 use Rattle.btr_engine.proofs.RollingLemmas.{rolled-is}
 use Rattle.btr_engine.proofs.StreamsLemmas.{has-streams}
 
@@ -58,6 +58,28 @@ stored-later pages gate later streams le stored = record {
   each = λ stream version. if-some (tree_at streams stream version) _ _
       (λ (t : TreeValue) is. below-more (nodes_in pages stream) gate later 10 FIRST t.node le is) (stored.each stream version);
 }
+
+-- ---- an append
+
+module _ {D : Type 0} {disk : Ghosts D} where
+  -- What an append of this run says of the moments between two logs, and of its result if there is too little room.
+  pub record Appends (l after : Log D disk) (run : List ℕ) (answer : Result (Unit {0}) AppendFault) : Type 0 where
+    pub full : IsFalse (log.is_log_stopped l) → append.IsTooLong l run → answer ≡ Err (Full (need (append.body_in_run run)) (log.log_room l))
+    pub kept : log.KeepsBounds l after
+    pub moments : disk.is_observable → (bodies : List (List ℕ)) → log.IsLogAtRest l bodies
+        → log.LogLeaves l after (append.IsMoment (disk.contents (log.log_device l)) (log.log_tail l) bodies (append.body_in_run run))
+
+  pub record FailsAppend (l after : Log D disk) (run : List ℕ) (fault : AppendFault) : Type 0 where
+    pub appends : Appends l after run (Err fault)
+    pub cause : append.AppendCause l after run fault
+
+  pub record TakesAppend (l after : Log D disk) (run : List ℕ) : Type 0 where
+    pub appends : Appends l after run (Ok tt)
+    pub appended : append.IsAppended l after run
+    pub written : disk.is_observable
+        → Published (disk.contents (log.log_device l)) (4096 * (log.log_tail l + 1)) run (4096 * log.log_tail l) gate_block (disk.contents (log.log_device after))
+    pub at_rest : disk.is_observable → (bodies : List (List ℕ)) → log.IsLogAtRest l bodies
+        → log.IsLogAtRest after (bodies ++ append.body_in_run run ∷ [])
 
 -- ---- images
 
@@ -148,12 +170,16 @@ module _ {D : Type 0} {disk : Ghosts D} (old : Engine D disk) (run : List ℕ) (
   needed =
       ap need (brings-roll (entries_of old) (rolled (board_of old)) run bytes) ∙ need-body_of_roll (entries_of old) (rolled (board_of old))
 
+  -- They are two or more: the content has a head.
+  pub two_blocks : 2 ≤ need (append.body_in_run run)
+  two_blocks = omega (arith, needed)
+
   -- The run of a log that has too little room for it is always refused with these numbers.
   abbrev pub full : Result (Unit {0}) AppendFault
   full = Err (Full (need (append.body_in_run run)) (room_of old))
 
   abbrev pub AnswersFull : Result (Unit {0}) AppendFault → Type 0
-  AnswersFull answer = IsFalse (is_stopped old) → append.IsTooLong old.log run → answer ≡ full
+  AnswersFull answer = IsFalse (is_stopped old) → append.IsTooLong (log_of old) run → answer ≡ full
 
   -- An append with another result had room.
   pub fits_unless_full : (answer : Result (Unit {0}) AppendFault) → IsFalse (is_stopped old) → AnswersFull answer → (answer ≡ full → ⊥) → need_of_board (board_of old) ≤ room_of old
@@ -162,25 +188,25 @@ module _ {D : Type 0} {disk : Ghosts D} (old : Engine D disk) (run : List ℕ) (
       ⊎_elim (λ short. absurd (other (answers_full runs (omega (arith, short, size))))) (λ le. le) (cases_lt (room_of old) (need_of_board (board_of old)))
 
   -- Why an append that fails makes no checkpoint.
-  pub refused : (new : Engine D disk) (fault : AppendFault) (answer : StepFault) → IsFalse (is_stopped old) → AnswersFull (Err fault) → append.AppendCause old.log new.log run fault → board_of new ≡ board_of old → new.opened_with ≡ old.opened_with → new.chosen ≡ old.chosen → new.synced ≡ old.synced → ((n left : ℕ) → fault ≡ Full n left → answer ≡ DeviceFull n left) → (fault ≡ Fault → answer ≡ DeviceFault) → CheckpointCause old new answer
-  refused new (Full n room) answer runs answers_full cause same began chosen synced is_full is_fault =
+  pub refused : (new : Engine D disk) (fault : AppendFault) (answer : StepFault) → is_home old ≡ true → is_home new ≡ true → IsFalse (is_stopped old) → AnswersFull (Err fault) → append.AppendCause (log_of old) (log_of new) run fault → board_of new ≡ board_of old → new.opened_with ≡ old.opened_with → new.chosen ≡ old.chosen → new.synced ≡ old.synced → ((n left : ℕ) → fault ≡ Full n left → answer ≡ DeviceFull n left) → (fault ≡ Fault → answer ≡ DeviceFault) → CheckpointCause old new answer
+  refused new (Full n room) answer before_home after_home runs answers_full cause same began chosen synced is_full is_fault =
       let short : room < n = omega (arith, cause.1, cause.2, cause.3) in
-      subst (CheckpointCause old new) (sym (is_full n room refl)) (runs, cause.2 ∙ needed, cause.3, short, same_engine new old cause.4 same began chosen synced)
-  refused new Fault answer runs answers_full cause same began chosen synced is_full is_fault =
+      subst (CheckpointCause old new) (sym (is_full n room refl)) (runs, cause.2 ∙ needed, cause.3, short, same_at_home new old after_home before_home (record { log = cause.4; board = same; entries = began; chosen = chosen; synced = synced }))
+  refused new Fault answer before_home after_home runs answers_full cause same began chosen synced is_full is_fault =
       let fits = fits_unless_full (Err Fault) runs answers_full (λ no. absurd (cc)) in
       subst (CheckpointCause old new) (sym (is_fault refl)) (
         runs,
         fits,
         record { called = cause.1.called; at_most = omega (arith, cause.1.at_most); rose = cause.1.rose; stopped = cause.1.stopped; board = same; chosen = chosen },
       )
-  refused new (AlreadyStopped n) answer runs answers_full cause same began chosen synced is_full is_fault =
+  refused new (AlreadyStopped n) answer before_home after_home runs answers_full cause same began chosen synced is_full is_fault =
       let stopped = cause.0 in absurd (cc)
 
   module _ (fits : need_of_board (board_of old) ≤ room_of old) where
     -- A block is left after it for the next gate.
     inside : tail_of old + need (append.body_in_run run) < blocks_of old
     inside =
-        let below : tail_of old < blocks_of old = old.log.tail_inside in
+        let below : tail_of old < blocks_of old = (log_of old).tail_inside in
         omega (arith, fits, needed, below)
 
     module _ (h : List Entry) (rest : IsAtRest h old) where
@@ -195,19 +221,19 @@ module _ {D : Type 0} {disk : Ghosts D} (old : Engine D disk) (run : List ℕ) (
       is-checkpoint =
           let roots = rest.holds.leads.roots in
           let same : rolled (board_of old) ≡ roll_of h roots = rolled-is h roots (board_of old) (has-streams h (board_of old) rest.of) rest.roots in
-          let low : content_blocks (length (roll_bytes (rolled (board_of old)))) < 2 ^ 64 = omega (arith, fits, old.log.addressable) in
+          let low : content_blocks (length (roll_bytes (rolled (board_of old)))) < 2 ^ 64 = omega (arith, fits, (log_of old).addressable) in
           record {
             room = subst (λ r. content_blocks (length (roll_bytes r)) < 2 ^ 64) same low;
             bytes = brings-roll (entries_of old) (rolled (board_of old)) run bytes ∙ ap (λ n. body_of_roll n (rolled (board_of old))) rest.of.entries ∙ ap (body_of_roll (length h)) same ∙ body-of-history h roots;
           }
 
       -- Each moment of the append leaves the history.
-      pub appending : (after : Log D disk) → log.LogLeaves old.log after (append.IsMoment contents (tail_of old) rest.holds.bodies (append.body_in_run run)) → log.LogLeaves old.log after (λ c. HoldsHistory size c h)
+      pub appending : (after : Log D disk) → log.LogLeaves (log_of old) after (append.IsMoment contents (tail_of old) rest.holds.bodies (append.body_in_run run)) → log.LogLeaves (log_of old) after (λ c. HoldsHistory size c h)
       appending after leaves =
           weakens disk.calls disk.images_since (device old) (log.log_device after) (append.IsMoment contents (tail_of old) rest.holds.bodies (append.body_in_run run)) (λ c. HoldsHistory size c h)
           (while_appending size contents (blocks_of old) (tail_of old) h rest.holds (append.body_in_run run) is-checkpoint inside) leaves
 
-      module _ (after : Log D disk) (kept : log.KeepsBounds old.log after) (tail : log.log_tail after ≡ tail_of old + need (append.body_in_run run)) (written : Published contents (4096 * (tail_of old + 1)) run (4096 * tail_of old) gate_block (disk.contents (log.log_device after))) (rests : log.IsLogAtRest after (rest.holds.bodies ++ append.body_in_run run ∷ [])) (next : Super) (is_next : next ≡ next_super (super_of old) (tail_of old) (log.log_tail after)) where
+      module _ (after : Log D disk) (kept : log.KeepsBounds (log_of old) after) (tail : log.log_tail after ≡ tail_of old + need (append.body_in_run run)) (written : Published contents (4096 * (tail_of old + 1)) run (4096 * tail_of old) gate_block (disk.contents (log.log_device after))) (rests : log.IsLogAtRest after (rest.holds.bodies ++ append.body_in_run run ∷ [])) (next : Super) (is_next : next ≡ next_super (super_of old) (tail_of old) (log.log_tail after)) where
         abbrev mid : Image
         mid = disk.contents (log.log_device after)
 
@@ -304,9 +330,9 @@ nothing_leaves {D} {disk} h engine only_now rest =
     begins disk.calls disk.images_since (device engine) (λ c. HoldsHistory (disk.size (device engine)) c h) (λ c now. holds_in h engine rest c (rest.only.each c (only_now c now)))
 
 -- An append that fails made no call of the device, or the device failed.
-pub fault_leaves : {D : Type 0} {disk : Ghosts D} (h : List Entry) (old : Engine D disk) (run : List ℕ) (bytes : run ≡ run_of_board (board_of old)) (after : Log D disk) (fault : AppendFault) → IsFalse (is_stopped old) → AnswersFull old run bytes (Err fault) → append.AppendCause old.log after run fault → ((c : Image) → disk.images_since (device old) (disk.calls (device old)) c → disk.images_now (device old) c) → (rest : IsAtRest h old) → log.LogLeaves old.log after (append.IsMoment (disk.contents (device old)) (tail_of old) rest.holds.bodies (append.body_in_run run)) → log.LogLeaves old.log after (λ c. HoldsHistory (disk.size (device old)) c h)
+pub fault_leaves : {D : Type 0} {disk : Ghosts D} (h : List Entry) (old : Engine D disk) (run : List ℕ) (bytes : run ≡ run_of_board (board_of old)) (after : Log D disk) (fault : AppendFault) → IsFalse (is_stopped old) → AnswersFull old run bytes (Err fault) → append.AppendCause (log_of old) after run fault → ((c : Image) → disk.images_since (device old) (disk.calls (device old)) c → disk.images_now (device old) c) → (rest : IsAtRest h old) → log.LogLeaves (log_of old) after (append.IsMoment (disk.contents (device old)) (tail_of old) rest.holds.bodies (append.body_in_run run)) → log.LogLeaves (log_of old) after (λ c. HoldsHistory (disk.size (device old)) c h)
 fault_leaves {D} {disk} h old run bytes after (Full n room) runs answers_full cause only_now rest leaves =
-    subst (λ l. log.LogLeaves old.log l (λ c. HoldsHistory (disk.size (device old)) c h)) (sym cause.4) (nothing_leaves h old only_now rest)
+    subst (λ l. log.LogLeaves (log_of old) l (λ c. HoldsHistory (disk.size (device old)) c h)) (sym cause.4) (nothing_leaves h old only_now rest)
 fault_leaves h old run bytes after Fault runs answers_full cause only_now rest leaves =
     appending old run bytes (fits_unless_full old run bytes (Err Fault) runs answers_full (λ no. absurd (cc))) h rest after leaves
 fault_leaves h old run bytes after (AlreadyStopped n) runs answers_full cause only_now rest leaves =
@@ -362,7 +388,7 @@ counted-both old mid new first second =
     (λ seven. inr (record { rose = omega (arith, first.rose, seven.rose); exact = omega (arith, first.exact, seven.exact) }))
     second
 
-module _ {D : Type 0} {disk : Ghosts D} (old new : Engine D disk) (after : Log D disk) (d : D) (kept : log.KeepsBounds old.log after) (counts : KeepsCounts disk.size disk.calls disk.faults (log.log_device after) d) (is : device new ≡ d) where
+module _ {D : Type 0} {disk : Ghosts D} (old new : Engine D disk) (after : Log D disk) (d : D) (kept : log.KeepsBounds (log_of old) after) (counts : KeepsCounts disk.size disk.calls disk.faults (log.log_device after) d) (is : device new ≡ d) where
   -- The opening is kept, and the counts do not fall.
   pub marking_keeps : blocks_of new ≡ log.log_blocks after → entries_at_open new ≡ entries_at_open old → synced_of new ≡ synced_of old → KeepsOpening old new
   marking_keeps blocks entries synced = record {

@@ -1,11 +1,14 @@
 -- What a pending entry writes: its extent, pages that stand rightly after those before it, and a root that leads to the new tree.
-use Rattle.std.specs.Prelude.{◌≡◌, ℕ, ◌+◌, ◌^◌, ◌<◌, ◌≤◌, List, [], ◌∷◌, ◌++◌, length}
+use Rattle.std.specs.Prelude.{◌≡◌, ℕ, ◌+◌, ◌/◌, ◌^◌, ◌<◌, ◌≤◌, List, [], ◌∷◌, ◌++◌, length}
 use Rattle.std.specs.List.{AllByRecursion}
-use Rattle.std.proofs.Common.{refl, sym, ◌∙◌, ap, subst, arith}
+use Rattle.std.proofs.Common.{refl, sym, ◌∙◌, ap, subst, arith, length-append}
 use Rattle.std.proofs.lemmas.List.{length-map}
 use Rattle.btr_base.specs.declared.limits.TheConstants.{MAX_VERSIONS}
 use Rattle.btr_base.specs.Commit.{Change}
 use Rattle.btr_disk.specs.Gate.{zeros}
+use Rattle.btr_log.specs.Extents.{need}
+use Rattle.btr_log.specs.Append.{body_in_run, IsAppendRun}
+use Rattle.btr_log.proofs.AppendLemmas.{length-run}
 use Rattle.btr_tree.specs.NewNodes.{NewNodeValue}
 use Rattle.btr_node.specs.Page.{Fits}
 use Rattle.btr_pages.specs.Pages.{Pages, with_pages, page_of, pages_of, ArePages}
@@ -15,17 +18,18 @@ use Rattle.btr_hist.specs.History.{commits, latest}
 use Rattle.btr_entry.specs.Grammar.{IsSpelled, ValuesFit}
 use Rattle.btr_entry.proofs.SpellingLemmas.{length-spelling}
 use Rattle.btr_engine.specs.declared.board.Staged.{Staged}
-use Rattle.btr_engine.specs.declared.step.Pending.{Pending}
+use Rattle.btr_engine.specs.declared.travel.Ready.{Ready}
 use Rattle.btr_engine.specs.Body.{node_blocks, body_of, prefix_to, first_page, pages_after, commits_before, nodes_of, need_of}
 use Rattle.btr_engine.specs.Board.{Kept, IsBoardOf}
 use Rattle.btr_engine.specs.Roots.{LeadsToLatest, IsRootOf}
 use Rattle.btr_engine.specs.Stored.{AreStored, HaveRoots}
 use Rattle.btr_engine.specs.Stage.{IsReceipt, MakesVersion, WritesCommit, WritesStream, WritesEntry, change}
-use Rattle.btr_engine.specs.Pending.{written_pages, IsMade, IsPending}
+use Rattle.btr_engine.specs.Travel.{written_pages, IsMade, IsStaged}
 use Rattle.btr_engine.proofs.BoardStreamLemmas.{commit-makes, distillate-makes}
 use Rattle.btr_engine.proofs.BodyLemmas.{FitsBody}
 use Rattle.btr_engine.proofs.NeedLemmas.{few_nodes}
 use Rattle.btr_engine.proofs.Written.{nodes-counted, told, root-leads, stored-next, stored-new, pages-places}
+use Rattle.btr_engine.proofs.Stepping.{is_append_run}
 use Rattle.btr_engine.proofs.Appending.{IsExtentOf, StandAfter}
 
 -- The pages of no nodes are none.
@@ -36,15 +40,21 @@ many-pages : (stream : ℕ) (nodes : List NewNodeValue) → length (pages_of str
 many-pages stream nodes = length-map nodes (page_of stream)
 
 -- The extent can be appended, whatever the history is.
-pub fits_pending : (number : ℕ) (e : Entry) (p : Pending) → 1 ≤ number → number < 2 ^ 64 → IsMade number e p → FitsBody number e p.staged.root (written_pages p.staged)
-fits_pending number e p some few made = record {
+pub fits_ready : (e : Entry) (r : Ready) → 1 ≤ r.staged.next.entries → r.staged.next.entries < 2 ^ 64 → IsMade e r → FitsBody r.staged.next.entries e r.staged.root (written_pages r.staged)
+fits_ready e r some few made = record {
   some = some;
   few = few;
   spelled = made.spelled;
   low = made.low;
-  places = pages-places p.staged.receipt.stream p.staged.nodes.items;
-  room = let room = made.room in omega (arith, many-pages p.staged.receipt.stream p.staged.nodes.items);
+  places = pages-places r.staged.receipt.stream r.staged.nodes.items;
+  room = let room = made.room in omega (arith, many-pages r.staged.receipt.stream r.staged.nodes.items);
 }
+
+-- Its bytes are the blocks that it needs.
+pub need_of_ready : (e : Entry) (r : Ready) → 1 ≤ r.staged.next.entries → r.staged.next.entries < 2 ^ 64 → IsMade e r → (need (body_in_run r.extent.items) ≡ length r.extent.items / 4096) × IsAppendRun r.extent.items
+need_of_ready e r some few made =
+    let run = is_append_run r.staged.next.entries e r.staged.root (written_pages r.staged) r.extent.items made.bytes (fits_ready e r some few made) in
+    (omega (arith, length-run r.extent.items run), run)
 
 module _ (h : List Entry) (b : Kept) (of : IsBoardOf h b) (tail : ℕ) where
   -- There are as many nodes as the entry has node blocks.
@@ -58,15 +68,15 @@ module _ (h : List Entry) (b : Kept) (of : IsBoardOf h b) (tail : ℕ) where
       let e : Entry = Distillate stream cut added reads in
       nodes-counted h b s.next of e (first_page tail e) stream (change cut added) _ (distillate-makes stream cut added reads) s.nodes.items s.root w
 
-  -- The extent of a pending entry.
-  pub extent_of_pending : (e : Entry) (p : Pending) (number : ℕ) (run : List ℕ) → number ≡ length h + 1 → IsMade number e p → IsPending h e p → WritesEntry b e tail p.staged → run ≡ p.extent.items → IsExtentOf h e p.staged.root (written_pages p.staged) run
-  extent_of_pending e p number run at made is w same = record {
+  -- The extent of an entry that was made ready.
+  pub extent_of_ready : (e : Entry) (r : Ready) (run : List ℕ) → IsMade e r → IsStaged h b tail e r → run ≡ r.extent.items → IsExtentOf h e r.staged.root (written_pages r.staged) run
+  extent_of_ready e r run made is same = record {
     allowed = is.allowed;
     spelled = made.spelled;
-    places = pages-places p.staged.receipt.stream p.staged.nodes.items;
+    places = pages-places r.staged.receipt.stream r.staged.nodes.items;
     low = made.low;
-    nodes = many-pages p.staged.receipt.stream p.staged.nodes.items ∙ nodes-needed e p.staged w;
-    bytes = same ∙ made.bytes ∙ ap (λ n. body_of n e p.staged.root (written_pages p.staged) ++ zeros 4096) at;
+    nodes = many-pages r.staged.receipt.stream r.staged.nodes.items ∙ nodes-needed e r.staged is.writes;
+    bytes = same ∙ made.bytes ∙ ap (λ n. body_of n e r.staged.root (written_pages r.staged) ++ zeros 4096) (is.of.entries ∙ length-append h (e ∷ []));
   }
 
   -- What an entry writes stands after the pages that stood, and stores the trees of the next board, which have the roots of the entries.

@@ -1,10 +1,10 @@
 -- What a step leaves of an engine: at each moment, and after a refusal.
-use Rattle.std.specs.Prelude.{◌≡◌, ℕ, ◌+◌, ◌*◌, ◌≤◌, List, ◌++◌, Result, Ok, Err, IsFalse, IfErr, IsErr}
+use Rattle.std.specs.Prelude.{◌≡◌, ℕ, ◌+◌, ◌*◌, ◌≤◌, true, List, ◌++◌}
 use Rattle.std.specs.List.{AllByRecursion}
-use Rattle.std.specs.Result.{IsErrAnd}
 use Rattle.std.specs.Coded.{le_prop}
 use Rattle.std.proofs.Common.{refl, sym, ◌∙◌, ap, subst, inl, arith}
 use Rattle.std.proofs.Math.Nat.{ℕ_set}
+use mathlib.Core.Bool.{Bool-set}
 use mathlib.Core.HLevel.{is_prop→PathP}
 use Rattle.btr_disk.specs.declared.disk.Disk.{Ghosts}
 use Rattle.btr_disk.specs.Bytes.{Image}
@@ -15,20 +15,17 @@ use Rattle.btr_log.specs.Append as append
 use Rattle.btr_log.proofs.AppendLemmas.{body_in_run-append, IsAppendRun-from}
 use Rattle.btr_log.specs.Log as log
 use Rattle.btr_hist.specs.declared.entry.Entry.{Entry}
-use Rattle.btr_hist.specs.Legal.{rejection}
 use Rattle.btr_node.specs.declared.page.NodePage.{NodePage}
 use Rattle.btr_pages.proofs.PageOfLemmas.{HasPlaces}
 use Rattle.btr_engine.specs.declared.engine.Engine.{Engine}
-use Rattle.btr_engine.specs.declared.step.Pending.{Pending}
-use Rattle.btr_engine.specs.declared.step.StepFault.{StepFault}
-use Rattle.btr_engine.specs.declared.board.PushFault.{PushFault}
-use Rattle.btr_engine.specs.declared.board.PushFault.TheVariants.{Rejected, Want}
+use Rattle.btr_engine.specs.declared.place.Place.{Place}
+use Rattle.btr_engine.specs.declared.place.Place.TheVariants.{Home, Out}
 use Rattle.btr_engine.specs.Body.{body_of}
 use Rattle.btr_engine.proofs.BodyLemmas.{head_of, FitsBody, IsBody-body_of, need-body_of}
-use Rattle.btr_engine.specs.Engine.{device, is_stopped, IsAtRest, EngineLeaves}
-use Rattle.btr_engine.specs.Stage.{PushCause}
-use Rattle.btr_engine.specs.Pending.{fault_of_push}
-use Rattle.btr_engine.specs.Step.{IsBeforeOrAfter, StepCause}
+use Rattle.btr_engine.specs.Place.{log_in, has_log}
+use Rattle.btr_engine.specs.Engine.{log_of, device, is_home, IsAtRest, EngineLeaves}
+use Rattle.btr_engine.specs.Travel.{IsLike}
+use Rattle.btr_engine.specs.Step.{IsBeforeOrAfter}
 use Rattle.btr_engine.proofs.EngineLemmas.{holds_in}
 
 -- ---- the extent of an entry
@@ -49,28 +46,45 @@ module _ (number : ℕ) (e : Entry) (root : ℕ) (pages : List NodePage) (run : 
       subst append.IsAppendRun (sym is) (IsAppendRun-from (body_of number e root pages) (head_of number e root pages) (IsBody-body_of number e root pages fits))
 
 module _ {D : Type 0} {disk : Ghosts D} where
+  -- ---- the place of the log
+
+  home_is : (p : Place D disk) → has_log p ≡ true → p ≡ Home (log_in p)
+  home_is (Home l) is = refl
+  home_is (Out taken) is = absurd (cc)
+
+  -- Two places where the log is at home are the same if the logs are.
+  pub same_place : (p q : Place D disk) → has_log p ≡ true → has_log q ≡ true → log_in p ≡ log_in q → p ≡ q
+  same_place p q first second is = home_is p first ∙ ap Home is ∙ sym (home_is q second)
+
   -- ---- a step that changes nothing
 
-  pub same_engine : (a b : Engine D disk) → a.log ≡ b.log → a.board ≡ b.board → a.opened_with ≡ b.opened_with → a.chosen ≡ b.chosen → a.synced ≡ b.synced → a ≡ b
-  same_engine a b logs boards began chosen synced = λ i. record {
-    log = logs i;
+  pub same_engine : (a b : Engine D disk) → a.place ≡ b.place → a.board ≡ b.board → a.stopped ≡ b.stopped → a.opened_with ≡ b.opened_with → a.chosen ≡ b.chosen → a.synced ≡ b.synced → a ≡ b
+  same_engine a b places boards marks began chosen synced = λ i. record {
+    place = places i;
     board = boards i;
+    stopped = marks i;
     opened_with = began i;
     chosen = chosen i;
     synced = synced i;
-    counted = is_prop→PathP (λ j. (boards j).entries ≤ (logs j).extents) (λ j. le_prop) a.counted b.counted i;
-    ends = is_prop→PathP (λ j. 2 * (logs j).extents + 4 ≤ (logs j).tail) (λ j. le_prop) a.ends b.ends i;
+    marked = is_prop→PathP (λ j. marks j ≡ (log_in (places j)).stopped) (λ j. Bool-set (marks j) (log_in (places j)).stopped) a.marked b.marked i;
+    counted = is_prop→PathP (λ j. (boards j).entries ≤ (log_in (places j)).extents) (λ j. le_prop) a.counted b.counted i;
+    ends = is_prop→PathP (λ j. 2 * (log_in (places j)).extents + 4 ≤ (log_in (places j)).tail) (λ j. le_prop) a.ends b.ends i;
     began = is_prop→PathP (λ j. began j ≤ (boards j).entries) (λ j. le_prop) a.began b.began i;
-    called = is_prop→PathP (λ j. disk.calls (synced j).value ≤ disk.calls (log.log_device (logs j))) (λ j. le_prop) a.called b.called i;
-    failed = is_prop→PathP (λ j. disk.faults (synced j).value ≤ log.faults_at (logs j)) (λ j. le_prop) a.failed b.failed i;
+    called = is_prop→PathP (λ j. disk.calls (synced j).value ≤ disk.calls (log.log_device (log_in (places j)))) (λ j. le_prop) a.called b.called i;
+    failed = is_prop→PathP (λ j. disk.faults (synced j).value ≤ log.faults_at (log_in (places j))) (λ j. le_prop) a.failed b.failed i;
     side = is_prop→PathP (λ j. (chosen j).side ≤ 1) (λ j. le_prop) a.side b.side i;
-    seq = is_prop→PathP (λ j. (chosen j).seq + 3 ≤ (logs j).tail) (λ j. le_prop) a.seq b.seq i;
-    large = is_prop→PathP (λ j. 8 ≤ (logs j).blocks) (λ j. le_prop) a.large b.large i;
-    same_blocks = is_prop→PathP (λ j. (chosen j).blocks ≡ (logs j).blocks) (λ j. ℕ_set (chosen j).blocks (logs j).blocks) a.same_blocks b.same_blocks i;
+    seq = is_prop→PathP (λ j. (chosen j).seq + 3 ≤ (log_in (places j)).tail) (λ j. le_prop) a.seq b.seq i;
+    large = is_prop→PathP (λ j. 8 ≤ (log_in (places j)).blocks) (λ j. le_prop) a.large b.large i;
+    same_blocks = is_prop→PathP (λ j. (chosen j).blocks ≡ (log_in (places j)).blocks) (λ j. ℕ_set (chosen j).blocks (log_in (places j)).blocks) a.same_blocks b.same_blocks i;
   }
 
+  -- Two engines that differ at most in where the log is are the same if both have it at home.
+  pub same_at_home : (a b : Engine D disk) → is_home a ≡ true → is_home b ≡ true → IsLike a b → a ≡ b
+  same_at_home a b first second like =
+      same_engine a b (same_place a.place b.place first second like.log) like.board (a.marked ∙ ap log.is_log_stopped like.log ∙ sym b.marked) like.entries like.chosen like.synced
+
   -- The device has the log of the bodies, at rest.
-  pub log_at_rest : (h : List Entry) (engine : Engine D disk) (rest : IsAtRest h engine) → log.IsLogAtRest engine.log rest.holds.bodies
+  pub log_at_rest : (h : List Entry) (engine : Engine D disk) (rest : IsAtRest h engine) → log.IsLogAtRest (log_of engine) rest.holds.bodies
   log_at_rest h engine rest =
       record { extents = rest.holds.extents; closed = rest.holds.closed; only = rest.only }
 
@@ -78,11 +92,3 @@ module _ {D : Type 0} {disk : Ghosts D} where
   pub no_moment : (h : List Entry) (engine : Engine D disk) (e : Entry) → ((c : Image) → disk.images_since (device engine) (disk.calls (device engine)) c → disk.images_now (device engine) c) → IsAtRest h engine → EngineLeaves engine engine (IsBeforeOrAfter (disk.size (device engine)) h e)
   no_moment h engine e only_now rest =
       begins disk.calls disk.images_since (device engine) (IsBeforeOrAfter (disk.size (device engine)) h e) (λ c now. inl (holds_in h engine rest c (rest.only.each c (only_now c now))))
-
-  -- The entry was not staged.
-  pub not_staged : (h : List Entry) (engine : Engine D disk) (e : Entry) (fault : PushFault) (answer : Result Pending StepFault) → IsErr answer × IsErrAnd answer (λ f. f ≡ fault_of_push fault) → IsFalse (is_stopped engine) → PushCause (rejection h e) fault → IfErr answer (StepCause h engine engine e)
-  not_staged h engine e fault (Ok pending) is runs cause = absurd (cc)
-  not_staged h engine e Want (Err f) is runs cause =
-      subst (StepCause h engine engine e) (sym is.1) (runs, cause, refl)
-  not_staged h engine e (Rejected why) (Err f) is runs cause =
-      subst (StepCause h engine engine e) (sym is.1) (runs, cause, refl)

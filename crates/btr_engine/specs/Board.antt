@@ -40,7 +40,7 @@ ids_of streams = map (λ s. s.id) streams
 abbrev pub HasPast : TreeValue → Type 0
 HasPast t = (past : Past) × IsTree past t
 
--- How many reads a stream has that has so many trees: an output one for each version but version 0, a plain stream none.
+-- The number of reads of a stream with this number of trees: an output has one for each version but version 0, a plain stream has none.
 abbrev pub reads_count : Option Spec → ℕ → ℕ
 reads_count None trees = 0
 reads_count (Some spec) trees = trees - 1

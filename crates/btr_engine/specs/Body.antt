@@ -64,7 +64,7 @@ with_extent before e root pages body =
     prefix_to (before.gate + need body) (before.entries ++ e ∷ []) (before.roots ++ root ∷ []) (pages_after before e pages)
 
 -- The body is that of this entry, which is the next one after the prefix, with this root and these pages. The pages stand rightly
--- behind the gate, among those that stand before it.
+-- after the gate, among those that stand before it.
 pub record IsBodyOf (before : Prefix) (e : Entry) (root : ℕ) (pages : List NodePage) (body : List ℕ) : Type 0 where
   pub spelled : IsSpelled e
   pub fits : AllByRecursion Fits pages

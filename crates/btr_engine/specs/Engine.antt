@@ -1,6 +1,6 @@
 -- What contracts see of an engine: its device, its board, the blocks that are left, whether it is stopped, its opening, and which
 -- history it is of.
-use Rattle.std.specs.Prelude.{◌≡◌, ◌⊎◌, ℕ, ◌≤◌, Bool, false, List, [], ◌++◌, length, take}
+use Rattle.std.specs.Prelude.{◌≡◌, ◌⊎◌, ℕ, ◌≤◌, Bool, true, false, List, [], ◌++◌, length, take}
 use Rattle.btr_disk.specs.declared.disk.Disk.{Ghosts}
 use Rattle.btr_disk.specs.Bytes.{Image}
 use Rattle.btr_disk.specs.Images.{Only}
@@ -13,13 +13,18 @@ use Rattle.btr_super.specs.declared.superblock.Super.{Super}
 use Rattle.btr_hist.specs.declared.entry.Entry.{Entry}
 use Rattle.btr_engine.specs.declared.engine.Engine.{Engine}
 use Rattle.btr_engine.specs.Board.{Kept, IsBoardOf}
+use Rattle.btr_engine.specs.Place.{log_in, has_log}
 use Rattle.btr_engine.specs.Stored.{AreStored, HaveRoots}
 use Rattle.btr_engine.specs.Holds.{HoldsHistoryTo, HoldsHistory}
 
 module _ {D : Type 0} {disk : Ghosts D} where
-  -- The log.
+  -- The log. While it is out, this is the log as it was taken.
   abbrev pub log_of : Engine D disk → Log D disk
-  log_of e = e.log
+  log_of e = log_in e.place
+
+  -- Whether the log is at home.
+  abbrev pub is_home : Engine D disk → Bool
+  is_home e = has_log e.place
 
   -- The device.
   abbrev pub device : Engine D disk → D
@@ -114,8 +119,9 @@ module _ {D : Type 0} {disk : Ghosts D} where
     pub synced : synced_of new ≡ synced_of old
     pub device_kept : KeepsCounts disk.size disk.calls disk.faults (device old) (device new)
 
-  -- The engine has this log, this board and this superblock, and was opened by this sync, with as many entries as it has.
+  -- The engine has this log, at home, this board and this superblock, and was opened by this sync, with as many entries as it has.
   pub record IsMadeOf (l : Log D disk) (b : Kept) (chosen : Super) (synced : D) (e : Engine D disk) : Type 0 where
+    pub home : is_home e ≡ true
     pub same_log : log_of e ≡ l
     pub same_board : board_of e ≡ b
     pub same_super : super_of e ≡ chosen

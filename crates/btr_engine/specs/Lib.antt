@@ -16,7 +16,9 @@ pub mod Stored
 pub mod Restoring
 pub mod Snapshot
 -- what contracts see of an engine, and what its calls do
+pub mod Place
 pub mod Engine
+pub mod Travel
 pub mod Step
 pub mod Mark
 -- what the private functions promise

@@ -13,7 +13,7 @@ use Rattle.btr_engine.specs.declared.step.StepFault.TheVariants.{Stopped, Reject
 use Rattle.btr_engine.specs.Stage.{MayLackMemory, IsReceipt}
 use Rattle.btr_engine.specs.Body.{need_of}
 use Rattle.btr_engine.specs.Holds.{HoldsHistory}
-use Rattle.btr_engine.specs.Engine.{device, board_of, entries_of, tail_of, room_of, is_stopped}
+use Rattle.btr_engine.specs.Engine.{device, board_of, entries_of, tail_of, room_of, is_stopped, is_home}
 use Rattle.btr_engine.specs.Engine.{IsEngineOf, IsAtRest, IsDurable, EngineLeaves, KeepsOpening}
 
 -- The calls of the device that commit an entry: a write and a sync for its extent, then a write and a sync for the gate before it.
@@ -100,8 +100,9 @@ module _ {D : Type 0} {disk : Ghosts D} where
       × (need ≡ need_of h e) × (left ≡ room_of old) × (left < need) × (new ≡ old)
   StepCause h old new e DeviceFault = CanStep h old e × StopsByFault old new
 
-  -- The second engine is the first one after a step with this entry, which returned this.
+  -- The second engine is the first one after a step with this entry, which returned this. Its log is at home.
   pub record IsStep (old new : Engine D disk) (e : Entry) (result : Result Receipt StepFault) : Type 0 where
+    pub home : is_home new ≡ true
     pub effect : HasEffect old new result
     pub cause : (h : List Entry) → IsEngineOf h old → IfErr result (StepCause h old new e)
     pub stepped : (h : List Entry) → IsEngineOf h old → IfOk result (IsStepped h old new e)

@@ -1,10 +1,10 @@
 //! The checkpoint: an extent with all streams and their versions, from which on the log is read.
-ghost use Rattle.std.specs.Prelude.{◌≡◌, ℕ, ◌+◌, ◌<◌, ◌≤◌, ◌^◌, List, false, IfErr, IfOk, OnOk, IsTrue};
+ghost use Rattle.std.specs.Prelude.{◌≡◌, ℕ, ◌+◌, ◌<◌, ◌≤◌, ◌^◌, List, false, true, IfErr, IfOk, OnOk, IsTrue};
 ghost use Rattle.btr_log.specs.Append.{IsAppendRun};
 ghost use Rattle.btr_hist.specs.declared.entry.Entry.{Entry as EntrySpec};
 ghost use Rattle.btr_disk.specs.Bytes.{Image};
 ghost use Rattle.btr_engine.specs.Holds.{HoldsHistory};
-ghost use Rattle.btr_engine.specs.Engine.{device, board_of, tail_of, blocks_of, is_stopped};
+ghost use Rattle.btr_engine.specs.Engine.{device, board_of, tail_of, blocks_of, is_stopped, is_home};
 ghost use Rattle.btr_engine.specs.Engine.{IsAtRest, IsDurable, EngineLeaves, KeepsOpening};
 ghost use Rattle.btr_engine.specs.Mark.{run_of_board, next_super, IsNamed, MarksNothing, IsCheckpointed, CheckpointCause};
 
@@ -38,7 +38,11 @@ impl<D: Disk> Engine<D> {
     /// After `Ok` it made nine calls of the device or eleven: a write and a sync for the checkpoint, a write and a sync for the gate
     /// before it, and five or seven to replace the superblock. It takes all memory before the first of them. It costs time and memory
     /// linear in the numbers of streams and of versions.
+    ///
+    /// The caller passes an engine whose log is at home, and gets it so.
     pub fn checkpoint(&mut self, alloc: Global) -> Result<u64, StepFault>
+        requires home { is_home self.old ≡ true }
+        ensures home { is_home self.new ≡ true }
         ensures stopped { IsTrue (is_stopped self.old) → MarksNothing self.old self.new result }
         ensures cause { IfErr result (CheckpointCause self.old self.new) }
         ensures marked { IfOk result (IsCheckpointed self.old self.new) }
@@ -53,7 +57,7 @@ impl<D: Disk> Engine<D> {
             → (is_stopped self.old ≡ false → IsAtRest h self.old) → IsDurable h calls entries self.old more
             → IsDurable h calls entries self.new more }
     {
-        if self.log.stopped() {
+        if self.stopped {
             return Err(StepFault::Stopped {
                 entries: self.board.entries(),
             });
@@ -65,9 +69,11 @@ impl<D: Disk> Engine<D> {
     /// Appends the extent of a checkpoint of the board, and replaces the superblock by one that names the checkpoint. Returns the number
     /// of entries.
     pub(crate) fn mark(&mut self, extent: &[u8]) -> Result<u64, StepFault>
+        requires home { is_home self.old ≡ true }
         requires runs { is_stopped self.old ≡ false }
         requires bytes { extent.now ≡ run_of_board (board_of self.old) }
         requires run { IsAppendRun extent.now }
+        ensures home { is_home self.new ≡ true }
         ensures cause { IfErr result (CheckpointCause self.old self.new) }
         ensures marked { IfOk result (IsCheckpointed self.old self.new) }
         ensures kept { KeepsOpening self.old self.new }
@@ -80,15 +86,23 @@ impl<D: Disk> Engine<D> {
         ensures durable { D.is_observable → (h more : List EntrySpec) (calls entries : ℕ) → IsAtRest h self.old
             → IsDurable h calls entries self.old more → IsDurable h calls entries self.new more }
     {
-        let gate = self.log.tail();
-        if let Err(fault) = self.log.append(extent) {
+        let Some(mut log) = self.place.take() else {
+            unreachable!()
+        };
+        let gate = log.tail();
+        if let Err(fault) = log.append(extent) {
+            self.stopped = log.stopped();
+            self.place.put_back(log);
             return Err(step_fault(fault));
         }
-        let next = next_super(&self.chosen, gate, self.log.tail());
-        if replace(&mut self.log.disk, &next).is_err() {
-            self.log.stop();
+        let next = next_super(&self.chosen, gate, log.tail());
+        if replace(&mut log.disk, &next).is_err() {
+            log.stop();
+            self.stopped = true;
+            self.place.put_back(log);
             return Err(StepFault::DeviceFault);
         }
+        self.place.put_back(log);
         self.chosen = next;
         Ok(self.board.entries())
     }

@@ -1,8 +1,10 @@
 //! The engine: the board of a history, and the log that holds its entries.
 ghost use Rattle.std.specs.Prelude.{◌≡◌, ◌+◌, ◌*◌, ◌≤◌};
-ghost use Rattle.btr_log.specs.Log.{log_device as device_of, log_tail, log_blocks, extents_of, faults_at};
+ghost use Rattle.btr_log.specs.Log.{log_device as device_of, log_tail, log_blocks, extents_of, is_log_stopped, faults_at};
+ghost use Rattle.btr_engine.specs.Place.{log_in};
 
 use crate::board::Board;
+use crate::place::Place;
 use crate::snapshot::Snapshot;
 use btr_disk::Disk;
 use btr_hist::Spec;
@@ -17,37 +19,40 @@ use std::snapshot::Snapshot as State;
 /// be asked through a snapshot. Only the next opening shows if the entry of that step is durable.
 #[derive(Drop)]
 pub struct Engine<D: Disk> {
-    pub(crate) log: Log<D>,
+    pub(crate) place: Place<D>,
     pub(crate) board: Board,
+    /// Whether the log is stopped, also while it is out.
+    pub(crate) stopped: bool,
     /// The number of entries when the store was opened.
     pub(crate) opened_with: u64,
     /// The superblock that is chosen on the device.
     pub(crate) chosen: Super,
     /// The device after the first sync of the opening, for its counts. It has no bytes.
     pub(crate) synced: State<D>,
+    ghost marked: { stopped ≡ is_log_stopped (log_in place) },
     // Each entry has an extent. The other extents are those of checkpoints.
-    ghost counted: { board.entries ≤ extents_of log },
+    ghost counted: { board.entries ≤ extents_of (log_in place) },
     // The first gate is block 4, and each extent has at least two blocks.
-    ghost ends: { 2 * extents_of log + 4 ≤ log_tail log },
+    ghost ends: { 2 * extents_of (log_in place) + 4 ≤ log_tail (log_in place) },
     ghost began: { opened_with ≤ board.entries },
-    ghost called: { D.calls synced.value ≤ D.calls (device_of log) },
-    ghost failed: { D.faults synced.value ≤ faults_at log },
+    ghost called: { D.calls synced.value ≤ D.calls (device_of (log_in place)) },
+    ghost failed: { D.faults synced.value ≤ faults_at (log_in place) },
     // A superblock that replaces this one keeps the table: its number is one more, and its tail is a later gate of the log.
     ghost side: { chosen.side ≤ 1 },
-    ghost seq: { chosen.seq + 3 ≤ log_tail log },
-    ghost large: { 8 ≤ log_blocks log },
-    ghost same_blocks: { chosen.blocks ≡ log_blocks log },
+    ghost seq: { chosen.seq + 3 ≤ log_tail (log_in place) },
+    ghost large: { 8 ≤ log_blocks (log_in place) },
+    ghost same_blocks: { chosen.blocks ≡ log_blocks (log_in place) },
 }
 
 impl<D: Disk> Engine<D> {
-    ghost use Rattle.std.specs.Prelude.{◌≡◌, ◌+◌, ◌*◌, ◌≤◌, List, IfOk, IsTrue, length};
+    ghost use Rattle.std.specs.Prelude.{◌≡◌, ◌+◌, ◌*◌, ◌≤◌, List, IfOk, IsTrue, true, length};
     ghost use Rattle.btr_disk.specs.Causes.{Rose};
     ghost use Rattle.btr_log.specs.Log.{log_device as device_of, log_tail, log_blocks, extents_of, faults_at};
     ghost use Rattle.btr_hist.specs.declared.entry.Entry.{Entry as EntrySpec};
     ghost use Rattle.btr_hist.specs.History.{stream_of, spec_of};
     ghost use Rattle.btr_engine.specs.Board.{latest_of};
     ghost use Rattle.btr_engine.specs.Snapshot.{IsSnapshotOf};
-    ghost use Rattle.btr_engine.specs.Engine.{device, entries_of, is_stopped, faults_at_open, IsEngineOf, IsMadeOf};
+    ghost use Rattle.btr_engine.specs.Engine.{device, entries_of, is_stopped, faults_at_open, IsEngineOf, IsMadeOf, is_home};
 
     /// Returns the engine of a log, of a board with the log's entries, of the superblock that is chosen on the device, and of the
     /// device as the first sync of an opening left it. It is for openings: it does not call the device, nor compare the board or the
@@ -64,9 +69,11 @@ impl<D: Disk> Engine<D> {
         ensures { IsMadeOf log board chosen synced.value result }
     {
         let opened_with = board.entries();
+        let stopped = log.stopped();
         Engine {
-            log,
+            place: Place::Home(log),
             board,
+            stopped,
             opened_with,
             chosen,
             synced,
@@ -118,13 +125,18 @@ impl<D: Disk> Engine<D> {
         ensures answer { result ≡ is_stopped self.now }
         ensures failed { IsTrue result → Rose (faults_at_open self.now) (D.faults (device self.now)) }
     {
-        self.log.stopped()
+        self.stopped
     }
 
-    /// Returns the device, as the engine's calls left it.
+    /// Returns the device, as the engine's calls left it. The caller passes an engine whose log is at home.
     pub fn into_disk(self) -> D
+        requires home { is_home self ≡ true }
         ensures { result ≡ device self }
     {
-        self.log.into_disk()
+        let Engine { place, .. } = self;
+        match place {
+            Place::Home(log) => log.into_disk(),
+            Place::Out(_) => unreachable!(),
+        }
     }
 }

@@ -48,7 +48,7 @@ fn reads_length(reads: &Reads) -> u64
     }
 }
 
-/// Returns the first block after the gate `tail` and a content of so many bytes.
+/// Returns the first block after the gate `tail` and a content of this many bytes.
 fn block_after(tail: u64, length: u64) -> u64
     requires tail { tail ≤ 2 ^ 32 }
     requires length { length ≤ 2 ^ 39 }

@@ -1,17 +1,14 @@
 //! The step: it adds one entry, which is durable before the step returns.
-ghost use Rattle.std.specs.Prelude.{◌≡◌, ℕ, ◌+◌, List, [], ◌∷◌, ◌++◌, false, Err, IfErr, IfOk, OnOk, length};
+ghost use Rattle.std.specs.Prelude.{◌≡◌, ℕ, ◌+◌, List, [], ◌∷◌, ◌++◌, false, true, IfErr, IfOk, OnOk, length};
 ghost use Rattle.btr_log.specs.declared.append.AppendFault.TheVariants.{Full, Fault, Stopped as AlreadyStopped};
 ghost use Rattle.btr_hist.specs.declared.entry.Entry.{Entry as EntrySpec};
 ghost use Rattle.btr_engine.specs.declared.step.StepFault.TheVariants.{Stopped, DeviceFull, DeviceFault};
-ghost use Rattle.btr_engine.specs.Engine.{device, board_of, entries_of, tail_of, is_stopped};
+ghost use Rattle.btr_engine.specs.Engine.{device, is_stopped, is_home};
 ghost use Rattle.btr_engine.specs.Engine.{IsEngineOf, IsAtRest, IsDurable, EngineLeaves, KeepsOpening};
-ghost use Rattle.btr_engine.specs.Step.{history_after, in_flight_after, IsBeforeOrAfter, HasEffect, HasResult, IsStepped, StepCause};
-ghost use Rattle.btr_engine.specs.Stage.{WritesEntry};
-ghost use Rattle.btr_engine.specs.Pending.{IsMade, IsPending};
+ghost use Rattle.btr_engine.specs.Step.{history_after, in_flight_after, IsBeforeOrAfter, HasEffect, IsStepped, StepCause, IsStep};
 
-use crate::board::{PushFault, Receipt, Staged};
+use crate::board::{PushFault, Receipt};
 use crate::engine::Engine;
-use crate::extent::encode_extent;
 use btr_disk::Disk;
 use btr_hist::{Entry, Rejection};
 use btr_log::AppendFault;
@@ -37,16 +34,6 @@ pub enum StepFault {
     DeviceFault,
 }
 
-/// An entry that may follow the history of an engine, with all that is needed to add it.
-#[derive(Drop)]
-pub(crate) struct Pending {
-    /// The board with the entry, and the receipt.
-    pub(crate) staged: Staged,
-
-    /// The body of the entry with the pages of its nodes, and one block of zeros.
-    pub(crate) extent: Vec<u8>,
-}
-
 impl<D: Disk> Engine<D> {
     /// Adds an entry to the history. After `Ok` the entry is durable: no later crash loses it. Of a distillate the stream, the
     /// reads and the number of points are tested, not that it is the definition's.
@@ -57,7 +44,11 @@ impl<D: Disk> Engine<D> {
     /// The step makes no call of the device, or four: a write and a sync for the entry and the pages of the nodes that are new in
     /// its stream's tree, then a write and a sync for the gate before it. It takes all memory before the first call. It costs the
     /// bytes of the entry, 4096 bytes for each of these nodes, and time logarithmic in the streams, versions and ids.
+    ///
+    /// The caller passes an engine whose log is at home, and gets it so.
     pub fn step(&mut self, alloc: Global, entry: &Entry) -> Result<Receipt, StepFault>
+        requires home { is_home self.old ≡ true }
+        ensures home { is_home self.new ≡ true }
         ensures effect { HasEffect self.old self.new result }
         ensures cause { (h : List EntrySpec) → IsEngineOf h self.old → IfErr result (StepCause h self.old self.new entry.now) }
         ensures stepped { (h : List EntrySpec) → IsEngineOf h self.old → IfOk result (IsStepped h self.old self.new entry.now) }
@@ -72,38 +63,33 @@ impl<D: Disk> Engine<D> {
             → (is_stopped self.old ≡ false → IsAtRest h self.old) → IsDurable h calls entries self.old more
             → IsDurable (history_after result h entry.now) calls entries self.new (in_flight_after result more entry.now) }
     {
-        if self.log.stopped() {
-            return Err(StepFault::Stopped {
-                entries: self.board.entries(),
-            });
-        }
-        let pending = self.stage(alloc, entry)?;
-        if let Err(fault) = self.log.append(&pending.extent) {
-            return Err(step_fault(fault));
-        }
-        Ok(self.board.accept(pending.staged))
+        self.taken_step(alloc, entry)
     }
 
-    /// Tests an entry, and makes all that is needed to add it. It takes all memory of a step, and changes nothing.
-    fn stage(&self, alloc: Global, entry: &Entry) -> Result<Pending, StepFault>
-        requires runs { is_stopped self.now ≡ false }
-        ensures made { IfOk result (IsMade (entries_of self.now + 1) entry.now) }
-        ensures writes { IfOk result (λ p. WritesEntry (board_of self.now) entry.now (tail_of self.now) p.staged) }
-        ensures pending { (h : List EntrySpec) → IsEngineOf h self.now → IfOk result (IsPending h entry.now) }
-        ensures cause { (h : List EntrySpec) → IsEngineOf h self.now → IfErr result (StepCause h self.now self.now entry.now) }
-        ensures refused { IfErr result (λ fault. HasResult self.now self.now (Err fault)) }
+    /// Takes the log out, stages the entry, writes it, and brings the log back.
+    fn taken_step(&mut self, alloc: Global, entry: &Entry) -> Result<Receipt, StepFault>
+        requires home { is_home self.old ≡ true }
+        ensures { IsStep self.old self.new entry.now result }
     {
-        let staged = self.board.stage(alloc, entry, self.log.tail())?;
-        let receipt = staged.receipt;
-        let extent = encode_extent(
-            alloc,
-            entry,
-            receipt.number,
-            receipt.stream,
-            staged.root,
-            &staged.nodes,
-        )?;
-        Ok(Pending { staged, extent })
+        let Some(log) = self.take_log() else {
+            unreachable!()
+        };
+        let ready = match self.stage(alloc, &log, entry) {
+            Ok(ready) => ready,
+            Err(fault) => {
+                self.settle(log, None, false);
+                return Err(fault);
+            }
+        };
+        let (log, written) = ready.write(log);
+        if let Err(_) = written {
+            self.settle(log, None, true);
+            return Err(StepFault::DeviceFault);
+        }
+        match self.settle(log, Some(ready), false) {
+            Some(receipt) => Ok(receipt),
+            None => unreachable!(),
+        }
     }
 }
 

@@ -2,24 +2,19 @@
 ghost use Rattle.std.specs.Prelude.{◌≤◌};
 
 use crate::fixture::{
-    ID, Marked, checkpoint, empty_store, insert, mark, no_wrong, opened, put_piece, two_entries,
+    ID, Marked, MemEngine, empty_store, insert, mark, no_wrong, opened, put_piece, two_entries,
 };
 use btr_base::Point;
 use btr_disk::{Fill, MemDisk};
-use btr_engine::{Engine, Receipt, Snapshot, StepFault};
+use btr_engine::{Receipt, Snapshot, StepFault};
 use btr_hist::{Answer, At, Query, Rows};
 use btr_super::{ChooseFault, Super, choose};
 use std::alloc::{AllocError, Global};
 use std::test::Fail;
 
-/// Returns an engine of two entries and so many checkpoints of them. The first checkpoint makes the calls 19 to 27 of the device, the
+/// Returns an engine of two entries and this many checkpoints of them. The first checkpoint makes the calls 19 to 27 of the device, the
 /// second the calls 28 to 38.
-fn marked(
-    alloc: Global,
-    blocks: usize,
-    failing: &[u64],
-    count: u32,
-) -> Result<Engine<MemDisk>, Fail>
+fn marked(alloc: Global, blocks: usize, failing: &[u64], count: u32) -> Result<MemEngine, Fail>
     requires { (8 ≤ blocks) × (blocks ≤ 64) }
 {
     let mut engine = two_entries(alloc, blocks, failing)?;
@@ -31,7 +26,7 @@ fn marked(
 
 // ---- what is written
 
-/// The superblock after so many checkpoints of a store of 64 blocks.
+/// The superblock after this many checkpoints of a store of 64 blocks.
 const fn superblock(seq: u64, side: u8, checkpoint: u64, tail: u64) -> Super {
     Super {
         seq,
@@ -50,7 +45,7 @@ fn chosen_on(disk: MemDisk) -> (Result<Super, ChooseFault>, u64) {
     (choose(&mut disk), calls)
 }
 
-/// What is chosen after so many checkpoints, and the number of calls before.
+/// What is chosen after this many checkpoints, and the number of calls before.
 fn chosen_after(alloc: Global, count: u32) -> Result<(Result<Super, ChooseFault>, u64), Fail> {
     Ok(chosen_on(marked(alloc, 64, &[], count)?.into_disk()))
 }
@@ -117,7 +112,7 @@ fn with_checkpoint(bytes: Vec<u8>, pieces: &[Piece], block: usize) -> Vec<u8> {
     bytes
 }
 
-/// The bytes of the device after so many checkpoints.
+/// The bytes of the device after this many checkpoints.
 fn bytes_after(alloc: Global, count: u32) -> Result<Vec<u8>, Fail> {
     Ok(marked(alloc, 64, &[], count)?.into_disk().into_bytes())
 }
@@ -165,7 +160,7 @@ type Seen = (u64, Option<u32>, Option<u64>, bool);
 /// What an engine of the two entries has.
 const SEEN: Seen = (2, Some(0), Some(1), true);
 
-fn seen(alloc: Global, engine: &Engine<MemDisk>) -> Result<Seen, AllocError> {
+fn seen(alloc: Global, engine: &MemEngine) -> Result<Seen, AllocError> {
     let snapshot = engine.admit()?;
     let has_points = has_points(alloc, &snapshot)?;
     Ok((
@@ -176,7 +171,7 @@ fn seen(alloc: Global, engine: &Engine<MemDisk>) -> Result<Seen, AllocError> {
     ))
 }
 
-/// What an engine has after so many checkpoints, and what it has when it is opened again.
+/// What an engine has after this many checkpoints, and what it has when it is opened again.
 fn seen_after(alloc: Global, count: u32) -> Result<(Seen, Seen), Fail> {
     let engine = marked(alloc, 16, &[], count)?;
     let before = seen(alloc, &engine)?;
@@ -196,21 +191,21 @@ fn answers_are_the_same_after_checkpoints(rt: HostRuntime) -> Result<(), Fail> {
 /// Adds a commit of one point.
 fn step_one(
     alloc: Global,
-    engine: &mut Engine<MemDisk>,
+    engine: &mut MemEngine,
 ) -> Result<Result<Receipt, StepFault>, AllocError> {
     let entry = insert(alloc, 0, &[(9, 9)])?;
     Ok(engine.step(alloc, &entry))
 }
 
-/// An engine of a store with so many checkpoints that was opened again and then had a commit and a checkpoint, and what these returned.
+/// An engine of a store with this many checkpoints that was opened again and then had a commit and a checkpoint, and what these returned.
 fn went_on(
     alloc: Global,
     count: u32,
-) -> Result<(Engine<MemDisk>, Result<Receipt, StepFault>, Marked), Fail> {
+) -> Result<(MemEngine, Result<Receipt, StepFault>, Marked), Fail> {
     let disk = marked(alloc, 64, &[], count)?.into_disk();
     let mut engine = opened(alloc, disk)?;
     let stepped = step_one(alloc, &mut engine)?;
-    let marked = checkpoint(alloc, &mut engine);
+    let marked = engine.checkpoint(alloc);
     Ok((engine, stepped, marked))
 }
 
@@ -263,7 +258,7 @@ fn versions_are_the_same_after_later_checkpoints(rt: HostRuntime) -> Result<(), 
 /// What a checkpoint of an empty store returns, and the entries of the engine when it is opened again.
 fn marked_empty(alloc: Global) -> Result<(Marked, u64), Fail> {
     let mut engine = empty_store(alloc, 8, &[])?;
-    let marked = checkpoint(alloc, &mut engine);
+    let marked = engine.checkpoint(alloc);
     let engine = opened(alloc, engine.into_disk())?;
     Ok((marked, engine.entries()))
 }
@@ -279,7 +274,7 @@ fn a_store_without_entries_has_a_checkpoint(rt: HostRuntime) -> Result<(), Fail>
 /// What a checkpoint returns on a store of ten blocks, whether the engine is then stopped, and the calls of the device.
 fn full(alloc: Global) -> Result<(Marked, bool, u64), Fail> {
     let mut engine = two_entries(alloc, 10, &[])?;
-    let refused = checkpoint(alloc, &mut engine);
+    let refused = engine.checkpoint(alloc);
     let is_stopped = engine.stopped();
     Ok((refused, is_stopped, engine.into_disk().calls()))
 }
@@ -326,9 +321,9 @@ const FAILED: Attempts = (
     Err(StepFault::Stopped { entries: 2 }),
 );
 
-fn attempts(alloc: Global, engine: &mut Engine<MemDisk>) -> Result<Attempts, AllocError> {
-    let first = checkpoint(alloc, engine);
-    let second = checkpoint(alloc, engine);
+fn attempts(alloc: Global, engine: &mut MemEngine) -> Result<Attempts, AllocError> {
+    let first = engine.checkpoint(alloc);
+    let second = engine.checkpoint(alloc);
     let stepped = step_one(alloc, engine)?;
     Ok((first, second, stepped))
 }
@@ -346,7 +341,7 @@ const FILLS: &[Fill] = &[
 fn goes_on(alloc: Global, image: MemDisk) -> Result<bool, Fail> {
     let mut engine = opened(alloc, image)?;
     let before = seen(alloc, &engine)?;
-    let marked = checkpoint(alloc, &mut engine);
+    let marked = engine.checkpoint(alloc);
     Ok(before == SEEN && marked == Ok(2))
 }
 

@@ -1,11 +1,10 @@
 //! Tests of openings of devices whose pages, roots or heads were changed: which block is named.
 
 use crate::fixture::{
-    Row, calls_of_opening, first_other, first_wrong, mark, no_wrong, opened, step,
+    MemEngine, Row, calls_of_opening, first_other, first_wrong, mark, no_wrong, opened, step,
 };
 use btr_base::{Bag, Point, Range, Ranges};
 use btr_disk::{Capacity, MemDisk};
-use btr_engine::Engine;
 use btr_hist::Entry;
 use btr_super::format;
 use std::alloc::{AllocError, Global};
@@ -20,7 +19,7 @@ const CAPACITY: Capacity = Capacity {
 const SLOT: i64 = 72057594037927936;
 
 /// Returns an engine of an empty store of 32 blocks.
-fn empty_store(alloc: Global) -> Result<Engine<MemDisk>, Fail> {
+fn empty_store(alloc: Global) -> Result<MemEngine, Fail> {
     let mut disk = MemDisk::new(alloc, 64, CAPACITY, Vec::new(alloc))?;
     if format(&mut disk, 32).is_err() {
         return Err("no store was made".into());
@@ -45,7 +44,7 @@ fn insert(alloc: Global, stream: u32, from: i64, count: u32) -> Result<Entry, Al
 }
 
 /// Adds two streams. Their extents have the gates 4 and 6.
-fn with_streams(alloc: Global) -> Result<Engine<MemDisk>, Fail> {
+fn with_streams(alloc: Global) -> Result<MemEngine, Fail> {
     let mut engine = empty_store(alloc)?;
     step(alloc, &mut engine, &Entry::Create { id: 7 })?;
     step(alloc, &mut engine, &Entry::Create { id: 8 })?;
@@ -54,7 +53,7 @@ fn with_streams(alloc: Global) -> Result<Engine<MemDisk>, Fail> {
 
 /// Adds two commits to stream 0. The first has gate 8, body 9 and leaf 10, the root of version 1. The second has gate 11, body 12, the
 /// leaves 13 and 14 of the slots 16 and 17, and the root 15 of version 2.
-fn with_inner_root(alloc: Global) -> Result<Engine<MemDisk>, Fail> {
+fn with_inner_root(alloc: Global) -> Result<MemEngine, Fail> {
     let mut engine = with_streams(alloc)?;
     step(alloc, &mut engine, &insert(alloc, 0, 0, 3)?)?;
     step(alloc, &mut engine, &insert(alloc, 0, SLOT, 250)?)?;
@@ -62,7 +61,7 @@ fn with_inner_root(alloc: Global) -> Result<Engine<MemDisk>, Fail> {
 }
 
 /// Adds one commit to stream 1, of one point: gate 16, body 17, and the leaf 18, its root. The tail is 19.
-fn five_entries(alloc: Global) -> Result<Engine<MemDisk>, Fail> {
+fn five_entries(alloc: Global) -> Result<MemEngine, Fail> {
     let mut engine = with_inner_root(alloc)?;
     step(alloc, &mut engine, &insert(alloc, 1, 5, 1)?)?;
     Ok(engine)
@@ -74,7 +73,7 @@ fn whole_device(alloc: Global) -> Result<Vec<u8>, Fail> {
 }
 
 /// Adds a checkpoint: gate 19, body 20. The tail is 21, and superblock B names the checkpoint.
-fn marked_engine(alloc: Global) -> Result<Engine<MemDisk>, Fail> {
+fn marked_engine(alloc: Global) -> Result<MemEngine, Fail> {
     let mut engine = five_entries(alloc)?;
     mark(alloc, &mut engine, 5)?;
     Ok(engine)
@@ -303,8 +302,8 @@ fn seven_entries(alloc: Global) -> Result<Vec<u8>, Fail> {
     Ok(engine.into_disk().into_bytes())
 }
 
-/// The entries after the checkpoint, and pages below it. Roots: a leaf below a root, roots of two earlier versions, one of another stream, a
-/// body below the checkpoint, none, and a later block. Children of slot 16: a body, an earlier root, the leaf of another slot, a root of
+/// The entries after the checkpoint, and pages below it. Roots: a leaf below a root, roots of two earlier versions, one of another stream,
+/// a body below the checkpoint, none, and a later block. Children of slot 16: a body, an earlier root, the leaf of another slot, a root of
 /// another stream, the parent, and the new leaf; then the version of the slot, its count, and the child of slot 17. Two pages that are
 /// none. Roots of the second commit: a body, a root of another stream, none, and a later block.
 const LATER: &[Row] = &[

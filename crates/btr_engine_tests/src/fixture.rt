@@ -1,9 +1,10 @@
 //! What the tests of several modules share.
-ghost use Rattle.std.specs.Prelude.{◌≤◌};
+ghost use Rattle.std.specs.Prelude.{◌≡◌, ◌≤◌, true};
+ghost use Rattle.btr_engine.specs.Engine.{is_home};
 
 use btr_base::{Bag, Point, Ranges};
 use btr_disk::{Capacity, MemDisk};
-use btr_engine::{Engine, StepFault};
+use btr_engine::{Engine, Receipt, Snapshot, StepFault};
 use btr_hist::Entry;
 use btr_open::{OpenCause, open_store};
 use btr_super::format;
@@ -43,21 +44,65 @@ const CAPACITY: Capacity = Capacity {
     blocks: 160,
 };
 
-/// Opens a device, or says that it was not opened.
-pub(crate) fn opened(alloc: Global, disk: MemDisk) -> Result<Engine<MemDisk>, Fail> {
-    match open_store(alloc, disk) {
-        Ok(engine) => Ok(engine),
-        Err(_) => Err("it was not opened".into()),
+/// What a checkpoint returns.
+pub(crate) type Marked = Result<u64, StepFault>;
+
+/// An engine over a device in memory, whose log is at home. Its calls have no clauses, so the proofs of the tests do not go through those
+/// of the engine.
+#[derive(Drop)]
+pub(crate) struct MemEngine {
+    engine: Engine<MemDisk>,
+    ghost home: { is_home engine ≡ true },
+}
+
+impl MemEngine {
+    /// Adds an entry.
+    pub(crate) fn step(&mut self, alloc: Global, entry: &Entry) -> Result<Receipt, StepFault> {
+        self.engine.step(alloc, entry)
+    }
+
+    /// Adds a checkpoint.
+    pub(crate) fn checkpoint(&mut self, alloc: Global) -> Marked {
+        self.engine.checkpoint(alloc)
+    }
+
+    /// Returns a snapshot.
+    pub(crate) fn admit(&self) -> Result<Snapshot, AllocError> {
+        self.engine.admit()
+    }
+
+    /// Returns the number of entries.
+    pub(crate) fn entries(&self) -> u64 {
+        self.engine.entries()
+    }
+
+    /// Returns whether the engine is stopped.
+    pub(crate) fn stopped(&self) -> bool {
+        self.engine.stopped()
+    }
+
+    /// Returns the device.
+    pub(crate) fn into_disk(self) -> MemDisk {
+        self.engine.into_disk()
     }
 }
 
-/// Returns an engine of an empty store of so many blocks, which are all of its device. The format made the calls 0 to 7 of the device,
+/// Returns the engine of the store on a device, if it is opened.
+pub(crate) fn engine_on(alloc: Global, disk: MemDisk) -> Option<MemEngine> {
+    match open_store(alloc, disk) {
+        Ok(engine) => Some(MemEngine { engine }),
+        Err(_) => None,
+    }
+}
+
+/// Opens a device, or says that it was not opened.
+pub(crate) fn opened(alloc: Global, disk: MemDisk) -> Result<MemEngine, Fail> {
+    Ok(engine_on(alloc, disk).ok_or("it was not opened")?)
+}
+
+/// Returns an engine of an empty store of this many blocks, which are all of its device. The format made the calls 0 to 7 of the device,
 /// and the opening the calls 8 to 10. The calls in the list fail.
-pub(crate) fn empty_store(
-    alloc: Global,
-    blocks: usize,
-    failing: &[u64],
-) -> Result<Engine<MemDisk>, Fail>
+pub(crate) fn empty_store(alloc: Global, blocks: usize, failing: &[u64]) -> Result<MemEngine, Fail>
     requires { (8 ≤ blocks) × (blocks ≤ 64) }
 {
     let mut disk = MemDisk::new(alloc, blocks, CAPACITY, failing.to_vec(alloc)?)?;
@@ -68,24 +113,16 @@ pub(crate) fn empty_store(
 }
 
 /// Adds an entry.
-pub(crate) fn step(alloc: Global, engine: &mut Engine<MemDisk>, entry: &Entry) -> Result<(), Fail> {
+pub(crate) fn step(alloc: Global, engine: &mut MemEngine, entry: &Entry) -> Result<(), Fail> {
     match engine.step(alloc, entry) {
         Ok(_) => Ok(()),
         Err(_) => Err("an entry was refused".into()),
     }
 }
 
-/// What a checkpoint returns.
-pub(crate) type Marked = Result<u64, StepFault>;
-
-/// Adds a checkpoint. The helper has no clause, so the proofs of the tests do not go through those of a checkpoint.
-pub(crate) fn checkpoint(alloc: Global, engine: &mut Engine<MemDisk>) -> Marked {
-    engine.checkpoint(alloc)
-}
-
-/// Adds a checkpoint of so many entries.
-pub(crate) fn mark(alloc: Global, engine: &mut Engine<MemDisk>, entries: u64) -> Result<(), Fail> {
-    if checkpoint(alloc, engine) == Ok(entries) {
+/// Adds a checkpoint of this many entries.
+pub(crate) fn mark(alloc: Global, engine: &mut MemEngine, entries: u64) -> Result<(), Fail> {
+    if engine.checkpoint(alloc) == Ok(entries) {
         return Ok(());
     }
     Err("a checkpoint was refused, or is of other entries".into())
@@ -94,13 +131,9 @@ pub(crate) fn mark(alloc: Global, engine: &mut Engine<MemDisk>, entries: u64) ->
 /// The id of the stream of [`two_entries`].
 pub(crate) const ID: u128 = 0x11111111_1111_4111_8111_111111111111;
 
-/// Returns an engine of a store of so many blocks with a stream and a commit of three points. Their extents have the gates 4 and 6, the
+/// Returns an engine of a store of this many blocks with a stream and a commit of three points. Their extents have the gates 4 and 6, the
 /// leaf of the commit is block 8, and the tail is 9. The entries made the calls 11 to 18 of the device.
-pub(crate) fn two_entries(
-    alloc: Global,
-    blocks: usize,
-    failing: &[u64],
-) -> Result<Engine<MemDisk>, Fail>
+pub(crate) fn two_entries(alloc: Global, blocks: usize, failing: &[u64]) -> Result<MemEngine, Fail>
     requires { (8 ≤ blocks) × (blocks ≤ 64) }
 {
     let mut engine = empty_store(alloc, blocks, failing)?;
@@ -116,7 +149,7 @@ pub(crate) type Change = (usize, usize, u8);
 /// A row: what is changed, and the block that is then damaged, if any is.
 pub(crate) type Row = (&'static [Change], Option<u64>);
 
-/// The bytes with these changes, each in a block so many blocks later.
+/// The bytes with these changes, each in a block this many blocks later.
 pub(crate) fn changed(
     alloc: Global,
     whole: &Vec<u8>,
@@ -182,7 +215,7 @@ pub(crate) fn first_wrong(
     Ok(None)
 }
 
-/// The first row whose changes, so many blocks later, do not damage this block, if any, on a device of these bytes. It is not looked at
+/// The first row whose changes, this many blocks later, do not damage this block, if any, on a device of these bytes. It is not looked at
 /// what the row says.
 pub(crate) fn first_other(
     alloc: Global,

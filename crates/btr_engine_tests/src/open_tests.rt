@@ -1,10 +1,10 @@
 //! Tests of an engine from its opening on, over a device in memory.
 ghost use Rattle.std.specs.Prelude.{◌≡◌, ◌%◌, ◌<◌, ◌≤◌, ◌^◌, length};
 
-use crate::fixture::{mark, no_wrong};
+use crate::fixture::{MemEngine, engine_on, mark, no_wrong, opened};
 use btr_base::{Agg, Bag, END, FIRST, Point, Range, Ranges, Toward};
 use btr_disk::{Capacity, Disk, MemDisk};
-use btr_engine::{Engine, Receipt, Snapshot, StepFault};
+use btr_engine::{Receipt, Snapshot, StepFault};
 use btr_hist::{
     Answer, At, Entry, History, Kernel, PointList, Query, Reads, Rejection, Rows, Spec, StreamList,
     StreamRow,
@@ -29,19 +29,6 @@ fn formatted(alloc: Global, failing: &[u64]) -> Result<MemDisk, Fail> {
         return Err("no store was made".into());
     }
     Ok(disk)
-}
-
-/// Opens the store on a device.
-fn opened(alloc: Global, disk: MemDisk) -> Result<Engine<MemDisk>, Fail> {
-    match open_store(alloc, disk) {
-        Ok(engine) => Ok(engine),
-        Err(_) => Err("it was not opened".into()),
-    }
-}
-
-/// Adds an entry. The helper has no clause, so the proofs of the tests do not go through those of a step.
-fn step(alloc: Global, engine: &mut Engine<MemDisk>, entry: &Entry) -> Result<Receipt, StepFault> {
-    engine.step(alloc, entry)
 }
 
 /// Returns a commit of `count` points to stream 0, one every four nanoseconds.
@@ -78,7 +65,7 @@ fn latest_in(alloc: Global, snapshot: &Snapshot) -> Result<Option<(u64, usize)>,
 }
 
 /// Returns the latest version of stream 0 and the number of its points.
-fn latest(alloc: Global, engine: &Engine<MemDisk>) -> Result<(u64, usize), Fail> {
+fn latest(alloc: Global, engine: &MemEngine) -> Result<(u64, usize), Fail> {
     let found = latest_in(alloc, &engine.admit()?)?;
     Ok(found.ok_or("no points were answered")?)
 }
@@ -96,23 +83,23 @@ fn receipt(number: u64, stream: u32, version: u64) -> Stepped {
 }
 
 /// Adds a commit of `count` points to stream 0.
-fn step_insert(alloc: Global, engine: &mut Engine<MemDisk>, count: u32) -> Result<Stepped, Fail> {
+fn step_insert(alloc: Global, engine: &mut MemEngine, count: u32) -> Result<Stepped, Fail> {
     let entry = insert(alloc, count)?;
-    Ok(step(alloc, engine, &entry))
+    Ok(engine.step(alloc, &entry))
 }
 
 /// Adds two streams, a commit of three points, and the first stream again. Returns the engine, and the results of the steps.
-fn three_entries(alloc: Global) -> Result<(Engine<MemDisk>, [Stepped; 4]), Fail> {
+fn three_entries(alloc: Global) -> Result<(MemEngine, [Stepped; 4]), Fail> {
     let mut engine = opened(alloc, formatted(alloc, &[])?)?;
-    let first = step(alloc, &mut engine, &Entry::Create { id: 7 });
-    let second = step(alloc, &mut engine, &Entry::Create { id: 8 });
+    let first = engine.step(alloc, &Entry::Create { id: 7 });
+    let second = engine.step(alloc, &Entry::Create { id: 8 });
     let third = step_insert(alloc, &mut engine, 3)?;
-    let again = step(alloc, &mut engine, &Entry::Create { id: 7 });
+    let again = engine.step(alloc, &Entry::Create { id: 7 });
     Ok((engine, [first, second, third, again]))
 }
 
 /// The engine of three entries, opened again.
-fn reopened(alloc: Global) -> Result<Engine<MemDisk>, Fail> {
+fn reopened(alloc: Global) -> Result<MemEngine, Fail> {
     let (engine, _) = three_entries(alloc)?;
     opened(alloc, engine.into_disk())
 }
@@ -162,7 +149,7 @@ fn acknowledged_entries_are_there_after_reopening(rt: HostRuntime) -> Result<(),
 }
 
 /// Adds a small commit to a reopened engine, and one that is too large. Returns the engine, and the results of the steps.
-fn filled(alloc: Global) -> Result<(Engine<MemDisk>, [Stepped; 2]), Fail> {
+fn filled(alloc: Global) -> Result<(MemEngine, [Stepped; 2]), Fail> {
     let mut engine = reopened(alloc)?;
     let small = step_insert(alloc, &mut engine, 3)?;
     let large = step_insert(alloc, &mut engine, 1000)?;
@@ -202,19 +189,19 @@ fn a_snapshot_is_as_it_was_after_a_commit(rt: HostRuntime) -> Result<(), Fail> {
 type Failed = ([Stepped; 2], bool, (u64, usize), u64);
 
 /// Returns an engine with one stream, whose device fails at a call.
-fn failing_at(alloc: Global, call: u64) -> Result<Engine<MemDisk>, Fail> {
+fn failing_at(alloc: Global, call: u64) -> Result<MemEngine, Fail> {
     let mut engine = opened(alloc, formatted(alloc, &[call])?)?;
-    match step(alloc, &mut engine, &Entry::Create { id: 7 }) {
+    match engine.step(alloc, &Entry::Create { id: 7 }) {
         Ok(_) => Ok(engine),
         Err(_) => Err("no stream was made".into()),
     }
 }
 
 /// Adds a commit twice to an engine.
-fn stepped_twice(alloc: Global, engine: &mut Engine<MemDisk>) -> Result<[Stepped; 2], AllocError> {
+fn stepped_twice(alloc: Global, engine: &mut MemEngine) -> Result<[Stepped; 2], AllocError> {
     let entry = insert(alloc, 3)?;
-    let first = step(alloc, engine, &entry);
-    let second = step(alloc, engine, &entry);
+    let first = engine.step(alloc, &entry);
+    let second = engine.step(alloc, &entry);
     Ok([first, second])
 }
 
@@ -485,21 +472,21 @@ fn whole_store(alloc: Global, capacity: Capacity) -> Result<MemDisk, Fail>
 }
 
 /// Adds an entry that is accepted.
-fn add(alloc: Global, engine: &mut Engine<MemDisk>, entry: &Entry) -> Result<(), Fail> {
-    match step(alloc, engine, entry) {
+fn add(alloc: Global, engine: &mut MemEngine, entry: &Entry) -> Result<(), Fail> {
+    match engine.step(alloc, entry) {
         Ok(_) => Ok(()),
         Err(_) => Err("an entry was refused".into()),
     }
 }
 
 /// Adds the entry at this index of that history.
-fn add_at(alloc: Global, engine: &mut Engine<MemDisk>, index: u32) -> Result<(), Fail> {
+fn add_at(alloc: Global, engine: &mut MemEngine, index: u32) -> Result<(), Fail> {
     let entry = entry_at(alloc, index)?;
     add(alloc, engine, &entry)
 }
 
 /// Adds the entries of that history from one index up to another.
-fn add_from(alloc: Global, engine: &mut Engine<MemDisk>, from: u32, to: u32) -> Result<(), Fail> {
+fn add_from(alloc: Global, engine: &mut MemEngine, from: u32, to: u32) -> Result<(), Fail> {
     for index in from..to {
         add_at(alloc, engine, index)?;
     }
@@ -507,7 +494,7 @@ fn add_from(alloc: Global, engine: &mut Engine<MemDisk>, from: u32, to: u32) -> 
 }
 
 /// Returns an engine of the first entries of that history.
-fn engine_of(alloc: Global, count: u32) -> Result<Engine<MemDisk>, Fail> {
+fn engine_of(alloc: Global, count: u32) -> Result<MemEngine, Fail> {
     let capacity = Capacity {
         calls: 96,
         blocks: 256,
@@ -523,13 +510,13 @@ fn snapshot_of_six(alloc: Global) -> Result<Snapshot, Fail> {
 }
 
 /// Returns an engine of the first entries of that history, opened from a checkpoint after them.
-fn opened_from(alloc: Global, count: u32) -> Result<Engine<MemDisk>, Fail> {
+fn opened_from(alloc: Global, count: u32) -> Result<MemEngine, Fail> {
     let mut engine = engine_of(alloc, count)?;
     mark(alloc, &mut engine, u64::from(count))?;
     opened(alloc, engine.into_disk())
 }
 
-/// Returns a snapshot of an engine of those six entries, which was opened from a checkpoint after so many of them. The others were added
+/// Returns a snapshot of an engine of those six entries, which was opened from a checkpoint after this many of them. The others were added
 /// then, and it was opened once more.
 fn reopened_from(alloc: Global, count: u32) -> Result<Snapshot, Fail> {
     let mut engine = opened_from(alloc, count)?;
@@ -602,14 +589,14 @@ fn the_engine_answers_as_the_history_after_a_checkpoint_of_some(
 }
 
 /// Adds a stream, and returns the engine.
-fn with_stream(alloc: Global, engine: Engine<MemDisk>, id: u128) -> Option<Engine<MemDisk>> {
+fn with_stream(alloc: Global, engine: MemEngine, id: u128) -> Option<MemEngine> {
     let mut engine = engine;
-    step(alloc, &mut engine, &Entry::Create { id }).ok()?;
+    engine.step(alloc, &Entry::Create { id }).ok()?;
     Some(engine)
 }
 
 /// The number of entries of an engine.
-fn entries_of(engine: Option<Engine<MemDisk>>) -> Option<u64> {
+fn entries_of(engine: Option<MemEngine>) -> Option<u64> {
     Some(engine?.entries())
 }
 
@@ -625,7 +612,7 @@ fn log_on(disk: MemDisk) -> Option<Log<MemDisk>> {
 fn engine_moved<R: Threads>(
     rt: &R,
     alloc: Global,
-    engine: Engine<MemDisk>,
+    engine: MemEngine,
 ) -> Result<(Option<u64>, u64), AllocError> {
     let snapshot = engine.admit()?;
     let (moved, entries) = join(
@@ -640,7 +627,7 @@ fn engine_moved<R: Threads>(
 fn snapshot_moved<R: Threads>(
     rt: &R,
     alloc: Global,
-    engine: Engine<MemDisk>,
+    engine: MemEngine,
 ) -> Result<(Option<u32>, Option<u64>), AllocError> {
     let snapshot = engine.admit()?;
     let (found, moved) = join(
@@ -652,9 +639,9 @@ fn snapshot_moved<R: Threads>(
 }
 
 /// Opens a device in another thread. Returns the engine.
-fn device_moved<R: Threads>(rt: &R, alloc: Global, disk: MemDisk) -> Option<Engine<MemDisk>> {
-    let (opened, _) = join(rt, move || open_store(alloc, disk).ok(), || ());
-    opened
+fn device_moved<R: Threads>(rt: &R, alloc: Global, disk: MemDisk) -> Option<MemEngine> {
+    let (engine, _) = join(rt, move || engine_on(alloc, disk), || ());
+    engine
 }
 
 /// Asks a log for its room in another thread.
@@ -706,23 +693,23 @@ fn steady(alloc: Global, snapshot: &Snapshot) -> Option<(u64, usize)> {
 }
 
 /// Adds `count` commits of three points to stream 0, and returns the engine.
-fn with_commits(alloc: Global, engine: Engine<MemDisk>, count: u32) -> Option<Engine<MemDisk>> {
+fn with_commits(alloc: Global, engine: MemEngine, count: u32) -> Option<MemEngine> {
     let mut engine = engine;
     for _ in 0..count {
         let entry = insert(alloc, 3).ok()?;
-        step(alloc, &mut engine, &entry).ok()?;
+        engine.step(alloc, &entry).ok()?;
     }
     Some(engine)
 }
 
 /// Adds a commit of three points.
-fn add_points(alloc: Global, engine: &mut Engine<MemDisk>) -> Result<(), Fail> {
+fn add_points(alloc: Global, engine: &mut MemEngine) -> Result<(), Fail> {
     let entry = insert(alloc, 3)?;
     add(alloc, engine, &entry)
 }
 
 /// Returns an engine with a stream and a commit of three points. Its device keeps a record of many calls.
-fn one_commit(alloc: Global) -> Result<Engine<MemDisk>, Fail> {
+fn one_commit(alloc: Global) -> Result<MemEngine, Fail> {
     let capacity = Capacity {
         calls: 256,
         blocks: 256,
@@ -738,8 +725,8 @@ fn asked_and_added<R: Threads>(
     rt: &R,
     alloc: Global,
     snapshot: Snapshot,
-    engine: Engine<MemDisk>,
-) -> (Option<(u64, usize)>, Option<Engine<MemDisk>>) {
+    engine: MemEngine,
+) -> (Option<(u64, usize)>, Option<MemEngine>) {
     join(
         rt,
         move || steady(alloc, &snapshot),
@@ -816,13 +803,13 @@ fn derived_at(alloc: Global, index: u32) -> Result<Entry, Fail> {
 }
 
 /// Adds the entry at this index of that history.
-fn add_derived(alloc: Global, engine: &mut Engine<MemDisk>, index: u32) -> Result<(), Fail> {
+fn add_derived(alloc: Global, engine: &mut MemEngine, index: u32) -> Result<(), Fail> {
     let entry = derived_at(alloc, index)?;
     add(alloc, engine, &entry)
 }
 
 /// Adds the entries of that history from one index up to the sixth.
-fn add_derived_from(alloc: Global, engine: &mut Engine<MemDisk>, from: u32) -> Result<(), Fail> {
+fn add_derived_from(alloc: Global, engine: &mut MemEngine, from: u32) -> Result<(), Fail> {
     for index in from..6 {
         add_derived(alloc, engine, index)?;
     }
@@ -830,7 +817,7 @@ fn add_derived_from(alloc: Global, engine: &mut Engine<MemDisk>, from: u32) -> R
 }
 
 /// Returns an engine of that history. The body of its last extent is block 18.
-fn with_output(alloc: Global) -> Result<Engine<MemDisk>, Fail> {
+fn with_output(alloc: Global) -> Result<MemEngine, Fail> {
     let mut engine = opened(alloc, whole_store(alloc, CAPACITY)?)?;
     add_derived_from(alloc, &mut engine, 0)?;
     Ok(engine)
@@ -922,16 +909,16 @@ const REJECTED: &[(u32, u64, Rejection)] = &[
 /// Returns whether a distillate is rejected for this reason.
 fn is_rejected(
     alloc: Global,
-    engine: &mut Engine<MemDisk>,
+    engine: &mut MemEngine,
     stream: u32,
     read: u64,
     why: Rejection,
 ) -> Result<bool, Fail> {
     let entry = distillate(alloc, stream, read, (0, 1), Vec::new(alloc))?;
-    Ok(step(alloc, engine, &entry) == Err(StepFault::Rejected(why)))
+    Ok(engine.step(alloc, &entry) == Err(StepFault::Rejected(why)))
 }
 
-fn first_not_rejected(alloc: Global, engine: &mut Engine<MemDisk>) -> Result<Option<usize>, Fail> {
+fn first_not_rejected(alloc: Global, engine: &mut MemEngine) -> Result<Option<usize>, Fail> {
     for (row, (stream, read, why)) in REJECTED.iter().enumerate() {
         if !is_rejected(alloc, engine, *stream, *read, *why)? {
             return Ok(Some(row));
@@ -941,14 +928,14 @@ fn first_not_rejected(alloc: Global, engine: &mut Engine<MemDisk>) -> Result<Opt
 }
 
 /// Adds a user's commit to the output.
-fn step_user(alloc: Global, engine: &mut Engine<MemDisk>) -> Result<Stepped, Fail> {
+fn step_user(alloc: Global, engine: &mut MemEngine) -> Result<Stepped, Fail> {
     let entry = commit(alloc, 1, &[(0, 1)], Vec::new(alloc))?;
-    Ok(step(alloc, engine, &entry))
+    Ok(engine.step(alloc, &entry))
 }
 
 /// Adds the distillates and the user's commit. Returns the engine, the number of the first distillate that is not rejected, and the result
 /// of the commit.
-fn refused(alloc: Global) -> Result<(Engine<MemDisk>, Option<usize>, Stepped), Fail> {
+fn refused(alloc: Global) -> Result<(MemEngine, Option<usize>, Stepped), Fail> {
     let mut engine = with_output(alloc)?;
     let wrong = first_not_rejected(alloc, &mut engine)?;
     let user = step_user(alloc, &mut engine)?;
@@ -956,7 +943,7 @@ fn refused(alloc: Global) -> Result<(Engine<MemDisk>, Option<usize>, Stepped), F
 }
 
 /// Returns whether an engine has the stream and the output.
-fn engine_has_output(alloc: Global, engine: Engine<MemDisk>) -> Result<bool, AllocError> {
+fn engine_has_output(alloc: Global, engine: MemEngine) -> Result<bool, AllocError> {
     let snapshot = engine.admit()?;
     has_output(alloc, &snapshot)
 }
@@ -997,7 +984,7 @@ fn an_output_is_the_same_after_reopening(rt: HostRuntime) -> Result<(), Fail> {
 }
 
 /// Returns an engine of the first four entries of that history, opened from a checkpoint after them.
-fn output_opened(alloc: Global) -> Result<Engine<MemDisk>, Fail> {
+fn output_opened(alloc: Global) -> Result<MemEngine, Fail> {
     let mut engine = opened(alloc, whole_store(alloc, CAPACITY)?)?;
     for index in 0..4 {
         add_derived(alloc, &mut engine, index)?;
@@ -1007,7 +994,7 @@ fn output_opened(alloc: Global) -> Result<Engine<MemDisk>, Fail> {
 }
 
 /// Returns an engine of that history, opened from a checkpoint after all of it. There is also one after four entries.
-fn output_reopened(alloc: Global) -> Result<Engine<MemDisk>, Fail> {
+fn output_reopened(alloc: Global) -> Result<MemEngine, Fail> {
     let mut engine = output_opened(alloc)?;
     add_derived_from(alloc, &mut engine, 4)?;
     mark(alloc, &mut engine, 6)?;
@@ -1020,8 +1007,8 @@ fn refused_after(alloc: Global) -> Result<(Option<usize>, [Stepped; 3]), Fail> {
     let mut engine = output_reopened(alloc)?;
     let wrong = first_not_rejected(alloc, &mut engine)?;
     let user = step_user(alloc, &mut engine)?;
-    let first = step(alloc, &mut engine, &Entry::Create { id: 7 });
-    let second = step(alloc, &mut engine, &Entry::Create { id: 8 });
+    let first = engine.step(alloc, &Entry::Create { id: 7 });
+    let second = engine.step(alloc, &Entry::Create { id: 8 });
     Ok((wrong, [user, first, second]))
 }
 

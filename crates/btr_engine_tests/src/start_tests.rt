@@ -2,12 +2,12 @@
 ghost use Rattle.std.specs.Prelude.{◌≤◌};
 
 use crate::fixture::{
-    Change, Row, calls_of_opening, changed, damaged, device_of, first_other, first_wrong, insert,
-    mark, no_wrong, opened, put_piece, step, two_entries,
+    Change, MemEngine, Row, calls_of_opening, changed, damaged, device_of, first_other,
+    first_wrong, insert, mark, no_wrong, opened, put_piece, step, two_entries,
 };
 use btr_base::{Bag, Point, Ranges};
 use btr_disk::{Capacity, MemDisk};
-use btr_engine::{Engine, Snapshot};
+use btr_engine::Snapshot;
 use btr_hist::{Answer, At, Entry, Kernel, Query, Reads, Rows, Spec};
 use btr_super::format;
 use std::alloc::{AllocError, Global};
@@ -43,7 +43,7 @@ fn distillate(alloc: Global) -> Result<Entry, AllocError> {
 }
 
 /// Adds an output with one version to two entries. Its extents have the gates 9 and 11, the leaf is block 13, and the tail is 14.
-fn with_output(alloc: Global) -> Result<Engine<MemDisk>, Fail> {
+fn with_output(alloc: Global) -> Result<MemEngine, Fail> {
     let mut engine = two_entries(alloc, 32, &[])?;
     let define = Entry::Define {
         id: OUTPUT,
@@ -55,7 +55,7 @@ fn with_output(alloc: Global) -> Result<Engine<MemDisk>, Fail> {
     Ok(engine)
 }
 
-/// The bytes of the device after so many checkpoints of these four entries. The first has the gate 14 and the body 15, and the superblock
+/// The bytes of the device after this many checkpoints of these four entries. The first has the gate 14 and the body 15, and the superblock
 /// B names it, with seq 2 and tail 16. The second has the gate 16 and the body 17, and the superblock A names it, with seq 3 and tail 18.
 fn marked(alloc: Global, count: u32) -> Result<Vec<u8>, Fail> {
     let mut engine = with_output(alloc)?;
@@ -65,7 +65,7 @@ fn marked(alloc: Global, count: u32) -> Result<Vec<u8>, Fail> {
     Ok(engine.into_disk().into_bytes())
 }
 
-/// The first row that is wrong, on the device after so many checkpoints.
+/// The first row that is wrong, on the device after this many checkpoints.
 fn first_wrong_after(alloc: Global, count: u32, rows: &[Row]) -> Result<Option<usize>, Fail> {
     let whole = marked(alloc, count)?;
     first_wrong(alloc, &whole, rows)
@@ -194,8 +194,8 @@ const ROOTS: &[Row] = &[
     (&[(15, 180, 9)], Some(9)),
 ];
 
-/// What is before the checkpoint. Gates and bodies of entries are not read. Of the leaves 8 and 13, which are the roots of the versions, each
-/// field counts: the leaf is named if it is no page, and the content of the checkpoint if it is the page of another root.
+/// What is before the checkpoint. Gates and bodies of entries are not read. Of the leaves 8 and 13, which are the roots of the versions,
+/// each field counts: the leaf is named if it is no page, and the content of the checkpoint if it is the page of another root.
 const BEFORE: &[Row] = &[
     (&[(4, 0, 0)], None),
     (&[(5, 0, 0), (5, 64, 9)], None),
@@ -299,9 +299,9 @@ const SUPERBLOCKS: &[Row] = &[
 
 /// Numbers of superblocks, and gates. Equal numbers are damage, and 13 is the greatest number with tail 16.
 ///
-/// If the gate of B is closed, A is chosen, and the log is read from block 4: entries count, and the checkpoint is read over. If the gate of
-/// A is closed, B stays. A checkpoint that is cut off leaves the superblock that names it wrong. What A says of a checkpoint is not tested,
-/// but its table is.
+/// If the gate of B is closed, A is chosen, and the log is read from block 4: entries count, and the checkpoint is read over. If the gate
+/// of A is closed, B stays. A checkpoint that is cut off leaves the superblock that names it wrong. What A says of a checkpoint is not
+/// tested, but its table is.
 const GATES: &[Row] = &[
     (&[(3, 23, 0)], Some(3)),
     (&[(3, 23, 1)], Some(3)),
@@ -343,13 +343,13 @@ fn the_superblock_that_is_chosen_says_where_the_reading_starts(
 
 // ---- a checkpoint after the start
 
-/// The bytes of the device after so many checkpoints, with these changes.
+/// The bytes of the device after this many checkpoints, with these changes.
 fn marked_but(alloc: Global, count: u32, changes: &[Change]) -> Result<Vec<u8>, Fail> {
     let whole = marked(alloc, count)?;
     Ok(changed(alloc, &whole, changes, 0)?)
 }
 
-/// The first row of each table of a checkpoint's fields whose changes, so many blocks later, do not damage this block.
+/// The first row of each table of a checkpoint's fields whose changes, this many blocks later, do not damage this block.
 fn first_passed_over(
     alloc: Global,
     whole: &Vec<u8>,
@@ -442,8 +442,8 @@ fn the_reading_starts_at_the_checkpoint_that_is_named(rt: HostRuntime) -> Result
 
 // ---- many entries
 
-/// Returns an engine of an empty store of so many blocks, on a device that keeps a record of many calls.
-fn large_store(alloc: Global, blocks: usize) -> Result<Engine<MemDisk>, Fail>
+/// Returns an engine of an empty store of this many blocks, on a device that keeps a record of many calls.
+fn large_store(alloc: Global, blocks: usize) -> Result<MemEngine, Fail>
     requires { (8 ≤ blocks) × (blocks ≤ 1024) }
 {
     let capacity = Capacity {
@@ -457,8 +457,8 @@ fn large_store(alloc: Global, blocks: usize) -> Result<Engine<MemDisk>, Fail>
     opened(alloc, disk)
 }
 
-/// Adds so many streams. Each extent has two blocks.
-fn create(alloc: Global, engine: &mut Engine<MemDisk>, count: u32) -> Result<(), Fail> {
+/// Adds this many streams. Each extent has two blocks.
+fn create(alloc: Global, engine: &mut MemEngine, count: u32) -> Result<(), Fail> {
     for number in 0..count {
         let id = u128::from(number);
         step(alloc, engine, &Entry::Create { id })?;
@@ -467,7 +467,7 @@ fn create(alloc: Global, engine: &mut Engine<MemDisk>, count: u32) -> Result<(),
 }
 
 /// Returns an engine of 130 streams, and no points. Their extents have the gates 4 to 262, and the tail is 264.
-fn many_streams(alloc: Global) -> Result<Engine<MemDisk>, Fail> {
+fn many_streams(alloc: Global) -> Result<MemEngine, Fail> {
     let mut engine = large_store(alloc, 272)?;
     create(alloc, &mut engine, 130)?;
     Ok(engine)
@@ -510,7 +510,7 @@ fn what_is_before_a_checkpoint_is_not_read(rt: HostRuntime) -> Result<(), Fail> 
 }
 
 /// Adds 16 commits of one point each to a stream. Each extent has three blocks, and the last one is its leaf.
-fn commit(alloc: Global, engine: &mut Engine<MemDisk>, stream: u32) -> Result<(), Fail> {
+fn commit(alloc: Global, engine: &mut MemEngine, stream: u32) -> Result<(), Fail> {
     for time in 0..16i64 {
         let entry = insert(alloc, stream, &[(time, 1)])?;
         step(alloc, engine, &entry)?;
@@ -520,7 +520,7 @@ fn commit(alloc: Global, engine: &mut Engine<MemDisk>, stream: u32) -> Result<()
 
 /// Returns an engine of 115 streams, of which the last one has 16 versions. Those of version 1 to 16 have the gates 234, 237 and so on up
 /// to 279, and the roots 236, 239 and so on up to 281. The tail is 282.
-fn many_versions(alloc: Global) -> Result<Engine<MemDisk>, Fail> {
+fn many_versions(alloc: Global) -> Result<MemEngine, Fail> {
     let mut engine = large_store(alloc, 300)?;
     create(alloc, &mut engine, 115)?;
     commit(alloc, &mut engine, 114)?;
@@ -594,8 +594,8 @@ fn versions_opened(alloc: Global) -> Result<Snapshot, Fail> {
     Ok(engine.admit()?)
 }
 
-/// The pages below the checkpoint are read in runs of 256 blocks: after a sync, the superblocks and the blocks from the gate 282 on come the
-/// blocks 0 to 255, which have the first root, and the blocks 256 to 281.
+/// The pages below the checkpoint are read in runs of 256 blocks: after a sync, the superblocks and the blocks from the gate 282 on come
+/// the blocks 0 to 255, which have the first root, and the blocks 256 to 281.
 #[test]
 fn each_version_is_read_from_its_root(rt: HostRuntime) -> Result<(), Fail> {
     let alloc = rt.alloc();

@@ -101,7 +101,7 @@ fn a_store_is_made_and_chosen(rt: HostRuntime) -> Result<(), Fail> {
     Ok(())
 }
 
-/// What a format of so many blocks gave on a device, and the calls of the device.
+/// What a format of this many blocks gave on a device, and the calls of the device.
 fn format_on(disk: MemDisk, blocks: u64) -> (Formatted, u64)
     requires { (8 ≤ blocks) × (blocks ≤ 16) }
 {
@@ -196,6 +196,62 @@ fn first_unbroken(alloc: Global) -> Result<Option<usize>, AllocError> {
 #[test]
 fn each_byte_of_a_body_counts(rt: HostRuntime) -> Result<(), Fail> {
     no_wrong(first_unbroken(rt.alloc())?)
+}
+
+/// The tail, the checkpoint and the number of a superblock of eight blocks, and whether it keeps the table: a checkpoint is from block 4 on
+/// and below the tail, which is a block of the store, and the number is at most the tail less 3.
+const STARTS: [(u8, u8, u8, bool); 14] = [
+    (4, 0, 1, true),
+    (4, 0, 2, false),
+    (6, 0, 1, false),
+    (5, 4, 1, true),
+    (5, 4, 2, true),
+    (5, 4, 3, false),
+    (7, 4, 4, true),
+    (7, 4, 5, false),
+    (7, 6, 1, true),
+    (8, 6, 1, false),
+    (6, 6, 1, false),
+    (6, 7, 1, false),
+    (7, 3, 1, false),
+    (4, 4, 1, false),
+];
+
+/// What is chosen if the superblock has this tail, checkpoint and number.
+fn chosen_start(alloc: Global, tail: u8, checkpoint: u8, seq: u8) -> Result<Chosen, AllocError> {
+    let bytes = with_piece(formatted(alloc)?, 4096 + 39, &[tail]);
+    let bytes = with_piece(bytes, 4096 + 47, &[checkpoint]);
+    chosen(alloc, with_piece(bytes, 4096 + 23, &[seq]))
+}
+
+/// What is to be chosen then.
+fn wanted_start(tail: u8, checkpoint: u8, seq: u8, keeps: bool) -> Chosen {
+    if !keeps {
+        return Err(ChooseFault::Damaged { block: 1 });
+    }
+    Ok(Super {
+        seq: u64::from(seq),
+        side: 0,
+        blocks: 8,
+        tail: u64::from(tail),
+        checkpoint: u64::from(checkpoint),
+        format: 1,
+    })
+}
+
+fn first_wrong_start(alloc: Global) -> Result<Option<usize>, AllocError> {
+    for (row, (tail, checkpoint, seq, keeps)) in STARTS.iter().enumerate() {
+        let want = wanted_start(*tail, *checkpoint, *seq, *keeps);
+        if chosen_start(alloc, *tail, *checkpoint, *seq)? != want {
+            return Ok(Some(row));
+        }
+    }
+    Ok(None)
+}
+
+#[test]
+fn a_superblock_says_where_the_reading_starts(rt: HostRuntime) -> Result<(), Fail> {
+    no_wrong(first_wrong_start(rt.alloc())?)
 }
 
 const SECOND: Super = Super {

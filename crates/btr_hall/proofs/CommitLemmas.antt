@@ -1,5 +1,5 @@
 -- Lemmas on the turn of an entry: of which list the store is after it, and what its result says of the history.
-use Rattle.std.specs.Prelude.{◌≡◌, ℕ, ◌+◌, ◌<◌, ◌≤◌, Bool, true, false, ◌||◌, List, [], ◌∷◌, ◌++◌, length}
+use Rattle.std.specs.Prelude.{◌≡◌, ℕ, ◌+◌, Bool, true, false, ◌||◌, List, [], ◌∷◌, ◌++◌, length}
 use Rattle.std.specs.Prelude.{Option, Some, None, option_to_list, Result, Ok, Err}
 use Rattle.std.specs.declared.snapshot.Snapshot.{Snapshot}
 use Rattle.std.proofs.Common.{refl, sym, ap, ◌∙◌, subst, arith, length-append}
@@ -7,15 +7,13 @@ use Rattle.std.proofs.lemmas.List.{append-nil}
 use Rattle.btr_disk.specs.declared.disk.Disk.{Ghosts}
 use Rattle.btr_hist.specs.declared.entry.Entry.{Entry}
 use Rattle.btr_hist.specs.declared.entry.Entry.TheVariants as entries
-use Rattle.btr_hist.specs.Legal.{rejection}
 use Rattle.btr_hist.specs.Machine as machine
 use Rattle.btr_engine.specs.declared.engine.Engine.{Engine}
 use Rattle.btr_engine.specs.declared.board.Receipt.{Receipt}
 use Rattle.btr_engine.specs.declared.step.StepFault.{StepFault}
 use Rattle.btr_engine.specs.declared.step.StepFault.TheVariants.{Stopped, Rejected, Want, DeviceFull, DeviceFault}
 use Rattle.btr_engine.specs.Body.{needs_after}
-use Rattle.btr_engine.specs.Stage.{IsReceipt}
-use Rattle.btr_engine.specs.Engine.{entries_of, is_stopped, room_of, IsEngineOf}
+use Rattle.btr_engine.specs.Engine.{is_stopped, is_home, room_of, IsEngineOf}
 use Rattle.btr_engine.specs.Step.{IsStep, IsStepped}
 use Rattle.btr_gate.specs.Numbers.{one}
 use Rattle.btr_gate.specs.Prefixes.{StartsWith}
@@ -27,9 +25,9 @@ use Rattle.btr_hall.specs.declared.session.Hall.{Hall}
 use Rattle.btr_hall.specs.declared.session.Session.{Session}
 use Rattle.btr_hall.specs.Trace.{IsTraceOf, engine_after, entries_in, has_halt, stopped_in, history_of}
 use Rattle.btr_hall.specs.Store.{IsStoreOf}
-use Rattle.btr_hall.specs.Session.{IsAlone, HasOneTurn, opening_of, seen_of, mine_of, engine_of}
+use Rattle.btr_hall.specs.Session.{IsAlone, HasTurns, opening_of, seen_of, mine_of, engine_of}
 use Rattle.btr_hall.specs.Commit.{shown, has_failed, number_by, item_by, Adds, CommitReplies, Commits}
-use Rattle.btr_hall.proofs.TraceLemmas.{engine_append, halt_append, engine_of_list, stopped_of_list, length_of_list, room_of_list, item_engine, item_halt, list_push}
+use Rattle.btr_hall.proofs.TraceLemmas.{like_same, engine_at, engine_append, halt_append, engine_of_list, stopped_of_list, length_of_list, room_of_list, item_engine, item_halt, list_push}
 
 -- A snapshot that shows a value.
 pub shown_is : {A : Type 0} (s : Snapshot A) (x : A) → s.value ≡ x → s ≡ shown x
@@ -57,25 +55,25 @@ module _ {D : Type 0} {disk : Ghosts D} where
   -- ---- the store after a step
 
   -- The step is one of the engine at the end of the list.
-  pub step_here : (s t : Store D disk) (l : List (Item D disk)) (x : Engine D disk) (e : Entry) (result : Result Receipt StepFault) (added : Option (Item D disk)) → IsStoreOf s l x → Adds s t e result added → IsStep (engine_after x l) t.engine e result
-  step_here s t l x e result added of adds = subst (λ z. IsStep z t.engine e result) of.engine adds.step
+  pub step_here : (s t : Store D disk) (l : List (Item D disk)) (x : Engine D disk) (e : Entry) (result : Result Receipt StepFault) (added : Option (Item D disk)) → IsStoreOf s l x → is_home s.engine ≡ true → Adds s t e result added → IsStep (engine_after x l) t.engine e result
+  step_here s t l x e result added of home adds = subst (λ z. IsStep z t.engine e result) (engine_at s l x of home) adds.step
 
   -- The list after it, with the item that it added.
   pub list_is : (s t : Store D disk) (l : List (Item D disk)) (e : Entry) (result : Result Receipt StepFault) (added : Option (Item D disk)) → Adds s t e result added → with_entry l added ≡ l ++ option_to_list (item_by result e t.engine)
   list_is s t l e result added adds = with_entry_is l added ∙ ap (λ o. l ++ option_to_list o) adds.item
 
-  pub store_after : (s t : Store D disk) (l : List (Item D disk)) (x : Engine D disk) (e : Entry) (result : Result Receipt StepFault) (added : Option (Item D disk)) → IsStoreOf s l x → Adds s t e result added → IsStoreOf t (with_entry l added) x
-  store_after s t l x e result added of adds =
+  pub store_after : (s t : Store D disk) (l : List (Item D disk)) (x : Engine D disk) (e : Entry) (result : Result Receipt StepFault) (added : Option (Item D disk)) → IsStoreOf s l x → is_home s.engine ≡ true → Adds s t e result added → IsStoreOf t (with_entry l added) x
+  store_after s t l x e result added of home adds =
       let more = option_to_list (item_by result e t.engine) in
       let is = list_is s t l e result added adds in
-      let step = step_here s t l x e result added of adds in
+      let step = step_here s t l x e result added of home adds in
+      let at : t.engine ≡ engine_after x (with_entry l added) =
+      sym (item_engine (engine_after x l) t.engine e result step) ∙ sym (engine_append x l more) ∙ sym (ap (engine_after x) is) in
       record {
-        opening = of.opening ∙ ap (λ o. o.value) (sym adds.opening);
+        opening = of.opening ∙ sym adds.opening;
         trace = subst (IsTraceOf x) (sym is) (list_push x t.engine l e result of.trace step);
-        engine =
-            sym (item_engine (engine_after x l) t.engine e result step)
-            ∙ sym (engine_append x l more)
-            ∙ sym (ap (engine_after x) is);
+        engine = like_same t.engine (engine_after x (with_entry l added)) at;
+        home = ap (λ (z : Engine D disk). is_home z) (sym at) ∙ step.home;
         halted =
             adds.halted
             ∙ ap (λ b. b || has_failed result) of.halted
@@ -136,7 +134,7 @@ module _ {D : Type 0} {disk : Ghosts D} where
   number_is l mine e y (Err (DeviceFull need room)) = sym (append-nil mine)
 
   -- The turn of an entry, from the store that it had and the one that it left.
-  module _ (hall : Hall D disk) (old new : Session D disk) (s t : Store D disk) (before : List (Item D disk)) (e : Entry) (result : Result Receipt StepFault) (added : Option (Item D disk)) (of : IsStoreOf s before (opening_of hall)) (adds : Adds s t e result added) (seen : seen_of new ≡ with_entry before added) where
+  module _ (hall : Hall D disk) (old new : Session D disk) (s t : Store D disk) (before : List (Item D disk)) (e : Entry) (result : Result Receipt StepFault) (added : Option (Item D disk)) (of : IsStoreOf s before (opening_of hall)) (home : is_home s.engine ≡ true) (adds : Adds s t e result added) (seen : seen_of new ≡ with_entry before added) where
     seen_here : seen_of new ≡ before ++ option_to_list (item_by result e t.engine)
     seen_here = seen ∙ list_is s t before e result added adds
 
@@ -144,11 +142,11 @@ module _ {D : Type 0} {disk : Ghosts D} where
     engine_here =
         ap (engine_after (opening_of hall)) seen_here
         ∙ engine_append (opening_of hall) before (option_to_list (item_by result e t.engine))
-        ∙ item_engine (engine_after (opening_of hall) before) t.engine e result (step_here s t before (opening_of hall) e result added of adds)
+        ∙ item_engine (engine_after (opening_of hall) before) t.engine e result (step_here s t before (opening_of hall) e result added of home adds)
 
     pub new_step : IsStep (engine_after (opening_of hall) before) (engine_of hall new) e result
     new_step =
-        subst (λ z. IsStep (engine_after (opening_of hall) before) z e result) (sym engine_here) (step_here s t before (opening_of hall) e result added of adds)
+        subst (λ z. IsStep (engine_after (opening_of hall) before) z e result) (sym engine_here) (step_here s t before (opening_of hall) e result added of home adds)
 
     pub new_seen : seen_of new ≡ before ++ option_to_list (item_by result e (engine_of hall new))
     new_seen = seen_here ∙ sym (ap (λ z. before ++ option_to_list (item_by result e z)) engine_here)
@@ -160,7 +158,7 @@ module _ {D : Type 0} {disk : Ghosts D} where
         ∙ number_is before (mine_of old) e t.engine result
         ∙ sym (ap (λ l. mine_of old ++ option_to_list (number_by result (length {A = Item D disk} l))) seen_here)
 
-    pub commits_of : HasOneTurn old new → StartsWith before (seen_of old) → (IsAlone old → before ≡ seen_of old) → mine_of new ≡ with_number (mine_of old) before added → Commits hall old new e result
+    pub commits_of : HasTurns old new → StartsWith before (seen_of old) → (IsAlone old → before ≡ seen_of old) → mine_of new ≡ with_number (mine_of old) before added → Commits hall old new e result
     commits_of turn grows alone mine = record {
       turn = turn;
       before = before;

@@ -27,4 +27,4 @@ session_send D g s =
 
 pub hall_sync : (D : RattleType) (g : Ghosts D.Denot) → IsSend D → IsSync (hall.the_row D g)
 hall_sync D g s =
-    declared_sync (hall.the_type D g) (gate.the_sync (store.the_row D g) (item.the_row D g) (engine.the_row D g) _ (store_send D g s) (item_send D g s), (search (sendable, crosses) depth 20, tt))
+    declared_sync (hall.the_type D g) (gate.the_sync (store.the_row D g) (item.the_row D g) (engine.the_row D g) _ (store_send D g s) (item_send D g s), (search (sendable, crosses) depth 20, (search (sendable, crosses) depth 20, tt)))

@@ -1,5 +1,5 @@
 -- Lemmas on the turn of a plan: what its result says of the history.
-use Rattle.std.specs.Prelude.{◌≡◌, ◌⊎◌, ℕ, ◌+◌, ◌<◌, ◌≤◌, Bool, true, false, List, [], ◌∷◌, ◌++◌, length}
+use Rattle.std.specs.Prelude.{◌≡◌, ◌⊎◌, ℕ, ◌<◌, Bool, true, false, List, ◌++◌, length}
 use Rattle.std.specs.Prelude.{Option, Some, None, option_to_list, Result, Ok, Err, nat_le, if◌then◌else◌}
 use Rattle.std.proofs.Common.{refl, sym, ap, ◌∙◌, subst, inl, inr, ⊎_elim}
 use Rattle.std.specs.Option.{unwrap_or}
@@ -22,7 +22,7 @@ use Rattle.btr_engine.specs.declared.board.Receipt.{Receipt}
 use Rattle.btr_engine.specs.declared.step.StepFault.{StepFault}
 use Rattle.btr_engine.specs.declared.step.StepFault.TheVariants as steps
 use Rattle.btr_engine.specs.Board.{latest_of}
-use Rattle.btr_engine.specs.Engine.{is_stopped, IsEngineOf}
+use Rattle.btr_engine.specs.Engine.{is_stopped, is_home, IsEngineOf}
 use Rattle.btr_engine.specs.Step.{IsStep, IsStepped, HasResult}
 use Rattle.btr_gate.specs.Prefixes.{StartsWith}
 use Rattle.btr_gate.specs.Views.{with_entry, with_number}
@@ -32,15 +32,15 @@ use Rattle.btr_hall.specs.declared.land.LandFault.TheVariants as faults
 use Rattle.btr_hall.specs.declared.store.Store.{Store}
 use Rattle.btr_hall.specs.declared.session.Hall.{Hall}
 use Rattle.btr_hall.specs.declared.session.Session.{Session}
-use Rattle.btr_hall.specs.Trace.{IsTraceOf, engine_after, entries_in, stopped_in, history_of}
+use Rattle.btr_hall.specs.Trace.{IsTraceOf, engine_after, entries_in, history_of}
 use Rattle.btr_hall.specs.Store.{IsStoreOf}
-use Rattle.btr_hall.specs.Session.{IsAlone, HasOneTurn, opening_of, seen_of, mine_of, engine_of}
+use Rattle.btr_hall.specs.Session.{IsAlone, HasTurns, opening_of, seen_of, mine_of, engine_of}
 use Rattle.btr_hall.specs.Commit.{Adds, item_by}
 use Rattle.btr_hall.specs.Commit as commit
 use Rattle.btr_hall.specs.Landing.{step_fault, step_result, LandingReplies, Lands}
 use Rattle.btr_hall.specs.Superseded.{IsNotSuperseded, IsSupersededBy, StoreLands, said_rejection, said_result}
-use Rattle.btr_hall.proofs.TraceLemmas.{entries_append, engine_of_list, stopped_of_list, list_push}
-use Rattle.btr_hall.proofs.CommitLemmas.{store_after, replies_of, says_stopped, new_step, new_seen, new_mine}
+use Rattle.btr_hall.proofs.TraceLemmas.{engine_at, entries_append, engine_of_list, stopped_of_list, list_push}
+use Rattle.btr_hall.proofs.CommitLemmas.{replies_of, says_stopped, new_step, new_seen, new_mine}
 
 -- A rejection is named, or it is said that memory ran out.
 named_or_want : (why : Rejection) → (step_fault (said_rejection why) ≡ steps.Rejected why) ⊎ (said_rejection why ≡ faults.Want)
@@ -145,15 +145,6 @@ module _ {D : Type 0} {disk : Ghosts D} where
   step_lands s t p added (Err (steps.DeviceFull need left)) adds current = (Err (steps.DeviceFull need left), adds, current, refl)
   step_lands s t p added (Err steps.DeviceFault) adds current = (Err steps.DeviceFault, adds, current, refl)
 
-  -- The store after a landing.
-  pub store_landed : (s t : Store D disk) (l : List (Item D disk)) (x : Engine D disk) (p : PlanValue) (added : Option (Item D disk)) (result : Result Receipt LandFault) → IsStoreOf s l x → StoreLands s t p added result → IsStoreOf t (with_entry l added) x
-  store_landed s t l x p added result of lands =
-      elim (two_ways s t p added result lands) [
-        | inl passed ↦
-            subst (λ o. IsStoreOf t (with_entry l o) x) (sym passed.none) (subst (λ u. IsStoreOf u l x) (sym passed.same) of)
-        | inr stepped ↦ store_after s t l x (entry_of p) stepped.step added of stepped.adds
-      ]
-
   -- ---- what the result says
 
   -- The plan is current if the engine runs.
@@ -211,7 +202,7 @@ module _ {D : Type 0} {disk : Ghosts D} where
 
   -- ---- the turn
 
-  module _ (hall : Hall D disk) (old new : Session D disk) (s t : Store D disk) (before : List (Item D disk)) (p : PlanValue) (added : Option (Item D disk)) (result : Result Receipt LandFault) (of : IsStoreOf s before (opening_of hall)) (turn : HasOneTurn old new) (plans : (h : List Entry) → IsEngineOf h (opening_of hall) → IsPlanOf (history_of h before) p) (grows : StartsWith before (seen_of old)) (alone : IsAlone old → before ≡ seen_of old) (seen : seen_of new ≡ with_entry before added) (mine : mine_of new ≡ with_number (mine_of old) before added) where
+  module _ (hall : Hall D disk) (old new : Session D disk) (s t : Store D disk) (before : List (Item D disk)) (p : PlanValue) (added : Option (Item D disk)) (result : Result Receipt LandFault) (of : IsStoreOf s before (opening_of hall)) (home : is_home s.engine ≡ true) (turn : HasTurns old new) (plans : (h : List Entry) → IsEngineOf h (opening_of hall) → IsPlanOf (history_of h before) p) (grows : StartsWith before (seen_of old)) (alone : IsAlone old → before ≡ seen_of old) (seen : seen_of new ≡ with_entry before added) (mine : mine_of new ≡ with_number (mine_of old) before added) where
     lands_passed : Passed s t p added result → Lands hall old new p result
     lands_passed passed =
         let x = opening_of hall in
@@ -227,14 +218,14 @@ module _ {D : Type 0} {disk : Ghosts D} where
           mine = mine ∙ ap (with_number (mine_of old) before) passed.none ∙ sym (append-nil (mine_of old)) ∙ sym (ap (λ r. mine_of old ++ option_to_list (commit.number_by r (length (seen_of new)))) nothing);
           effect =
               let at : engine_of hall new ≡ engine_after x before = ap (engine_after x) still in
-              let runs : is_stopped (engine_after x before) ≡ false = sym (ap (λ e. is_stopped e) of.engine) ∙ passed.by.0 in
+              let runs : is_stopped (engine_after x before) ≡ false = sym (ap (λ e. is_stopped e) (engine_at s before x of home)) ∙ passed.by.0 in
               subst (λ r. HasResult (engine_after x before) (engine_of hall new) r) (sym nothing) (runs, at);
           stopped = λ stopped h with_h.
-              let here = ap (λ e. is_stopped e) of.engine ∙ stopped_of_list x before of.trace ∙ stopped in
+              let here = ap (λ e. is_stopped e) (engine_at s before x of home) ∙ stopped_of_list x before of.trace ∙ stopped in
               absurd (not_both (is_stopped s.engine) here passed.by.0);
           replies = λ h with_h.
               let all = history_of h before in
-              let at : IsEngineOf all s.engine = subst (IsEngineOf all) (sym of.engine) (engine_of_list h x before with_h of.trace) in
+              let at : IsEngineOf all s.engine = subst (IsEngineOf all) (sym (engine_at s before x of home)) (engine_of_list h x before with_h of.trace) in
               let version : latest all p.stream ≡ passed.version = passed.by.2 all at in
               let above : p.base < latest all p.stream = subst (λ n. p.base < n) (sym version) passed.by.1 in
               let reply = reply-superseded all p (plans h with_h) above in
@@ -247,12 +238,12 @@ module _ {D : Type 0} {disk : Ghosts D} where
         let e = entry_of p in
         let adds = stepped.adds in
         let did = stepped.step in
-        let step = new_step hall old new s t before e did added of adds seen in
+        let step = new_step hall old new s t before e did added of home adds seen in
         let y = engine_of hall new in
         let item : item_by did e y ≡ item_by (step_result result) e y = sym (said_item did e y) ∙ sym (ap (λ r. item_by (step_result r) e y) stepped.is) in
         let number : commit.number_by did (length (seen_of new)) ≡ commit.number_by (step_result result) (length (seen_of new)) =
         sym (said_number did (length (seen_of new))) ∙ sym (ap (λ r. commit.number_by (step_result r) (length (seen_of new))) stepped.is) in
-        let is = new_seen hall old new s t before e did added of adds seen in
+        let is = new_seen hall old new s t before e did added of home adds seen in
         record {
           turn = turn;
           before = before;
@@ -260,13 +251,13 @@ module _ {D : Type 0} {disk : Ghosts D} where
           alone = alone;
           trace = subst (IsTraceOf x) (sym is) (list_push x y before e did of.trace step);
           seen = is ∙ ap (λ o. before ++ option_to_list o) item;
-          mine = new_mine hall old new s t before e did added of adds seen mine ∙ ap (λ o. mine_of old ++ option_to_list o) number;
+          mine = new_mine hall old new s t before e did added of home adds seen mine ∙ ap (λ o. mine_of old ++ option_to_list o) number;
           effect = subst (λ r. HasResult (engine_after x before) y (step_result r)) (sym stepped.is) (said_effect (engine_after x before) y did step.effect.has_result);
           stopped = λ stopped h with_h.
               stepped.is ∙ ap said_result (says_stopped h x y before e did with_h of.trace step stopped);
           replies = λ h with_h.
               let all = history_of h before in
-              let at : IsEngineOf all s.engine = subst (IsEngineOf all) (sym of.engine) (engine_of_list h x before with_h of.trace) in
+              let at : IsEngineOf all s.engine = subst (IsEngineOf all) (sym (engine_at s before x of home)) (engine_of_list h x before with_h of.trace) in
               let says = replies_of h x y before e did with_h of.trace step in
               subst (LandingReplies x h before all p) (sym stepped.is) (step_replies x t.engine h s before all p at (plans h with_h) stepped.current did adds.step says);
         }

@@ -1,6 +1,6 @@
 -- Lemmas on the shares of sessions: what a split and a meeting keep, and when a session is alone again.
-use Rattle.std.specs.Prelude.{◌≡◌, ℕ, ◌+◌, Bool, true}
-use Rattle.std.proofs.Common.{sym, ap, ◌∙◌, arith}
+use Rattle.std.specs.Prelude.{◌≡◌, ℕ, ◌+◌, Bool}
+use Rattle.std.proofs.Common.{ap, ◌∙◌, arith}
 use Rattle.btr_disk.specs.declared.disk.Disk.{Ghosts}
 use Rattle.btr_gate.specs.Shares.{on_path}
 use Rattle.btr_gate.proofs.ShareLemmas.{on_path_append, on_path_halves, cover_same}

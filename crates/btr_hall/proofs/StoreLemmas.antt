@@ -1,12 +1,12 @@
 -- Lemmas on the engine that a gate carries: at the beginning of a hall and at its close.
-use Rattle.std.specs.Prelude.{◌≡◌, ℕ, Bool, true, false, List, [], ◌∷◌, ◌++◌, length, replicate, Some}
+use Rattle.std.specs.Prelude.{◌≡◌, true, false, List, [], ◌++◌, length, replicate, Some}
 use Rattle.std.specs.declared.snapshot.Snapshot.{Snapshot}
-use Rattle.std.proofs.Common.{refl, sym, ap, ◌∙◌, subst, arith}
+use Rattle.std.proofs.Common.{sym, ap, ◌∙◌, subst, arith}
 use Rattle.std.proofs.lemmas.List.{append-nil}
 use Rattle.btr_disk.specs.declared.disk.Disk.{Ghosts}
 use Rattle.btr_hist.specs.declared.entry.Entry.{Entry}
 use Rattle.btr_engine.specs.declared.engine.Engine.{Engine}
-use Rattle.btr_engine.specs.Engine.{entries_of, is_stopped, IsEngineOf, IsAtRest}
+use Rattle.btr_engine.specs.Engine.{entries_of, is_stopped, is_home, IsAtRest}
 use Rattle.btr_gate.specs.Gates.{IsPassOf, view}
 use Rattle.btr_gate.specs.Numbers.{one}
 use Rattle.btr_gate.specs.Shares.{covers}
@@ -20,7 +20,7 @@ use Rattle.btr_hall.specs.Trace.{engine_after, has_halt, IsTraceOf, history_of}
 use Rattle.btr_hall.specs.Store.{IsStoreOf}
 use Rattle.btr_hall.specs.Session.{Begins, opening_of, seen_of}
 use Rattle.btr_hall.specs.StoreLaws.{engine_earlier, halt_earlier, store_length}
-use Rattle.btr_hall.proofs.TraceLemmas.{at_rest_of_list}
+use Rattle.btr_hall.proofs.TraceLemmas.{like_same, engine_at, at_rest_of_list}
 
 module _ {D : Type 0} {disk : Ghosts D} where
   -- ---- the beginning
@@ -29,23 +29,25 @@ module _ {D : Type 0} {disk : Ghosts D} where
   abbrev pub first_list : Engine D disk → List (Item D disk)
   first_list x = replicate (entries_of x) Earlier
 
-  pub store_first : (x : Engine D disk) (opening : Snapshot (Engine D disk)) → opening.value ≡ x → IsStoreOf (record { engine = x; opening = opening; halted = false }) (first_list x) x
-  store_first x opening is =
+  pub store_first : (x : Engine D disk) (opening : Snapshot (Engine D disk)) → opening.value ≡ x → is_home x ≡ true → IsStoreOf (record { engine = x; opening = opening; halted = false }) (first_list x) x
+  store_first x opening is home =
       let n = entries_of x in
       let list : first_list x ≡ first_list x ++ [] = sym (append-nil (first_list x)) in
+      let at : engine_after x (first_list x) ≡ x = ap (engine_after x) list ∙ engine_earlier n x [] in
       record {
         opening = sym is;
         trace = record { steps = []; is = list; trace = tt };
-        engine = sym (ap (engine_after x) list ∙ engine_earlier n x []);
+        engine = like_same x (engine_after x (first_list x)) (sym at);
+        home = ap (λ (e : Engine D disk). is_home e) at ∙ home;
         halted = sym (ap (has_halt {disk = disk}) list ∙ halt_earlier n []);
       }
 
   -- The hall and its first session.
-  pub begins_of : (x y : Engine D disk) (hall : Hall D disk) (new : Session D disk) (s : Store D disk) → IsPassOf hall.gate new.pass → opening_of hall ≡ x → s.engine ≡ x → s.opening.value ≡ x → s.halted ≡ false → IsStoreOf s (seen_of new) y → view new.pass ≡ opened (seen_of new) y → Begins x hall new
-  begins_of x y hall new s own opening engine shown runs of is =
+  pub begins_of : (x y : Engine D disk) (hall : Hall D disk) (new : Session D disk) (s : Store D disk) → IsPassOf hall.gate new.pass → is_home x ≡ true → opening_of hall ≡ x → s.engine ≡ x → s.opening.value ≡ x → s.halted ≡ false → IsStoreOf s (seen_of new) y → view new.pass ≡ opened (seen_of new) y → Begins x hall new
+  begins_of x y hall new s own home opening engine shown runs of is =
       let same : y ≡ x = of.opening ∙ shown in
       let begun = opening ∙ sym same in
-      let at : engine_after y (seen_of new) ≡ x = sym of.engine ∙ engine in
+      let at : engine_after y (seen_of new) ≡ x = sym (engine_at s (seen_of new) y of (ap (λ e. is_home e) engine ∙ home)) ∙ engine in
       let long : length (seen_of new) ≡ entries_of x =
       let all = store_length s (seen_of new) y of in
       let entries : entries_of s.engine ≡ entries_of x = ap (λ e. entries_of e) engine in
@@ -65,7 +67,7 @@ module _ {D : Type 0} {disk : Ghosts D} where
 
   -- ---- the close
 
-  pub at_rest_at : disk.is_observable → (h : List Entry) (x : Engine D disk) (l : List (Item D disk)) (s : Store D disk) → IsStoreOf s l x → IsAtRest h x → is_stopped s.engine ≡ false → IsAtRest (history_of h l) s.engine
-  at_rest_at observable h x l s of rest runs =
-      let end = at_rest_of_list observable h x l rest of.trace (sym (ap (λ e. is_stopped e) of.engine) ∙ runs) in
-      subst (IsAtRest (history_of h l)) (sym of.engine) end
+  pub at_rest_at : disk.is_observable → (h : List Entry) (x : Engine D disk) (l : List (Item D disk)) (s : Store D disk) → IsStoreOf s l x → is_home s.engine ≡ true → IsAtRest h x → is_stopped s.engine ≡ false → IsAtRest (history_of h l) s.engine
+  at_rest_at observable h x l s of home rest runs =
+      let end = at_rest_of_list observable h x l rest of.trace (sym (ap (λ e. is_stopped e) (engine_at s l x of home)) ∙ runs) in
+      subst (IsAtRest (history_of h l)) (sym (engine_at s l x of home)) end

@@ -1,6 +1,6 @@
 -- Lemmas on the lists of halls: what holds of an engine at the beginning of a list, and of the one at its end.
-use Rattle.std.specs.Prelude.{◌≡◌, ℕ, ◌+◌, ◌<◌, ◌≤◌, Bool, true, false, ◌||◌, List, [], ◌∷◌, ◌++◌, length, replicate}
-use Rattle.std.specs.Prelude.{Option, Some, None, option_to_list, Result, Ok, Err}
+use Rattle.std.specs.Prelude.{◌≡◌, ℕ, ◌+◌, ◌≤◌, Bool, true, false, ◌||◌, List, [], ◌∷◌, ◌++◌, length, replicate}
+use Rattle.std.specs.Prelude.{option_to_list, Result, Ok, Err}
 use Rattle.std.proofs.Common.{zero, suc, refl, sym, ap, ◌∙◌, subst, arith, length-append, append_assoc}
 use Rattle.std.proofs.lemmas.List.{append-nil, length-replicate}
 use Rattle.btr_disk.specs.declared.disk.Disk.{Ghosts}
@@ -12,14 +12,17 @@ use Rattle.btr_engine.specs.declared.step.StepFault.{StepFault}
 use Rattle.btr_engine.specs.declared.step.StepFault.TheVariants.{Stopped, Rejected, Want, DeviceFull, DeviceFault}
 use Rattle.btr_engine.specs.Board.{IsBoardOf}
 use Rattle.btr_engine.specs.Body.{need_of, needs_after}
-use Rattle.btr_engine.specs.Engine.{device, entries_of, blocks_of, tail_of, room_of, is_stopped, IsEngineOf, IsAtRest, IsDurable, KeepsOpening}
+use Rattle.btr_engine.specs.Engine.{log_of, board_of, super_of, entries_at_open, is_home, entries_of, blocks_of, tail_of, room_of, is_stopped, IsEngineOf, IsAtRest, IsDurable, KeepsOpening}
 use Rattle.btr_engine.specs.Step.{CanStep, IsStep, IsStepped, AddsOne, StopsByFault}
+use Rattle.btr_engine.specs.Travel.{IsLike}
+use Rattle.btr_engine.proofs.Stepping.{same_at_home}
 use Rattle.btr_gate.specs.Numbers.{one}
-use Rattle.btr_gate.specs.Prefixes.{StartsWith}
 use Rattle.btr_hall.specs.declared.item.Item.{Item}
 use Rattle.btr_hall.specs.declared.item.Item.TheVariants.{Earlier, Added, Halted}
+use Rattle.btr_hall.specs.declared.store.Store.{Store}
+use Rattle.btr_hall.specs.Store.{IsStoreOf}
 use Rattle.btr_hall.specs.Trace.{IsTrace, IsTraceOf, engine_after, entries_in, has_halt, in_flight_in, stopped_in, history_of}
-use Rattle.btr_hall.specs.StoreLaws.{stopped_accepts, stopped_fails, ends_stopped, trace_length, engine_earlier, halt_earlier}
+use Rattle.btr_hall.specs.StoreLaws.{ends_stopped, trace_length, engine_earlier, halt_earlier}
 use Rattle.btr_hall.specs.Commit.{has_failed, item_by}
 
 room_less : (blocks tail need : ℕ) → need ≤ left blocks tail → left blocks (tail + need) + need ≡ left blocks tail
@@ -273,3 +276,18 @@ module _ {D : Type 0} {disk : Ghosts D} where
         is = ap (λ k. k ++ more) trace.is ∙ append_assoc (replicate (entries_of x) Earlier) trace.steps more;
         trace = trace_append x trace.steps more trace.trace (item_trace (engine_after x trace.steps) y e result here);
       }
+
+  -- ---- the store of a turn
+
+  pub like_same : (a b : Engine D disk) → a ≡ b → IsLike a b
+  like_same a b is = record {
+    log = ap (λ e. log_of e) is;
+    board = ap (λ e. board_of e) is;
+    entries = ap (λ e. entries_at_open e) is;
+    chosen = ap (λ e. super_of e) is;
+    synced = ap (λ e. e.synced) is;
+  }
+
+  -- With its log at home the engine of a store is the one at the end of the list.
+  pub engine_at : (s : Store D disk) (l : List (Item D disk)) (x : Engine D disk) → IsStoreOf s l x → is_home s.engine ≡ true → s.engine ≡ engine_after x l
+  engine_at s l x of home = same_at_home s.engine (engine_after x l) home of.home of.engine

@@ -1,10 +1,12 @@
 -- Lemmas on the turns of sessions: the state that a session gets and hands back, and a turn that adds nothing.
-use Rattle.std.specs.Prelude.{◌≡◌, ℕ, Bool, true, List, length, Option, Some, None, if◌then◌else◌}
-use Rattle.std.proofs.Common.{sym, ap, ◌∙◌, subst}
+use Rattle.std.specs.Prelude.{◌≡◌, Bool, true, false, not, List, length, Option, Some, None, if◌then◌else◌}
+use Rattle.std.proofs.Common.{refl, sym, ap, ◌∙◌, subst}
 use Rattle.btr_disk.specs.declared.disk.Disk.{Ghosts}
 use Rattle.btr_hist.specs.declared.entry.Entry.{Entry}
 use Rattle.btr_engine.specs.declared.engine.Engine.{Engine}
+use Rattle.btr_engine.specs.Board.{IsBoardOf}
 use Rattle.btr_engine.specs.Engine.{is_stopped, IsEngineOf}
+use Rattle.btr_engine.specs.Travel.{IsLike}
 use Rattle.btr_gate.specs.declared.view.View.{View}
 use Rattle.btr_gate.specs.Gates.{view}
 use Rattle.btr_gate.specs.Prefixes.{StartsWith}
@@ -19,6 +21,11 @@ use Rattle.btr_hall.specs.Trace.{IsTraceOf, engine_after, history_of, stopped_in
 use Rattle.btr_hall.specs.Store.{IsStoreOf}
 use Rattle.btr_hall.specs.Session.{IsSame, Looks, opening_of, seen_of, mine_of, stopped_at}
 use Rattle.btr_hall.proofs.TraceLemmas.{engine_of_list, stopped_of_list}
+
+-- What is not out is at home.
+pub not_out : {b : Bool} → not b ≡ false → b ≡ true
+not_out {b = true} is = refl
+not_out {b = false} is = absurd (cc)
 
 module _ {D : Type 0} {disk : Ghosts D} where
   -- The store is of the list under the setting, if there is one.
@@ -41,7 +48,7 @@ module _ {D : Type 0} {disk : Ghosts D} where
 
   -- The engine of a turn is of the history of its list.
   pub turn_engine : (h : List Entry) (s : Store D disk) (l : List (Item D disk)) (x : Engine D disk) → IsStoreOf s l x → IsEngineOf h x → IsEngineOf (history_of h l) s.engine
-  turn_engine h s l x of with_h = subst (IsEngineOf (history_of h l)) (sym of.engine) (engine_of_list h x l with_h of.trace)
+  turn_engine h s l x of with_h = subst (IsBoardOf (history_of h l)) (sym of.engine.board) (engine_of_list h x l with_h of.trace)
 
   -- ---- the views after a turn
 
@@ -55,8 +62,8 @@ module _ {D : Type 0} {disk : Ghosts D} where
     seen_after none = leaves.seen ∙ ap (with_entry (turn_list w)) none
 
     -- The engine of the turn is the one at the end of what the pass has seen.
-    pub engine_seen : added ≡ None → (s : Store D disk) (x : Engine D disk) → IsStoreOf s (turn_list w) x → s.engine ≡ engine_after x u.seen
-    engine_seen none s x of = of.engine ∙ sym (ap (engine_after x) (seen_after none))
+    pub engine_seen : added ≡ None → (s : Store D disk) (x : Engine D disk) → IsStoreOf s (turn_list w) x → IsLike s.engine (engine_after x u.seen)
+    engine_seen none s x of = subst (λ l. IsLike s.engine (engine_after x l)) (sym (seen_after none)) of.engine
 
     -- That engine is of the history of what the pass has seen.
     pub engine_here : added ≡ None → (h : List Entry) (s : Store D disk) (x : Engine D disk) → IsStoreOf s (turn_list w) x → IsEngineOf h x → IsEngineOf (history_of h u.seen) s.engine

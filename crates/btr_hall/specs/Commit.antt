@@ -1,6 +1,6 @@
 -- What the turn of an entry does: which item it adds to the list, and what its result says of the history.
-use Rattle.std.specs.Prelude.{◌≡◌, ℕ, ◌+◌, ◌<◌, Bool, true, false, ◌||◌, List, [], ◌∷◌, ◌++◌, length}
-use Rattle.std.specs.Prelude.{Option, Some, None, option_to_list, Result, Ok, Err, IfOk}
+use Rattle.std.specs.Prelude.{◌≡◌, ℕ, ◌+◌, ◌<◌, Bool, true, false, ◌||◌, List, ◌++◌, length}
+use Rattle.std.specs.Prelude.{Option, Some, None, option_to_list, Result, Ok, Err}
 use Rattle.std.specs.declared.snapshot.Snapshot.{Snapshot}
 use Rattle.btr_disk.specs.declared.disk.Disk.{Ghosts}
 use Rattle.btr_hist.specs.declared.entry.Entry.{Entry}
@@ -21,7 +21,7 @@ use Rattle.btr_hall.specs.declared.store.Store.{Store}
 use Rattle.btr_hall.specs.declared.session.Hall.{Hall}
 use Rattle.btr_hall.specs.declared.session.Session.{Session}
 use Rattle.btr_hall.specs.Trace.{IsTraceOf, engine_after, entries_in, stopped_in, history_of}
-use Rattle.btr_hall.specs.Session.{IsAlone, HasOneTurn, opening_of, seen_of, mine_of, engine_of}
+use Rattle.btr_hall.specs.Session.{IsAlone, HasTurns, opening_of, seen_of, mine_of, engine_of}
 
 -- A value, as an item has it.
 abbrev pub shown : {A : Type 0} → A → Snapshot A
@@ -57,7 +57,7 @@ module _ {D : Type 0} {disk : Ghosts D} where
   -- The store after a step with this entry, and the item that it adds.
   pub record Adds (old new : Store D disk) (e : Entry) (result : Result Receipt StepFault) (added : Option (Item D disk)) : Type 0 where
     pub step : IsStep old.engine new.engine e result
-    pub opening : new.opening ≡ old.opening
+    pub opening : new.opening.value ≡ old.opening.value
     pub halted : new.halted ≡ (old.halted || has_failed result)
     pub item : added ≡ item_by result e new.engine
 
@@ -71,10 +71,11 @@ module _ {D : Type 0} {disk : Ghosts D} where
       (rejection h e ≡ None) × (need ≡ need_of h e) × (left + needs_after first (entries_in before) ≡ room_of x) × (left < need)
   CommitReplies x first before h e (Err DeviceFault) = rejection h e ≡ None
 
-  -- The turn of an entry, which is the only one. `before` is the list when it began, which begins with all that the session had seen. The
-  -- engine at its end does the step. The session has then seen this list, and the item that the step added, whose number is its own.
+  -- The turn of an entry, which may be followed by another that brings the log back. `before` is the list when it began, which begins with
+  -- all that the session had seen. The engine at its end does the step. The session has then seen this list, and the item that the step
+  -- added, whose number is its own.
   pub record Commits (hall : Hall D disk) (old new : Session D disk) (e : Entry) (result : Result Receipt StepFault) : Type 0 where
-    pub turn : HasOneTurn old new
+    pub turn : HasTurns old new
     pub before : List (Item D disk)
     pub grows : StartsWith before (seen_of old)
     pub alone : IsAlone old → before ≡ seen_of old

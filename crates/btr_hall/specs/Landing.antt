@@ -1,5 +1,5 @@
 -- What the turn of a plan does: which item it adds to the list, and what its result says of the history.
-use Rattle.std.specs.Prelude.{◌≡◌, ℕ, ◌+◌, ◌<◌, ◌≤◌, true, false, List, [], ◌∷◌, ◌++◌, length, Option, Some, None}
+use Rattle.std.specs.Prelude.{◌≡◌, ◌+◌, ◌<◌, true, List, [], ◌∷◌, ◌++◌, length, Some, None}
 use Rattle.std.specs.Prelude.{option_to_list, Result, Ok, Err}
 use Rattle.btr_disk.specs.declared.disk.Disk.{Ghosts}
 use Rattle.btr_hist.specs.declared.entry.Entry.{Entry}
@@ -25,7 +25,7 @@ use Rattle.btr_hall.specs.declared.land.LandFault.TheVariants as faults
 use Rattle.btr_hall.specs.declared.session.Hall.{Hall}
 use Rattle.btr_hall.specs.declared.session.Session.{Session}
 use Rattle.btr_hall.specs.Trace.{IsTraceOf, engine_after, entries_in, stopped_in, history_of}
-use Rattle.btr_hall.specs.Session.{IsAlone, HasOneTurn, opening_of, seen_of, mine_of, engine_of}
+use Rattle.btr_hall.specs.Session.{IsAlone, HasTurns, opening_of, seen_of, mine_of, engine_of}
 use Rattle.btr_hall.specs.Commit.{item_by, number_by}
 
 -- The fault of the step of a landing. There was no step if the plan was superseded.
@@ -65,11 +65,12 @@ module _ {D : Type 0} {disk : Ghosts D} where
       × (left + needs_after first (entries_in before) ≡ room_of x) × (left < need)
   LandingReplies x first before h p (Err faults.DeviceFault) = IsCurrent h p × (rejection h (entry_of p) ≡ None)
 
-  -- The turn of a plan, which is the only one. `before` is the list when it began, which begins with all that the session had seen. The
-  -- session has then seen this list, and the item that the turn added, whose number is its own. What an engine promises of a step holds
-  -- of this item, since the list is a trace. The engine is as after a step with this result, also if it is of no history.
+  -- The turn of a plan, which may be followed by another that brings the log back. `before` is the list when it began, which begins with
+  -- all that the session had seen. The session has then seen this list, and the item that the turn added, whose number is its own. What an
+  -- engine promises of a step holds of this item, since the list is a trace. The engine is as after a step with this result, also if it is
+  -- of no history.
   pub record Lands (hall : Hall D disk) (old new : Session D disk) (p : PlanValue) (result : Result Receipt LandFault) : Type 0 where
-    pub turn : HasOneTurn old new
+    pub turn : HasTurns old new
     pub before : List (Item D disk)
     pub grows : StartsWith before (seen_of old)
     pub alone : IsAlone old → before ≡ seen_of old

@@ -9,3 +9,4 @@ pub mod Commit
 pub mod Landing
 -- what the private functions promise
 pub mod Superseded
+pub mod Travel

@@ -1,5 +1,5 @@
 -- What contracts see of a hall and a session: what the session has seen, which entries are its own, its share, and its engine.
-use Rattle.std.specs.Prelude.{◌≡◌, ℕ, ◌+◌, Bool, true, List, [], ◌++◌, length, Option, Some, None, if◌then◌else◌}
+use Rattle.std.specs.Prelude.{◌≡◌, ℕ, ◌+◌, ◌≤◌, Bool, true, List, [], ◌++◌, length, Option, Some, None, if◌then◌else◌}
 use Rattle.btr_disk.specs.declared.disk.Disk.{Ghosts}
 use Rattle.btr_engine.specs.declared.engine.Engine.{Engine}
 use Rattle.btr_engine.specs.Engine.{entries_of, is_stopped}
@@ -45,6 +45,10 @@ module _ {D : Type 0} {disk : Ghosts D} where
   -- The session has had one turn more.
   abbrev pub HasOneTurn : Session D disk → Session D disk → Type 0
   HasOneTurn old new = turns_of new ≡ turns_of old + 1
+
+  -- The session has had one turn more, or several, and another one for each item that it added, in which the log came back.
+  abbrev pub HasTurns : Session D disk → Session D disk → Type 0
+  HasTurns old new = turns_of old + 1 + length (mine_of new) ≤ turns_of new + length (mine_of old)
 
   -- The engine at the end of what the session has seen.
   abbrev pub engine_of : Hall D disk → Session D disk → Engine D disk

@@ -1,6 +1,6 @@
--- The laws of the engine that a gate carries, which its ghost members cite: its list is short, and it is never lent.
-use Rattle.std.specs.Prelude.{◌≡◌, ℕ, ◌+◌, ◌<◌, ◌≤◌, ◌^◌, Bool, true, false, List, [], ◌∷◌, ◌++◌, length, replicate, Ok, Err}
-use Rattle.std.proofs.Common.{zero, suc, refl, sym, ap, ◌∙◌, arith, length-append}
+-- The laws of the engine that a gate carries, which its ghost members cite: its list is short, and it is frozen while the log is out.
+use Rattle.std.specs.Prelude.{◌≡◌, ℕ, ◌+◌, ◌<◌, ◌^◌, true, false, List, [], ◌∷◌, ◌++◌, length, replicate, Ok, Err}
+use Rattle.std.proofs.Common.{zero, suc, refl, ap, ◌∙◌, arith, length-append}
 use Rattle.std.proofs.lemmas.List.{length-replicate}
 use Rattle.btr_disk.specs.declared.disk.Disk.{Ghosts}
 use Rattle.btr_hist.specs.declared.entry.Entry.{Entry}
@@ -16,9 +16,9 @@ use Rattle.btr_hall.specs.declared.store.Store.{Store}
 use Rattle.btr_hall.specs.Trace.{IsTrace, engine_after, has_halt}
 use Rattle.btr_hall.specs.Store.{IsStoreOf}
 
--- A store never lends.
-pub never_lends : {A : Type 0} → true ≡ false → A
-never_lends is = absurd (cc)
+-- The list is frozen while the log is out.
+pub is_frozen : {A : Type 0} → true ≡ false → A
+is_frozen is = absurd (cc)
 
 module _ {D : Type 0} {disk : Ghosts D} where
   -- A stopped engine accepts nothing, and its device does not fail.
@@ -76,7 +76,8 @@ module _ {D : Type 0} {disk : Ghosts D} where
       let all : length l ≡ n + length trace.steps =
       ap (length {A = Item D disk}) trace.is ∙ length-append (replicate n Earlier) trace.steps
       ∙ ap (λ k. k + length trace.steps) (length-replicate n Earlier) in
-      let same : entries_of s.engine ≡ entries_of (engine_after x trace.steps) = ap (λ e. entries_of e) (of.engine ∙ engine) in
+      let same : entries_of s.engine ≡ entries_of (engine_after x trace.steps) =
+      ap (λ b. b.entries) of.engine.board ∙ ap (λ e. entries_of e) engine in
       let halted : one s.halted ≡ one (has_halt trace.steps) = ap one (of.halted ∙ halt) in
       omega (arith, trace_length x trace.steps trace.trace, all, same, halted)
 

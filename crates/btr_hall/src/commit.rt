@@ -2,11 +2,11 @@
 ghost use Rattle.std.specs.Prelude.{◌≡◌, false};
 ghost use Rattle.btr_engine.specs.Step.{IsStep};
 ghost use Rattle.btr_hall.specs.Session.{IsSessionOf, IsSame, IsAlone, engine_of};
-ghost use Rattle.btr_hall.specs.Commit.{is_distillate, shown, Commits, Adds};
+ghost use Rattle.btr_hall.specs.Commit.{is_distillate, shown, Commits};
 
 use crate::item::Item;
 use crate::session::{Hall, Session};
-use crate::store::Store;
+use crate::travel::{add_in, home_turn};
 use btr_disk::Disk;
 use btr_engine::{Engine, Receipt, StepFault};
 use btr_hist::Entry;
@@ -21,7 +21,9 @@ impl<D: Disk> Session<D> {
     /// entry if it was accepted, or with its halt if the device failed; the number of this item is then one of its own. After a
     /// halt each session's entries are refused as `Stopped`.
     ///
-    /// It waits for the turn, and then costs what a step costs. Nobody else is in a turn during the step.
+    /// It waits in a queue until those before it have brought the log back, then for a turn, and then costs what a step costs. It
+    /// sleeps if it waits long. While the device writes others have their turns. The result and the entry are those of a step after
+    /// the list of the first turn: nobody adds an entry in between.
     pub fn commit<R: Wait>(
         &mut self,
         rt: &R,
@@ -36,37 +38,13 @@ impl<D: Disk> Session<D> {
         ensures commits { Commits hall.now self.old self.new entry.now result }
         ensures alone { IsAlone self.old → IsStep (engine_of hall.now self.old) (engine_of hall.now self.new) entry.now result }
     {
-        let mut turn = hall.gate.enter(rt, &mut self.pass);
-        let (result, added) = turn.state.add(alloc, entry);
-        turn.added = added;
-        hall.gate.leave(&mut self.pass, turn);
-        result
-    }
-}
-
-impl<D: Disk> Store<D> {
-    /// Does the step of an entry, and returns its result and the item of the list that it made, if it made one.
-    pub(crate) fn add(
-        &mut self,
-        alloc: Global,
-        entry: &Entry,
-    ) -> (Result<Receipt, StepFault>, Option<Item<D>>)
-        ensures { Adds self.old self.new entry.now result.0 result.1 }
-    {
-        let result = self.engine.step(alloc, entry);
-        match &result {
-            Ok(_) => (result, Some(added(entry, &self.engine))),
-            Err(StepFault::DeviceFault) => {
-                self.halted = true;
-                (result, Some(halted(entry, &self.engine)))
-            }
-            Err(_) => (result, None),
-        }
+        let turn = home_turn(rt, hall, &mut self.pass);
+        add_in(rt, alloc, hall, &mut self.pass, turn, entry)
     }
 }
 
 /// The item of an accepted entry.
-fn added<D: Disk>(entry: &Entry, engine: &Engine<D>) -> Item<D>
+pub(crate) fn added<D: Disk>(entry: &Entry, engine: &Engine<D>) -> Item<D>
     ensures { result ≡ Item.Added (shown entry.now) (shown engine.now) }
 {
     Item::Added {
@@ -76,7 +54,7 @@ fn added<D: Disk>(entry: &Entry, engine: &Engine<D>) -> Item<D>
 }
 
 /// The item of an entry in whose step the device failed.
-fn halted<D: Disk>(entry: &Entry, engine: &Engine<D>) -> Item<D>
+pub(crate) fn halted<D: Disk>(entry: &Entry, engine: &Engine<D>) -> Item<D>
     ensures { result ≡ Item.Halted (shown entry.now) (shown engine.now) }
 {
     Item::Halted {

@@ -6,11 +6,11 @@ ghost use Rattle.btr_hall.specs.Trace.{history_of};
 ghost use Rattle.btr_hall.specs.Session.{IsSessionOf, IsSame, opening_of, seen_of};
 ghost use Rattle.btr_plan.specs.Plan.{IsPlanOf};
 ghost use Rattle.btr_hall.specs.Landing.{Lands};
-ghost use Rattle.btr_hall.specs.Superseded.{StoreLands, IsSupersededBy, said_fault, said_rejection};
+ghost use Rattle.btr_hall.specs.Superseded.{IsSupersededBy, said_fault, said_rejection};
 
-use crate::item::Item;
 use crate::session::{Hall, Session};
 use crate::store::Store;
+use crate::travel::{add_in, home_turn};
 use btr_disk::Disk;
 use btr_distil::Plan;
 use btr_engine::{Receipt, StepFault};
@@ -55,7 +55,7 @@ impl<D: Disk> Session<D> {
     /// If the output has another version since the one that the plan follows, the plan is superseded, and nothing is added. What
     /// was added to the inputs in between does not matter: the plan says which of their versions were read.
     ///
-    /// It waits for the turn, and then costs what a step costs.
+    /// It waits and costs as [`Session::commit`] does.
     pub fn land<R: Wait>(
         &mut self,
         rt: &R,
@@ -69,33 +69,20 @@ impl<D: Disk> Session<D> {
         ensures same { IsSame self.old self.new }
         ensures lands { Lands hall.now self.old self.new plan.now result }
     {
-        let mut turn = hall.gate.enter(rt, &mut self.pass);
-        let (result, added) = turn.state.land(alloc, plan);
-        turn.added = added;
-        hall.gate.leave(&mut self.pass, turn);
-        result
+        let turn = home_turn(rt, hall, &mut self.pass);
+        if let Some(version) = turn.state.superseded(plan) {
+            hall.gate.leave(&mut self.pass, turn);
+            hall.queue.leave();
+            return Err(LandFault::Superseded { version });
+        }
+        match add_in(rt, alloc, hall, &mut self.pass, turn, plan.entry()) {
+            Ok(receipt) => Ok(receipt),
+            Err(fault) => Err(land_fault(fault)),
+        }
     }
 }
 
 impl<D: Disk> Store<D> {
-    /// Does the landing of a plan. Returns the result and the item of the list that it made, if it made one.
-    pub(crate) fn land(
-        &mut self,
-        alloc: Global,
-        plan: &Plan,
-    ) -> (Result<Receipt, LandFault>, Option<Item<D>>)
-        ensures { StoreLands self.old self.new plan.now result.1 result.0 }
-    {
-        if let Some(version) = self.superseded(plan) {
-            return (Err(LandFault::Superseded { version }), None);
-        }
-        let (result, added) = self.add(alloc, plan.entry());
-        match result {
-            Ok(receipt) => (Ok(receipt), added),
-            Err(fault) => (Err(land_fault(fault)), added),
-        }
-    }
-
     /// Returns the latest version of the output of a plan, if it is above the one that the plan follows and the engine is not
     /// stopped.
     fn superseded(&self, plan: &Plan) -> Option<u64>

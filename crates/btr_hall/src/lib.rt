@@ -1,8 +1,9 @@
 //! A hall: many threads use one engine, each by a session of its own.
 //!
-//! The list of a hall has each entry of the history, in order. A session adds an entry in a turn, which no other session shares, and
-//! has then seen the whole list ([`Session::commit`]). A snapshot is taken in a turn and answers after it ([`Session::admit`]). What
-//! an engine promises of a step, also after a crash, holds of each turn, and of the engine that [`Hall::close`] returns.
+//! The list of a hall has each entry of the history, in order. A session adds an entry in two turns, and has then seen the whole
+//! list ([`Session::commit`]). In between the log is out of the engine while the entry is written. Others have their turns then, but
+//! none adds an entry: those who want to wait in a queue. A snapshot is taken in a turn and answers after it ([`Session::admit`]).
+//! What an engine promises of a step, also after a crash, holds of each turn, and of the engine that [`Hall::close`] returns.
 //! Nothing is said of how long a call waits, nor in which order sessions get their turns.
 #![tactic(auto)]
 
@@ -16,6 +17,9 @@ mod commit;
 mod land;
 mod look;
 mod share;
+// how an entry is added
+mod queue;
+mod travel;
 
 pub use item::Item;
 pub use land::LandFault;

@@ -4,6 +4,7 @@ ghost use Rattle.btr_gate.specs.declared.view.Stage.TheVariants.{Idle};
 ghost use Rattle.btr_gate.specs.Gates.{view};
 
 use crate::item::Item;
+use crate::queue::LogQueue;
 use crate::store::Store;
 use btr_disk::Disk;
 use btr_engine::Engine;
@@ -16,6 +17,8 @@ use std::snapshot::Snapshot as State;
 /// It has no `Drop`: call [`Hall::close`] to take the engine out.
 pub struct Hall<D: Disk> {
     pub(crate) gate: Gate<Store<D>, Item<D>, Engine<D>>,
+    /// Where those wait who want the log.
+    pub(crate) queue: LogQueue,
     /// The engine with which the hall began, for contracts alone.
     pub(crate) opening: State<Engine<D>>,
 }
@@ -32,9 +35,9 @@ pub struct Session<D: Disk> {
 }
 
 impl<D: Disk> Hall<D> {
-    ghost use Rattle.std.specs.Prelude.{◌≡◌, ℕ, false, List, length, IfOk, IfErr};
+    ghost use Rattle.std.specs.Prelude.{◌≡◌, ℕ, true, false, List, length, IfOk, IfErr};
     ghost use Rattle.btr_hist.specs.declared.entry.Entry.{Entry as EntrySpec};
-    ghost use Rattle.btr_engine.specs.Engine.{is_stopped, IsEngineOf, IsAtRest, IsDurable, KeepsOpening};
+    ghost use Rattle.btr_engine.specs.Engine.{is_stopped, is_home, IsEngineOf, IsAtRest, IsDurable, KeepsOpening};
     ghost use Rattle.btr_hall.specs.Trace.{IsTraceOf, history_of, in_flight_in};
     ghost use Rattle.btr_hall.specs.Session.{IsSessionOf, IsAlone, Begins, HasEachOnce, opening_of, seen_of, engine_of};
 
@@ -44,6 +47,7 @@ impl<D: Disk> Hall<D> {
         alloc: Global,
         engine: Engine<D>,
     ) -> Result<(Hall<D>, Session<D>), (Engine<D>, AllocError)>
+        requires home { is_home engine ≡ true }
         ensures begins { IfOk result (λ r. Begins engine r.0 r.1) }
         ensures refused { IfErr result (λ r. r.0 ≡ engine) }
     {
@@ -54,7 +58,17 @@ impl<D: Disk> Hall<D> {
             halted: false,
         };
         match Gate::begin(alloc, store) {
-            Ok((gate, pass)) => Ok((Hall { gate, opening }, Session { pass })),
+            Ok((gate, pass)) => {
+                let queue = LogQueue::new();
+                Ok((
+                    Hall {
+                        gate,
+                        queue,
+                        opening,
+                    },
+                    Session { pass },
+                ))
+            }
             Err((store, error)) => Err((store.engine, error)),
         }
     }
@@ -68,6 +82,7 @@ impl<D: Disk> Hall<D> {
     pub fn close(self, session: Session<D>) -> Engine<D>
         requires session { IsSessionOf self session }
         requires alone { IsAlone session }
+        ensures home { is_home result ≡ true }
         ensures engine { result ≡ engine_of self session }
         ensures trace { IsTraceOf (opening_of self) (seen_of session) }
         ensures once { HasEachOnce session }
@@ -80,7 +95,11 @@ impl<D: Disk> Hall<D> {
             → IsDurable h calls entries (opening_of self) more
             → IsDurable (history_of h (seen_of session)) calls entries result (in_flight_in more (seen_of session)) }
     {
-        let Hall { gate, opening: _ } = self;
+        let Hall {
+            gate,
+            queue: _,
+            opening: _,
+        } = self;
         let Session { pass } = session;
         let Store { engine, .. } = gate.close(pass);
         engine

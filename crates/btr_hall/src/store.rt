@@ -15,13 +15,15 @@ pub struct Store<D: Disk> {
 }
 
 impl<D: Disk> Chronicle<Item<D>, Engine<D>> for Store<D> {
-    ghost use Rattle.std.specs.Prelude.{true, false};
+    ghost use Rattle.std.specs.Prelude.{true, false, not};
+    ghost use Rattle.btr_engine.specs.Engine.{is_home};
     ghost use Rattle.btr_hall.specs.Store.{IsStoreOf};
-    ghost use Rattle.btr_hall.specs.StoreLaws.{store_bounded, never_lends};
+    ghost use Rattle.btr_hall.specs.StoreLaws.{store_bounded, is_frozen};
 
     ghost is_state_of = { IsStoreOf };
 
-    ghost lent = { λ _. false };
+    // What is lent is the log of the engine.
+    ghost lent = { λ s. not (is_home s.engine) };
 
     ghost frozen = { true };
 
@@ -37,5 +39,5 @@ impl<D: Disk> Chronicle<Item<D>, Engine<D>> for Store<D> {
 
     ghost bounded = { store_bounded };
 
-    ghost lent_is = { λ no t l x of. never_lends no };
+    ghost lent_is = { λ no t l x of. is_frozen no };
 }

@@ -1,12 +1,13 @@
 //! What the tests of several modules share: halls over devices in memory, paces by which turns meet, and the end of a table.
-ghost use Rattle.std.specs.Prelude.{◌≡◌, ◌≤◌, IfOk};
+ghost use Rattle.std.specs.Prelude.{◌≡◌, ◌≤◌, true, IfOk};
 ghost use Rattle.btr_super.specs.Super.{first_super};
+ghost use Rattle.btr_engine.specs.Engine.{is_home};
 ghost use Rattle.btr_hall.specs.Session.{IsSessionOf, IsAlone};
 ghost use Rattle.btr_jobs.specs.Jobs.{IsAt};
 
 use btr_base::Point;
 use btr_disk::{Capacity, MemDisk};
-use btr_engine::{Board, Engine};
+use btr_engine::{Board, Engine, Receipt, StepFault};
 use btr_hall::{Hall, Session};
 use btr_jobs::Pace;
 use btr_log::Log;
@@ -22,6 +23,9 @@ pub(crate) type Place = Hall<MemDisk>;
 
 /// A session of such a hall.
 pub(crate) type User = Session<MemDisk>;
+
+/// The result of a step.
+pub(crate) type Stepped = Result<Receipt, StepFault>;
 
 /// Fails with the number of the first wrong row of a table, if there is one.
 pub(crate) fn no_wrong(row: Option<usize>) -> Result<(), Fail> {
@@ -47,6 +51,7 @@ pub(crate) fn empty(
     failing: &[u64],
 ) -> Result<Engine<MemDisk>, AllocError>
     requires { (8 ≤ blocks) × (blocks ≤ 100_000) }
+    ensures home { IfOk result (λ e. is_home e ≡ true) }
 {
     let count = blocks as usize;
     let capacity = Capacity {
@@ -60,7 +65,7 @@ pub(crate) fn empty(
 }
 
 /// Returns the superblock of an empty store of this many blocks. The engines of these tests are not opened, so no device has it.
-fn first_super(blocks: u32) -> Super
+pub(crate) fn first_super(blocks: u32) -> Super
     ensures { result ≡ first_super blocks }
 {
     Super {
@@ -75,6 +80,7 @@ fn first_super(blocks: u32) -> Super
 
 /// Makes a hall of an engine, and its first session.
 pub(crate) fn begun(alloc: Global, engine: Engine<MemDisk>) -> Result<(Place, User), Fail>
+    requires home { is_home engine ≡ true }
     ensures at { IfOk result (λ r. IsAt r.0 r.1) }
     ensures own { IfOk result (λ r. IsSessionOf r.0 r.1) }
     ensures alone { IfOk result (λ r. IsAlone r.1) }
@@ -104,6 +110,7 @@ pub(crate) fn begun_empty(
 pub(crate) fn close(hall: Place, user: User) -> Engine<MemDisk>
     requires own { IsSessionOf hall user }
     requires alone { IsAlone user }
+    ensures home { is_home result ≡ true }
 {
     hall.close(user)
 }

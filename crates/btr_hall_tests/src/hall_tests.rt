@@ -1,15 +1,15 @@
 //! Sessions in one thread and in many, over devices in memory. The expected values are worked out by hand.
-ghost use Rattle.std.specs.Prelude.{◌≡◌, ℕ, ◌<◌, ◌≤◌, Bool, false, List, IfOk, IfSome};
+ghost use Rattle.std.specs.Prelude.{◌≡◌, ℕ, ◌<◌, ◌≤◌, Bool, true, false, List, IfOk, IfSome};
 ghost use Rattle.std.specs.Thread.{IsSync};
 ghost use Rattle.btr_hist.specs.declared.entry.Entry.{Entry as EntrySpec};
 ghost use Rattle.btr_gate.specs.Shares.{on_path};
 ghost use Rattle.btr_plan.specs.Plan.{IsPlanOf};
-ghost use Rattle.btr_engine.specs.Engine.{IsEngineOf};
+ghost use Rattle.btr_engine.specs.Engine.{IsEngineOf, is_home};
 ghost use Rattle.btr_hall.specs.Trace.{history_of};
 ghost use Rattle.btr_hall.specs.Session.{IsSessionOf, opening_of, seen_of, share_of};
 ghost use Rattle.btr_hall.specs.Commit.{is_distillate};
 
-use crate::fixture::{Place, User, begun_empty, close, points_of};
+use crate::fixture::{Place, Stepped, User, begun_empty, close, points_of};
 use btr_base::{Bag, Ranges};
 use btr_disk::{Disk, MemDisk};
 use btr_distil::Plan;
@@ -553,7 +553,9 @@ fn is_log_of(log: &[Told], told: &mut [Told]) -> bool {
 fn told_to_eight<R: Threads + Wait + Sync>(
     rt: &R,
     alloc: Global,
-) -> Result<(u32, List, Engine<MemDisk>), Fail> {
+) -> Result<(u32, List, Engine<MemDisk>), Fail>
+    ensures home { IfOk result (λ r. is_home r.2 ≡ true) }
+{
     let (hall, user) = begun_empty(alloc, 40_000, &[])?;
     let (user, made) = create(rt, alloc, &hall, user, 8);
     let (user, told) = tell_by_threads(rt, alloc, &hall, user, 0, 8);
@@ -562,7 +564,9 @@ fn told_to_eight<R: Threads + Wait + Sync>(
 }
 
 /// Returns how many commits the threads were told and the log has, and whether they are the same.
-fn compared(alloc: Global, told: List, engine: Engine<MemDisk>) -> Option<(usize, usize, bool)> {
+fn compared(alloc: Global, told: List, engine: Engine<MemDisk>) -> Option<(usize, usize, bool)>
+    requires home { is_home engine ≡ true }
+{
     let mut told = told?;
     let log = commits_on(alloc, engine.into_disk())?;
     let is_same = is_log_of(&log, &mut told);
@@ -715,9 +719,6 @@ fn after_a_fault_of_the_device_questions_are_answered(rt: HostRuntime) -> Result
     assert!(rt; end == (2, true, 1));
     Ok(())
 }
-
-/// The result of a step.
-type Stepped = Result<Receipt, StepFault>;
 
 /// Makes a stream and adds a point by the only session of a hall.
 fn step_alone<R: Wait>(

@@ -2,6 +2,8 @@
 #![tactic(auto)]
 
 #[cfg(test)]
+mod admission_tests;
+#[cfg(test)]
 mod bulk_tests;
 #[cfg(test)]
 mod fixture;

@@ -3,6 +3,9 @@ ghost use Rattle.std.specs.Prelude.{◌≤◌, IfOk};
 ghost use Rattle.btr_text.specs.Input.{HaveLanes};
 
 use crate::fixture::{begun_empty, close, no_wrong, wait_for};
+use btr_disk::MemDisk;
+use btr_engine::Engine;
+use btr_hist::{Answer, At, Query, Rows};
 use btr_jobs::{NoPace, Pace};
 use btr_live::*;
 use btr_text::{LineReply, ScriptLine, read_script, write_reply};
@@ -67,7 +70,28 @@ const SOUND: Device<'static> = Device {
 };
 
 /// Runs two scripts on a store of their own, one after the other, the second with rounds beside its lanes if that is wanted. Points
-/// are due by twos. Returns the report of the second, and the number of entries in the end.
+/// are due by twos. Returns the report of the second, and the engine in the end.
+fn run_both<R: Threads + Wait + Sync, P: Pace + Sync>(
+    rt: &R,
+    alloc: Global,
+    device: Device<'_>,
+    first: Vec<ScriptLine>,
+    second: Vec<ScriptLine>,
+    materialize: bool,
+    pace: &P,
+) -> Result<(LiveReport, Engine<MemDisk>), Fail>
+    requires blocks { (8 ≤ device.blocks) × (device.blocks ≤ 100_000) }
+    requires lanes { HaveLanes first.items × HaveLanes second.items }
+{
+    let (hall, mut session) = begun_empty(alloc, device.blocks, device.failing)?;
+    let begun = lanes(rt, alloc, &hall, &mut session, first, 2, false, &NoPace);
+    let report = lanes(rt, alloc, &hall, &mut session, second, 2, materialize, pace);
+    let engine = close(hall, session);
+    begun?;
+    Ok((report?, engine))
+}
+
+/// Runs two scripts in this way. Returns the report of the second, and the number of entries in the end.
 fn ran<R: Threads + Wait + Sync, P: Pace + Sync>(
     rt: &R,
     alloc: Global,
@@ -80,12 +104,8 @@ fn ran<R: Threads + Wait + Sync, P: Pace + Sync>(
     requires blocks { (8 ≤ device.blocks) × (device.blocks ≤ 100_000) }
     requires lanes { HaveLanes first.items × HaveLanes second.items }
 {
-    let (hall, mut session) = begun_empty(alloc, device.blocks, device.failing)?;
-    let begun = lanes(rt, alloc, &hall, &mut session, first, 2, false, &NoPace);
-    let report = lanes(rt, alloc, &hall, &mut session, second, 2, materialize, pace);
-    let engine = close(hall, session);
-    begun?;
-    Ok((report?, engine.entries()))
+    let (report, engine) = run_both(rt, alloc, device, first, second, materialize, pace)?;
+    Ok((report, engine.entries()))
 }
 
 /// The text of replies.
@@ -191,24 +211,43 @@ fn first_wrong_lane(replies: &[LineReply]) -> Option<usize> {
     None
 }
 
-/// Eight lanes write to one stream and read it. Returns the first lane with wrong replies, the number of replies, and the number of
-/// entries.
-fn eight_lanes<R: Threads + Wait + Sync>(
-    rt: &R,
-    alloc: Global,
-) -> Result<(Option<usize>, usize, u64), Fail> {
-    let first = script(alloc, &[b"create U"])?;
-    let second = in_each_lane(alloc, &[b"insert U 0 1", b"info U latest"])?;
-    let (report, entries) = ran(rt, alloc, SOUND, first, second, false, &NoPace)?;
-    let wrong = first_wrong_lane(&report.replies);
-    Ok((wrong, report.replies.len(), entries))
+/// Returns the latest version of stream 0 and the number of its points from time 0 on.
+fn latest(alloc: Global, engine: &Engine<MemDisk>) -> Result<Option<(u64, usize)>, AllocError> {
+    let query = Query::Points {
+        stream: 0,
+        from: 0,
+        to: 1000,
+        at: At::Latest,
+    };
+    match engine.admit()?.answer(alloc, &query)? {
+        Answer::Found {
+            version,
+            rows: Rows::Points(points),
+        } => Ok(Some((version, points.as_slice().len()))),
+        _ => Ok(None),
+    }
 }
 
-/// Eight lanes write to one stream: each then reads at least its own version, and there are eight in the end.
+/// What is seen of eight lanes: the first lane with wrong replies, the number of replies, the number of entries, and the latest version
+/// of the stream with the number of its points.
+type LanesSeen = (Option<usize>, usize, u64, Option<(u64, usize)>);
+
+/// Eight lanes write to one stream and read it.
+fn eight_lanes<R: Threads + Wait + Sync>(rt: &R, alloc: Global) -> Result<LanesSeen, Fail> {
+    let first = script(alloc, &[b"create U"])?;
+    let second = in_each_lane(alloc, &[b"insert U 0 1", b"info U latest"])?;
+    let (report, engine) = run_both(rt, alloc, SOUND, first, second, false, &NoPace)?;
+    let wrong = first_wrong_lane(&report.replies);
+    let latest = latest(alloc, &engine)?;
+    Ok((wrong, report.replies.len(), engine.entries(), latest))
+}
+
+/// Eight lanes write to one stream: each then reads at least its own version. In the end there are eight versions, with eight points.
 #[test]
 fn eight_lanes_read_what_they_wrote(rt: HostRuntime) -> Result<(), Fail> {
-    let (wrong, replies, entries) = eight_lanes(&rt, rt.alloc())?;
+    let (wrong, replies, entries, latest) = eight_lanes(&rt, rt.alloc())?;
     assert!(rt; (replies, entries) == (16, 9));
+    assert!(rt; latest == Some((8, 8)));
     no_wrong(wrong)
 }
 

@@ -1,5 +1,6 @@
 //! Outputs that are brought up to date by one worker and by many, over devices in memory. The expected values are worked out by hand.
-ghost use Rattle.std.specs.Prelude.{◌≤◌};
+ghost use Rattle.std.specs.Prelude.{◌≡◌, ◌≤◌, true, IfOk};
+ghost use Rattle.btr_engine.specs.Engine.{is_home};
 ghost use Rattle.btr_hall.specs.Session.{IsAlone};
 ghost use Rattle.btr_jobs.specs.Jobs.{IsAt};
 
@@ -18,7 +19,10 @@ use std::test::Fail;
 use std::thread::Threads;
 
 /// Adds an entry.
-fn add(alloc: Global, engine: &mut Engine<MemDisk>, entry: &Entry) -> Result<(), Fail> {
+fn add(alloc: Global, engine: &mut Engine<MemDisk>, entry: &Entry) -> Result<(), Fail>
+    requires home { is_home engine.old ≡ true }
+    ensures home { is_home engine.new ≡ true }
+{
     match engine.step(alloc, entry) {
         Ok(_) => Ok(()),
         Err(_) => Err("an entry was refused".into()),
@@ -48,7 +52,10 @@ fn thirds(first: u32) -> Spec {
 }
 
 /// Adds three points to stream 0.
-fn add_points(alloc: Global, engine: &mut Engine<MemDisk>) -> Result<(), Fail> {
+fn add_points(alloc: Global, engine: &mut Engine<MemDisk>) -> Result<(), Fail>
+    requires home { is_home engine.old ≡ true }
+    ensures home { is_home engine.new ≡ true }
+{
     let points = points_of(alloc, &[(0, 10), (10, 20), (20, 30)])?;
     let entry = Entry::Commit {
         stream: 0,
@@ -59,13 +66,17 @@ fn add_points(alloc: Global, engine: &mut Engine<MemDisk>) -> Result<(), Fail> {
 }
 
 /// Adds an output.
-fn define(alloc: Global, engine: &mut Engine<MemDisk>, id: u128, spec: Spec) -> Result<(), Fail> {
+fn define(alloc: Global, engine: &mut Engine<MemDisk>, id: u128, spec: Spec) -> Result<(), Fail>
+    requires home { is_home engine.old ≡ true }
+    ensures home { is_home engine.new ≡ true }
+{
     add(alloc, engine, &Entry::Define { id, spec })
 }
 
 /// Returns a store of a plain stream with three points, 0; an output of its sums, 1; and an output of that, 2.
 fn two_levels(alloc: Global, blocks: u32) -> Result<Engine<MemDisk>, Fail>
     requires { (8 ≤ blocks) × (blocks ≤ 1000) }
+    ensures home { IfOk result (λ e. is_home e ≡ true) }
 {
     let mut engine = empty(alloc, blocks, &[])?;
     add(alloc, &mut engine, &Entry::Create { id: 7 })?;
@@ -127,7 +138,9 @@ fn bring_twice<R: Threads + Wait + Sync, P: Pace + Sync>(
     engine: Engine<MemDisk>,
     workers: u8,
     pace: &P,
-) -> Result<Twice, Fail> {
+) -> Result<Twice, Fail>
+    requires home { is_home engine ≡ true }
+{
     let (hall, mut session) = begun(alloc, engine)?;
     let first = bring(rt, alloc, &hall, &mut session, workers, pace);
     let second = bring_here(rt, alloc, &hall, &mut session);
@@ -239,7 +252,9 @@ fn an_output_is_refused_if_the_device_is_full(rt: HostRuntime) -> Result<(), Fai
 }
 
 /// Returns a store with one more output of the plain stream, 3.
-fn three_outputs(alloc: Global) -> Result<Engine<MemDisk>, Fail> {
+fn three_outputs(alloc: Global) -> Result<Engine<MemDisk>, Fail>
+    ensures home { IfOk result (λ e. is_home e ≡ true) }
+{
     let mut engine = two_levels(alloc, 64)?;
     define(alloc, &mut engine, 10, sums(0))?;
     Ok(engine)

@@ -1,6 +1,7 @@
 //! The begin and the end of work on a store: it is opened and has a hall, and the hall is closed.
 ghost use Rattle.std.specs.Prelude.{◌≡◌, ℕ, true, List, Ok, IfErr, IfOk};
 ghost use Rattle.btr_hist.specs.declared.entry.Entry.{Entry as EntrySpec};
+ghost use Rattle.btr_engine.specs.Engine.{is_home};
 ghost use Rattle.btr_open.specs.declared.opening.OpenCause.TheVariants.{Want};
 ghost use Rattle.btr_open.specs.Opening.{IsNotOpened, IsOpenedEngine, IsOpenedOn, KeepsDisk};
 ghost use Rattle.btr_hall.specs.declared.session.Session.{Session as SessionSpec};
@@ -46,6 +47,7 @@ fn begin_hall<D: Disk>(
     alloc: Global,
     engine: Engine<D>,
 ) -> Result<(Hall<D>, Session<D>), OpenFault<D>>
+    requires home { is_home engine ≡ true }
     ensures begun { IfOk result (λ r. Begins engine r.0 r.1) }
     ensures cause { IfErr result (λ fault. fault.cause ≡ Want) }
     ensures kept { (old : D) → IsOpenedEngine ⟦<D as Disk>⟧ old engine → IfErr result (λ fault. KeepsDisk ⟦<D as Disk>⟧ old fault.disk) }

@@ -2,7 +2,7 @@
 use Rattle.std.specs.Prelude.{◌≡◌, ℕ, ◌+◌, ◌<◌, ◌≤◌, List, [], ◌∷◌, ◌++◌, length, map, take, drop, slice_set}
 use Rattle.std.specs.Vec.{with_items}
 use Rattle.std.proofs.Common.{suc, get_or, set, refl, sym, ap, ◌∙◌, subst, arith, inl, inr}
-use Rattle.std.proofs.lemmas.List.{length-set, get_or-set_same, get_or-set_other, with_items_is}
+use Rattle.std.proofs.lemmas.List.{length-set, get_or-set_same, get_or-set_other, with_items_is, take_all}
 use Rattle.btr_disk.specs.declared.disk.Disk.{Ghosts}
 use Rattle.btr_hist.specs.declared.entry.Entry.{Entry}
 use Rattle.btr_hist.specs.History.{kinds}
@@ -95,6 +95,13 @@ module _ {D : Type 0} {disk : Ghosts D} (hall : Hall D disk) (workers : ℕ) whe
         levels-next (AllDid IsDone) hall all-lowers old mid new levels now i was done inside long rest is at so_far.3 all,
         λ few. levels-next (DidInTurn IsDone) hall turn-lowers old mid new levels now i was done inside long rest is at (so_far.4 few) (turn few),
       )
+
+-- The levels before an index at the end or after it are all levels.
+pub levels-end : {D : Type 0} {disk : Ghosts D} (did : Doing (List OutputJob)) (hall : Hall D disk) (old new : Session D disk) (i : ℕ) (levels now : List Level) → length now ≡ length levels → length now ≤ i → Does hall old new (LevelsDone did (take i levels) (take i now)) → Does hall old new (LevelsDone did levels now)
+levels-end did hall old new i levels now same ends done =
+    let long : length levels ≤ i = omega (arith, same, ends) in
+    subst (λ l. Does hall old new (LevelsDone did levels l)) (take_all i now ends)
+    (subst (λ l. Does hall old new (LevelsDone did l (take i now))) (take_all i levels long) done)
 
 -- ---- from jobs to results
 

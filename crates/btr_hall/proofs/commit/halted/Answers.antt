@@ -1,4 +1,3 @@
-use Rattle.std.proofs.Common.{◌≡◌}
 use Rattle.btr_hall.specs.declared.item.Item.TheVariants.{Halted}
 use Rattle.btr_hall.proofs.CommitLemmas.{shown_is}
 use Rattle.btr_hall.proofs.commit.halted.Goals as goal

@@ -1,67 +1,106 @@
 use Rattle.std.specs.Prelude.{◌≡◌, ◌+◌, ◌≤◌, List, [], ◌∷◌, ◌++◌, Ok, true, false, is_err}
-use Rattle.std.proofs.Common.{refl, sym, ◌∙◌, ap, subst}
+use Rattle.std.proofs.Common.{refl, sym, ◌∙◌, ap, subst, arith}
+use Rattle.btr_disk.specs.Bytes.{Image}
 use Rattle.btr_disk.specs.Causes.{KeepsCounts}
 use Rattle.btr_disk.specs.Moments.{Leaves}
 use Rattle.btr_disk.proofs.MomentLemmas.{composes}
-use Rattle.btr_log.specs.Append.{body_in_run}
+use Rattle.btr_log.specs.Append.{body_in_run, AppendCause}
 use Rattle.btr_log.specs.Log as log
+use Rattle.btr_super.specs.declared.superblock.Super.{Super}
 use Rattle.btr_super.specs.Replace.{IsFollowed, HasOnePrefix}
 use Rattle.btr_hist.specs.declared.entry.Entry.{Entry}
+use Rattle.btr_engine.specs.declared.place.Place.{Place}
+use Rattle.btr_engine.specs.Place.{log_in, has_log}
 use Rattle.btr_engine.specs.Holds.{HoldsHistory}
-use Rattle.btr_engine.specs.Engine.{device, board_of, tail_of, room_of, super_of, IsAtRest}
-use Rattle.btr_engine.specs.Mark.{need_of_board, next_super}
+use Rattle.btr_engine.specs.Engine.{log_of, device, board_of, tail_of, room_of, super_of, IsAtRest}
+use Rattle.btr_engine.specs.Mark.{need_of_board, next_super, CountsMark, IsNamed}
 use Rattle.btr_engine.proofs.Stepping.{log_at_rest}
 use Rattle.btr_engine.proofs.Durable.{opening_kept}
-use Rattle.btr_engine.proofs.Marking.{needed, fits_unless_full, refused, fault_leaves, appending, replacing, followed, one_prefix, at_rest, named_in, durable_through, on_err, on_ok, counted-both, marking_keeps, stops, next-is}
+use Rattle.btr_engine.proofs.Settling.{Goes, goes_fault}
+use Rattle.btr_engine.proofs.TravelLemmas.{taken_is}
+use Rattle.btr_engine.proofs.Marking.{FailsAppend, TakesAppend, needed, two_blocks, fits_unless_full, refused, fault_leaves, appending, replacing, followed, one_prefix, at_rest, named_in, durable_through, on_err, on_ok, counted-both, marking_keeps, stops, next-is}
 use Rattle.btr_engine.proofs.engine.Engine.mark.Given.{Over}
-use Rattle.btr_engine.proofs.engine.Engine.mark.Goals.{In-Err, In_default, After-replace, Then-is_err}
+use Rattle.btr_engine.proofs.engine.Engine.mark.Goals.{After-append, In-Err, In_default-append, After-replace, Then-is_err}
 use Rattle.btr_engine.proofs.engine.Engine.mark.Goals as goal
 
 -- ---- what several goals share
 
--- the append took the run: there was room
-fits : (g : Over) (c : In_default g) → need_of_board (board_of c.args.self.now) ≤ room_of c.args.self.now
+-- the log is that of the engine
+its_log : (g : Over) (c : After-append g) → c.in-Some.log ≡ log_of c.args.self.now
+its_log g c = taken_is c.args.self.now.place c.in-Some.log c.in-Some.ensures.is
+
+-- the append took the run
+takes : (g : Over) (c : In_default-append g) → TakesAppend (log_of c.args.self.now) c.append.new.self c.args.extent.now
+takes g c =
+    subst (λ l. TakesAppend l c.append.new.self c.args.extent.now) (its_log g (goal.at.In_default-append g c).After-append) (record {
+      appends = record { full = c.in_default-append.ensures.full; kept = c.append.ensures.kept; moments = c.in_default-append.ensures.moments };
+      appended = c.in_default-append.ensures.appended;
+      written = c.in_default-append.ensures.written;
+      at_rest = c.in_default-append.ensures.at_rest;
+    })
+
+-- the append failed
+fails : (g : Over) (c : In-Err g) → FailsAppend (log_of c.args.self.now) c.append.new.self c.args.extent.now c.in-Err.fault
+fails g c =
+    subst (λ l. FailsAppend l c.append.new.self c.args.extent.now c.in-Err.fault) (its_log g (goal.at.In-Err g c).After-append) (record {
+      appends = record { full = c.in-Err.ensures.full; kept = c.append.ensures.kept; moments = c.in-Err.ensures.moments };
+      cause = c.in-Err.ensures.cause;
+    })
+
+-- there was room
+fits : (g : Over) (c : In_default-append g) → need_of_board (board_of c.args.self.now) ≤ room_of c.args.self.now
 fits g c =
-    fits_unless_full c.args.self.now c.args.extent.now c.requires.bytes (Ok tt) c.requires.runs c.in_default.ensures.full (λ no. absurd (cc))
+    fits_unless_full c.args.self.now c.args.extent.now c.requires.bytes (Ok tt) c.requires.runs (takes g c).appends.full (λ no. absurd (cc))
 
 -- the append failed, and left the history at each moment
-left_by_fault : (g : Over) (c : In-Err g) → g.D.Disk.is_observable → (h : List Entry) → IsAtRest h c.args.self.now → log.LogLeaves c.args.self.now.log c.append.new.self (λ x. HoldsHistory (g.D.Disk.size (device c.args.self.now)) x h)
+left_by_fault : (g : Over) (c : In-Err g) → g.D.Disk.is_observable → (h : List Entry) → IsAtRest h c.args.self.now → log.LogLeaves (log_of c.args.self.now) c.append.new.self (λ x. HoldsHistory (g.D.Disk.size (device c.args.self.now)) x h)
 left_by_fault g c is_observable h rest =
-    fault_leaves h c.args.self.now c.args.extent.now c.requires.bytes c.append.new.self c.in-Err.fault c.requires.runs c.in-Err.ensures.full c.in-Err.ensures.cause (g.met.D.Disk.only_now is_observable c.args.self.now.log.disk) rest (c.in-Err.ensures.moments is_observable _ (log_at_rest h c.args.self.now rest))
+    let f = fails g c in
+    fault_leaves h c.args.self.now c.args.extent.now c.requires.bytes c.append.new.self c.in-Err.fault c.requires.runs f.appends.full f.cause (g.met.D.Disk.only_now is_observable (device c.args.self.now)) rest (f.appends.moments is_observable _ (log_at_rest h c.args.self.now rest))
 
 -- the superblock that was written
 is_next : (g : Over) (c : After-replace g) → c.next_super-next.result ≡ next_super (super_of c.args.self.now) (tail_of c.args.self.now) (log.log_tail c.append.new.self)
 is_next g c =
-    next-is (super_of c.args.self.now) c.next_super-next.result c.tail-gate.result c.tail.result (tail_of c.args.self.now) (log.log_tail c.append.new.self) c.next_super-next.ensures c.tail-gate.ensures c.tail.ensures
+    let a = (goal.at.After-replace g c).After-append in
+    next-is (super_of c.args.self.now) c.next_super-next.result c.tail-gate.result c.tail.result (tail_of c.args.self.now) (log.log_tail c.append.new.self) c.next_super-next.ensures (c.tail-gate.ensures ∙ ap log.log_tail (its_log g a)) c.tail.ensures
 
 -- the counts of the replacement
 counts : (g : Over) (c : After-replace g) → KeepsCounts g.D.Disk.size g.D.Disk.calls g.D.Disk.faults (log.log_device c.append.new.self) c.replace.new.device
 counts g c =
     record { same_size = c.replace.ensures.size; more_calls = c.replace.ensures.calls.later; more_faults = c.replace.ensures.cause.later }
 
-module _ (g : Over) (c : After-replace g) (is_observable : g.D.Disk.is_observable) (h : List Entry) (rest : IsAtRest h c.args.self.now) where
-  room : need_of_board (board_of c.args.self.now) ≤ room_of c.args.self.now
-  room = fits g (goal.at.After-replace g c).In_default
+module _ (g : Over) (c : After-replace g) where
+  its_takes : TakesAppend (log_of c.args.self.now) c.append.new.self c.args.extent.now
+  its_takes = takes g (goal.at.After-replace g c).In_default-append
 
-  rests : log.IsLogAtRest c.append.new.self (rest.holds.bodies ++ body_in_run c.args.extent.now ∷ [])
-  rests = c.in_default.ensures.at_rest is_observable rest.holds.bodies (log_at_rest h c.args.self.now rest)
+  module _ (is_observable : g.D.Disk.is_observable) (h : List Entry) (rest : IsAtRest h c.args.self.now) where
+    room : need_of_board (board_of c.args.self.now) ≤ room_of c.args.self.now
+    room = fits g (goal.at.After-replace g c).In_default-append
 
-  -- what stands before the replacement
-  its_super : IsFollowed (g.D.Disk.size (log.log_device c.append.new.self)) (g.D.Disk.contents (log.log_device c.append.new.self)) (super_of c.args.self.now) c.next_super-next.result
-  its_super =
-      followed c.args.self.now c.args.extent.now c.requires.bytes room h rest c.append.new.self c.append.ensures.kept c.in_default.ensures.appended.tail (c.in_default.ensures.written is_observable) rests c.next_super-next.result (is_next g c)
+    rests : log.IsLogAtRest c.append.new.self (rest.holds.bodies ++ body_in_run c.args.extent.now ∷ [])
+    rests = its_takes.at_rest is_observable rest.holds.bodies (log_at_rest h c.args.self.now rest)
 
-  its_prefix : HasOnePrefix (g.D.Disk.contents (log.log_device c.append.new.self)) (g.D.Disk.images_now (log.log_device c.append.new.self))
-  its_prefix =
-      one_prefix c.args.self.now c.args.extent.now c.requires.bytes room h rest c.append.new.self c.append.ensures.kept c.in_default.ensures.appended.tail (c.in_default.ensures.written is_observable) rests c.next_super-next.result (is_next g c)
+    -- what stands before the replacement
+    its_super : IsFollowed (g.D.Disk.size (log.log_device c.append.new.self)) (g.D.Disk.contents (log.log_device c.append.new.self)) (super_of c.args.self.now) c.next_super-next.result
+    its_super =
+        followed c.args.self.now c.args.extent.now c.requires.bytes room h rest c.append.new.self its_takes.appends.kept its_takes.appended.tail (its_takes.written is_observable) rests c.next_super-next.result (is_next g c)
 
-  -- each moment of both leaves the history
-  left_by_both : Leaves g.D.Disk.calls g.D.Disk.images_since (device c.args.self.now) c.replace.new.device (λ x. HoldsHistory (g.D.Disk.size (device c.args.self.now)) x h)
-  left_by_both =
-      composes g.D.Disk.calls g.D.Disk.images_since (device c.args.self.now) (log.log_device c.append.new.self) c.replace.new.device (λ x. HoldsHistory (g.D.Disk.size (device c.args.self.now)) x h)
-      (appending c.args.self.now c.args.extent.now c.requires.bytes room h rest c.append.new.self (c.in_default.ensures.moments is_observable rest.holds.bodies (log_at_rest h c.args.self.now rest)))
-      (replacing c.args.self.now c.args.extent.now c.requires.bytes room h rest c.append.new.self c.append.ensures.kept c.in_default.ensures.appended.tail (c.in_default.ensures.written is_observable) rests c.next_super-next.result (is_next g c) c.replace.new.device
-      (c.replace.ensures.moments is_observable (super_of c.args.self.now) its_super its_prefix))
+    its_prefix : HasOnePrefix (g.D.Disk.contents (log.log_device c.append.new.self)) (g.D.Disk.images_now (log.log_device c.append.new.self))
+    its_prefix =
+        one_prefix c.args.self.now c.args.extent.now c.requires.bytes room h rest c.append.new.self its_takes.appends.kept its_takes.appended.tail (its_takes.written is_observable) rests c.next_super-next.result (is_next g c)
+
+    -- each moment of both leaves the history
+    left_by_both : Leaves g.D.Disk.calls g.D.Disk.images_since (device c.args.self.now) c.replace.new.device (λ x. HoldsHistory (g.D.Disk.size (device c.args.self.now)) x h)
+    left_by_both =
+        composes g.D.Disk.calls g.D.Disk.images_since (device c.args.self.now) (log.log_device c.append.new.self) c.replace.new.device (λ x. HoldsHistory (g.D.Disk.size (device c.args.self.now)) x h)
+        (appending c.args.self.now c.args.extent.now c.requires.bytes room h rest c.append.new.self (its_takes.appends.moments is_observable rest.holds.bodies (log_at_rest h c.args.self.now rest)))
+        (replacing c.args.self.now c.args.extent.now c.requires.bytes room h rest c.append.new.self its_takes.appends.kept its_takes.appended.tail (its_takes.written is_observable) rests c.next_super-next.result (is_next g c) c.replace.new.device
+        (c.replace.ensures.moments is_observable (super_of c.args.self.now) its_super its_prefix))
+
+    -- so it is up to an engine with this device
+    left_up_to : (p : Place g.row.D.Denot g.D.Disk) → log.log_device (log_in p) ≡ c.replace.new.device → Leaves g.D.Disk.calls g.D.Disk.images_since (device c.args.self.now) (log.log_device (log_in p)) (λ x. HoldsHistory (g.D.Disk.size (device c.args.self.now)) x h)
+    left_up_to p is =
+        subst (λ d. Leaves g.D.Disk.calls g.D.Disk.images_since (device c.args.self.now) d (λ x. HoldsHistory (g.D.Disk.size (device c.args.self.now)) x h)) (sym is) left_by_both
 
 -- the replacement failed
 failed : (g : Over) (c : Then-is_err g) → is_err c.replace.result ≡ true
@@ -69,85 +108,159 @@ failed g c = sym c.is_err.ensures.value ∙ c.if-is_err.true
 
 -- ---- the append failed
 
+pub invariant_of-self : goal.invariant_of-self
+invariant_of-self g c =
+    let old = c.args.self.now in
+    let f = fails g (goal.at.invariant_of-self g c).In-Err in
+    let go = subst (λ l. Goes old (super_of old) l c.stopped-self.result (board_of old).entries) (sym (ap log_in c.put_back.ensures)) (goes_fault old c.append.new.self c.args.extent.now c.in-Err.fault c.stopped-self.result c.stopped-self.ensures.stopped f.cause f.appends.kept) in
+    record {
+      marked = go.marked;
+      counted = go.counted;
+      ends = go.ends;
+      began = go.began;
+      called = go.called;
+      failed = go.failed;
+      side = go.side;
+      seq = go.seq;
+      large = go.large;
+      same_blocks = go.same_blocks;
+    }
+
 pub returns-in-Err-clause-cause : goal.returns-in-Err-clause-cause
 returns-in-Err-clause-cause g c =
-    refused c.args.self.now c.args.extent.now c.requires.bytes _ c.in-Err.fault c.step_fault.result c.requires.runs c.in-Err.ensures.full c.in-Err.ensures.cause refl refl refl refl c.step_fault.ensures.full c.step_fault.ensures.failed
+    let old = c.args.self.now in
+    let f = fails g (goal.at.returns-in-Err-clause-cause g c).In-Err in
+    let cause = subst (λ l. AppendCause (log_of old) l c.args.extent.now c.in-Err.fault) (sym (ap log_in c.put_back.ensures)) f.cause in
+    refused old c.args.extent.now c.requires.bytes _ c.in-Err.fault c.step_fault.result c.requires.home (ap has_log c.put_back.ensures) c.requires.runs f.appends.full cause refl refl refl refl c.step_fault.ensures.full c.step_fault.ensures.failed
 
 pub returns-in-Err-clause-moments : goal.returns-in-Err-clause-moments
 returns-in-Err-clause-moments g c is_observable h rest =
-    left_by_fault g (goal.at.returns-in-Err-clause-moments g c).In-Err is_observable h rest
+    let old = c.args.self.now in
+    subst (λ l. log.LogLeaves (log_of old) l (λ x. HoldsHistory (g.D.Disk.size (device old)) x h)) (sym (ap log_in c.put_back.ensures))
+    (left_by_fault g (goal.at.returns-in-Err-clause-moments g c).In-Err is_observable h rest)
 
 pub returns-in-Err-clause-durable : goal.returns-in-Err-clause-durable
 returns-in-Err-clause-durable g c is_observable h more calls entries rest so_far =
-    durable_through h c.args.self.now _ calls entries more c.requires.runs (opening_kept c.args.self.now _ c.append.ensures.kept refl refl) refl (g.met.D.Disk.counts_now is_observable _)
-    (left_by_fault g (goal.at.returns-in-Err-clause-durable g c).In-Err is_observable h rest) so_far
+    let old = c.args.self.now in
+    let a = (goal.at.returns-in-Err-clause-durable g c).In-Err in
+    let there = sym (ap log_in c.put_back.ensures) in
+    durable_through h old _ calls entries more c.requires.runs (opening_kept old _ (subst (log.KeepsBounds (log_of old)) there (fails g a).appends.kept) refl refl) refl (g.met.D.Disk.counts_now is_observable _)
+    (subst (λ l. log.LogLeaves (log_of old) l (λ x. HoldsHistory (g.D.Disk.size (device old)) x h)) there (left_by_fault g a is_observable h rest)) so_far
 
 -- ---- the replacement failed
 
 pub returns-then-is_err-clause-cause : goal.returns-then-is_err-clause-cause
-returns-then-is_err-clause-cause g c = (
-  c.requires.runs,
-  fits g (goal.at.returns-then-is_err-clause-cause g c).In_default,
-  stops c.args.self.now _ (log.log_device c.append.new.self) c.replace.new.device c.in_default.ensures.appended.calls c.replace.ensures.calls.later c.replace.ensures.calls.at_most c.append.ensures.kept.device_kept.more_faults
-      (on_err c.replace.result (failed g (goal.at.returns-then-is_err-clause-cause g c).Then-is_err) c.replace.ensures.cause.failed) c.stop.ensures.device c.stop.ensures.stopped refl refl,
-)
+returns-then-is_err-clause-cause g c =
+    let a = (goal.at.returns-then-is_err-clause-cause g c).In_default-append in (
+      c.requires.runs,
+      fits g a,
+      stops c.args.self.now _ (log.log_device c.append.new.self) c.replace.new.device (takes g a).appended.calls c.replace.ensures.calls.later c.replace.ensures.calls.at_most (takes g a).appends.kept.device_kept.more_faults
+          (on_err c.replace.result (failed g (goal.at.returns-then-is_err-clause-cause g c).Then-is_err) c.replace.ensures.cause.failed)
+          (ap (λ p. log.log_device (log_in p)) c.put_back-then-is_err.ensures ∙ c.stop.ensures.device) (ap (λ p. log.is_log_stopped (log_in p)) c.put_back-then-is_err.ensures ∙ c.stop.ensures.stopped) refl refl,
+    )
 
 pub returns-then-is_err-clause-moments : goal.returns-then-is_err-clause-moments
 returns-then-is_err-clause-moments g c is_observable h rest =
-    subst (λ d. Leaves g.D.Disk.calls g.D.Disk.images_since (device c.args.self.now) d (λ x. HoldsHistory (g.D.Disk.size (device c.args.self.now)) x h)) (sym c.stop.ensures.device)
-    (left_by_both g (goal.at.returns-then-is_err-clause-moments g c).After-replace is_observable h rest)
+    left_up_to g (goal.at.returns-then-is_err-clause-moments g c).After-replace is_observable h rest c.put_back-then-is_err.new.self (ap (λ p. log.log_device (log_in p)) c.put_back-then-is_err.ensures ∙ c.stop.ensures.device)
 
 pub returns-then-is_err-clause-durable : goal.returns-then-is_err-clause-durable
 returns-then-is_err-clause-durable g c is_observable h more calls entries rest so_far =
-    durable_through h c.args.self.now _ calls entries more c.requires.runs
-    (marking_keeps c.args.self.now _ c.append.new.self c.replace.new.device c.append.ensures.kept (counts g (goal.at.returns-then-is_err-clause-durable g c).After-replace) c.stop.ensures.device c.stop.ensures.kept.blocks refl refl)
-    refl (g.met.D.Disk.counts_now is_observable _)
-    (subst (λ d. Leaves g.D.Disk.calls g.D.Disk.images_since (device c.args.self.now) d (λ x. HoldsHistory (g.D.Disk.size (device c.args.self.now)) x h)) (sym c.stop.ensures.device)
-    (left_by_both g (goal.at.returns-then-is_err-clause-durable g c).After-replace is_observable h rest)) so_far
+    let old = c.args.self.now in
+    let a = (goal.at.returns-then-is_err-clause-durable g c).After-replace in
+    let device_is = ap (λ p. log.log_device (log_in p)) c.put_back-then-is_err.ensures ∙ c.stop.ensures.device in
+    durable_through h old _ calls entries more c.requires.runs
+    (marking_keeps old _ c.append.new.self c.replace.new.device (its_takes g a).appends.kept (counts g a) device_is (ap (λ p. log.log_blocks (log_in p)) c.put_back-then-is_err.ensures ∙ c.stop.ensures.kept.blocks) refl refl)
+    refl (g.met.D.Disk.counts_now is_observable _) (left_up_to g a is_observable h rest c.put_back-then-is_err.new.self device_is) so_far
 
 -- ---- both succeeded
+
+pub invariant_of-self-2 : goal.invariant_of-self-2
+invariant_of-self-2 g c =
+    let old = c.args.self.now in
+    let a = (goal.at.invariant_of-self-2 g c).After-replace in
+    let w = its_takes g a in
+    let seq = ap (λ (s : Super). s.seq) (is_next g a) in
+    let go = subst (λ l. Goes old c.next_super-next.result l old.stopped (board_of old).entries) (sym (ap log_in c.put_back-2.ensures)) (record {
+      marked = old.marked ∙ c.requires.runs ∙ sym w.appended.runs;
+      counted = omega (arith, old.counted, w.appended.extents);
+      ends = omega (arith, old.ends, w.appended.extents, w.appended.tail, two_blocks old c.args.extent.now c.requires.bytes);
+      began = old.began;
+      called = omega (arith, old.called, w.appends.kept.device_kept.more_calls, c.replace.ensures.calls.later);
+      failed = omega (arith, old.failed, w.appends.kept.faults);
+      side = omega (arith, ap (λ (s : Super). s.side) (is_next g a));
+      seq = omega (arith, old.seq, seq, w.appended.tail);
+      large = omega (arith, old.large, w.appends.kept.blocks);
+      same_blocks = ap (λ (s : Super). s.blocks) (is_next g a) ∙ old.same_blocks ∙ sym w.appends.kept.blocks;
+    }) in
+    record {
+      marked = go.marked;
+      counted = go.counted;
+      ends = go.ends;
+      began = go.began;
+      called = go.called;
+      failed = go.failed;
+      side = go.side;
+      seq = go.seq;
+      large = go.large;
+      same_blocks = go.same_blocks;
+    }
 
 pub returns-clause-marked : goal.returns-clause-marked
 returns-clause-marked g c =
     let old = c.args.self.now in
+    let a = (goal.at.returns-clause-marked g c).After-replace in
+    let w = its_takes g a in
+    let back = c.put_back-2.ensures in
+    let tail_is = ap (λ p. log.log_tail (log_in p)) back in
     let done : is_err c.replace.result ≡ false = sym c.is_err.ensures.value ∙ c.if-is_err.false in
     record {
       entries = c.entries.ensures;
       ran = c.requires.runs;
-      runs = c.in_default.ensures.appended.runs;
+      runs = ap (λ p. log.is_log_stopped (log_in p)) back ∙ w.appended.runs;
       board = refl;
-      fits = fits g (goal.at.returns-clause-marked g c).In_default;
-      tail = c.in_default.ensures.appended.tail ∙ ap (λ n. tail_of old + n) (needed old c.args.extent.now c.requires.bytes);
-      chosen = is_next g (goal.at.returns-clause-marked g c).After-replace;
-      called = counted-both (g.D.Disk.calls (device old)) (g.D.Disk.calls (log.log_device c.append.new.self)) (g.D.Disk.calls c.replace.new.device) c.in_default.ensures.appended.calls (on_ok c.replace.result done c.replace.ensures.calls.all);
+      fits = fits g (goal.at.returns-clause-marked g c).In_default-append;
+      tail = tail_is ∙ w.appended.tail ∙ ap (λ n. tail_of old + n) (needed old c.args.extent.now c.requires.bytes);
+      chosen = is_next g a ∙ ap (next_super (super_of old) (tail_of old)) (sym tail_is);
+      called = subst (CountsMark (g.D.Disk.calls (device old))) (sym (ap (λ p. g.D.Disk.calls (log.log_device (log_in p))) back))
+          (counted-both (g.D.Disk.calls (device old)) (g.D.Disk.calls (log.log_device c.append.new.self)) (g.D.Disk.calls c.replace.new.device) w.appended.calls (on_ok c.replace.result done c.replace.ensures.calls.all));
     }
 
 pub returns-clause-at_rest : goal.returns-clause-at_rest
 returns-clause-at_rest g c is_observable h rest =
     let old = c.args.self.now in
     let a = (goal.at.returns-clause-at_rest g c).After-replace in
+    let w = its_takes g a in
+    let back = c.put_back-2.ensures in
     let done : is_err c.replace.result ≡ false = sym c.is_err.ensures.value ∙ c.if-is_err.false in
-    at_rest old c.args.extent.now c.requires.bytes (room g a is_observable h rest) h rest c.append.new.self c.append.ensures.kept c.in_default.ensures.appended.tail (c.in_default.ensures.written is_observable) (rests g a is_observable h rest) c.next_super-next.result (is_next g a)
+    at_rest old c.args.extent.now c.requires.bytes (room g a is_observable h rest) h rest c.append.new.self w.appends.kept w.appended.tail (w.written is_observable) (rests g a is_observable h rest) c.next_super-next.result (is_next g a)
     c.replace.new.device c.replace.ensures.size (c.replace.ensures.elsewhere is_observable)
     (on_ok c.replace.result done (c.replace.ensures.replaced is_observable (super_of old) (its_super g a is_observable h rest) (its_prefix g a is_observable h rest)))
-    _ refl c.append.ensures.kept.blocks refl refl refl (on_ok c.replace.result done (c.replace.ensures.synced is_observable))
+    _ (ap (λ p. log.log_device (log_in p)) back) (ap (λ p. log.log_blocks (log_in p)) back ∙ w.appends.kept.blocks) (ap (λ p. log.log_tail (log_in p)) back) refl refl (on_ok c.replace.result done (c.replace.ensures.synced is_observable))
 
 pub returns-clause-named : goal.returns-clause-named
 returns-clause-named g c is_observable h rest =
     let old = c.args.self.now in
     let a = (goal.at.returns-clause-named g c).After-replace in
+    let w = its_takes g a in
+    let p = c.put_back-2.new.self in
+    let back = c.put_back-2.ensures in
     let done : is_err c.replace.result ≡ false = sym c.is_err.ensures.value ∙ c.if-is_err.false in
-    named_in old c.args.extent.now c.requires.bytes (room g a is_observable h rest) h rest c.append.new.self c.append.ensures.kept c.in_default.ensures.appended.tail (c.in_default.ensures.written is_observable) (rests g a is_observable h rest) c.next_super-next.result (is_next g a)
+    subst (λ d. (x : Image) → g.D.Disk.images_now d x → IsNamed (g.D.Disk.size d) x (log.log_blocks (log_in p)) (log.log_tail (log_in p)) h) (sym (ap (λ q. log.log_device (log_in q)) back))
+    (named_in old c.args.extent.now c.requires.bytes (room g a is_observable h rest) h rest c.append.new.self w.appends.kept w.appended.tail (w.written is_observable) (rests g a is_observable h rest) c.next_super-next.result (is_next g a)
     c.replace.new.device c.replace.ensures.size (c.replace.ensures.elsewhere is_observable)
     (on_ok c.replace.result done (c.replace.ensures.replaced is_observable (super_of old) (its_super g a is_observable h rest) (its_prefix g a is_observable h rest)))
-    _ _ c.append.ensures.kept.blocks refl (on_ok c.replace.result done (c.replace.ensures.synced is_observable))
+    (log.log_blocks (log_in p)) (log.log_tail (log_in p)) (ap (λ q. log.log_blocks (log_in q)) back ∙ w.appends.kept.blocks) (ap (λ q. log.log_tail (log_in q)) back) (on_ok c.replace.result done (c.replace.ensures.synced is_observable)))
 
 pub returns-clause-moments : goal.returns-clause-moments
 returns-clause-moments g c is_observable h rest =
-    left_by_both g (goal.at.returns-clause-moments g c).After-replace is_observable h rest
+    left_up_to g (goal.at.returns-clause-moments g c).After-replace is_observable h rest c.put_back-2.new.self (ap (λ p. log.log_device (log_in p)) c.put_back-2.ensures)
 
 pub returns-clause-durable : goal.returns-clause-durable
 returns-clause-durable g c is_observable h more calls entries rest so_far =
-    durable_through h c.args.self.now _ calls entries more c.requires.runs
-    (marking_keeps c.args.self.now _ c.append.new.self c.replace.new.device c.append.ensures.kept (counts g (goal.at.returns-clause-durable g c).After-replace) refl refl refl refl)
-    refl (g.met.D.Disk.counts_now is_observable _) (left_by_both g (goal.at.returns-clause-durable g c).After-replace is_observable h rest) so_far
+    let old = c.args.self.now in
+    let a = (goal.at.returns-clause-durable g c).After-replace in
+    let back = c.put_back-2.ensures in
+    let device_is = ap (λ p. log.log_device (log_in p)) back in
+    durable_through h old _ calls entries more c.requires.runs
+    (marking_keeps old _ c.append.new.self c.replace.new.device (its_takes g a).appends.kept (counts g a) device_is (ap (λ p. log.log_blocks (log_in p)) back) refl refl)
+    refl (g.met.D.Disk.counts_now is_observable _) (left_up_to g a is_observable h rest c.put_back-2.new.self device_is) so_far

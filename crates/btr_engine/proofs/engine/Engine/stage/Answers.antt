@@ -1,44 +1,52 @@
-use Rattle.std.specs.Prelude.{◌≡◌, ℕ, ◌+◌, ◌^◌, ◌<◌, List, ◌++◌, length}
-use Rattle.std.proofs.Common.{◌∙◌, ap, subst}
-use Rattle.btr_disk.specs.Gate.{zeros}
-use Rattle.btr_log.specs.Head.{content_blocks}
-use Rattle.btr_tree.specs.NewNodes.{NewNodeValue}
-use Rattle.btr_pages.specs.Pages.{pages_of}
-use Rattle.btr_hist.specs.declared.entry.Entry.{Entry}
-use Rattle.btr_entry.specs.Grammar.{spelling}
-use Rattle.btr_engine.specs.declared.board.Staged.{Staged}
-use Rattle.btr_engine.specs.Body.{body_of}
-use Rattle.btr_engine.specs.Pending.{written_pages}
-use Rattle.btr_engine.specs.Engine.{board_of, entries_of}
-use Rattle.btr_engine.specs.Stage.{WritesEntry}
+use Rattle.std.specs.Prelude.{◌≡◌, ◌/◌, false}
+use Rattle.std.proofs.Common.{refl, sym, ◌∙◌, ap, arith}
+use Rattle.btr_log.specs.Extents.{need}
+use Rattle.btr_log.specs.Append.{body_in_run}
+use Rattle.btr_log.specs.Log.{log_room}
+use Rattle.btr_engine.specs.Engine.{log_of, board_of, tail_of, room_of, is_stopped}
+use Rattle.btr_engine.proofs.Appending.{needed}
+use Rattle.btr_engine.proofs.PendingLemmas.{need_of_ready, extent_of_ready}
+use Rattle.btr_engine.proofs.engine.Engine.stage.Given.{Over}
+use Rattle.btr_engine.proofs.engine.Engine.stage.Goals.{After-room-left}
 use Rattle.btr_engine.proofs.engine.Engine.stage.Goals as goal
 
--- The bytes are those with the pages of the staged nodes.
-made_bytes : (at number : ℕ) (e : Entry) (s : Staged) (nodes : List NewNodeValue) (run : List ℕ) → run ≡ body_of at e s.root (pages_of s.receipt.stream nodes) ++ zeros 4096 → nodes ≡ s.nodes.items → at ≡ number → run ≡ body_of number e s.root (written_pages s) ++ zeros 4096
-made_bytes at number e s nodes run is same counted =
-    is ∙ ap (λ l. body_of at e s.root (pages_of s.receipt.stream l) ++ zeros 4096) same ∙ ap (λ n. body_of n e s.root (written_pages s) ++ zeros 4096) counted
+-- the engine runs
+runs : (g : Over) (c : After-room-left g) → is_stopped c.args.self.now ≡ false
+runs g c = sym c.args.self.now.marked ∙ c.if-self.false
 
-pub returns-clause-made : goal.returns-clause-made
-returns-clause-made g c =
-    let e = c.args.entry.now in
-    let staged = c.in_ok-staged.staged in
-    let nodes = c.deref.ensures.value in
+-- the blocks of the extent are those that it needs
+blocks : (g : Over) (c : After-room-left g) → need (body_in_run c.in_ok-ready.ready.extent.items) ≡ c.len.result / 4096
+blocks g c =
+    let old = c.args.self.now in
+    let next = c.in_ok-ready.ensures.next in
+    let size = need_of_ready c.args.entry.now c.in_ok-ready.ready (omega (arith, next)) (omega (arith, next, old.counted, old.ends, (log_of old).tail_inside, (log_of old).addressable)) c.in_ok-ready.ensures.made in
+    omega (arith, size.0, c.len.ensures)
+
+-- the room is that of the engine
+room : (g : Over) (c : After-room-left g) → c.room-left.result ≡ room_of c.args.self.now
+room g c = c.room-left.ensures ∙ ap log_room c.requires.log
+
+pub returns-then-need-left-clause-cause : goal.returns-then-need-left-clause-cause
+returns-then-need-left-clause-cause g c h of =
+    let old = c.args.self.now in
+    let a = (goal.at.returns-then-need-left-clause-cause g c).After-room-left in
+    let staged = c.in_ok-ready.ensures.staged h of in
+    let ready = c.in_ok-ready.ready in
+    let size = needed h (log_of old) c.args.entry.now _ _ ready.extent.items (extent_of_ready h (board_of old) of (tail_of old) c.args.entry.now ready ready.extent.items c.in_ok-ready.ensures.made staged refl) in
+    (runs g a, staged.allowed, sym (blocks g a) ∙ size, room g a, omega arith, refl)
+
+pub returns-clause-ready : goal.returns-clause-ready
+returns-clause-ready g c =
+    let old = c.args.self.now in
+    let a = (goal.at.returns-clause-ready g c).After-room-left in
+    let next = c.in_ok-ready.ensures.next in
     record {
-      spelled = c.in_ok-extent.ensures.spelled;
-      bytes = made_bytes staged.receipt.number (entries_of c.args.self.now + 1) e staged c.deref.result.now c.in_ok-extent.extent.items c.in_ok-extent.ensures.bytes nodes c.in_ok-staged.ensures.number;
-      low = c.in_ok-extent.ensures.low;
-      room = subst (λ (l : List NewNodeValue). content_blocks (length (spelling e)) + length l < 2 ^ 64) nodes c.in_ok-extent.ensures.room;
-      counted = c.in_ok-staged.ensures.counted;
-      numbered = c.in_ok-staged.ensures.number;
+      ready_for = record {
+        made = c.in_ok-ready.ensures.made;
+        some = omega (arith, next);
+        behind = omega (arith, next, old.counted, old.ends);
+        runs = runs g a;
+        fits = omega (arith, blocks g a, room g a);
+      };
+      next = next;
     }
-
-pub returns-clause-writes : goal.returns-clause-writes
-returns-clause-writes g c =
-    subst (λ n. WritesEntry (board_of c.args.self.now) c.args.entry.now n c.in_ok-staged.staged) c.tail.ensures c.in_ok-staged.ensures.writes
-
-pub returns-clause-pending : goal.returns-clause-pending
-returns-clause-pending g c h of = record {
-  allowed = c.in_ok-staged.ensures.allowed h of;
-  of = c.in_ok-staged.ensures.staged h of;
-  is_receipt = c.in_ok-staged.ensures.receipt h of;
-}

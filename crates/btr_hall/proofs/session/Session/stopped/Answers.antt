@@ -1,5 +1,5 @@
-use Rattle.std.proofs.Common.{◌≡◌, ◌∙◌, Some, rules}
-use Rattle.btr_hall.specs.Session.{opening_of, seen_of, engine_of, stopped_at}
+use Rattle.std.proofs.Common.{◌∙◌, rules}
+use Rattle.btr_hall.specs.Session.{opening_of, seen_of}
 use Rattle.btr_hall.proofs.TurnLemmas.{stopped_says}
 use Rattle.btr_hall.proofs.session.Session.stopped.Goals as goal
 

@@ -1,7 +1,7 @@
 -- A session that was alone is so after each run.
 use Rattle.std.proofs.Common.{false}
 use Rattle.btr_live.proofs.CloseLemmas.{lanes_alone}
-use Rattle.btr_hall_tests.proofs.live_tests.ran.Goals as goal
+use Rattle.btr_hall_tests.proofs.live_tests.run_both.Goals as goal
 
 pub close-engine-requires-clause-alone : goal.close-engine-requires-clause-alone
 close-engine-requires-clause-alone g c =

@@ -1,0 +1,106 @@
+-- What stays true of the numbers of an engine that gets its log back.
+use Rattle.std.specs.Prelude.{◌≡◌, ℕ, ◌+◌, ◌*◌, ◌≤◌, Bool, true, false, ◌||◌, List, Option, Some, None}
+use Rattle.std.proofs.Common.{refl, sym, ◌∙◌, ap, subst, arith}
+use Rattle.btr_disk.specs.declared.disk.Disk.{Ghosts}
+use Rattle.btr_log.specs.declared.log.Log.{Log}
+use Rattle.btr_log.specs.Append as append
+use Rattle.btr_log.specs.Log as log
+use Rattle.btr_log.specs.declared.append.AppendFault.{AppendFault}
+use Rattle.btr_log.specs.declared.append.AppendFault.TheVariants.{Full, Fault, Stopped}
+use Rattle.btr_super.specs.declared.superblock.Super.{Super}
+use Rattle.btr_engine.specs.declared.engine.Engine.{Engine}
+use Rattle.btr_engine.specs.declared.travel.Ready.{Ready}
+use Rattle.btr_engine.specs.Engine.{log_of, board_of, super_of, synced_of, entries_at_open}
+use Rattle.btr_engine.specs.Travel.{Settles, settled_board, written_pages}
+use Rattle.btr_engine.proofs.Stepping.{needs_two}
+use Rattle.btr_engine.proofs.Written.{pages-places}
+
+or-false : (b : Bool) → (b || false) ≡ b
+or-false true = refl
+or-false false = refl
+
+or-true : (b : Bool) → (b || true) ≡ true
+or-true true = refl
+or-true false = refl
+
+module _ {D : Type 0} {disk : Ghosts D} where
+  -- The numbers of an engine with this superblock, this log and so many entries, which was opened as the old one, and whether it is
+  -- stopped.
+  pub record Goes (old : Engine D disk) (s : Super) (l : Log D disk) (stopped : Bool) (entries : ℕ) : Type 0 where
+    pub marked : stopped ≡ log.is_log_stopped l
+    pub counted : entries ≤ log.extents_of l
+    pub ends : 2 * log.extents_of l + 4 ≤ log.log_tail l
+    pub began : entries_at_open old ≤ entries
+    pub called : disk.calls (synced_of old) ≤ disk.calls (log.log_device l)
+    pub failed : disk.faults (synced_of old) ≤ log.faults_at l
+    pub side : s.side ≤ 1
+    pub seq : s.seq + 3 ≤ log.log_tail l
+    pub large : 8 ≤ log.log_blocks l
+    pub same_blocks : s.blocks ≡ log.log_blocks l
+
+  pub goes : (old : Engine D disk) (l : Log D disk) (ready : Option Ready) (faulted : Bool) → Settles old l ready faulted → Goes old (super_of old) l (old.stopped || faulted) (settled_board (board_of old) ready).entries
+  goes old l (Some r) true is = absurd is
+  goes old l (Some r) false is =
+      let on = is.0.1 in
+      let w = is.1 in
+      let runs : old.stopped ≡ false = old.marked ∙ on.ready_for.runs in
+      let two = needs_two r.staged.next.entries is.0.0 r.staged.root (written_pages r.staged) r.extent.items on.ready_for.made.bytes (pages-places r.staged.receipt.stream r.staged.nodes.items) in
+      record {
+        marked = ap (λ b. b || false) runs ∙ sym w.appended.runs;
+        counted = omega (arith, old.counted, on.next, w.appended.extents);
+        ends = omega (arith, old.ends, two, w.appended.extents, w.appended.tail);
+        began = omega (arith, old.began, on.next);
+        called = omega (arith, old.called, w.kept.device_kept.more_calls);
+        failed = omega (arith, old.failed, w.kept.faults);
+        side = old.side;
+        seq = omega (arith, old.seq, w.appended.tail);
+        large = omega (arith, old.large, w.kept.blocks);
+        same_blocks = old.same_blocks ∙ sym w.kept.blocks;
+      }
+  goes old l None false is =
+      subst (λ x. Goes old (super_of old) x (old.stopped || false) (board_of old).entries) (sym is) (record {
+        marked = or-false old.stopped ∙ old.marked;
+        counted = old.counted;
+        ends = old.ends;
+        began = old.began;
+        called = old.called;
+        failed = old.failed;
+        side = old.side;
+        seq = old.seq;
+        large = old.large;
+        same_blocks = old.same_blocks;
+      })
+  goes old l None true is = record {
+    marked = or-true old.stopped ∙ sym is.stops.stopped;
+    counted = omega (arith, old.counted, is.stops.extents);
+    ends = omega (arith, old.ends, is.stops.extents, is.stops.tail);
+    began = old.began;
+    called = omega (arith, old.called, is.kept.device_kept.more_calls);
+    failed = omega (arith, old.failed, is.kept.faults);
+    side = old.side;
+    seq = omega (arith, old.seq, is.stops.tail);
+    large = omega (arith, old.large, is.kept.blocks);
+    same_blocks = old.same_blocks ∙ sym is.kept.blocks;
+  }
+
+  -- An append that fails leaves the end of the log and the number of its extents.
+  ends_kept : (old new : Log D disk) (run : List ℕ) (fault : AppendFault) → append.AppendCause old new run fault → (log.log_tail new ≡ log.log_tail old) × (log.extents_of new ≡ log.extents_of old)
+  ends_kept old new run (Full n room) cause = (ap log.log_tail cause.4, ap log.extents_of cause.4)
+  ends_kept old new run Fault cause = (cause.1.tail, cause.1.extents)
+  ends_kept old new run (Stopped n) cause = (ap log.log_tail cause.2, ap log.extents_of cause.2)
+
+  pub goes_fault : (old : Engine D disk) (l : Log D disk) (run : List ℕ) (fault : AppendFault) (stopped : Bool) → stopped ≡ log.is_log_stopped l → append.AppendCause (log_of old) l run fault → log.KeepsBounds (log_of old) l → Goes old (super_of old) l stopped (board_of old).entries
+  goes_fault old l run fault stopped is cause kept =
+      let same = ends_kept (log_of old) l run fault cause in
+      record {
+        marked = is;
+        counted = omega (arith, old.counted, same.1);
+        ends = omega (arith, old.ends, same.0, same.1);
+        began = old.began;
+        called = omega (arith, old.called, kept.device_kept.more_calls);
+        failed = omega (arith, old.failed, kept.faults);
+        side = old.side;
+        seq = omega (arith, old.seq, same.0);
+        large = omega (arith, old.large, kept.blocks);
+        same_blocks = old.same_blocks ∙ sym kept.blocks;
+      }

@@ -1,0 +1,128 @@
+-- The travel of the log: what is made ready to be written, what a write does to a log that is out, and what the engine is when it is back.
+use Rattle.std.specs.Prelude.{◌≡◌, ℕ, ◌+◌, ◌*◌, ◌^◌, ◌<◌, ◌≤◌, Bool, true, false, List, [], ◌∷◌, ◌++◌, length, Option, Some, None, option_map}
+use Rattle.btr_disk.specs.declared.disk.Disk.{Ghosts}
+use Rattle.btr_disk.specs.Gate.{zeros}
+use Rattle.btr_disk.specs.Images.{Only}
+use Rattle.btr_log.specs.declared.log.Log.{Log}
+use Rattle.btr_log.specs.Extents.{need}
+use Rattle.btr_log.specs.Head.{content_blocks}
+use Rattle.btr_log.specs.Log.{log_device, log_tail, log_blocks, log_room, is_log_stopped, KeepsBounds}
+use Rattle.btr_log.specs.Append.{body_in_run, IsAppended, LogStopsByFault}
+use Rattle.btr_super.specs.declared.superblock.Super.{Super}
+use Rattle.btr_hist.specs.declared.entry.Entry.{Entry}
+use Rattle.btr_hist.specs.Legal.{rejection}
+use Rattle.btr_node.specs.declared.page.NodePage.{NodePage}
+use Rattle.btr_pages.specs.Pages.{pages_of}
+use Rattle.btr_entry.specs.Grammar.{spelling, IsSpelled}
+use Rattle.btr_engine.specs.declared.engine.Engine.{Engine}
+use Rattle.btr_engine.specs.declared.board.Staged.{Staged}
+use Rattle.btr_engine.specs.declared.board.Receipt.{Receipt}
+use Rattle.btr_engine.specs.declared.travel.Ready.{Ready}
+use Rattle.btr_engine.specs.Body.{body_of}
+use Rattle.btr_engine.specs.Board.{Kept, IsBoardOf}
+use Rattle.btr_engine.specs.Stored.{AreStored, HaveRoots}
+use Rattle.btr_engine.specs.Holds.{HoldsHistoryTo}
+use Rattle.btr_engine.specs.Stage.{IsReceipt, WritesEntry}
+use Rattle.btr_engine.specs.Place.{log_here}
+use Rattle.btr_engine.specs.Engine.{log_of, board_of, entries_of, super_of, entries_at_open, is_home}
+
+-- ---- what is made ready
+
+-- The pages of the nodes that a staged entry writes.
+abbrev pub written_pages : Staged → List NodePage
+written_pages s = pages_of s.receipt.stream s.nodes.items
+
+-- The extent is the entry's, with the number of entries of the board that was staged, and with the root and the pages of what was
+-- staged. The receipt says this number.
+pub record IsMade (e : Entry) (r : Ready) : Type 0 where
+  pub spelled : IsSpelled e
+  pub bytes : r.extent.items ≡ body_of r.staged.next.entries e r.staged.root (written_pages r.staged) ++ zeros 4096
+  pub low : r.staged.root < 2 ^ 64
+  pub room : content_blocks (length (spelling e)) + length r.staged.nodes.items < 2 ^ 64
+  pub numbered : r.staged.receipt.number ≡ r.staged.next.entries
+
+-- What was made ready for this entry was staged on this board of the history, with the gate before its extent at block `tail`. The entry
+-- may follow the history. The next board is of the history with it, and the receipt is the entry's.
+pub record IsStaged (h : List Entry) (b : Kept) (tail : ℕ) (e : Entry) (r : Ready) : Type 0 where
+  pub before : IsBoardOf h b
+  pub allowed : rejection h e ≡ None
+  pub of : IsBoardOf (h ++ e ∷ []) r.staged.next
+  pub is_receipt : IsReceipt h e r.staged.receipt
+  pub writes : WritesEntry b e tail r.staged
+
+-- The board of an engine after it got this back, which was made ready, or nothing.
+abbrev pub settled_board : Kept → Option Ready → Kept
+settled_board before None = before
+settled_board before (Some r) = r.staged.next
+
+module _ {D : Type 0} {disk : Ghosts D} where
+  -- ---- a log that is out
+
+  -- The device of the log holds the history as it reads, under this superblock and with the trees of this board in its pages, and a
+  -- crash leaves nothing else.
+  pub record HoldsNow (h : List Entry) (b : Kept) (s : Super) (l : Log D disk) : Type 0 where
+    pub holds : HoldsHistoryTo (disk.size (log_device l)) (disk.contents (log_device l)) (log_blocks l) (log_tail l) h
+    pub under : holds.super ≡ s
+    pub stored : AreStored holds.leads.pages (log_tail l) b.streams
+    pub roots : HaveRoots holds.leads.roots b.streams
+    pub only : Only (disk.contents (log_device l)) (disk.images_now (log_device l))
+
+  -- What was made ready for this entry can be appended to the log: the log is not stopped and has room for it. Each entry before it has
+  -- an extent of two blocks or more before the tail.
+  pub record IsReadyFor (l : Log D disk) (e : Entry) (r : Ready) : Type 0 where
+    pub made : IsMade e r
+    pub some : 1 ≤ r.staged.next.entries
+    pub behind : 2 * r.staged.next.entries + 2 ≤ log_tail l
+    pub runs : is_log_stopped l ≡ false
+    pub fits : need (body_in_run r.extent.items) ≤ log_room l
+
+  -- The second log is the first one with the extent that was made ready. It is durable.
+  pub record IsWritten (old new : Log D disk) (r : Ready) : Type 0 where
+    pub kept : KeepsBounds old new
+    pub appended : IsAppended old new r.extent.items
+
+  -- The device has failed, within the calls of a write, and the log is stopped.
+  pub record HasFailed (old new : Log D disk) : Type 0 where
+    pub kept : KeepsBounds old new
+    pub stops : LogStopsByFault old new
+
+  -- ---- an engine
+
+  -- The two engines differ at most in where the log is.
+  pub record IsLike (a b : Engine D disk) : Type 0 where
+    pub log : log_of a ≡ log_of b
+    pub board : board_of a ≡ board_of b
+    pub entries : entries_at_open a ≡ entries_at_open b
+    pub chosen : super_of a ≡ super_of b
+    pub synced : a.synced ≡ b.synced
+
+  -- What was made ready for this entry is for the log of the engine, and is of the entry after those of the engine.
+  pub record IsReadyOn (engine : Engine D disk) (e : Entry) (r : Ready) : Type 0 where
+    pub ready_for : IsReadyFor (log_of engine) e r
+    pub next : r.staged.next.entries ≡ entries_of engine + 1
+
+  -- The log was taken if it was at home, and is out then. Nothing else has changed.
+  pub record IsTaken (old new : Engine D disk) (result : Option (Log D disk)) : Type 0 where
+    pub is : result ≡ log_here old.place
+    pub out : is_home new ≡ false
+    pub like : IsLike new old
+
+  -- What an engine may get back, whose log is out: the log with what was made ready, which was written; the log as it was taken; or the
+  -- log with the device having failed in the write.
+  abbrev pub Settles : Engine D disk → Log D disk → Option Ready → Bool → Type 0
+  Settles engine l (Some r) true = ⊥
+  Settles engine l (Some r) false = ((e : Entry) × IsReadyOn engine e r) × IsWritten (log_of engine) l r
+  Settles engine l None false = l ≡ log_of engine
+  Settles engine l None true = HasFailed (log_of engine) l
+
+  -- The log is at home again. The engine has the board that was staged, and the receipt is that of its entry; or it has the board that it
+  -- had, and there is no receipt.
+  pub record IsSettled (old : Engine D disk) (l : Log D disk) (ready : Option Ready) (new : Engine D disk) (result : Option Receipt)
+      : Type 0 where
+    pub home : is_home new ≡ true
+    pub log_is : log_of new ≡ l
+    pub board : board_of new ≡ settled_board (board_of old) ready
+    pub entries : entries_at_open new ≡ entries_at_open old
+    pub chosen : super_of new ≡ super_of old
+    pub synced : new.synced ≡ old.synced
+    pub receipt : result ≡ option_map (λ r. r.staged.receipt) ready

@@ -1,0 +1,142 @@
+//! The travel of the log: it is taken out of the engine, written beside it, and brought back.
+ghost use Rattle.std.specs.Prelude.{◌≡◌, ◌+◌, List, [], ◌∷◌, ◌++◌, false, not, IfErr, IfOk, IsTrue, OnOk, Err, length};
+ghost use Rattle.btr_hist.specs.declared.entry.Entry.{Entry as EntrySpec};
+ghost use Rattle.btr_super.specs.declared.superblock.Super.{Super as SuperSpec};
+ghost use Rattle.btr_log.specs.Log.{log_device, log_tail, LogLeaves};
+ghost use Rattle.btr_engine.specs.declared.step.StepFault.TheVariants.{Stopped};
+ghost use Rattle.btr_engine.specs.Board.{Kept};
+ghost use Rattle.btr_engine.specs.Engine.{log_of, board_of, entries_of, tail_of, is_stopped, is_home, IsEngineOf};
+ghost use Rattle.btr_engine.specs.Step.{IsBeforeOrAfter, HasResult, StepCause};
+ghost use Rattle.btr_engine.specs.Stage.{WritesEntry};
+ghost use Rattle.btr_engine.specs.Travel.{IsMade, IsStaged, HoldsNow, IsReadyFor, IsReadyOn, IsWritten, HasFailed};
+ghost use Rattle.btr_engine.specs.Travel.{IsTaken, Settles, IsSettled};
+
+use crate::board::{Receipt, Staged};
+use crate::engine::Engine;
+use crate::extent::encode_extent;
+use crate::step::StepFault;
+use btr_disk::{BLOCK, Disk, Failed};
+use btr_hist::Entry;
+use btr_log::Log;
+use std::alloc::Global;
+
+/// An entry that may follow the history of an engine, with all that is needed to add it.
+#[derive(Drop)]
+pub struct Ready {
+    /// The board with the entry, and the receipt.
+    pub(crate) staged: Staged,
+
+    /// The body of the entry with the pages of its nodes, and one block of zeros.
+    pub(crate) extent: Vec<u8>,
+}
+
+impl Ready {
+    /// Appends the extent of the entry to a log that is out of its engine. The caller passes the log that the entry was staged with.
+    /// After `Ok` the extent is durable.
+    ///
+    /// A crash at any moment of the write leaves the history as before, or with the entry. `Err` is that the device failed. Then the log
+    /// is stopped.
+    ///
+    /// It makes four calls of the device, a write and a sync for the extent and then for the gate before it, or fewer if one of them
+    /// fails. It takes no memory.
+    pub fn write<D: Disk>(&self, log: Log<D>) -> (Log<D>, Result<(), Failed>)
+        requires ready { (e : EntrySpec) × IsReadyFor log e self.now }
+        ensures written { OnOk result.1 (IsWritten log result.0 self.now) }
+        ensures failed { IfErr result.1 (λ _. HasFailed log result.0) }
+        ensures holds { D.is_observable → (h : List EntrySpec) (b : Kept) (s : SuperSpec) (e : EntrySpec) → IsReadyFor log e self.now
+            → IsStaged h b (log_tail log) e self.now → HoldsNow h b s log
+            → OnOk result.1 (HoldsNow (h ++ e ∷ []) self.now.staged.next s result.0) }
+        ensures moments { D.is_observable → (h : List EntrySpec) (b : Kept) (s : SuperSpec) (e : EntrySpec) → IsReadyFor log e self.now
+            → IsStaged h b (log_tail log) e self.now → HoldsNow h b s log
+            → LogLeaves log result.0 (IsBeforeOrAfter (D.size (log_device log)) h e) }
+    {
+        let mut log = log;
+        if let Err(_fault) = log.append(&self.extent) {
+            return (log, Err(Failed));
+        }
+        (log, Ok(()))
+    }
+}
+
+impl<D: Disk> Engine<D> {
+    /// Takes the log out of the engine. `None` is that it is out. While it is out the engine can be asked, but adds no entry.
+    /// It takes constant time and no memory.
+    pub fn take_log(&mut self) -> Option<Log<D>>
+        ensures { IsTaken self.old self.new result }
+    {
+        self.place.take()
+    }
+
+    /// Returns whether the log is out.
+    pub fn is_out(&self) -> bool
+        ensures { result ≡ not (is_home self.now) }
+    {
+        self.place.is_out()
+    }
+
+    /// Tests an entry, and makes all that is needed to add it, for the log of this engine, which may be out. It takes all memory of a
+    /// step, calls no device, and changes nothing. Of several causes the one that stands first in [`StepFault`] is returned.
+    pub fn stage(&self, alloc: Global, log: &Log<D>, entry: &Entry) -> Result<Ready, StepFault>
+        requires log { log.now ≡ log_of self.now }
+        ensures stopped { IsTrue (is_stopped self.now) → result ≡ Err (Stopped (entries_of self.now)) }
+        ensures ready { IfOk result (IsReadyOn self.now entry.now) }
+        ensures staged { (h : List EntrySpec) → IsEngineOf h self.now
+            → IfOk result (IsStaged h (board_of self.now) (tail_of self.now) entry.now) }
+        ensures cause { (h : List EntrySpec) → IsEngineOf h self.now → IfErr result (StepCause h self.now self.now entry.now) }
+        ensures refused { IfErr result (λ fault. HasResult self.now self.now (Err fault)) }
+    {
+        if self.stopped {
+            return Err(StepFault::Stopped {
+                entries: self.board.entries(),
+            });
+        }
+        let ready = self.make_ready(alloc, log.tail(), entry)?;
+        let need = (ready.extent.len() / BLOCK) as u64;
+        let left = log.room();
+        if need > left {
+            return Err(StepFault::DeviceFull { need, left });
+        }
+        Ok(ready)
+    }
+
+    /// Tests an entry, but not if there is room for it, and makes all that is needed to add it. The gate before its extent is block
+    /// `tail`.
+    fn make_ready(&self, alloc: Global, tail: u64, entry: &Entry) -> Result<Ready, StepFault>
+        requires runs { is_stopped self.now ≡ false }
+        requires tail { tail ≡ tail_of self.now }
+        ensures made { IfOk result (IsMade entry.now) }
+        ensures next { IfOk result (λ r. r.staged.next.entries ≡ entries_of self.now + 1) }
+        ensures staged { (h : List EntrySpec) → IsEngineOf h self.now
+            → IfOk result (IsStaged h (board_of self.now) (tail_of self.now) entry.now) }
+        ensures cause { (h : List EntrySpec) → IsEngineOf h self.now → IfErr result (StepCause h self.now self.now entry.now) }
+        ensures refused { IfErr result (λ fault. HasResult self.now self.now (Err fault)) }
+    {
+        let staged = self.board.stage(alloc, entry, tail)?;
+        let receipt = staged.receipt;
+        let extent = encode_extent(
+            alloc,
+            entry,
+            receipt.number,
+            receipt.stream,
+            staged.root,
+            &staged.nodes,
+        )?;
+        Ok(Ready { staged, extent })
+    }
+
+    /// Brings the log back. With an entry that was made ready and written, the engine adds the entry, and the receipt is returned. The
+    /// caller passes `None` and `false` with the log as it was taken, and `None` and `true` with a log whose device failed in the write,
+    /// which stops the engine. It takes constant time and no memory.
+    pub fn settle(&mut self, log: Log<D>, ready: Option<Ready>, faulted: bool) -> Option<Receipt>
+        requires out { is_home self.old ≡ false }
+        requires settles { Settles self.old log ready faulted }
+        ensures { IsSettled self.old log ready self.new result }
+    {
+        self.place.put_back(log);
+        self.stopped |= faulted;
+        match ready {
+            Some(ready) => Some(self.board.accept(ready.staged)),
+            None => None,
+        }
+    }
+}
