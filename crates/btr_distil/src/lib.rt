@@ -4,7 +4,7 @@
 //! [`plan`] compares the versions of the inputs that the output has read with those that it is to read (BTrDB's ComputeDiff),
 //! lengthens each changed range by how far the kernel looks back, and computes the output anew there and nowhere else. The rule
 //! is this store's own; that it gives the kernel over all time is proved in btr_hist. [`plan_shared`] makes the same plan, and
-//! computes the output in several threads.
+//! computes the output in several threads. [`plan_anew`] makes the plan also if no version has changed.
 #![tactic(auto)]
 
 // what a plan is made from, and what it is
@@ -18,5 +18,5 @@ mod shared;
 mod split_times;
 
 pub use commit::Plan;
-pub use planning::{plan, plan_shared};
+pub use planning::{plan, plan_anew, plan_shared};
 pub use sight::Sight;

@@ -32,9 +32,19 @@ pub fn plan(alloc: Global, sight: &Sight<'_>) -> Result<Option<Plan>, AllocError
     if is_current(sight) {
         return Ok(None);
     }
+    Ok(Some(plan_anew(alloc, sight)?))
+}
+
+/// The commit that brings an output from the versions of its inputs that it has read to those that are to be read, also if they are
+/// the same. The cost is that of [`plan`], and so is the memory that it takes. An `Err` means out of memory.
+pub fn plan_anew(alloc: Global, sight: &Sight<'_>) -> Result<Plan, AllocError>
+    ensures made { IfOk result (IsPlanFor sight.now) }
+    ensures distillate { IfOk result (IsDistillateOf sight.now) }
+    ensures mapped { IfOk result (IsMapped sight.now) }
+{
     let cut = affected(alloc, sight)?;
     let added = output_over(alloc, sight, &cut)?;
-    Ok(Some(planned(sight, cut, added)))
+    Ok(planned(sight, cut, added))
 }
 
 /// Returns what [`plan`] returns, and computes the points in several threads: the cut is parted by time, and each part is computed

@@ -1,8 +1,8 @@
 -- What an output of a history is planned from: the trees of its inputs, and the versions that it has read and is to read.
-use Rattle.std.specs.Prelude.{◌≡◌, ℕ, ◌<◌, ◌≤◌, Bool, true, cond, List, length, Option, Some, None}
-use Rattle.std.specs.Option.{option_map, is_some}
+use Rattle.std.specs.Prelude.{◌≡◌, ℕ, ◌<◌, ◌≤◌, nat_le, Bool, true, ◌&&◌, cond, List, length, Option, Some, None}
 use Rattle.std.proofs.Common.{refl, sym, ◌∙◌, ap, subst, arith}
-use Rattle.std.proofs.lemmas.Bool.{lt-ltb, lt-leb, ltb-true, and_parts, and_from}
+use Rattle.std.proofs.lemmas.Bool.{lt-ltb, lt-leb, ltb-true, leb-true, and_parts, and_from}
+use Rattle.std.proofs.lemmas.Option.{same_Some}
 use Rattle.btr_tree.specs.History as tree
 use Rattle.btr_tree.specs.Root.{TreeValue, IsTree}
 use Rattle.btr_hist.specs.declared.entry.Entry.{Entry}
@@ -10,14 +10,14 @@ use Rattle.btr_hist.specs.declared.kernel.Spec.{Spec}
 use Rattle.btr_hist.specs.declared.kernel.Reads.{Reads}
 use Rattle.btr_hist.specs.Kernel.{is_good}
 use Rattle.btr_hist.specs.History.{ids, spec_of, latest, bag, reads, latest_reads, second_points, inputs_at}
-use Rattle.btr_hist.specs.Legal.{is_stream, second_is_stream, has_inputs, Follows}
-use Rattle.btr_hist.proofs.ReadsLemmas.{AreThere, there-shape, there-second, there-latest}
+use Rattle.btr_hist.specs.Legal.{is_stream, second_is_stream, has_inputs, may_read_second, may_read, Follows}
+use Rattle.btr_hist.proofs.ReadsLemmas.{AreThere, there-second, may_read-there, may_read-latest}
 use Rattle.btr_hist.proofs.OutputLemmas.{follows-output}
 use Rattle.btr_engine.specs.Past.{commits_to}
 use Rattle.btr_engine.specs.Board.{IsTreeOf, latest_of}
 use Rattle.btr_engine.proofs.BoardTrees.{bag-commits_to, up_to-commits_to}
 use Rattle.btr_distil.specs.Sight.{SightValue, IsInput, IsSecondInput, IsSightOf}
-use Rattle.btr_plan.specs.Sight.{IsSightAfter}
+use Rattle.btr_plan.specs.Sight.{IsSightTo, IsSightAfter}
 
 -- ---- the trees of an input
 
@@ -68,38 +68,37 @@ reads-there h stream spec follows is = (follows-output h stream spec follows is)
 
 -- ---- the versions that are read
 
-module _ (h : List Entry) (stream : ℕ) (spec : Spec) (follows : Follows h) (output : spec_of h stream ≡ Some spec) (old new : Reads) (has_read : old ≡ reads h stream spec (latest h stream)) (is_to_read : new ≡ latest_reads h spec) where
-  there : AreThere h spec old
-  there = subst (AreThere h spec) (sym has_read) (reads-there h stream spec follows output)
+-- a version of the second input that may be read is no earlier than what was read
+second_may-low : (h : List Entry) (o r q : Option ℕ) (s v w : ℕ) → o ≡ Some s → r ≡ Some v → q ≡ Some w → may_read_second h o r q ≡ true → v ≤ w
+second_may-low h o r q s v w some before version may =
+    let there : may_read_second h (Some s) (Some v) (Some w) ≡ true =
+    subst (λ (a : Option ℕ). may_read_second h (Some s) (Some v) a ≡ true) version
+    (subst (λ (a : Option ℕ). may_read_second h (Some s) a q ≡ true) before
+    (subst (λ (a : Option ℕ). may_read_second h a r q ≡ true) some may)) in
+    leb-true v w (and_parts (nat_le v w) (nat_le w (latest h s)) there).0
+
+module _ (h : List Entry) (stream : ℕ) (spec : Spec) (follows : Follows h) (output : spec_of h stream ≡ Some spec) (old new : Reads) (has_read : old ≡ reads h stream spec (latest h stream)) (may : may_read h spec (reads h stream spec (latest h stream)) new ≡ true) where
+  may_old : may_read h spec old new ≡ true
+  may_old = subst (λ (r : Reads). may_read h spec r new ≡ true) (sym has_read) may
+
+  new_there : AreThere h spec new
+  new_there = may_read-there h spec old new may_old
 
   pub first-last : new.first ≤ latest h spec.first
-  first-last = omega (arith, ap (λ (r : Reads). r.first) is_to_read)
+  first-last = new_there.first
 
   pub first-low : old.first ≤ new.first
   first-low =
-      let low = there.first in
-      omega (arith, ap (λ (r : Reads). r.first) is_to_read)
-
-  -- both have a version of a second input exactly if the spec has one
-  pub old-shape : is_some old.second ≡ is_some spec.second
-  old-shape = there-shape h spec old there
-
-  pub new-shape : is_some new.second ≡ is_some spec.second
-  new-shape = there-shape h spec new (subst (AreThere h spec) (sym is_to_read) (there-latest h spec))
-
-  same_some : (a b : ℕ) → Some a ≡ Some b → a ≡ b
-  same_some a b is = cc
-
-  second-is : (s w : ℕ) → spec.second ≡ Some s → new.second ≡ Some w → w ≡ latest h s
-  second-is s w some version =
-      same_some w (latest h s) (sym version ∙ ap (λ (r : Reads). r.second) is_to_read ∙ ap (λ (o : Option ℕ). option_map (λ t. latest h t) o) some)
+      leb-true old.first new.first (and_parts (nat_le old.first new.first) (nat_le new.first (latest h spec.first) && may_read_second h spec.second old.second new.second) may_old).0
 
   pub second-last : (s w : ℕ) → spec.second ≡ Some s → new.second ≡ Some w → w ≤ latest h s
-  second-last s w some version = omega (arith, second-is s w some version)
+  second-last s w some version = there-second h spec new s w new_there some version
 
   pub second-low : (s v w : ℕ) → spec.second ≡ Some s → old.second ≡ Some v → new.second ≡ Some w → v ≤ w
   second-low s v w some before version =
-      omega (arith, there-second h spec old s v there some before, second-is s w some version)
+      let parts = and_parts (nat_le old.first new.first) (nat_le new.first (latest h spec.first) && may_read_second h spec.second old.second new.second) may_old in
+      let second = (and_parts (nat_le new.first (latest h spec.first)) (may_read_second h spec.second old.second new.second) parts.1).1 in
+      second_may-low h spec.second old.second new.second s v w some before version second
 
 -- ---- the second input
 
@@ -119,14 +118,24 @@ second-some h o r q s v w old new e f g input =
 -- ---- the sight
 
 -- what is seen of an output, from the trees of its inputs
-pub sight-one : (h : List Entry) (stream : ℕ) (s : SightValue) → spec_of h stream ≡ Some s.spec → s.stream ≡ stream → s.base ≡ latest h stream → s.old_reads ≡ reads h stream s.spec (latest h stream) → s.new_reads ≡ latest_reads h s.spec → IsInput s.old_reads.first s.old_first s.new_first (bag h s.spec.first s.old_reads.first) (bag h s.spec.first s.new_reads.first) → IsSecondInput s.old_reads.second s.old_second s.new_second (second_points h s.spec.second s.old_reads.second) (second_points h s.spec.second s.new_reads.second) → IsSightAfter h stream s
-sight-one h stream s output same_stream same_base has_read is_to_read first second = record {
+pub sight-one : (h : List Entry) (stream : ℕ) (new : Reads) (s : SightValue) → spec_of h stream ≡ Some s.spec → s.stream ≡ stream → s.base ≡ latest h stream → s.old_reads ≡ reads h stream s.spec (latest h stream) → s.new_reads ≡ new → IsInput s.old_reads.first s.old_first s.new_first (bag h s.spec.first s.old_reads.first) (bag h s.spec.first s.new_reads.first) → IsSecondInput s.old_reads.second s.old_second s.new_second (second_points h s.spec.second s.old_reads.second) (second_points h s.spec.second s.new_reads.second) → IsSightTo h stream new s
+sight-one h stream new s output same_stream same_base has_read is_to_read first second = record {
   output = output;
   same_stream = same_stream;
   same_base = same_base;
   has_read = has_read;
   is_to_read = is_to_read;
   inputs =
-      subst (λ (r : Reads). IsSightOf s (inputs_at h s.spec r) (inputs_at h s.spec (latest_reads h s.spec))) has_read
+      subst (λ (r : Reads). IsSightOf s (inputs_at h s.spec r) (inputs_at h s.spec new)) has_read
       (subst (λ (r : Reads). IsSightOf s (inputs_at h s.spec s.old_reads) (inputs_at h s.spec r)) is_to_read (record { first = first; second = second }));
 }
+
+-- the latest versions may be read
+pub latest-may : (h : List Entry) (stream : ℕ) (spec : Spec) → Follows h → spec_of h stream ≡ Some spec → may_read h spec (reads h stream spec (latest h stream)) (latest_reads h spec) ≡ true
+latest-may h stream spec follows output =
+    may_read-latest h spec (reads h stream spec (latest h stream)) (reads-there h stream spec follows output)
+
+-- a sight to the latest versions
+pub sight-latest : (h : List Entry) (stream : ℕ) (spec : Spec) (s : SightValue) → spec_of h stream ≡ Some spec → IsSightTo h stream (latest_reads h spec) s → IsSightAfter h stream s
+sight-latest h stream spec s output sight =
+    subst (λ (a : Spec). IsSightTo h stream (latest_reads h a) s) (same_Some spec s.spec (sym output ∙ sight.output)) sight

@@ -2,10 +2,10 @@
 ghost use Rattle.std.specs.Prelude.{◌≡◌, ◌<◌, ◌≤◌, true, List, length, Some, None, MatchOption};
 ghost use Rattle.btr_hist.specs.declared.entry.Entry.{Entry as EntrySpec};
 ghost use Rattle.btr_hist.specs.History.{ids, spec_of, latest, bag, reads, latest_reads};
-ghost use Rattle.btr_hist.specs.Legal.{has_inputs};
+ghost use Rattle.btr_hist.specs.Legal.{has_inputs, may_read, takes_reads};
 ghost use Rattle.btr_engine.specs.Snapshot.{IsSnapshotOf};
 ghost use Rattle.btr_distil.specs.Sight.{IsInput};
-ghost use Rattle.btr_plan.specs.Sight.{IsSightAfter};
+ghost use Rattle.btr_plan.specs.Sight.{IsSightAfter, IsSightTo};
 
 use btr_distil::Sight;
 use btr_engine::Snapshot;
@@ -28,19 +28,38 @@ pub fn sight(snapshot: &Snapshot, stream: u32) -> Option<Sight<'_>>
 {
     let spec = snapshot.spec(stream)?;
     let version = snapshot.latest(stream)?;
-    sight_of(snapshot, stream, version, spec)
+    let new = latest_reads(snapshot, &spec)?;
+    sight_of(snapshot, stream, version, spec, new)
 }
 
-/// Returns the sight of an output of this spec from its latest version. A snapshot of a history has one of each output.
-fn sight_of<'a>(snapshot: &'a Snapshot, stream: u32, version: u64, spec: Spec) -> Option<Sight<'a>>
+/// Returns the sight of an output from its latest version to the given versions of its inputs. There is one if the next version of
+/// the output may read these versions; of other versions nothing is said. It borrows the trees of the snapshot. It takes logarithmic
+/// time and no memory.
+pub fn sight_to(snapshot: &Snapshot, stream: u32, new: Reads) -> Option<Sight<'_>>
+    ensures { (h : List EntrySpec) → IsSnapshotOf h snapshot.now → takes_reads h stream (spec_of h stream) new ≡ true
+        → MatchOption result ⊥ (IsSightTo h stream new) }
+{
+    let spec = snapshot.spec(stream)?;
+    let version = snapshot.latest(stream)?;
+    sight_of(snapshot, stream, version, spec, new)
+}
+
+/// Returns the sight of an output of this spec from its latest version to these versions of its inputs. A snapshot of a history has
+/// one of each output, to all versions that its next distillate may read.
+fn sight_of<'a>(
+    snapshot: &'a Snapshot,
+    stream: u32,
+    version: u64,
+    spec: Spec,
+    new: Reads,
+) -> Option<Sight<'a>>
     ensures { (h : List EntrySpec) → IsSnapshotOf h snapshot.now → spec_of h stream ≡ Some spec → version ≡ latest h stream
-        → MatchOption result ⊥ (IsSightAfter h stream) }
+        → may_read h spec (reads h stream spec (latest h stream)) new ≡ true → MatchOption result ⊥ (IsSightTo h stream new) }
 {
     if !spec.is_good() {
         return None;
     }
     let old = reads_of(snapshot, stream, version, &spec);
-    let new = latest_reads(snapshot, &spec)?;
     let first = input_trees(snapshot, spec.first, old.first, new.first)?;
     match (spec.second, old.second, new.second) {
         (None, None, None) => Some(Sight::new(

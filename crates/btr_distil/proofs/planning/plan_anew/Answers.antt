@@ -1,7 +1,7 @@
 use Rattle.std.proofs.Common.{sym, ap, subst, ◌∙◌}
 use Rattle.btr_distil.specs.Plan.{change, IsMapped}
 use Rattle.btr_distil.proofs.PlanLemmas.{plan-is, mapped-is}
-use Rattle.btr_distil.proofs.planning.plan.Goals as goal
+use Rattle.btr_distil.proofs.planning.plan_anew.Goals as goal
 
 pub returns-clause-distillate : goal.returns-clause-distillate
 returns-clause-distillate c old new of =
