@@ -1,0 +1,4 @@
+-- What is verified, and what is found.
+pub mod Trees
+-- What the private functions promise.
+pub mod Judging
