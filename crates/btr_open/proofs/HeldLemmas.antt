@@ -40,7 +40,7 @@ reached_of p = record { gate = p.gate; entries = length p.entries; roll = roll_o
 -- ---- the body of a checkpoint
 
 -- The body of a checkpoint after a history is that of its streams.
-roll-body : (h : List Entry) (roots : List ℕ) → checkpoint_body h roots ≡ body_of_roll (length h) (roll_of h roots)
+pub roll-body : (h : List Entry) (roots : List ℕ) → checkpoint_body h roots ≡ body_of_roll (length h) (roll_of h roots)
 unfolding body_of_roll checkpoint_body
 roll-body h roots = refl
 
@@ -73,7 +73,7 @@ roll-held bodies p body leads follows short is =
 -- ---- the bodies lead on
 
 -- The outline of the streams shows no reason why an accepted entry may not follow.
-fits-roll : (h : List Entry) (roots : List ℕ) (e : Entry) → Follows (h ++ e ∷ []) → FitsRoll (roll_of h roots) e
+pub fits-roll : (h : List Entry) (roots : List ℕ) (e : Entry) → Follows (h ++ e ∷ []) → FitsRoll (roll_of h roots) e
 fits-roll h roots e follows =
     ap (λ o. refusal o e) (roll-outline h roots)
     ∙ ((decide h e (follows-prefix h (e ∷ []) follows)).1.1 (follows-last h e follows)).outline

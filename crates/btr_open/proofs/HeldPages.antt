@@ -101,10 +101,10 @@ module _ (image : Image) where
   -- ---- the pages up to a gate
 
   -- The pages up to a gate stand rightly on the device, and there is none from there on.
-  abbrev StandTo : ℕ → Pages → Type 0
+  abbrev pub StandTo : ℕ → Pages → Type 0
   StandTo gate pages = StandBelow image gate pages × AreBelow gate pages
 
-  stand-extent : (before : Prefix) (e : Entry) (root : ℕ) (pages : List NodePage) (body : List ℕ) (head : Head) → 1 ≤ before.gate → StandTo before.gate before.pages → IsBodyOf before e root pages body → IsExtent image before.gate body head → StandTo (before.gate + need body) (pages_after before e pages)
+  pub stand-extent : (before : Prefix) (e : Entry) (root : ℕ) (pages : List NodePage) (body : List ℕ) (head : Head) → 1 ≤ before.gate → StandTo before.gate before.pages → IsBodyOf before e root pages body → IsExtent image before.gate body head → StandTo (before.gate + need body) (pages_after before e pages)
   stand-extent before e root pages body head some stand is extent = (
     λ block low. if-each (all block) _ (λ page at. elim (with-either before.pages first pages block page at) [
       | inl old ↦
@@ -130,7 +130,7 @@ module _ (image : Image) where
       stored : Has image (4096 * first) (flat_map page_bytes pages)
       stored = body-pages before e root pages body is extent.stored
 
-  stand-passed : (gate next : ℕ) (pages : Pages) → gate ≤ next → StandTo gate pages → StandTo next pages
+  pub stand-passed : (gate next : ℕ) (pages : Pages) → gate ≤ next → StandTo gate pages → StandTo next pages
   stand-passed gate next pages le stand =
       (λ block low. if-each (pages block) _ (λ page at. if-at (pages block) _ page at (stand.0 block (page-low gate pages block page stand.1 at))), λ block high. stand.1 block (omega arith))
 

@@ -1,29 +1,29 @@
 -- lists
-mod ListLemmas
+pub mod ListLemmas
 -- what the calls between two states of a device leave
-mod Synced
-mod OnlyReading
-mod OpenCauses
+pub mod Synced
+pub mod OnlyReading
+pub mod OpenCauses
 -- what the body of an extent has
-mod ContentLemmas
+pub mod ContentLemmas
 mod BodyParts
-mod UniqueLemmas
+pub mod UniqueLemmas
 -- why an entry may not follow
-mod OutlineLemmas
+pub mod OutlineLemmas
 -- the pages below a checkpoint
 pub mod BelowLemmas
 mod TreesBelow
 mod MakingBelow
 mod FetchingBelow
 -- the root of an entry, and its tree
-mod RootLemmas
+pub mod RootLemmas
 mod TreeLemmas
 -- what a device that holds a history has
-mod HeldPages
-mod HeldRolls
-mod HeldRoots
+pub mod HeldPages
+pub mod HeldRolls
+pub mod HeldRoots
 mod HeldTrees
-mod HeldLemmas
+pub mod HeldLemmas
 -- the checkpoint from which a log is read
 mod StartContent
 mod StartRoots
@@ -33,14 +33,16 @@ mod StartLoad
 mod StartExtent
 mod StartLemmas
 -- one extent
-mod NextRollLemmas
+pub mod NextRollLemmas
 mod LoadingLemmas
-mod ReadingLemmas
+pub mod ReadingLemmas
 -- the log
-mod WalkLemmas
+pub mod WalkLemmas
 mod NextLemmas
 mod WholeLemmas
+mod RuleLemmas
+mod FirstReading
 -- what an opening returns, and the laws
-mod UnbrokenLemmas
-mod Sound
+pub mod UnbrokenLemmas
+pub mod Sound
 mod Opened

@@ -1,7 +1,8 @@
 -- Lemmas on the reading of one extent: where its node blocks begin, which block of it is damaged, and what is read once it is added.
-use Rattle.std.specs.Prelude.{◌≡◌, ◌≢◌, ℕ, ◌+◌, ◌-◌, ◌*◌, ◌/◌, ◌^◌, ◌<◌, ◌≤◌, List, [], ◌∷◌, ◌++◌, length, take, drop, slice_get, Some, None, IfSome, IsSome, Bool}
+use Rattle.std.specs.Prelude.{◌≡◌, ◌≢◌, ℕ, ◌+◌, ◌-◌, ◌*◌, ◌/◌, ◌^◌, ◌<◌, ◌≤◌, List, [], ◌∷◌, ◌++◌, length, take, drop, slice_get, Option, Some, None, Result, Ok, Err, IfOk, IfNone, IfSome, IsSome, is_some, Bool, false}
 use Rattle.std.proofs.Common.{refl, sym, ◌∙◌, ap, subst, arith, inl, inr, ⊎_elim, length-append}
-use Rattle.std.proofs.lemmas.Bool.{cases_lt}
+use Rattle.std.proofs.lemmas.Bool.{cases_lt, false≢true}
+use Rattle.std.proofs.lemmas.Option.{IfSome_then}
 use Rattle.std.proofs.lemmas.List.{length-drop, take_all}
 use Rattle.std.proofs.lemmas.List.{drop_at}
 use Rattle.btr_disk.specs.Bytes.{Image}
@@ -34,6 +35,7 @@ use Rattle.btr_engine.specs.Body.{padding, Prefix, first_page, pages_after, with
 use Rattle.btr_engine.proofs.BodyLemmas.{filled}
 use Rattle.btr_engine.proofs.RootsLemmas.{roots-read}
 use Rattle.btr_engine.proofs.StreamsLemmas.{has-streams}
+use Rattle.btr_open.specs.declared.judge.Judge.{Ghosts as Judging}
 use Rattle.btr_open.specs.declared.loading.Loader.{Loader}
 use Rattle.btr_open.specs.Content.{content_of, HasContent, HasNoContent, HasCheckpoint, node_blocks_of}
 use Rattle.btr_open.specs.Reached.{Reached, next_roll, next_version, pages_with, with_entry}
@@ -41,10 +43,11 @@ use Rattle.btr_open.specs.RootTest.{adds, MayLead, MayBeRootIn, MayLeadIn, IsNam
 use Rattle.btr_open.specs.Below.{StandBelow, pages_joined}
 use Rattle.btr_open.specs.Walk.{FitsRoll, IsOutOfPlace, IsCheckpointBody, IsNextBody}
 use Rattle.btr_open.specs.Reading.{IsReadInto, WasReadTo, IsStoredIn}
-use Rattle.btr_open.specs.Loading.{IsNeeded, AreFetched, IsTreeOfRoot, AddsTree, HasAdded, BreaksNext}
+use Rattle.btr_open.specs.Seen.{Seen, with_seen, Lets}
+use Rattle.btr_open.specs.Loading.{IsNeeded, AreFetched, IsTreeOfRoot, AddsTree, HasAdded, HasJudged, HasNothingNext, IsThisEntry, BreaksEntry, BreaksNext}
 use Rattle.btr_open.proofs.BelowLemmas.{stored-one, stand-page, pages_joined-below, pages_joined-from}
 use Rattle.btr_open.proofs.ContentLemmas.{bytes-content, checkpoint-kind}
-use Rattle.btr_open.proofs.BodyParts.{heads, content-fields}
+use Rattle.btr_open.proofs.BodyParts.{IfNone_then, heads, content-fields}
 use Rattle.btr_open.proofs.NextRollLemmas.{rolled-next}
 use Rattle.btr_open.proofs.RootLemmas.{may-lead}
 use Rattle.btr_open.proofs.TreeLemmas.{HasMade, root-made, has-past, staged-root, board-of, board-stored, part-wider}
@@ -118,37 +121,104 @@ not-checkpoint log body head whole other is =
     let small : head.kind < 2 ^ 32 = ⊎_elim (λ e. let kind = e.0 in omega (arith, kind)) (λ c. let kind = c.0 in omega (arith, kind)) whole.spells.is_head.kind in
     other (checkpoint-kind log.entries (roll_bytes log.roll) body head (checkpoint-has log body is) whole.spells.spelling small)
 
-pub no-entry : (gate number root : ℕ) (body bytes : List ℕ) (head : Head) (l : Loader) → IsBody body head → head.kind ≢ 2 → number ≡ l.board.entries + 1 → HasNoContent number body → BreaksNext gate body bytes root l (gate + 1)
-no-entry gate number root body bytes head l whole other is none image limit log at read stand fetched =
-    inl (record {
-      no_entry = subst (λ n. HasNoContent n body) (is ∙ ap (λ n. n + 1) read.counted) none;
-      no_checkpoint = not-checkpoint log body head whole other;
-      first = ap (λ g. g + 1) (sym at);
-    })
+-- A body whose head is not that of a checkpoint, and which has no content of the next entry.
+pub no-entry : (gate number : ℕ) (body : List ℕ) (head : Head) (l : Loader) → IsBody body head → head.kind ≢ 2 → number ≡ l.board.entries + 1 → HasNoContent number body → HasNothingNext gate body l (gate + 1)
+no-entry gate number body head l whole other is none log at read = record {
+  no_entry = subst (λ n. HasNoContent n body) (is ∙ ap (λ n. n + 1) read.counted) none;
+  no_checkpoint = not-checkpoint log body head whole other;
+  first = ap (λ g. g + 1) (sym at);
+}
 
 -- A body whose head is that of a checkpoint, and which is not that of a checkpoint of the board.
-pub no-checkpoint : (gate root : ℕ) (body bytes : List ℕ) (head : Head) (l : Loader) → l.board.entries + 1 < 2 ^ 64 → IsBody body head → head.kind ≡ 2 → (HasCheckpoint l.board.entries (roll_bytes (rolled l.board)) body → ⊥) → BreaksNext gate body bytes root l (gate + 1)
-no-checkpoint gate root body bytes head l few whole kind none image limit log at read stand fetched =
-    inl (record {
-      no_entry = λ e r blocks has.
-          let small : log.entries + 1 < 2 ^ 64 = omega (arith, few, read.counted) in
-          let one = content-fields (log.entries + 1) body head whole (omega arith) small e r blocks has in
-          let kind_too = one.0 in
-          absurd (omega (arith, kind, kind_too));
-      no_checkpoint = λ is. none (read-checkpoint log l body read is);
-      first = ap (λ g. g + 1) (sym at);
-    })
+pub no-checkpoint : (gate : ℕ) (body : List ℕ) (head : Head) (l : Loader) → l.board.entries + 1 < 2 ^ 64 → IsBody body head → head.kind ≡ 2 → (HasCheckpoint l.board.entries (roll_bytes (rolled l.board)) body → ⊥) → HasNothingNext gate body l (gate + 1)
+no-checkpoint gate body head l few whole kind none log at read = record {
+  no_entry = λ e r blocks has.
+      let small : log.entries + 1 < 2 ^ 64 = omega (arith, few, read.counted) in
+      let one = content-fields (log.entries + 1) body head whole (omega arith) small e r blocks has in
+      let kind_too = one.0 in
+      absurd (omega (arith, kind, kind_too));
+  no_checkpoint = λ is. none (read-checkpoint log l body read is);
+  first = ap (λ g. g + 1) (sym at);
+}
 
-pub forbidden : (gate number root : ℕ) (e : Entry) (nodes body : List ℕ) (l : Loader) → number ≡ l.board.entries + 1 → HasContent number e root nodes body → (FitsRoll (rolled l.board) e → ⊥) → BreaksNext gate body nodes root l (gate + 1)
-forbidden gate number root e nodes body l is content refused image limit log at read stand fetched =
-    inr (inl (record {
-      entry = e;
-      root = root;
-      nodes = nodes;
-      content = subst (λ n. HasContent n e root nodes body) (is ∙ ap (λ n. n + 1) read.counted) content;
-      forbidden = λ fits. refused (subst (λ r. FitsRoll r e) (sym read.rolled_is) fits);
-      first = ap (λ g. g + 1) (sym at);
-    }))
+-- ---- a body that breaks the format or the rule of a judge
+
+module _ {J : Type 0} (by : Judging J) (gate root : ℕ) (body nodes : List ℕ) (l : Loader) (before : J) where
+  pub nothing-next : (block : ℕ) → HasNothingNext gate body l block → BreaksNext by gate body nodes root l before block
+  nothing-next block none image limit log seen at read stand fetched judged = inl (none log at read)
+
+  module _ (number : ℕ) (e : Entry) (is : number ≡ l.board.entries + 1) (content : HasContent number e root nodes body) where
+    forbidden-by : ((log : Reached) (seen : Seen) → IsReadInto log l → by.is_after seen before → Lets by.may log seen.entries e root → ⊥) → BreaksNext by gate body nodes root l before (gate + 1)
+    forbidden-by refused image limit log seen at read stand fetched judged =
+        inr (inl (record {
+          entry = e;
+          root = root;
+          nodes = nodes;
+          content = subst (λ n. HasContent n e root nodes body) (is ∙ ap (λ n. n + 1) read.counted) content;
+          forbidden = refused log seen read judged;
+          first = ap (λ g. g + 1) (sym at);
+        }))
+
+    -- The entry may not follow the streams.
+    pub forbidden : (FitsRoll (rolled l.board) e → ⊥) → BreaksNext by gate body nodes root l before (gate + 1)
+    forbidden refused = forbidden-by (λ log seen read judged lets. refused (subst (λ r. FitsRoll r e) (sym read.rolled_is) lets.0))
+
+    -- The judge does not let the entry follow.
+    pub ruled-out : ((seen : Seen) → by.is_after seen before → by.may seen.entries e root → ⊥) → BreaksNext by gate body nodes root l before (gate + 1)
+    ruled-out refused = forbidden-by (λ log seen read judged lets. refused seen judged lets.1)
+
+  -- The judge let the entry follow, but its root or a node block is wrong.
+  entry-wrong : (e : Entry) → FitsRoll (rolled l.board) e → ((seen : Seen) → by.is_after seen before → by.may seen.entries e root) → (block : ℕ) → BreaksEntry gate body nodes e root l block → BreaksNext by gate body nodes root l before block
+  entry-wrong e fits let_it block breaks image limit log seen at read stand fetched judged =
+      let lets : Lets by.may log seen.entries e root = (subst (λ r. FitsRoll r e) read.rolled_is fits, let_it seen judged) in
+      let its : (f : Entry) (at_root : ℕ) → IsThisEntry e root f at_root → Lets by.may log seen.entries f at_root = λ f at_root same.
+      subst (λ r. Lets by.may log seen.entries f r) (sym same.1) (subst (λ x. Lets by.may log seen.entries x root) (sym same.0) lets)
+      in
+      elim (breaks image limit log at read stand fetched) [
+        | inl w ↦
+            inr (inr (inl (record {
+              entry = w.entry;
+              root = w.root;
+              nodes = w.nodes;
+              content = w.content;
+              allowed = its w.entry w.root w.allowed;
+              wrong = w.wrong;
+              named = w.named;
+            })))
+        | inr w ↦
+            inr (inr (inr (record {
+              entry = w.entry;
+              root = w.root;
+              nodes = w.nodes;
+              content = w.content;
+              allowed = its w.entry w.root w.allowed;
+              right = w.right;
+              before = w.before;
+              within = w.within;
+              bytes = w.bytes;
+              fit = w.fit;
+              stand = w.stand;
+              next = w.next;
+              damaged = w.damaged;
+            })))
+      ]
+
+  -- The judge let the entry follow.
+  module _ (e : Entry) (after : J) (judged : (seen : Seen) → by.is_after seen before → by.may seen.entries e root × by.is_after (with_seen seen e root) after) {E : Type 0} where
+    pub judged-added : (new : Loader) (result : Result (Option ℕ) E) → IfOk result (λ o. IfNone o (HasAdded gate body e root l new)) → IfOk result (λ o. IfNone o (HasJudged by gate body l new before after))
+    judged-added new (Err x) added = tt
+    judged-added new (Ok o) added =
+        IfNone_then o (HasAdded gate body e root l new) (HasJudged by gate body l new before after) (λ is. record { entry = e; root = root; added = is; judged = judged }) added
+
+    pub judged-wrong : FitsRoll (rolled l.board) e → (result : Result (Option ℕ) E) → IfOk result (λ o. IfSome o (BreaksEntry gate body nodes e root l)) → IfOk result (λ o. IfSome o (BreaksNext by gate body nodes root l before))
+    judged-wrong fits (Err x) wrong = tt
+    judged-wrong fits (Ok o) wrong =
+        IfSome_then o wrong (λ block breaks. entry-wrong e fits (λ seen was. (judged seen was).0) block breaks)
+
+-- Nothing refuses the entry.
+pub no-refusal : {X : Type 0} (o : Option X) → is_some o ≡ false → o ≡ None
+no-refusal None none = refl
+no-refusal (Some x) none = absurd (false≢true (sym none))
 
 -- ---- pages that were fetched
 
@@ -243,38 +313,38 @@ module _ (gate first : ℕ) (nodes body : List ℕ) (l : Loader) (head : Head) (
     its-allowed : FitsRoll log.roll e
     its-allowed = subst (λ r. FitsRoll r e) read.rolled_is is.allowed
 
-  pub wrong-root : (block : ℕ) → ((pages : Pages) → AreKnown pages l.nodes → MayLeadIn pages (rolled l.board) e first nodes head.root → ⊥) → IsNamedRoot gate e first nodes head.root block → BreaksNext gate body nodes head.root l block
+  pub wrong-root : (block : ℕ) → ((pages : Pages) → AreKnown pages l.nodes → MayLeadIn pages (rolled l.board) e first nodes head.root → ⊥) → IsNamedRoot gate e first nodes head.root block → BreaksEntry gate body nodes e head.root l block
   wrong-root block wrong named image limit log at read stand fetched =
       let same = its-first log at read in
       let are : AreRead image limit nodes head.root log.pages l.nodes = record { known = read.known; stand = stand; fetched = fetched } in
-      inr (inr (inl (record {
+      inl (record {
         entry = e;
         root = head.root;
         nodes = nodes;
         content = its-content log at read;
-        allowed = its-allowed log at read;
+        allowed = (refl, refl);
         wrong = λ below stands may.
             let narrowed : MayLeadIn log.pages log.roll e (first_page log.gate e) nodes head.root = narrow-lead image limit nodes head.root log.pages l.nodes are below stands log.roll e (first_page log.gate e) may in
             wrong log.pages read.known (subst (λ r. MayLeadIn log.pages r e first nodes head.root) (sym read.rolled_is) (subst (λ f. MayLeadIn log.pages log.roll e f nodes head.root) (sym same) narrowed));
         named = subst (λ f. IsNamedRoot log.gate e f nodes head.root block) same (subst (λ g. IsNamedRoot g e first nodes head.root block) (sym at) named);
-      })))
+      })
 
   module _ (right : MayLeadRead first nodes l head.root e) where
     its-right : (log : Reached) (at : log.gate ≡ gate) (read : IsReadInto log l) → MayLeadIn log.pages log.roll e (first_page log.gate e) nodes head.root
     its-right log at read =
         subst (λ f. MayLeadIn log.pages log.roll e f nodes head.root) (its-first log at read) (subst (λ r. MayLeadIn log.pages r e first nodes head.root) read.rolled_is (right log.pages read.known))
 
-    pub wrong-node : (new : NodesValue) (block : ℕ) → IsDamagedBlock l.nodes new first nodes block → BreaksNext gate body nodes head.root l block
+    pub wrong-node : (new : NodesValue) (block : ℕ) → IsDamagedBlock l.nodes new first nodes block → BreaksEntry gate body nodes e head.root l block
     wrong-node new block damaged image limit log at read stand fetched =
         let same = its-first log at read in
         let added = damaged.added in
         let are : AreRead image limit nodes head.root log.pages l.nodes = record { known = read.known; stand = stand; fetched = fetched } in
-        inr (inr (inr (record {
+        inr (record {
           entry = e;
           root = head.root;
           nodes = nodes;
           content = its-content log at read;
-          allowed = its-allowed log at read;
+          allowed = (refl, refl);
           right = its-right log at read;
           before = damaged.before;
           within = damaged.within;
@@ -295,7 +365,7 @@ module _ (gate first : ℕ) (nodes body : List ℕ) (l : Loader) (head : Head) (
                 } in
                 inr out
           ];
-        })))
+        })
 
     -- ---- an entry whose pages were added
 
@@ -405,10 +475,8 @@ module _ (gate first : ℕ) (nodes body : List ℕ) (l : Loader) (head : Head) (
             }
 
         -- The body was added.
-        pub body-added : WasReadTo gate l → ((k : ℕ) → IsSome (node_at mid k) → k < first + length nodes / 4096) → HasAdded gate body l new
+        pub body-added : WasReadTo gate l → ((k : ℕ) → IsSome (node_at mid k) → k < first + length nodes / 4096) → HasAdded gate body e head.root l new
         body-added was above = record {
-          entry = e;
-          root = head.root;
           pages = pages;
           is = body-after;
           into = entry-into above;

@@ -19,7 +19,8 @@ use Rattle.btr_open.specs.declared.below.BlockReader.{BlockReader}
 use Rattle.btr_open.specs.declared.opening.OpenCause.{OpenCause}
 use Rattle.btr_open.specs.declared.opening.OpenCause.TheVariants.{NotAStore, Damaged, Fault, Want}
 use Rattle.btr_open.specs.Below.{IsStoredPage, IsWrongChild, BreaksBelow}
-use Rattle.btr_open.specs.Reading.{OnlyReads, BlockCause}
+use Rattle.btr_open.specs.Reading.{BlockCause}
+use Rattle.btr_open.specs.Reads.{OnlyReads}
 use Rattle.btr_open.specs.Loading.{GrowsBelow, AddsBelow, StaysPart, CanRead, HasReadBelow, IsReadPage, IsStoredWith, HasNoneFrom, KnowsChild, MakesBelow}
 use Rattle.btr_open.proofs.Synced.{counts-trans}
 use Rattle.btr_open.proofs.BelowLemmas.{stored-one, stand-page, child-at}

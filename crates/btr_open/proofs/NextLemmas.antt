@@ -10,7 +10,6 @@ use Rattle.btr_log.specs.Found.{IsDamagedExtent}
 use Rattle.btr_log.proofs.ExtentLemmas.{IsBody-one}
 use Rattle.btr_super.specs.declared.superblock.Super.{Super}
 use Rattle.btr_super.specs.Super.{IsSuper}
-use Rattle.btr_super.specs.Choose.{IsChosen}
 use Rattle.btr_hist.specs.declared.entry.Entry.{Entry}
 use Rattle.btr_hist.specs.Legal.{Follows}
 use Rattle.btr_hist.proofs.HistoryLemmas.{follows-prefix}
@@ -21,12 +20,13 @@ use Rattle.btr_engine.proofs.BodyLemmas.{LeadTo-append, LeadTo-split}
 use Rattle.btr_open.specs.declared.loading.Loader.{Loader}
 use Rattle.btr_open.specs.Reached.{with_other_pages}
 use Rattle.btr_open.specs.Below.{StandBelow}
-use Rattle.btr_open.specs.Damage.{IsDamaged}
-use Rattle.btr_open.specs.Walk.{IsDamagedNext, IsWalk}
-use Rattle.btr_open.specs.Reading.{IsPartRead, IsReadLog}
+use Rattle.btr_open.specs.declared.judge.Judge.{Ghosts as Judging}
+use Rattle.btr_open.specs.Walk.{IsDamagedNextBy}
+use Rattle.btr_open.specs.Seen.{Lets, IsDamagedLogBy}
+use Rattle.btr_open.specs.Reading.{IsPartRead, IsJudgedRead}
 use Rattle.btr_open.specs.Loading.{ReadsBody, BreaksAfter}
 use Rattle.btr_open.proofs.HeldLemmas.{stand-held}
-use Rattle.btr_open.proofs.WalkLemmas.{lead-gate, lead-below, stand-same, walk-wider, walk-push}
+use Rattle.btr_open.proofs.WalkLemmas.{KeepingWalk, lead-plain, lead-gate, lead-below, stand-same, walk-wider, walk-push}
 
 -- ---- the extents of a history
 
@@ -70,7 +70,7 @@ stand-lower image limit gate before high stand block low = stand block (omega (a
 
 -- ---- one extent more of a history
 
-module _ (size : ℕ) (image : Image) (limit gate : ℕ) (high : limit ≤ gate) (body : List ℕ) (head : Head) (extent : IsExtent image gate body head) (old new : Loader) (reads : ReadsBody image limit gate body old new) where
+module _ {J : Type 0} (by : Judging J) (size : ℕ) (image : Image) (limit gate : ℕ) (high : limit ≤ gate) (body : List ℕ) (head : Head) (extent : IsExtent image gate body head) (old new : Loader) (before after : J) (reads : ReadsBody by image limit gate body old new before after) where
   module _ (blocks tail : ℕ) (h : List Entry) (holds : HoldsHistoryTo size image blocks tail h) (part : IsPartRead holds gate old) where
     abbrev end : Prefix
     end = prefix_to tail h holds.leads.roots holds.leads.pages
@@ -121,45 +121,55 @@ start-low size s gate table behind = elim table.start [
   | inr after ↦ let low = after.1 in omega (arith, low, behind)
 ]
 
-module _ (size : ℕ) (image : Image) (found : Super) (gate : ℕ) (high : found.checkpoint ≤ gate) (body : List ℕ) (head : Head) (extent : IsExtent image gate body head) (old : Loader) (read : IsReadLog size image found gate old) where
-  its-extent : IsExtent image read.log.gate body head
-  its-extent = subst (λ g. IsExtent image g body head) (sym read.at) extent
+module _ {J : Type 0} (by : Judging J) (size : ℕ) (image : Image) (found : Super) (gate : ℕ) (old : Loader) (before : J) (its : IsJudgedRead by size image found gate old before) where
+  its-walk : KeepingWalk by.may image found its.read.log its.seen
+  its-walk = record { walk = its.read.walk; keeps = its.keeps }
 
-  -- All was read up to the gate after it.
-  pub read-on : (new : Loader) (next : ℕ) → next ≡ gate + need body → ReadsBody image found.checkpoint gate body old new → IsReadLog size image found next new
-  read-on new next next_is reads =
-      let limit = found.checkpoint in
-      let is = reads.leads read.log read.at read.into read.stand in
-      let log = with_other_pages read.log is.wider in
-      let at : is.next.gate ≡ next = lead-gate log body is.next is.leads ∙ ap (λ g. g + need body) read.at ∙ sym next_is in
-      record {
-        log = is.next;
-        at = at;
-        walk = walk-push image found log is.next body head (walk-wider image found read.log is.wider read.walk is.wide is.stand) its-extent is.leads;
-        into = is.into;
-        stand = stand-same image limit is.wider is.next.pages (λ block low. lead-below log (body ∷ []) is.next is.leads block (omega (arith, low, high, read.at))) is.stand;
-        held = λ blocks tail h holds same.
-            subst (λ g. IsPartRead holds g new) (sym next_is) (part-next size image limit gate high body head extent old new reads blocks tail h holds (read.held blocks tail h holds same));
-      }
+  -- A gate whose extent is damaged breaks the format of the log.
+  pub gate-damaged : (block : ℕ) → IsDamagedExtent image found.blocks gate block → IsDamagedLogBy by.may image found block
+  gate-damaged block damage = record {
+    log = its.read.log;
+    seen = its.seen;
+    walk = its.read.walk;
+    keeps = its.keeps;
+    damage = inl (subst (λ g. IsDamagedExtent image found.blocks g block) (sym its.read.at) damage);
+  }
 
-  -- The block breaks the format of the store.
-  pub body-damaged : (block : ℕ) → gate + need body < found.blocks → BreaksAfter image found.checkpoint gate body old block → IsChosen size image found → IsDamaged size image block
-  body-damaged block inside breaks chosen =
-      let is = breaks read.log read.at read.into read.stand in
-      let log = with_other_pages read.log is.0 in
-      let walk : IsWalk image found log = walk-wider image found read.log is.0 read.walk is.1 is.2 in
-      let damage : IsDamagedNext image found log block = inr (record { head = head; body = body; extent = its-extent; inside = omega (arith, inside, read.at); breaks = is.3 }) in
-      inr (found, chosen, inr (record { log = log; walk = walk; damage = damage }))
+  module _ (high : found.checkpoint ≤ gate) (body : List ℕ) (head : Head) (extent : IsExtent image gate body head) where
+    its-extent : IsExtent image its.read.log.gate body head
+    its-extent = subst (λ g. IsExtent image g body head) (sym its.read.at) extent
 
--- A gate whose extent is damaged breaks the format of the store.
-pub gate-damaged : (size : ℕ) (image : Image) (found : Super) (gate : ℕ) (l : Loader) (block : ℕ) → IsReadLog size image found gate l → IsDamagedExtent image found.blocks gate block → IsChosen size image found → IsDamaged size image block
-gate-damaged size image found gate l block read damage chosen =
-    inr (
-      found,
-      chosen,
-      inr (record {
-        log = read.log;
-        walk = read.walk;
-        damage = inl (subst (λ g. IsDamagedExtent image found.blocks g block) (sym read.at) damage);
-      }),
-    )
+    -- All was read up to the gate after it.
+    pub read-on : (new : Loader) (after : J) (next : ℕ) → next ≡ gate + need body → ReadsBody by image found.checkpoint gate body old new before after → IsJudgedRead by size image found next new after
+    read-on new after next next_is reads =
+        let read = its.read in
+        let limit = found.checkpoint in
+        let is = reads.leads read.log its.seen read.at read.into read.stand its.judged in
+        let log = with_other_pages read.log is.wider in
+        let one = lead-plain by.may log its.seen (body ∷ []) is.next is.all is.leads in
+        let at : is.next.gate ≡ next = lead-gate log body is.next one ∙ ap (λ g. g + need body) read.at ∙ sym next_is in
+        let walk = walk-push by.may image found log is.next its.seen is.all body head (walk-wider by.may image found read.log its.seen is.wider its-walk is.wide is.stand) its-extent is.leads in
+        record {
+          read = record {
+            log = is.next;
+            at = at;
+            walk = walk.walk;
+            into = is.into;
+            stand = stand-same image limit is.wider is.next.pages (λ block low. lead-below log (body ∷ []) is.next one block (omega (arith, low, high, read.at))) is.stand;
+            held = λ blocks tail h holds same.
+                subst (λ g. IsPartRead holds g new) (sym next_is) (part-next by size image limit gate high body head extent old new before after reads blocks tail h holds (read.held blocks tail h holds same));
+          };
+          seen = is.all;
+          keeps = walk.keeps;
+          judged = is.judged;
+        }
+
+    -- The block breaks the format of the log, or the rule.
+    pub body-damaged : (block : ℕ) → gate + need body < found.blocks → BreaksAfter by image found.checkpoint gate body old before block → IsDamagedLogBy by.may image found block
+    body-damaged block inside breaks =
+        let read = its.read in
+        let is = breaks read.log its.seen read.at read.into read.stand its.judged in
+        let log = with_other_pages read.log is.0 in
+        let walk = walk-wider by.may image found read.log its.seen is.0 its-walk is.1 is.2 in
+        let damage : IsDamagedNextBy (Lets by.may log its.seen.entries) image found log block = inr (record { head = head; body = body; extent = its-extent; inside = omega (arith, inside, read.at); breaks = is.3 }) in
+        record { log = log; seen = its.seen; walk = walk.walk; keeps = walk.keeps; damage = damage }

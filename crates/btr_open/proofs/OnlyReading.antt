@@ -6,7 +6,8 @@ use Rattle.btr_disk.proofs.ByteLemmas.{Same-is}
 use Rattle.btr_disk.proofs.MomentLemmas.{nothing_composes}
 use Rattle.btr_log.specs.declared.log.Log.{Log}
 use Rattle.btr_log.specs.Log.{log_device}
-use Rattle.btr_open.specs.Reading.{OnlyReads, ReadsLog}
+use Rattle.btr_open.specs.Reading.{ReadsLog}
+use Rattle.btr_open.specs.Reads.{OnlyReads}
 use Rattle.btr_open.proofs.Synced.{counts-trans}
 
 module _ {D : Type 0} {disk : Ghosts D} where

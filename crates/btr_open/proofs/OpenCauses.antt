@@ -1,6 +1,7 @@
 -- Why an opening fails: what the faults of a log and of a choice mean for a store.
 use Rattle.std.specs.Prelude.{◌≡◌, ℕ, ◌+◌, ◌*◌, ◌<◌, ◌≤◌, ◌↔◌, List, Result, Err}
 use Rattle.std.proofs.Common.{refl, sym, subst, arith, inl, inr}
+use Rattle.btr_disk.specs.declared.disk.Disk.{Ghosts}
 use Rattle.btr_disk.specs.Bytes.{Image, Has}
 use Rattle.btr_disk.specs.Gate.{IsOpen}
 use Rattle.btr_disk.specs.Causes.{CausesFault}
@@ -16,38 +17,10 @@ use Rattle.btr_super.specs.declared.choosing.ChooseFault.{ChooseFault}
 use Rattle.btr_super.specs.declared.choosing.ChooseFault.TheVariants as chosen
 use Rattle.btr_open.specs.declared.opening.OpenCause.{OpenCause}
 use Rattle.btr_open.specs.declared.opening.OpenCause.TheVariants.{NotAStore, Damaged, Fault, Want}
-use Rattle.btr_open.specs.Reached.{Reached}
-use Rattle.btr_open.specs.Start.{IsWrongStart}
-use Rattle.btr_open.specs.Walk.{IsWalk, BreaksBody, IsDamagedNext}
-use Rattle.btr_open.specs.Damage.{IsDamaged}
+use Rattle.btr_open.specs.Damage.{IsDamagedStore, IsDamaged}
 use Rattle.btr_open.specs.Opening.{OpenCauseHolds}
-
--- A block that breaks the format of the start that the superblock names is damaged.
-pub damaged_start : (size : ℕ) (image : Image) (found : Super) (block : ℕ) → IsWrongStart image found block → IsChosen size image found → IsDamaged size image block
-damaged_start size image found block wrong chosen = inr (found, chosen, inl wrong)
-
--- What is before the gate, to which a walk leads.
-module _ (size : ℕ) (image : Image) (found : Super) (log : Reached) where
-  -- The next extent is damaged in this block.
-  pub damaged_next : (block : ℕ) → IsDamagedNext image found log block → IsWalk image found log → IsChosen size image found → IsDamaged size image block
-  damaged_next block damage walk chosen =
-      inr (found, chosen, inr (record { log = log; walk = walk; damage = damage }))
-
-  -- The log finds no extent at the gate: this block breaks the format.
-  pub damaged_extent : (blocks gate block : ℕ) → blocks ≡ found.blocks → log.gate ≡ gate → IsDamagedExtent image blocks gate block → IsWalk image found log → IsChosen size image found → IsDamaged size image block
-  damaged_extent blocks gate block same at damage walk chosen =
-      damaged_next block (inl (subst (λ n. IsDamagedExtent image n log.gate block) same (subst (λ g. IsDamagedExtent image blocks g block) (sym at) damage))) walk chosen
-
-  -- The body of the next extent breaks the format in this block.
-  pub broken_next : (blocks gate block : ℕ) (body : List ℕ) (head : Head) → blocks ≡ found.blocks → log.gate ≡ gate → IsExtent image gate body head → gate + need body < blocks → BreaksBody image found.checkpoint log body block → IsWalk image found log → IsChosen size image found → IsDamaged size image block
-  broken_next blocks gate block body head same at extent inside breaks walk chosen =
-      damaged_next block (inr (record {
-        head = head;
-        body = body;
-        extent = subst (λ g. IsExtent image g body head) (sym at) extent;
-        inside = omega (arith, same, at, inside);
-        breaks = breaks;
-      })) walk chosen
+use Rattle.btr_open.specs.Reading.{StoreCause}
+use Rattle.btr_open.specs.Reads.{PartCause}
 
 -- The extent that a log finds, on a device that is observable.
 pub found-extent : (image : Image) (blocks gate : ℕ) (head : Head) (body : List ℕ) (next : ℕ) → IsWholeExtent blocks gate head body next → IsOpen image gate × Has image (4096 * (gate + 1)) body → IsExtent image gate body head × (gate + need body < blocks)
@@ -61,15 +34,30 @@ pub found-next : (blocks gate : ℕ) (head : Head) (body : List ℕ) (next : ℕ
 found-next blocks gate head body next whole =
     omega (arith, whole.follows, IsBody-blocks body head whole.is_body)
 
-module _ (is_observable read : Type 0) (size : ℕ) (image : Image) (blocks gate before after : ℕ) (told : read → is_observable) (damages : read → (block : ℕ) → IsDamagedExtent image blocks gate block → IsDamaged size image block) where
-  -- A fault of the log is a cause of an opening.
-  pub cause_along : (fault : ExtentFault) (cause : OpenCause) → ((block : ℕ) → fault ≡ log.Damaged block → cause ≡ Damaged block) → (fault ≡ log.Fault → cause ≡ Fault) → (fault ≡ log.Want → cause ≡ Want) → FindCause is_observable image blocks gate before after fault → OpenCauseHolds read size image before after cause
-  cause_along (log.Damaged block) cause damaged faulty wanting is =
-      subst (OpenCauseHolds read size image before after) (sym (damaged block refl)) (λ r. damages r block (is (told r)))
-  cause_along log.Fault cause damaged faulty wanting is =
-      subst (OpenCauseHolds read size image before after) (sym (faulty refl)) is
-  cause_along log.Want cause damaged faulty wanting is =
-      subst (OpenCauseHolds read size image before after) (sym (wanting refl)) tt
+module _ {D : Type 0} (disk : Ghosts D) where
+  -- A fault of the log is a cause.
+  pub cause-found : (Breaks : ℕ → Type 0) (old new : D) (blocks gate : ℕ) → (disk.is_observable → (block : ℕ) → IsDamagedExtent (disk.contents old) blocks gate block → Breaks block) → (fault : ExtentFault) (cause : OpenCause) → ((block : ℕ) → fault ≡ log.Damaged block → cause ≡ Damaged block) → (fault ≡ log.Fault → cause ≡ Fault) → (fault ≡ log.Want → cause ≡ Want) → FindCause disk.is_observable (disk.contents old) blocks gate (disk.faults old) (disk.faults new) fault → PartCause disk Breaks old new cause
+  cause-found Breaks old new blocks gate damages (log.Damaged block) cause damaged faulty wanting is =
+      subst (PartCause disk Breaks old new) (sym (damaged block refl)) (λ told. damages told block (is told))
+  cause-found Breaks old new blocks gate damages log.Fault cause damaged faulty wanting is =
+      subst (PartCause disk Breaks old new) (sym (faulty refl)) is
+  cause-found Breaks old new blocks gate damages log.Want cause damaged faulty wanting is =
+      subst (PartCause disk Breaks old new) (sym (wanting refl)) tt
+
+  -- A cause holds too if more breaks the format, and over more calls.
+  pub cause-along : (Breaks More : ℕ → Type 0) (old mid new : D) → disk.faults old ≤ disk.faults mid → (disk.is_observable → (block : ℕ) → Breaks block → More block) → (cause : OpenCause) → PartCause disk Breaks mid new cause → PartCause disk More old new cause
+  cause-along Breaks More old mid new low more NotAStore is = is
+  cause-along Breaks More old mid new low more (Damaged block) is = λ told. more told block (is told)
+  cause-along Breaks More old mid new low more Fault is = omega (arith, is, low)
+  cause-along Breaks More old mid new low more Want is = tt
+
+  -- Why a store was not opened, from why its log was not read.
+  pub cause-of-store : (found : Super) (old mid new : D) (size : ℕ) (image : Image) → disk.faults old ≤ disk.faults mid → (disk.is_observable → IsChosen size image found) → (disk.is_observable → disk.contents mid ≡ image) → (cause : OpenCause) → StoreCause disk found mid new cause → OpenCauseHolds disk.is_observable size image (disk.faults old) (disk.faults new) cause
+  cause-of-store found old mid new size image low chosen same NotAStore is = absurd is
+  cause-of-store found old mid new size image low chosen same (Damaged block) is =
+      λ told. inr (found, chosen told, subst (λ i. IsDamagedStore i found block) (same told) (is told))
+  cause-of-store found old mid new size image low chosen same Fault is = omega (arith, is, low)
+  cause-of-store found old mid new size image low chosen same Want is = tt
 
 -- A fault of the choice of a superblock is a cause of an opening.
 pub choice_along : (is_observable : Type 0) (size : ℕ) (image : Image) (before after : ℕ) (result : Result Super ChooseFault) → CausesFault before after (result ≡ Err chosen.Fault) → (is_observable → (result ≡ Err chosen.Fault → ⊥) → (result ≡ Err chosen.NotAStore) ↔ HasNoSuper size image) → (is_observable → (result ≡ Err chosen.Fault → ⊥) → (block : ℕ) → (result ≡ Err (chosen.Damaged block)) ↔ IsDamagedSuper size image block) → (fault : ChooseFault) (cause : OpenCause) → result ≡ Err fault → (fault ≡ chosen.NotAStore → cause ≡ NotAStore) → ((block : ℕ) → fault ≡ chosen.Damaged block → cause ≡ Damaged block) → (fault ≡ chosen.Fault → cause ≡ Fault) → OpenCauseHolds is_observable size image before after cause

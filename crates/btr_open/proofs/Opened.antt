@@ -20,10 +20,11 @@ use Rattle.btr_engine.proofs.EngineLemmas.{holds_in, durable_held}
 use Rattle.btr_open.specs.declared.opening.OpenFault.{OpenFault}
 use Rattle.btr_open.specs.Damage.{IsUndamaged}
 use Rattle.btr_open.specs.Opening.{KeepsDisk, SyncsFirst, IsOpenedEngine, IsOpenedOn, IsNotOpened}
-use Rattle.btr_open.specs.Reading.{LogCause, OnlyReads, IsWholeLog, IsReadEngine}
+use Rattle.btr_open.specs.Reading.{StoreCause, IsWholeLog, IsReadEngine}
+use Rattle.btr_open.specs.Reads.{OnlyReads}
 use Rattle.btr_open.proofs.Synced.{unwritten_on, counts-trans, reads_on}
 use Rattle.btr_open.proofs.Sound.{whole-sound}
-use Rattle.btr_open.proofs.OpenCauses.{OpenCauseHolds-along}
+use Rattle.btr_open.proofs.OpenCauses.{cause-of-store}
 
 -- ---- an engine that was opened
 
@@ -87,10 +88,6 @@ module _ {D : Type 0} (disk : Ghosts D) (old mid : D) (found : Super) (counts_no
   same_bytes : disk.is_observable → disk.contents mid ≡ disk.contents old
   same_bytes told = Same-is (disk.contents old) (disk.contents mid) (kept.unwritten told).same
 
-  chosen_then : disk.is_observable → IsChosen (disk.size mid) (disk.contents mid) found
-  chosen_then told =
-      subst (λ n. IsChosen n (disk.contents mid) found) (sym kept.counts.same_size) (subst (λ i. IsChosen (disk.size old) i found) (sym (same_bytes told)) (chosen told))
-
   keeps : (new : D) → OnlyReads disk mid new → KeepsDisk disk old new
   keeps new reads = record {
     counts = counts-trans disk old mid new kept.counts reads.counts;
@@ -135,6 +132,7 @@ module _ {D : Type 0} (disk : Ghosts D) (old mid : D) (found : Super) (counts_no
       kept = keeps (device e) read.reads;
       synced = so_far;
       runs = read.runs;
+      home = read.home;
       entries = read.entries;
       chosen = λ told. subst (IsChosen (disk.size old) (disk.contents old)) (sym read.under) (chosen told);
       stood = λ told h holds. opened_on old h e told read.entries (at_rest told h holds) so_far;
@@ -150,12 +148,9 @@ module _ {D : Type 0} (disk : Ghosts D) (old mid : D) (found : Super) (counts_no
   stood (Ok e) is told h holds = is.stood told h holds
   stood (Err f) is told h holds = tt
 
-  pub refused : (result : Result (Engine D disk) (OpenFault D)) → IfErr result (λ f. OnlyReads disk mid f.disk) → IfErr result (λ f. LogCause disk found mid f.disk f.cause) → IfErr result (IsNotOpened disk old)
+  pub refused : (result : Result (Engine D disk) (OpenFault D)) → IfErr result (λ f. OnlyReads disk mid f.disk) → IfErr result (λ f. StoreCause disk found mid f.disk f.cause) → IfErr result (IsNotOpened disk old)
   refused (Ok e) reads cause = tt
   refused (Err f) reads cause = record {
     kept = keeps f.disk reads;
-    cause = OpenCauseHolds-along (disk.is_observable × IsChosen (disk.size mid) (disk.contents mid) found) disk.is_observable (disk.size mid) (disk.size old) (disk.contents mid) (disk.contents old)
-        (disk.faults old) (disk.faults mid) (disk.faults f.disk) (disk.faults f.disk) f.cause
-        (λ told. (told, chosen_then told))
-        (λ told. (kept.counts.same_size, same_bytes told)) kept.counts.more_faults (omega arith) cause;
+    cause = cause-of-store disk found old mid f.disk (disk.size old) (disk.contents old) kept.counts.more_faults chosen same_bytes f.cause cause;
   }

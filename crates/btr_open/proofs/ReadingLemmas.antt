@@ -1,12 +1,10 @@
 -- Lemmas on the reading of one body: what is read then, up to the gate after it, and why it breaks the format.
-use Rattle.std.specs.Prelude.{◌≡◌, ℕ, ◌+◌, ◌-◌, ◌*◌, ◌^◌, ◌<◌, ◌≤◌, List, [], ◌∷◌, ◌++◌, length, slice_get, Some, None, IfSome, IsSome}
+use Rattle.std.specs.Prelude.{◌≡◌, ℕ, ◌+◌, ◌-◌, ◌^◌, ◌<◌, ◌≤◌, List, [], ◌∷◌, ◌++◌, length, slice_get, Some, None, IfSome, IsSome}
 use Rattle.std.specs.List.{flat_map}
-use Rattle.std.proofs.Common.{refl, sym, ◌∙◌, ap, subst, arith, inl, inr, ⊎_elim}
-use Rattle.std.proofs.lemmas.List.{length-drop}
+use Rattle.std.proofs.Common.{refl, sym, ◌∙◌, ap, subst, arith, inl, inr}
 use Rattle.std.proofs.lemmas.Option.{IfSome_then}
 use Rattle.btr_disk.specs.Bytes.{Image}
 use Rattle.btr_log.specs.declared.head.Head.{Head}
-use Rattle.btr_log.specs.Head.{content_blocks}
 use Rattle.btr_log.specs.Extents.{IsBody, need}
 use Rattle.btr_node.specs.Page.{page_bytes}
 use Rattle.btr_node.specs.declared.page.NodePage.{NodePage}
@@ -30,14 +28,15 @@ use Rattle.btr_engine.specs.Roots.{LeadsToLatest, IsRootOf}
 use Rattle.btr_engine.specs.Body.{body_of, Prefix, pages_after, with_extent, with_checkpoint, IsBodyOf, IsCheckpointOf, LeadTo, first_page}
 use Rattle.btr_engine.specs.Rolling.{roll_of, rolled}
 use Rattle.btr_engine.proofs.BodyLemmas.{SameBody, body_of-one, need-body_of}
+use Rattle.btr_open.specs.declared.judge.Judge.{Ghosts as Judging}
 use Rattle.btr_open.specs.declared.loading.Loader.{Loader}
 use Rattle.btr_open.specs.Content.{node_blocks_of}
 use Rattle.btr_open.specs.Reached.{Reached, with_entry, passed, with_other_pages}
 use Rattle.btr_open.specs.Below.{StandBelow, AreWider}
 use Rattle.btr_open.specs.Walk.{IsCheckpointBody, IsNextBody}
+use Rattle.btr_open.specs.Seen.{Seen, with_seen, with_mark}
 use Rattle.btr_open.specs.Reading.{IsReadInto, WasReadTo, IsStoredIn}
-use Rattle.btr_open.specs.Loading.{AddsBelow, GrowsBelow, HaveNeeded, AreFetched, HasAdded, BreaksNext, IsCheckpointRead, LeadsNext, ReadsBody, BreaksAfter, ReadsThrough}
-use Rattle.btr_open.proofs.BelowLemmas.{stand-page}
+use Rattle.btr_open.specs.Loading.{AddsBelow, GrowsBelow, HaveNeeded, AreFetched, HasAdded, HasNothingNext, HasJudged, HasMarked, BreaksNext, LeadsNext, ReadsBody, BreaksAfter, ReadsThrough}
 use Rattle.btr_open.proofs.ContentLemmas.{content-of-bytes, contents-apart, has-roll}
 use Rattle.btr_open.proofs.LoadingLemmas.{head-content, checkpoint-has}
 use Rattle.btr_open.proofs.RootLemmas.{same-page}
@@ -94,44 +93,30 @@ module _ (gate : ℕ) (body : List ℕ) (l : Loader) where
     counted = omega arith;
   }
 
-  pub checkpoint-body : (image : Image) (limit : ℕ) → need body ≤ 2 ^ 64 → WasReadTo gate l → IsCheckpointRead body l → ReadsBody image limit gate body l l
-  checkpoint-body image limit short was is = record {
-    leads = λ log at read stand. record {
-      wider = log.pages;
-      wide = as-wide limit log.pages;
-      stand = stand;
-      next = passed log body;
-      leads = inr (is log read, refl);
-      into = into-passed log body l read;
-    };
-    stored = λ log after at stored stand leads follows. elim leads [
-      | inl x ↦ absurd (marks-apart was.0 body log x.0 x.1 x.2 short (is was.0 was.2) x.3)
-      | inr x ↦ subst (λ p. IsStoredIn p l) x.1 (stored-passed log body l stored)
-    ];
-  }
+  module _ {J : Type 0} (by : Judging J) (before : J) where
+    pub checkpoint-body : (after : J) (next : ℕ) → next ≡ gate + need body → (image : Image) (limit : ℕ) → need body ≤ 2 ^ 64 → WasReadTo gate l → HasMarked by gate next body l before after → ReadsBody by image limit gate body l l before after
+    checkpoint-body after next next_is image limit short was marked = record {
+      leads = λ log seen at read stand judged. record {
+        wider = log.pages;
+        wide = as-wide limit log.pages;
+        stand = stand;
+        next = passed log body;
+        all = with_mark seen log.gate (log.gate + need body);
+        leads = inr (marked.is log read, (refl, refl));
+        into = into-passed log body l read;
+        judged =
+            subst (λ g. by.is_after (with_mark seen g (g + need body)) after) (sym at) (subst (λ n. by.is_after (with_mark seen gate n) after) next_is (marked.judged seen judged));
+      };
+      stored = λ log more at stored stand leads follows. elim leads [
+        | inl x ↦ absurd (marks-apart was.0 body log x.0 x.1 x.2 short (marked.is was.0 was.2) x.3)
+        | inr x ↦ subst (λ p. IsStoredIn p l) x.1 (stored-passed log body l stored)
+      ];
+    }
 
-  -- The extent of a checkpoint needs no page.
-  pub checkpoint-breaks : (image : Image) (limit block : ℕ) (head : Head) → IsBody body head → head.kind ≡ 2 → BreaksNext gate body (node_blocks_of head body) head.root l block → BreaksAfter image limit gate body l block
-  checkpoint-breaks image limit block head whole kind breaks log at read stand =
-      let heads = whole.spells.is_head in
-      let none : (head.nodes ≡ 0) × (head.root ≡ 0) = ⊎_elim (λ e. let one = e.0 in absurd (omega (arith, one, kind))) (λ c. (c.1, c.2)) heads.kind in
-      let nodes = none.0 in
-      let root = none.1 in
-      let size : length (node_blocks_of head body) ≡ 0 = omega (arith, length-drop (4096 * content_blocks head.length) body, whole.whole, heads.blocks, nodes) in
-      let fetched : AreFetched image limit (node_blocks_of head body) head.root l.nodes = λ pages stands k needed low some. elim needed [
-        | inl is ↦ absurd (no-page image limit pages stands k (is ∙ root) low some)
-        | inr child ↦ let within = child.4 in absurd (omega (arith, within, size))
-      ] in
-      (log.pages, as-wide limit log.pages, stand, breaks image limit log at read stand fetched)
-    where
-      no-page : (image : Image) (limit : ℕ) (pages : Pages) → StandBelow image limit pages → (k : ℕ) → k ≡ 0 → k < limit → IsSome (pages k) → ⊥
-      no-page image limit pages stands k none low some =
-          elim (pages k) as (λ o. pages k ≡ o → IsSome o → ⊥) [
-            | None ↦ λ e some. absurd (cc)
-            | Some page ↦ λ e some.
-                let from = (stand-page image limit k pages stands low page e).0 in
-                absurd (omega (arith, from, none))
-          ] refl some
+    pub checkpoint-breaks : (image : Image) (limit block : ℕ) → HasNothingNext gate body l block → BreaksAfter by image limit gate body l before block
+    checkpoint-breaks image limit block none log seen at read stand judged =
+        let nothing = none log at read in
+        (log.pages, as-wide limit log.pages, stand, inl (record { no_entry = nothing.no_entry; no_checkpoint = λ is. nothing.no_checkpoint (record { room = is.room; bytes = is.bytes }); first = nothing.first }))
 
 -- ---- the pages that an entry needs
 
@@ -208,38 +193,44 @@ module _ (limit gate : ℕ) (behind : limit ≤ gate) (body : List ℕ) (head : 
       let more = grows.known log.pages read.known in
       (with_other_pages log more.0, at, fetched-into log more.0 at read more.2)
 
-  module _ (new : Loader) (added : HasAdded gate body mid new) where
+  module _ {J : Type 0} (by : Judging J) (before after : J) (new : Loader) (judged : HasJudged by gate body mid new before after) where
+    abbrev added : HasAdded gate body judged.entry judged.root mid new
+    added = judged.added
+
     pub entry-on : WasReadTo gate old → ReadsThrough gate body old new
     entry-on was =
         let mid_read = fetched-read was in
         let log = mid_read.0 in
         let into = added.into log mid_read.1 mid_read.2 in
         record {
-          into = (with_entry log added.entry added.root added.pages body, ap (λ g. g + need body) mid_read.1, into);
+          into = (with_entry log judged.entry judged.root added.pages body, ap (λ g. g + need body) mid_read.1, into);
           counted = omega (arith, into.counted, mid_read.2.counted, ap (λ b. b.entries) same);
         }
 
     module _ (image : Image) (adds : AddsBelow image limit old.nodes mid.nodes) where
-      entry-leads : (log : Reached) → log.gate ≡ gate → IsReadInto log old → StandBelow image limit log.pages → LeadsNext image limit log body new
-      entry-leads log at read stand =
+      entry-leads : (log : Reached) (seen : Seen) → log.gate ≡ gate → IsReadInto log old → StandBelow image limit log.pages → by.is_after seen before → LeadsNext by image limit log seen body new after
+      entry-leads log seen at read stand is_after =
           let more = adds.grows.known log.pages read.known in
           let wider = more.0 in
           let log_now = with_other_pages log wider in
           let read_now = fetched-into log wider at read more.2 in
+          let then = judged.judged seen is_after in
           record {
             wider = wider;
             wide = more.1;
             stand = adds.stands log.pages read.known stand;
-            next = with_entry log_now added.entry added.root added.pages body;
-            leads = inl (added.entry, added.root, added.pages, added.is log_now at read_now, refl);
+            next = with_entry log_now judged.entry judged.root added.pages body;
+            all = with_seen seen judged.entry judged.root;
+            leads = inl (judged.entry, judged.root, added.pages, added.is log_now at read_now, then.0, (refl, refl));
             into = added.into log_now at read_now;
+            judged = then.1;
           }
 
       module _ (whole : IsBody body head) (few : old.board.entries < 2 ^ 64 - 1) (short : need body ≤ 2 ^ 64) (was : WasReadTo gate old) (part : (pages : Pages) → StandBelow image limit pages → HaveNeeded limit (node_blocks_of head body) head.root pages → ArePartOf pages old.nodes → ArePartOf pages mid.nodes) where
         its-read : WasReadTo gate mid
         its-read = fetched-read was
 
-        its-body : IsNextBody its-read.0 added.entry added.root added.pages body
+        its-body : IsNextBody its-read.0 judged.entry judged.root added.pages body
         its-body = added.is its-read.0 its-read.1 its-read.2
 
         module _ (log : Prefix) (at : log.gate ≡ gate) (stored : IsStoredIn log old) (stand : StandBelow image limit log.pages) where
@@ -263,33 +254,33 @@ module _ (limit gate : ℕ) (behind : limit ≤ gate) (body : List ℕ) (head : 
                 part = part log.pages stand needed_here stored.part;
               }
 
-          entry-stored : (after : Prefix) → LeadTo IsRootOf log (body ∷ []) after → Follows after.entries → IsStoredIn after new
-          entry-stored after leads follows = elim leads [
+          entry-stored : (more : Prefix) → LeadTo IsRootOf log (body ∷ []) more → Follows more.entries → IsStoredIn more new
+          entry-stored more leads follows = elim leads [
             | inl x ↦
-                let one = one-body its-read.0 log added.entry x.0 added.root x.1 added.pages x.2 body same-count (omega (arith, same-count, few-entries)) short its-body x.3 in
+                let one = one-body its-read.0 log judged.entry x.0 judged.root x.1 added.pages x.2 body same-count (omega (arith, same-count, few-entries)) short its-body x.3 in
                 let now = its-stored x.0 x.1 x.2 x.3 x.4 in
-                let is : IsBodyOf log added.entry added.root added.pages body = subst (λ p. IsBodyOf log added.entry added.root p body) one.2 (subst (λ r. IsBodyOf log added.entry r x.2 body) one.1 (subst (λ f. IsBodyOf log f x.1 x.2 body) one.0 x.3)) in
-                let root : IsRootOf (pages_after log added.entry added.pages) log.entries added.entry added.root added.pages =
-                subst (λ p. IsRootOf (pages_after log added.entry p) log.entries added.entry added.root p) one.2
-                (subst (λ r. IsRootOf (pages_after log added.entry x.2) log.entries added.entry r x.2) one.1
+                let is : IsBodyOf log judged.entry judged.root added.pages body = subst (λ p. IsBodyOf log judged.entry judged.root p body) one.2 (subst (λ r. IsBodyOf log judged.entry r x.2 body) one.1 (subst (λ f. IsBodyOf log f x.1 x.2 body) one.0 x.3)) in
+                let root : IsRootOf (pages_after log judged.entry added.pages) log.entries judged.entry judged.root added.pages =
+                subst (λ p. IsRootOf (pages_after log judged.entry p) log.entries judged.entry judged.root p) one.2
+                (subst (λ r. IsRootOf (pages_after log judged.entry x.2) log.entries judged.entry r x.2) one.1
                 (subst (λ f. IsRootOf (pages_after log f x.2) log.entries f x.1 x.2) one.0 x.4))
                 in
-                let end : with_extent log added.entry added.root added.pages body ≡ after = (λ i. with_extent log (sym one.0 i) (sym one.1 i) (sym one.2 i) body) ∙ x.5 in
-                let follows_here : Follows (log.entries ++ added.entry ∷ []) = subst (λ (p : Prefix). Follows p.entries) (sym end) follows in
+                let end : with_extent log judged.entry judged.root added.pages body ≡ more = (λ i. with_extent log (sym one.0 i) (sym one.1 i) (sym one.2 i) body) ∙ x.5 in
+                let follows_here : Follows (log.entries ++ judged.entry ∷ []) = subst (λ (p : Prefix). Follows p.entries) (sym end) follows in
                 subst (λ p. IsStoredIn p new) end (added.history log at now is follows_here root)
-            | inr x ↦ absurd (next-apart its-read.0 added.entry added.root added.pages body log short its-body x.0)
+            | inr x ↦ absurd (next-apart its-read.0 judged.entry judged.root added.pages body log short its-body x.0)
           ]
 
-        pub entry-body : ReadsBody image limit gate body old new
+        pub entry-body : ReadsBody by image limit gate body old new before after
         entry-body = record {
           leads = entry-leads;
-          stored = λ log after at stored stand leads follows. entry-stored log at stored stand after leads follows;
+          stored = λ log more at stored stand leads follows. entry-stored log at stored stand more leads follows;
         }
 
-  -- The block breaks the format, for what was read with wider pages.
-  pub entry-breaks : (image : Image) (block : ℕ) → AddsBelow image limit old.nodes mid.nodes → AreFetched image limit (node_blocks_of head body) head.root mid.nodes → BreaksNext gate body (node_blocks_of head body) head.root mid block → BreaksAfter image limit gate body old block
-  entry-breaks image block adds fetched breaks log at read stand =
+  -- The block breaks the format or the rule, for what was read with wider pages.
+  pub entry-breaks : {J : Type 0} (by : Judging J) (before : J) (image : Image) (block : ℕ) → AddsBelow image limit old.nodes mid.nodes → AreFetched image limit (node_blocks_of head body) head.root mid.nodes → BreaksNext by gate body (node_blocks_of head body) head.root mid before block → BreaksAfter by image limit gate body old before block
+  entry-breaks by before image block adds fetched breaks log seen at read stand judged =
       let more = adds.grows.known log.pages read.known in
       let stand_now = adds.stands log.pages read.known stand in
       let read_now = fetched-into log more.0 at read more.2 in
-      (more.0, more.1, stand_now, breaks image limit (with_other_pages log more.0) at read_now stand_now fetched)
+      (more.0, more.1, stand_now, breaks image limit (with_other_pages log more.0) seen at read_now stand_now fetched judged)

@@ -11,15 +11,14 @@ use Rattle.btr_log.specs.Extents.{need, IsExtent}
 use Rattle.btr_log.specs.Found.{IsWholeExtent, MatchesDevice}
 use Rattle.btr_log.proofs.ExtentLemmas.{IsBody-blocks}
 use Rattle.btr_super.specs.declared.superblock.Super.{Super}
-use Rattle.btr_super.specs.Choose.{IsChosen}
 use Rattle.btr_roll.specs.Roll.{RollStreamValue}
 use Rattle.btr_open.specs.declared.opening.OpenCause.{OpenCause}
 use Rattle.btr_open.specs.declared.opening.OpenCause.TheVariants.{NotAStore, Damaged, Fault, Want}
-use Rattle.btr_open.specs.Start.{HasRoll, IsCheckpointExtent, IsNoCheckpoint, HasWrongVersionRoot}
-use Rattle.btr_open.specs.Damage.{IsDamaged}
-use Rattle.btr_open.specs.Reading.{LogCause, OnlyReads}
+use Rattle.btr_open.specs.Start.{HasRoll, IsCheckpointExtent, IsNoCheckpoint, HasWrongVersionRoot, IsWrongStart}
+use Rattle.btr_open.specs.Reading.{FirstCause}
+use Rattle.btr_open.specs.Reads.{OnlyReads}
 use Rattle.btr_open.specs.Checkpoint.{IsRollRead, StartCause}
-use Rattle.btr_open.proofs.OpenCauses.{damaged_start, found-extent}
+use Rattle.btr_open.proofs.OpenCauses.{found-extent}
 use Rattle.btr_open.proofs.OnlyReading.{same-bytes}
 
 -- What is found is no extent, so the gate is closed.
@@ -45,22 +44,22 @@ module _ (image : Image) (found : Super) (blocks : ℕ) (head : Head) (body : Li
 
 module _ {D : Type 0} (disk : Ghosts D) (found : Super) (old new : D) (some : 0 < found.checkpoint) where
   -- The superblock names no checkpoint.
-  pub no-checkpoint-cause : (cause : OpenCause) → cause ≡ Damaged (2 * found.side + 1) → (disk.is_observable → IsNoCheckpoint (disk.contents old) found (2 * found.side + 1)) → LogCause disk found old new cause
+  pub no-checkpoint-cause : (cause : OpenCause) → cause ≡ Damaged (2 * found.side + 1) → (disk.is_observable → IsNoCheckpoint (disk.contents old) found (2 * found.side + 1)) → FirstCause disk found old new cause
   no-checkpoint-cause cause is none =
-      subst (LogCause disk found old new) (sym is) (λ r. damaged_start (disk.size old) (disk.contents old) found (2 * found.side + 1) (some, inl (none r.0)) r.1)
+      subst (FirstCause disk found old new) (sym is) (λ told. (some, inl (none told)))
 
   -- The checkpoint has no streams.
-  pub no-roll-damage : disk.is_observable × IsChosen (disk.size old) (disk.contents old) found → (body : List ℕ) → IsCheckpointExtent (disk.contents old) found body → ((entries : ℕ) (roll : List RollStreamValue) → HasRoll found.checkpoint entries roll body → ⊥) → IsDamaged (disk.size old) (disk.contents old) (found.checkpoint + 1)
-  no-roll-damage r body extent none =
-      damaged_start (disk.size old) (disk.contents old) found (found.checkpoint + 1) (some, inr (inr (inl (record { body = body; extent = extent; none = none; first = refl })))) r.1
+  pub no-roll-damage : (body : List ℕ) → IsCheckpointExtent (disk.contents old) found body → ((entries : ℕ) (roll : List RollStreamValue) → HasRoll found.checkpoint entries roll body → ⊥) → IsWrongStart (disk.contents old) found (found.checkpoint + 1)
+  no-roll-damage body extent none =
+      (some, inr (inr (inl (record { body = body; extent = extent; none = none; first = refl }))))
 
 module _ {D : Type 0} (disk : Ghosts D) (found : Super) (old mid new : D) (some : 0 < found.checkpoint) (reads : OnlyReads disk old mid) (entries : ℕ) (roll : List RollStreamValue) (is : IsRollRead disk.is_observable (disk.contents old) found entries roll) where
   -- The streams of the checkpoint were not loaded.
-  pub load-cause : (cause : OpenCause) → StartCause disk found roll mid new cause → LogCause disk found old new cause
+  pub load-cause : (cause : OpenCause) → StartCause disk found roll mid new cause → FirstCause disk found old new cause
   load-cause NotAStore cause = absurd cause
   load-cause (Damaged block) cause =
-      λ r.
-      let wrong = subst (λ i. HasWrongVersionRoot i found roll block) (sym (same-bytes old mid reads r.0)) (cause r.0) in
-      damaged_start (disk.size old) (disk.contents old) found block (some, inr (inr (inr (record { body = is.body; extent = is.extent r.0; entries = entries; roll = roll; has = is.has; wrong = wrong })))) r.1
+      λ told.
+      let wrong = subst (λ i. HasWrongVersionRoot i found roll block) (sym (same-bytes old mid reads told)) (cause told) in
+      (some, inr (inr (inr (record { body = is.body; extent = is.extent told; entries = entries; roll = roll; has = is.has; wrong = wrong }))))
   load-cause Fault cause = let low = reads.counts.more_faults in omega (arith, cause, low)
   load-cause Want cause = tt

@@ -26,7 +26,7 @@ use Rattle.btr_open.specs.declared.loading.Loader.{Loader}
 use Rattle.btr_open.specs.Reached.{Reached, beginning}
 use Rattle.btr_open.specs.Below.{StandBelow}
 use Rattle.btr_open.specs.Start.{HasRoll, IsCheckpointExtent, IsCheckpointStart, HaveRootPages, HasVersionAt, IsReadingStart}
-use Rattle.btr_open.specs.Reading.{IsReadInto, WasReadTo, IsStoredIn, IsPartRead, IsReadLog}
+use Rattle.btr_open.specs.Reading.{IsReadInto, WasReadTo, IsStoredIn, IsPartRead, IsReadLog, IsReadStart}
 use Rattle.btr_open.specs.Loading.{AreTreesOf}
 use Rattle.btr_open.specs.Checkpoint.{AreOfSome, AreFirstTrees, AreAllTrees, IsLoaded}
 use Rattle.btr_open.proofs.TreeLemmas.{bare-node}
@@ -89,8 +89,8 @@ stored-in-none l of none =
     }
 
 -- The superblock names no checkpoint, so the log is read from its first gate.
-pub read-none : (size : ℕ) (image : Image) (found : Super) (l : Loader) → IsSuper size found → found.checkpoint ≡ 0 → IsBoardOf [] l.board → l.nodes ≡ [] → IsReadLog size image found 4 l
-read-none size image found l table none of empty = record {
+read-first : (size : ℕ) (image : Image) (found : Super) (l : Loader) → IsSuper size found → found.checkpoint ≡ 0 → IsBoardOf [] l.board → l.nodes ≡ [] → IsReadLog size image found 4 l
+read-first size image found l table none of empty = record {
   log = beginning;
   at = refl;
   walk = record {
@@ -119,6 +119,10 @@ read-none size image found l table none of empty = record {
     first : found.tail ≡ first_gate
     first =
         elim table.start [ inl start ↦ start.1 | inr after ↦ let low = after.0 in absurd (omega (arith, low, none)) ]
+
+pub read-none : (size : ℕ) (image : Image) (found : Super) (l : Loader) → IsSuper size found → found.checkpoint ≡ 0 → IsBoardOf [] l.board → l.nodes ≡ [] → IsReadStart size image found 4 l
+unfolding read-first
+read-none size image found l table none of empty = record { read = read-first size image found l table none of empty; none = refl }
 
 -- ---- the streams and the trees
 
@@ -276,8 +280,8 @@ module _ (size : ℕ) (image : Image) (found : Super) (l : Loader) (table : IsSu
     }
 
   -- The log was read up to the gate after the checkpoint.
-  pub read-checkpoint : IsReadLog size image found found.tail l
-  read-checkpoint = record {
+  read-after : IsReadLog size image found found.tail l
+  read-after = record {
     log = start;
     at = refl;
     walk = record { start = start; starts = inr (some, start-is); bodies = []; extents = refl; leads = refl };
@@ -290,3 +294,7 @@ module _ (size : ℕ) (image : Image) (found : Super) (l : Loader) (table : IsSu
           | inr its ↦ part-read blocks tail h holds same at.0 at.1 its.1
         ];
   }
+
+  pub read-checkpoint : IsReadStart size image found found.tail l
+  unfolding read-after
+  read-checkpoint = record { read = read-after; none = refl }

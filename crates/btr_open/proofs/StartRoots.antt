@@ -18,7 +18,7 @@ use Rattle.btr_open.specs.declared.below.BlockReader.{BlockReader}
 use Rattle.btr_open.specs.declared.opening.OpenCause.{OpenCause}
 use Rattle.btr_open.specs.declared.opening.OpenCause.TheVariants.{NotAStore, Damaged, Fault, Want}
 use Rattle.btr_open.specs.Below.{StandBelow}
-use Rattle.btr_open.specs.Reading.{OnlyReads}
+use Rattle.btr_open.specs.Reads.{OnlyReads}
 use Rattle.btr_open.specs.Loading.{IsReaderOf, AddsBelow, GrowsBelow, StaysPart}
 use Rattle.btr_open.specs.Checkpoint.{AreOfSome, root_in, roots_in, roots_among, IsRootIn, AreRootsBelow, AreRootsFetched, IsWrongBelow, RootCause, RootsCause}
 use Rattle.btr_open.proofs.OnlyReading.{OnlyReads-trans, same-bytes}

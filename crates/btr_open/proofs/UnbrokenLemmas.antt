@@ -62,15 +62,15 @@ module _ (p : NodePage) (ps : List NodePage) (fits : Fits p) where
   further-block n = ap (λ xs. take 4096 (drop (4096 * (n + 1)) xs)) all ∙ ap (λ k. take 4096 (drop k (page_bytes p ++ flat_map page_bytes ps))) (further n) ∙ ap (take 4096) (drop-append-add (page_bytes p) (flat_map page_bytes ps) (4096 * n))
 
 -- The pages are those before, then this one, whose bytes are those of the block, and then more.
-record AreSplit (pages before : List NodePage) : Type 0 where
-  page : NodePage
-  more : List NodePage
-  are : pages ≡ before ++ page ∷ more
-  fits : Fits page
-  block : block_of_bytes (flat_map page_bytes pages) (length before) ≡ page_bytes page
+pub record AreSplit (pages before : List NodePage) : Type 0 where
+  pub page : NodePage
+  pub more : List NodePage
+  pub are : pages ≡ before ++ page ∷ more
+  pub fits : Fits page
+  pub block : block_of_bytes (flat_map page_bytes pages) (length before) ≡ page_bytes page
 
 -- Pages whose first blocks are other pages begin with those.
-split : (before pages : List NodePage) → AllByRecursion Fits before → AllByRecursion Fits pages → length before < length pages → take (4096 * length before) (flat_map page_bytes pages) ≡ flat_map page_bytes before → AreSplit pages before
+pub split : (before pages : List NodePage) → AllByRecursion Fits before → AllByRecursion Fits pages → length before < length pages → take (4096 * length before) (flat_map page_bytes pages) ≡ flat_map page_bytes before → AreSplit pages before
 split before [] fit fits within same = absurd (omega (arith, within))
 split [] (p ∷ ps) fit fits within same =
     record { page = p; more = ps; are = refl; fits = fits.0; block = first-block p ps fits.0 }
@@ -124,18 +124,18 @@ module _ (image : Image) (limit : ℕ) (below : Pages) (stand : StandBelow image
     has-entry : IsNoNextBody log body block → ⊥
     has-entry n = n.no_entry e root nodes content
 
-    not-forbidden : IsForbiddenBody log body block → ⊥
+    not-forbidden : IsForbiddenBody (λ e root. FitsRoll log.roll e) log body block → ⊥
     not-forbidden f =
         f.forbidden (subst (FitsRoll log.roll) (one-content f.entry f.root f.nodes f.content).0 is.allowed)
 
-    right-root : HasWrongRoot image limit log body block → ⊥
+    right-root : HasWrongRoot (λ e root. FitsRoll log.roll e) image limit log body block → ⊥
     right-root w =
         let same = one-content w.entry w.root w.nodes w.content in
         let may = may-lead-in known log.roll e (first_page log.gate e) root pages nodes refl is.fits (pages-keep known (first_page log.gate e) pages is.rightly) is.may_lead in
         let there : MayLeadIn known log.roll w.entry (first_page log.gate w.entry) w.nodes w.root = subst {A = Entry × ℕ × List ℕ} (λ c. MayLeadIn known log.roll c.0 (first_page log.gate c.0) c.2 c.1) (λ i. (same.0 i, same.1 i, same.2 i)) may in
         w.wrong below stand there
 
-    right-nodes : HasWrongNode image limit log body block → ⊥
+    right-nodes : HasWrongNode (λ e root. FitsRoll log.roll e) image limit log body block → ⊥
     right-nodes w =
         let same = one-content w.entry w.root w.nodes w.content in
         let first = first_page log.gate e in
@@ -161,7 +161,7 @@ module _ (image : Image) (limit : ℕ) (below : Pages) (stand : StandBelow image
       let number = log.entries + 1 in
       ⊎_elim
       (λ (n : IsNoNextBody log body block). n.no_checkpoint is)
-      (λ f. ⊎_elim (λ (x : IsForbiddenBody log body block). marks-apart log number x.entry x.root x.nodes body x.content is) (λ w. ⊎_elim (λ (x : HasWrongRoot image limit log body block). marks-apart log number x.entry x.root x.nodes body x.content is) (λ (x : HasWrongNode image limit log body block). marks-apart log number x.entry x.root x.nodes body x.content is) w) f)
+      (λ f. ⊎_elim (λ (x : IsForbiddenBody (λ e root. FitsRoll log.roll e) log body block). marks-apart log number x.entry x.root x.nodes body x.content is) (λ w. ⊎_elim (λ (x : HasWrongRoot (λ e root. FitsRoll log.roll e) image limit log body block). marks-apart log number x.entry x.root x.nodes body x.content is) (λ (x : HasWrongNode (λ e root. FitsRoll log.roll e) image limit log body block). marks-apart log number x.entry x.root x.nodes body x.content is) w) f)
       breaks
 
 -- ---- an extent
@@ -205,7 +205,7 @@ extent-undamaged : (image : Image) (s : Super) (block : ℕ) (log : Reached) (bo
 extent-undamaged image s block log body head unbroken extent inside damage =
     ⊎_elim
     (extent-unbroken image log.gate body head extent s.blocks block inside)
-    (λ (b : IsBrokenExtent image s log block).
+    (λ (b : IsBrokenExtent (λ e root. FitsRoll log.roll e) image s log block).
     let same = one-body image log.gate body head extent b.body b.head b.extent in
     unbroken (subst (λ c. BreaksBody image s.checkpoint log c block) same b.breaks))
     damage

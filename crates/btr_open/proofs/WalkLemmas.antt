@@ -20,6 +20,7 @@ use Rattle.btr_open.specs.RootTest.{MayLead}
 use Rattle.btr_open.specs.Below.{StandBelow, IsStoredPage, pages_joined, AreWider}
 use Rattle.btr_open.specs.Start.{HaveRootPages, IsCheckpointStart}
 use Rattle.btr_open.specs.Walk.{IsNextBody, LeadOn, IsWalk}
+use Rattle.btr_open.specs.Seen.{Seen, nothing_seen, EntryRule, with_seen, with_mark, LeadOnBy, KeepsRule}
 use Rattle.btr_open.proofs.BelowLemmas.{stand-pages_joined, pages_joined-below, pages_joined-from, pages_joined-is, pages_joined-with}
 
 -- ---- more pages
@@ -106,11 +107,20 @@ stand-same image limit pages others same stand block low =
 
 -- ---- bodies that lead on
 
-pub lead-append : (log : Reached) (bodies : List (List ℕ)) (mid : Reached) (more : List (List ℕ)) (after : Reached) → LeadOn log bodies mid → LeadOn mid more after → LeadOn log (bodies ++ more) after
-lead-append log [] mid more after leads rest = subst (λ p. LeadOn p more after) (sym leads) rest
-lead-append log (body ∷ bodies) mid more after leads rest = elim leads [
-  | inl x ↦ inl (x.0, x.1, x.2, x.3, lead-append (with_entry log x.0 x.1 x.2 body) bodies mid more after x.4 rest)
-  | inr x ↦ inr (x.0, lead-append (passed log body) bodies mid more after x.1 rest)
+-- Bodies whose entries keep a rule lead on.
+pub lead-plain : (May : EntryRule) (log : Reached) (seen : Seen) (bodies : List (List ℕ)) (after : Reached) (all : Seen) → LeadOnBy May log seen bodies after all → LeadOn log bodies after
+lead-plain May log seen [] after all leads = leads.0
+lead-plain May log seen (body ∷ bodies) after all leads = elim leads [
+  | inl x ↦ inl (x.0, x.1, x.2, x.3, lead-plain May (with_entry log x.0 x.1 x.2 body) (with_seen seen x.0 x.1) bodies after all x.5)
+  | inr x ↦ inr (x.0, lead-plain May (passed log body) (with_mark seen log.gate (log.gate + need body)) bodies after all x.1)
+]
+
+pub lead-append : (May : EntryRule) (log : Reached) (seen : Seen) (bodies : List (List ℕ)) (mid : Reached) (some : Seen) (more : List (List ℕ)) (after : Reached) (all : Seen) → LeadOnBy May log seen bodies mid some → LeadOnBy May mid some more after all → LeadOnBy May log seen (bodies ++ more) after all
+lead-append May log seen [] mid some more after all leads rest =
+    subst (λ p. LeadOnBy May p seen more after all) (sym leads.0) (subst (λ x. LeadOnBy May mid x more after all) (sym leads.1) rest)
+lead-append May log seen (body ∷ bodies) mid some more after all leads rest = elim leads [
+  | inl x ↦ inl (x.0, x.1, x.2, x.3, x.4, lead-append May (with_entry log x.0 x.1 x.2 body) (with_seen seen x.0 x.1) bodies mid some more after all x.5 rest)
+  | inr x ↦ inr (x.0, lead-append May (passed log body) (with_mark seen log.gate (log.gate + need body)) bodies mid some more after all x.1 rest)
 ]
 
 -- The gate after one body.
@@ -139,28 +149,30 @@ module _ (limit : ℕ) (wider : Pages) where
     | inr above ↦ pages_joined-from limit wider log.pages block above ∙ at
   ]
 
-  lead-wider : (log : Reached) (bodies : List (List ℕ)) (after : Reached) → limit ≤ log.gate → LeadOn log bodies after → AreWider limit after.pages wider → LeadOn (with_other_pages log (pages_joined limit wider log.pages)) bodies (with_other_pages after wider)
-  lead-wider log [] after high leads wide =
-      let all = pages_joined-is limit wider after.pages (λ block above. sym (wide.same block above)) in
-      ap (λ (p : Reached). with_other_pages p (pages_joined limit wider p.pages)) leads ∙ ap (with_other_pages after) all
-  lead-wider log (body ∷ bodies) after high leads wide =
-      let more = more-pages_joined log (body ∷ bodies) after high leads wide in
+  lead-wider : (May : EntryRule) (log : Reached) (seen : Seen) (bodies : List (List ℕ)) (after : Reached) (all : Seen) → limit ≤ log.gate → LeadOnBy May log seen bodies after all → AreWider limit after.pages wider → LeadOnBy May (with_other_pages log (pages_joined limit wider log.pages)) seen bodies (with_other_pages after wider) all
+  lead-wider May log seen [] after all high leads wide =
+      let same = pages_joined-is limit wider after.pages (λ block above. sym (wide.same block above)) in
+      (ap (λ (p : Reached). with_other_pages p (pages_joined limit wider p.pages)) leads.0 ∙ ap (with_other_pages after) same, leads.1)
+  lead-wider May log seen (body ∷ bodies) after all high leads wide =
+      let more = more-pages_joined log (body ∷ bodies) after high (lead-plain May log seen (body ∷ bodies) after all leads) wide in
       elim leads [
         | inl x ↦
             let next = with_entry log x.0 x.1 x.2 body in
-            let rest = lead-wider next bodies after (omega (arith, high)) x.4 wide in
+            let then = with_seen seen x.0 x.1 in
+            let rest = lead-wider May next then bodies after all (omega (arith, high)) x.5 wide in
             let same = pages_joined-with limit wider log.pages (first_page log.gate x.0) x.2 (omega (arith, high)) in
             inl (
               x.0,
               x.1,
               x.2,
               next-more log (pages_joined limit wider log.pages) x.0 x.1 x.2 body more x.3,
-              subst (λ (ps : Pages). LeadOn (with_other_pages next ps) bodies (with_other_pages after wider)) (sym same) rest,
+              x.4,
+              subst (λ (ps : Pages). LeadOnBy May (with_other_pages next ps) then bodies (with_other_pages after wider) all) (sym same) rest,
             )
         | inr x ↦
             inr (
               record { room = x.0.room; bytes = x.0.bytes },
-              lead-wider (passed log body) bodies after (omega (arith, high)) x.1 wide,
+              lead-wider May (passed log body) (with_mark seen log.gate (log.gate + need body)) bodies after all (omega (arith, high)) x.1 wide,
             )
       ]
 
@@ -173,9 +185,15 @@ roots-more pages others roll more have stream k v at = elim (have stream k v at)
   | inr has ↦ inr (record { page = has.page; is = more v.root has.page has.is; fits = has.fits })
 ]
 
+-- A walk whose entries keep a rule.
+pub record KeepingWalk (May : EntryRule) (image : Image) (s : Super) (log : Reached) (seen : Seen) : Type 0 where
+  pub walk : IsWalk image s log
+  pub keeps : KeepsRule May walk seen
+
 -- A walk is one with wider pages below the checkpoint, if they stand rightly there.
-pub walk-wider : (image : Image) (s : Super) (log : Reached) (wider : Pages) → IsWalk image s log → AreWider s.checkpoint log.pages wider → StandBelow image s.checkpoint wider → IsWalk image s (with_other_pages log wider)
-walk-wider image s log wider walk wide stand =
+pub walk-wider : (May : EntryRule) (image : Image) (s : Super) (log : Reached) (seen : Seen) (wider : Pages) → KeepingWalk May image s log seen → AreWider s.checkpoint log.pages wider → StandBelow image s.checkpoint wider → KeepingWalk May image s (with_other_pages log wider) seen
+walk-wider May image s log seen wider is wide stand =
+    let walk = is.walk in
     let start = walk.start in
     let limit = s.checkpoint in
     elim walk.starts [
@@ -183,37 +201,48 @@ walk-wider image s log wider walk wide stand =
           let none = first.0 in
           let same : (block : ℕ) → log.pages block ≡ wider block = λ block. sym (wide.same block (omega (arith, none))) in
           let all : log.pages ≡ wider = λ i block. same block i in
-          subst (λ (ps : Pages). IsWalk image s (with_other_pages log ps)) all walk
+          subst (λ (ps : Pages). KeepingWalk May image s (with_other_pages log ps) seen) all is
       | inr after ↦
-          let is = after.1 in
-          let next = is.extent.next in
-          let high : limit ≤ start.gate = omega (arith, is.gate, next) in
+          let at = after.1 in
+          let next = at.extent.next in
+          let high : limit ≤ start.gate = omega (arith, at.gate, next) in
           let more = more-pages_joined limit wider start walk.bodies log high walk.leads wide in
           let others = pages_joined limit wider start.pages in
           let starts : IsCheckpointStart image s (with_other_pages start others) = record {
-            body = is.body;
-            extent = is.extent;
-            has = is.has;
-            gate = is.gate;
+            body = at.body;
+            extent = at.extent;
+            has = at.has;
+            gate = at.gate;
             stand = stand-pages_joined image limit wider start.pages stand;
-            beyond = λ block above. subst IsNone (sym (pages_joined-from limit wider start.pages block above)) (is.beyond block above);
-            roots = roots-more start.pages others start.roll more is.roots;
+            beyond = λ block above. subst IsNone (sym (pages_joined-from limit wider start.pages block above)) (at.beyond block above);
+            roots = roots-more start.pages others start.roll more at.roots;
           } in
+          let leads = lead-wider limit wider May start nothing_seen walk.bodies log seen high is.keeps wide in
           record {
-            start = with_other_pages start others;
-            starts = inr (after.0, starts);
-            bodies = walk.bodies;
-            extents = walk.extents;
-            leads = lead-wider limit wider start walk.bodies log high walk.leads wide;
+            walk = record {
+              start = with_other_pages start others;
+              starts = inr (after.0, starts);
+              bodies = walk.bodies;
+              extents = walk.extents;
+              leads = lead-plain May (with_other_pages start others) nothing_seen walk.bodies (with_other_pages log wider) seen leads;
+            };
+            keeps = leads;
           }
     ]
 
 -- A walk with one extent more.
-pub walk-push : (image : Image) (s : Super) (log next : Reached) (body : List ℕ) (head : Head) → IsWalk image s log → IsExtent image log.gate body head → LeadOn log (body ∷ []) next → IsWalk image s next
-walk-push image s log next body head walk extent leads = record {
-  start = walk.start;
-  starts = walk.starts;
-  bodies = walk.bodies ++ body ∷ [];
-  extents = subst (Extents image walk.start.gate (walk.bodies ++ body ∷ [])) (sym (lead-gate log body next leads)) (Extents-push image walk.start.gate walk.bodies log.gate body head walk.extents extent);
-  leads = lead-append walk.start walk.bodies log (body ∷ []) next walk.leads leads;
-}
+pub walk-push : (May : EntryRule) (image : Image) (s : Super) (log next : Reached) (seen all : Seen) (body : List ℕ) (head : Head) → KeepingWalk May image s log seen → IsExtent image log.gate body head → LeadOnBy May log seen (body ∷ []) next all → KeepingWalk May image s next all
+walk-push May image s log next seen all body head is extent leads =
+    let walk = is.walk in
+    let on = lead-append May walk.start nothing_seen walk.bodies log seen (body ∷ []) next all is.keeps leads in
+    let one = lead-plain May log seen (body ∷ []) next all leads in
+    record {
+      walk = record {
+        start = walk.start;
+        starts = walk.starts;
+        bodies = walk.bodies ++ body ∷ [];
+        extents = subst (Extents image walk.start.gate (walk.bodies ++ body ∷ [])) (sym (lead-gate log body next one)) (Extents-push image walk.start.gate walk.bodies log.gate body head walk.extents extent);
+        leads = lead-plain May walk.start nothing_seen (walk.bodies ++ body ∷ []) next all on;
+      };
+      keeps = on;
+    }

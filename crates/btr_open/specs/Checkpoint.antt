@@ -34,12 +34,12 @@ abbrev pub HasNoContentOf : List ℕ → Type 0
 HasNoContentOf body = (entries : ℕ) (roll : List RollStreamValue) → entries < 2 ^ 64 → IsContent entries roll body → ⊥
 
 -- The checkpoint of a superblock has these streams, after this number of entries. Its extent, of two blocks or more, is before the tail.
--- If `told` holds, the device has the extent.
-pub record IsRollRead (told : Type 0) (image : Image) (s : Super) (entries : ℕ) (roll : List RollStreamValue) : Type 0 where
+-- If `observable` holds, the device has the extent.
+pub record IsRollRead (observable : Type 0) (image : Image) (s : Super) (entries : ℕ) (roll : List RollStreamValue) : Type 0 where
   pub body : List ℕ
   pub has : HasRoll s.checkpoint entries roll body
   pub after : s.checkpoint + 2 ≤ s.tail
-  pub extent : told → IsCheckpointExtent image s body
+  pub extent : observable → IsCheckpointExtent image s body
 
 -- ---- the roots
 

@@ -10,10 +10,14 @@ pub mod Below
 pub mod Start
 -- a walk over the log of a device
 pub mod Walk
+-- what was seen of a log, and a rule that its entries keep
+pub mod Seen
 -- what breaks the format of a store
 pub mod Damage
 -- what an opening does
 pub mod Opening
+-- calls that only read, and why a part of a store was not read
+pub mod Reads
 -- what holds of all devices
 pub mod Laws
 -- what the private functions promise

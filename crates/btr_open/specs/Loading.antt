@@ -1,5 +1,5 @@
 -- What the functions promise that read the extents of a log one by one.
-use Rattle.std.specs.Prelude.{◌≡◌, ◌⊎◌, ℕ, ◌+◌, ◌*◌, ◌-◌, ◌^◌, ◌<◌, ◌≤◌, List, [], ◌∷◌, ◌++◌, length, slice_get}
+use Rattle.std.specs.Prelude.{◌≡◌, ◌⊎◌, ℕ, ◌+◌, ◌*◌, ◌^◌, ◌<◌, ◌≤◌, List, [], ◌∷◌, ◌++◌, length, slice_get}
 use Rattle.std.specs.Prelude.{Option, Some, None, IfSome, IsSome, MatchOption}
 use Rattle.btr_disk.specs.declared.disk.Disk.{Ghosts}
 use Rattle.btr_disk.specs.Bytes.{Image, Has}
@@ -23,14 +23,17 @@ use Rattle.btr_engine.specs.Stage.{ReadsEntry, IsTreeAfter}
 use Rattle.btr_open.specs.declared.below.BlockReader.{BlockReader}
 use Rattle.btr_open.specs.declared.below.Fetched.{Fetched}
 use Rattle.btr_open.specs.declared.below.Fetched.TheVariants.{Known, NoPage, Broken}
+use Rattle.btr_open.specs.declared.judge.Judge.{Ghosts as Judging}
 use Rattle.btr_open.specs.declared.loading.Loader.{Loader}
 use Rattle.btr_open.specs.Reached.{Reached, with_entry, with_other_pages}
 use Rattle.btr_roll.specs.declared.roll.RollVersion.{RollVersion}
 use Rattle.btr_roll.specs.Roll.{RollStreamValue}
 use Rattle.btr_open.specs.Start.{HasVersionAt}
 use Rattle.btr_open.specs.Below.{StandBelow, AreWider, IsStoredPage, HasNoPage, BreaksBelow}
-use Rattle.btr_open.specs.Walk.{IsNextBody, IsCheckpointBody, LeadOn, BreaksBody}
-use Rattle.btr_open.specs.Reading.{IsReadInto, WasReadTo, IsStoredIn, OnlyReads}
+use Rattle.btr_open.specs.Walk.{IsNextBody, IsCheckpointBody, IsNoNextBody, HasWrongRoot, HasWrongNode, BreaksBodyBy}
+use Rattle.btr_open.specs.Seen.{Seen, with_seen, with_mark, Lets, LeadOnBy}
+use Rattle.btr_open.specs.Reading.{IsReadInto, WasReadTo, IsStoredIn}
+use Rattle.btr_open.specs.Reads.{OnlyReads}
 
 -- ---- pages below the checkpoint, read one by one
 
@@ -187,49 +190,75 @@ pub record AddsTree (old : Loader) (e : Entry) (root : ℕ) (new : Loader) : Typ
   pub reads : ReadsEntry old.board e tree staged
   pub of : (h : List Entry) → IsBoardOf h old.board → rejection h e ≡ None → IsTreeAfter h e tree → IsBoardOf (h ++ e ∷ []) new.board
 
--- The body after this gate was added: for what is before the gate, it is that of the next entry, and is read now. And if the board was that
--- of a prefix, and the entry and its root follow it, the board is that of the prefix with the entry.
-pub record HasAdded (gate : ℕ) (body : List ℕ) (old new : Loader) : Type 0 where
-  pub entry : Entry
-  pub root : ℕ
+-- The body after this gate was added, with this entry and this root: for what is before the gate, it is that of the next entry, and is read
+-- now. And if the board was that of a prefix, and the entry and its root follow it, the board is that of the prefix with the entry.
+pub record HasAdded (gate : ℕ) (body : List ℕ) (e : Entry) (root : ℕ) (old new : Loader) : Type 0 where
   pub pages : List NodePage
-  pub is : (log : Reached) → log.gate ≡ gate → IsReadInto log old → IsNextBody log entry root pages body
-  pub into : (log : Reached) → log.gate ≡ gate → IsReadInto log old → IsReadInto (with_entry log entry root pages body) new
-  pub history : (log : Prefix) → log.gate ≡ gate → IsStoredIn log old → IsBodyOf log entry root pages body
-      → Follows (log.entries ++ entry ∷ []) → IsRootOf (pages_after log entry pages) log.entries entry root pages
-      → IsStoredIn (with_extent log entry root pages body) new
+  pub is : (log : Reached) → log.gate ≡ gate → IsReadInto log old → IsNextBody log e root pages body
+  pub into : (log : Reached) → log.gate ≡ gate → IsReadInto log old → IsReadInto (with_entry log e root pages body) new
+  pub history : (log : Prefix) → log.gate ≡ gate → IsStoredIn log old → IsBodyOf log e root pages body → Follows (log.entries ++ e ∷ [])
+      → IsRootOf (pages_after log e pages) log.entries e root pages → IsStoredIn (with_extent log e root pages body) new
 
--- For what is before the gate, this block of the body breaks the format, if the tree of each page that the extent needs was made, where
--- that page stands.
-abbrev pub BreaksNext : ℕ → List ℕ → List ℕ → ℕ → Loader → ℕ → Type 0
-BreaksNext gate body bytes root old block =
+-- For what is before the gate, the body has neither the next entry nor a checkpoint.
+abbrev pub HasNothingNext : ℕ → List ℕ → Loader → ℕ → Type 0
+HasNothingNext gate body old block = (log : Reached) → log.gate ≡ gate → IsReadInto log old → IsNoNextBody log body block
+
+-- It is this entry with this root.
+abbrev pub IsThisEntry : Entry → ℕ → Entry → ℕ → Type 0
+IsThisEntry e root other at = (other ≡ e) × (at ≡ root)
+
+-- For what is before the gate, this block of the body of an entry breaks the format: the root or a node block is wrong, if the tree of each
+-- page that the extent needs was made, where that page stands.
+abbrev pub BreaksEntry : ℕ → List ℕ → List ℕ → Entry → ℕ → Loader → ℕ → Type 0
+BreaksEntry gate body bytes e root old block =
     (image : Image) (limit : ℕ) (log : Reached) → log.gate ≡ gate → IsReadInto log old → StandBelow image limit log.pages
-    → AreFetched image limit bytes root old.nodes → BreaksBody image limit log body block
+    → AreFetched image limit bytes root old.nodes
+    → HasWrongRoot (IsThisEntry e root) image limit log body block ⊎ HasWrongNode (IsThisEntry e root) image limit log body block
 
--- ---- one extent
+-- ---- one extent, with a judge
 
--- The body leads on from what is before it, with wider pages below the limit, and all was read up to the gate after it.
-pub record LeadsNext (image : Image) (limit : ℕ) (log : Reached) (body : List ℕ) (new : Loader) : Type 0 where
-  pub wider : Pages
-  pub wide : AreWider limit log.pages wider
-  pub stand : StandBelow image limit wider
-  pub next : Reached
-  pub leads : LeadOn (with_other_pages log wider) (body ∷ []) next
-  pub into : IsReadInto next new
+module _ {J : Type 0} (by : Judging J) where
+  -- The body after this gate was added, and the judge let its entry follow.
+  pub record HasJudged (gate : ℕ) (body : List ℕ) (old new : Loader) (before after : J) : Type 0 where
+    pub entry : Entry
+    pub root : ℕ
+    pub added : HasAdded gate body entry root old new
+    pub judged : (seen : Seen) → by.is_after seen before → by.may seen.entries entry root × by.is_after (with_seen seen entry root) after
 
--- The body after a gate was read. It leads on from what is before the gate. If the board was that of a prefix of the device's history, and
--- the body leads on to a longer one, the board is that of the longer one.
-pub record ReadsBody (image : Image) (limit gate : ℕ) (body : List ℕ) (old new : Loader) : Type 0 where
-  pub leads : (log : Reached) → log.gate ≡ gate → IsReadInto log old → StandBelow image limit log.pages → LeadsNext image limit log body new
-  pub stored : (log after : Prefix) → log.gate ≡ gate → IsStoredIn log old → StandBelow image limit log.pages
-      → LeadTo IsRootOf log (body ∷ []) after → Follows after.entries → IsStoredIn after new
+  -- For what is before the gate, and what was seen of it, this block of the body breaks the format or the rule, if the tree of each page
+  -- that the extent needs was made, where that page stands.
+  abbrev pub BreaksNext : ℕ → List ℕ → List ℕ → ℕ → Loader → J → ℕ → Type 0
+  BreaksNext gate body bytes root old before block =
+      (image : Image) (limit : ℕ) (log : Reached) (seen : Seen) → log.gate ≡ gate → IsReadInto log old → StandBelow image limit log.pages
+      → AreFetched image limit bytes root old.nodes → by.is_after seen before
+      → BreaksBodyBy (Lets by.may log seen.entries) image limit log body block
 
--- This block of the body after a gate breaks the format, for what is before the gate, with wider pages below the limit.
-abbrev pub BreaksAfter : Image → ℕ → ℕ → List ℕ → Loader → ℕ → Type 0
-BreaksAfter image limit gate body old block =
-    (log : Reached) → log.gate ≡ gate → IsReadInto log old → StandBelow image limit log.pages
-    → (wider : Pages) × AreWider limit log.pages wider × StandBelow image limit wider
-    × BreaksBody image limit (with_other_pages log wider) body block
+  -- The body leads on from what is before it, with wider pages below the limit, and all was read up to the gate after it. The judge has
+  -- seen what there was to see.
+  pub record LeadsNext (image : Image) (limit : ℕ) (log : Reached) (seen : Seen) (body : List ℕ) (new : Loader) (after : J) : Type 0 where
+    pub wider : Pages
+    pub wide : AreWider limit log.pages wider
+    pub stand : StandBelow image limit wider
+    pub next : Reached
+    pub all : Seen
+    pub leads : LeadOnBy by.may (with_other_pages log wider) seen (body ∷ []) next all
+    pub into : IsReadInto next new
+    pub judged : by.is_after all after
+
+  -- The body after a gate was read. It leads on from what is before the gate. If the board was that of a prefix of the device's history,
+  -- and the body leads on to a longer one, the board is that of the longer one.
+  pub record ReadsBody (image : Image) (limit gate : ℕ) (body : List ℕ) (old new : Loader) (before after : J) : Type 0 where
+    pub leads : (log : Reached) (seen : Seen) → log.gate ≡ gate → IsReadInto log old → StandBelow image limit log.pages
+        → by.is_after seen before → LeadsNext image limit log seen body new after
+    pub stored : (log more : Prefix) → log.gate ≡ gate → IsStoredIn log old → StandBelow image limit log.pages
+        → LeadTo IsRootOf log (body ∷ []) more → Follows more.entries → IsStoredIn more new
+
+  -- This block of the body after a gate breaks the format or the rule, for what is before the gate, with wider pages below the limit.
+  abbrev pub BreaksAfter : Image → ℕ → ℕ → List ℕ → Loader → J → ℕ → Type 0
+  BreaksAfter image limit gate body old before block =
+      (log : Reached) (seen : Seen) → log.gate ≡ gate → IsReadInto log old → StandBelow image limit log.pages → by.is_after seen before
+      → (wider : Pages) × AreWider limit log.pages wider × StandBelow image limit wider
+      × BreaksBodyBy (Lets by.may (with_other_pages log wider) seen.entries) image limit (with_other_pages log wider) body block
 
 -- Something was read up to the gate after a body, with one entry more or none. It is said of each device.
 pub record ReadsThrough (gate : ℕ) (body : List ℕ) (old new : Loader) : Type 0 where
@@ -239,3 +268,9 @@ pub record ReadsThrough (gate : ℕ) (body : List ℕ) (old new : Loader) : Type
 -- For what is before, the body is that of a checkpoint.
 abbrev pub IsCheckpointRead : List ℕ → Loader → Type 0
 IsCheckpointRead body l = (log : Reached) → IsReadInto log l → IsCheckpointBody log body
+
+-- The body of a checkpoint was read, and marked.
+module _ {J : Type 0} (by : Judging J) where
+  pub record HasMarked (gate next : ℕ) (body : List ℕ) (l : Loader) (before after : J) : Type 0 where
+    pub is : IsCheckpointRead body l
+    pub judged : (seen : Seen) → by.is_after seen before → by.is_after (with_mark seen gate next) after

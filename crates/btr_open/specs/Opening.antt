@@ -1,5 +1,5 @@
 -- What an opening promises: the engine that it returns, and why it returns none.
-use Rattle.std.specs.Prelude.{◌≡◌, ℕ, false, List, []}
+use Rattle.std.specs.Prelude.{◌≡◌, ℕ, true, false, List, []}
 use Rattle.btr_disk.specs.declared.disk.Disk.{Ghosts}
 use Rattle.btr_disk.specs.Bytes.{Image}
 use Rattle.btr_disk.specs.Images.{Only}
@@ -12,7 +12,7 @@ use Rattle.btr_open.specs.declared.opening.OpenCause.{OpenCause}
 use Rattle.btr_open.specs.declared.opening.OpenCause.TheVariants.{NotAStore, Damaged, Fault, Want}
 use Rattle.btr_open.specs.declared.opening.OpenFault.{OpenFault}
 use Rattle.btr_open.specs.Damage.{IsDamaged, IsUndamaged}
-use Rattle.btr_engine.specs.Engine.{device, super_of, entries_of, is_stopped, synced_of, entries_at_open, calls_at_open}
+use Rattle.btr_engine.specs.Engine.{device, super_of, entries_of, is_stopped, is_home, synced_of, entries_at_open, calls_at_open}
 use Rattle.btr_engine.specs.Engine.{IsAtRest, IsHeldSince, IsDurable}
 use Rattle.btr_engine.specs.Holds.{HoldsHistory}
 
@@ -45,13 +45,14 @@ module _ {D : Type 0} (disk : Ghosts D) where
     pub held : IsHeldSince h (calls_at_open engine) engine
     pub durable : IsDurable h (calls_at_open engine) (entries_at_open engine) engine []
 
-  -- The engine is not stopped, and was opened with all its entries. If the device is observable, the engine has the superblock that was
+  -- The engine is not stopped, has its log at home, and was opened with all its entries. If the device is observable, the engine has the superblock that was
   -- chosen; and if the device held a history, the engine is of this history. An observable device without a store, or with a damaged
   -- block, is not opened.
   pub record IsOpenedEngine (old : D) (engine : Engine D disk) : Type 0 where
     pub kept : KeepsDisk old (device engine)
     pub synced : SyncsFirst old (synced_of engine) (device engine)
     pub runs : is_stopped engine ≡ false
+    pub home : is_home engine ≡ true
     pub entries : entries_at_open engine ≡ entries_of engine
     pub chosen : disk.is_observable → IsChosen (disk.size old) (disk.contents old) (super_of engine)
     pub stood : disk.is_observable → (h : List Entry) → HoldsHistory (disk.size old) (disk.contents old) h → IsOpenedOn h engine

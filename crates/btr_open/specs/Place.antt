@@ -10,7 +10,7 @@ pub record IsPlaceIn (found : Super) (entries : ℕ) (place : Place) : Type 0 wh
   pub inside : place.gate < found.blocks
   pub counted : entries ≤ place.extents
   pub ends : 2 * place.extents + 4 ≤ place.gate
-  pub behind : found.tail ≤ place.gate
+  pub after_start : found.tail ≤ place.gate
 
 -- The place is the gate after an extent at the other one.
 pub record IsPlaceAfter (old : Place) (next : ℕ) (new : Place) : Type 0 where

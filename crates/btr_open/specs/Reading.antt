@@ -1,32 +1,36 @@
 -- What the functions promise that an opening is made of: what was read so far, and why nothing more is.
-use Rattle.std.specs.Prelude.{◌≡◌, ℕ, ◌+◌, ◌<◌, false, List, ◌++◌, length, IsSome}
+use Rattle.std.specs.Prelude.{◌≡◌, ◌⊎◌, ℕ, ◌<◌, true, false, List, [], ◌++◌, length, IsSome}
 use Rattle.btr_disk.specs.declared.disk.Disk.{Ghosts}
 use Rattle.btr_disk.specs.Bytes.{Image}
 use Rattle.btr_disk.specs.Gate.{IsClosed}
-use Rattle.btr_disk.specs.Causes.{Rose, KeepsCounts}
-use Rattle.btr_disk.specs.Moments.{WroteNothing}
+use Rattle.btr_disk.specs.Causes.{Rose}
 use Rattle.btr_log.specs.declared.log.Log.{Log}
 use Rattle.btr_log.specs.Extents.{Extents}
 use Rattle.btr_log.specs.Log as log
 use Rattle.btr_super.specs.declared.superblock.Super.{Super}
-use Rattle.btr_super.specs.Choose.{IsChosen}
 use Rattle.btr_pages.specs.Known.{AreKnown, ArePartOf, node_at}
 use Rattle.btr_hist.specs.declared.entry.Entry.{Entry}
 use Rattle.btr_engine.specs.declared.engine.Engine.{Engine}
 use Rattle.btr_engine.specs.Body.{Prefix, prefix_to, no_extents, LeadTo}
 use Rattle.btr_engine.specs.Board.{Kept, IsBoardOf}
-use Rattle.btr_engine.specs.Engine.{device, blocks_of, tail_of, board_of, super_of, entries_of, is_stopped, synced_of, entries_at_open}
+use Rattle.btr_engine.specs.Engine.{device, blocks_of, tail_of, board_of, super_of, entries_of, is_stopped, is_home}
+use Rattle.btr_engine.specs.Engine.{synced_of, entries_at_open}
 use Rattle.btr_engine.specs.Holds.{HoldsHistoryTo}
 use Rattle.btr_engine.specs.Rolling.{rolled}
 use Rattle.btr_engine.specs.Roots.{IsRootOf}
 use Rattle.btr_engine.specs.Stored.{AreStored, HaveRoots}
+use Rattle.btr_open.specs.declared.judge.Judge.{Ghosts as Judging}
 use Rattle.btr_open.specs.declared.loading.Loader.{Loader}
 use Rattle.btr_open.specs.declared.opening.OpenCause.{OpenCause}
 use Rattle.btr_open.specs.declared.opening.OpenCause.TheVariants.{NotAStore, Damaged, Fault, Want}
 use Rattle.btr_open.specs.Reached.{Reached}
 use Rattle.btr_open.specs.Below.{StandBelow}
+use Rattle.btr_open.specs.Start.{IsWrongStart}
 use Rattle.btr_open.specs.Walk.{IsWalk}
+use Rattle.btr_open.specs.Seen.{Seen, EntryRule, KeepsRule, IsDamagedLogBy}
+use Rattle.btr_open.specs.Damage.{IsDamagedStore}
 use Rattle.btr_open.specs.Opening.{OpenCauseHolds}
+use Rattle.btr_open.specs.Reads.{OnlyReads, PartCause}
 
 -- ---- what is in memory
 
@@ -79,15 +83,39 @@ pub record IsReadLog (size : ℕ) (image : Image) (found : Super) (gate : ℕ) (
   pub held : (blocks tail : ℕ) (h : List Entry) (holds : HoldsHistoryTo size image blocks tail h) → holds.super ≡ found
       → IsPartRead holds gate l
 
+-- Nothing was read yet but what the superblock names to start from.
+pub record IsReadStart (size : ℕ) (image : Image) (found : Super) (gate : ℕ) (l : Loader) : Type 0 where
+  pub read : IsReadLog size image found gate l
+  pub none : read.walk.bodies ≡ []
+
+-- The entries of the walk keep the judge's rule, and the judge has seen them.
+pub record IsJudgedRead {J : Type 0} (by : Judging J) (size : ℕ) (image : Image) (found : Super) (gate : ℕ) (l : Loader) (judge : J)
+    : Type 0 where
+  pub read : IsReadLog size image found gate l
+  pub seen : Seen
+  pub keeps : KeepsRule by.may read.walk seen
+  pub judged : by.is_after seen judge
+
+-- This block of the store of a superblock breaks the format or the rule.
+abbrev pub IsDamagedStoreBy : EntryRule → Image → Super → ℕ → Type 0
+IsDamagedStoreBy May image s block = IsWrongStart image s block ⊎ IsDamagedLogBy May image s block
+
 module _ {D : Type 0} (disk : Ghosts D) where
   -- Why the calls between two states of a device found no history, if `known` holds of its bytes.
   abbrev pub CauseBetween : Type 0 → D → D → OpenCause → Type 0
   CauseBetween known old new cause = OpenCauseHolds known (disk.size old) (disk.contents old) (disk.faults old) (disk.faults new) cause
 
-  -- Why the log of the store of this superblock was not read.
-  abbrev pub LogCause : Super → D → D → OpenCause → Type 0
-  LogCause found old new cause =
-      CauseBetween (disk.is_observable × IsChosen (disk.size old) (disk.contents old) found) old new cause
+  -- Why the start that this superblock names was not read.
+  abbrev pub FirstCause : Super → D → D → OpenCause → Type 0
+  FirstCause found old new = PartCause disk (IsWrongStart (disk.contents old) found) old new
+
+  -- Why the log of the store of this superblock was not read, with this judge.
+  abbrev pub LogCause : {J : Type 0} → Judging J → Super → D → D → OpenCause → Type 0
+  LogCause by found old new = PartCause disk (IsDamagedStoreBy by.may (disk.contents old) found) old new
+
+  -- Why the log of the store of this superblock was not opened.
+  abbrev pub StoreCause : Super → D → D → OpenCause → Type 0
+  StoreCause found old new = PartCause disk (IsDamagedStore (disk.contents old) found) old new
 
   -- Why blocks of a device were not read: it failed, or there was no memory.
   abbrev pub BlockCause : D → D → OpenCause → Type 0
@@ -96,14 +124,18 @@ module _ {D : Type 0} (disk : Ghosts D) where
   BlockCause old new Fault = Rose (disk.faults old) (disk.faults new)
   BlockCause old new Want = Unit {0}
 
-  -- The calls between the two states wrote nothing.
-  pub record OnlyReads (old new : D) : Type 0 where
-    pub counts : KeepsCounts disk.size disk.calls disk.faults old new
-    pub nothing : disk.is_observable → WroteNothing disk.calls disk.contents disk.images_now disk.images_since old new
-
   -- The log of this superblock was read up to a gate, if the device is observable.
   abbrev pub WasRead : D → Super → ℕ → Loader → Type 0
   WasRead old found gate l = disk.is_observable → IsReadLog (disk.size old) (disk.contents old) found gate l
+
+  -- Nothing of it was read yet but the start.
+  abbrev pub WasStarted : D → Super → ℕ → Loader → Type 0
+  WasStarted old found gate l = disk.is_observable → IsReadStart (disk.size old) (disk.contents old) found gate l
+
+  -- It was read up to a gate, and this judge has seen its entries.
+  abbrev pub WasJudged : {J : Type 0} → Judging J → D → Super → ℕ → Loader → J → Type 0
+  WasJudged by old found gate l judge =
+      disk.is_observable → IsJudgedRead by (disk.size old) (disk.contents old) found gate l judge
 
 -- The log of a superblock as a device has it: a walk leads to the closed gate at the tail. If the device holds a history, the log ends
 -- there, the board is that of the history, and its trees are stored in the history's pages and have the roots of its entries.
@@ -117,11 +149,13 @@ pub record IsWholeLog (size : ℕ) (image : Image) (found : Super) (tail : ℕ) 
       → (other ≡ tail) × IsBoardOf h board × AreStored holds.leads.pages tail board.streams × HaveRoots holds.leads.roots board.streams
 
 module _ {D : Type 0} (disk : Ghosts D) where
-  -- The engine has the device, on which nothing was written, the state `mid` of it, the superblock, and what the whole log gives.
+  -- The engine has the device, on which nothing was written, the state `mid` of it, the superblock, and what the whole log gives. Its log
+  -- is at home.
   pub record IsReadEngine (found : Super) (old mid : D) (e : Engine D disk) : Type 0 where
     pub reads : OnlyReads disk old (device e)
     pub synced : synced_of e ≡ mid
     pub runs : is_stopped e ≡ false
+    pub home : is_home e ≡ true
     pub entries : entries_at_open e ≡ entries_of e
     pub blocks_are : blocks_of e ≡ found.blocks
     pub under : super_of e ≡ found

@@ -70,13 +70,16 @@ pub record IsNoNextBody (log : Reached) (body : List ℕ) (block : ℕ) : Type 0
   pub no_checkpoint : IsCheckpointBody log body → ⊥
   pub first : block ≡ log.gate + 1
 
--- The entry of the body may not follow. The body's first block breaks the format.
-pub record IsForbiddenBody (log : Reached) (body : List ℕ) (block : ℕ) : Type 0 where
+-- What is said of bodies that break the format is said for any rule that lets an entry with its root follow. An opening's rule is
+-- `FitsRoll`.
+
+-- The entry of the body may not follow with its root. The body's first block breaks the format.
+pub record IsForbiddenBody (May : Entry → ℕ → Type 0) (log : Reached) (body : List ℕ) (block : ℕ) : Type 0 where
   pub entry : Entry
   pub root : ℕ
   pub nodes : List ℕ
   pub content : HasContent (log.entries + 1) entry root nodes body
-  pub forbidden : FitsRoll log.roll entry → ⊥
+  pub forbidden : May entry root → ⊥
   pub first : block ≡ log.gate + 1
 
 -- The pages before a gate, if below the limit they are these.
@@ -84,12 +87,12 @@ abbrev pub pages_from : ℕ → Pages → Reached → Pages
 pages_from limit below log = pages_joined limit below log.pages
 
 -- The entry of the body may follow, but its root is wrong, whatever pages stand rightly below the limit.
-pub record HasWrongRoot (image : Image) (limit : ℕ) (log : Reached) (body : List ℕ) (block : ℕ) : Type 0 where
+pub record HasWrongRoot (May : Entry → ℕ → Type 0) (image : Image) (limit : ℕ) (log : Reached) (body : List ℕ) (block : ℕ) : Type 0 where
   pub entry : Entry
   pub root : ℕ
   pub nodes : List ℕ
   pub content : HasContent (log.entries + 1) entry root nodes body
-  pub allowed : FitsRoll log.roll entry
+  pub allowed : May entry root
   pub wrong : (below : Pages) → StandBelow image limit below
       → MayLeadIn (pages_from limit below log) log.roll entry (first_page log.gate entry) nodes root → ⊥
   pub named : IsNamedRoot log.gate entry (first_page log.gate entry) nodes root block
@@ -106,12 +109,12 @@ pub record IsOutOfPlace (image : Image) (limit : ℕ) (log : Reached) (first : �
 
 -- The entry of the body may follow, and its root is right. The first node blocks are pages that stand rightly, but the next one, which
 -- is this block, is no page, or one that does not stand rightly after them.
-pub record HasWrongNode (image : Image) (limit : ℕ) (log : Reached) (body : List ℕ) (block : ℕ) : Type 0 where
+pub record HasWrongNode (May : Entry → ℕ → Type 0) (image : Image) (limit : ℕ) (log : Reached) (body : List ℕ) (block : ℕ) : Type 0 where
   pub entry : Entry
   pub root : ℕ
   pub nodes : List ℕ
   pub content : HasContent (log.entries + 1) entry root nodes body
-  pub allowed : FitsRoll log.roll entry
+  pub allowed : May entry root
   pub right : MayLeadIn log.pages log.roll entry (first_page log.gate entry) nodes root
   pub before : List NodePage
   pub within : 4096 * length before < length nodes
@@ -123,26 +126,37 @@ pub record HasWrongNode (image : Image) (limit : ℕ) (log : Reached) (body : Li
       IsNoPage (block_of_bytes nodes (length before))
       ⊎ IsOutOfPlace image limit log (first_page log.gate entry) before block (block_of_bytes nodes (length before))
 
--- This block is the first one of a body that breaks the format. The tests are in this order: the content, whether the entry may follow,
--- its root, its node blocks. A checkpoint has no more than its content. Pages below the limit are read one by one.
-abbrev pub BreaksBody : Image → ℕ → Reached → List ℕ → ℕ → Type 0
-BreaksBody image limit log body block =
+-- This block is the first one of a body that breaks the format, if this lets an entry follow. The tests are in this order: the content,
+-- whether the entry may follow, its root, its node blocks. A checkpoint has no more than its content. Pages below the limit are read one
+-- by one.
+abbrev pub BreaksBodyBy : (Entry → ℕ → Type 0) → Image → ℕ → Reached → List ℕ → ℕ → Type 0
+BreaksBodyBy May image limit log body block =
     IsNoNextBody log body block
-    ⊎ (IsForbiddenBody log body block ⊎ (HasWrongRoot image limit log body block ⊎ HasWrongNode image limit log body block))
+    ⊎ (IsForbiddenBody May log body block
+    ⊎ (HasWrongRoot May image limit log body block ⊎ HasWrongNode May image limit log body block))
+
+-- This block is the first one of a body that breaks the format, as an opening tests it.
+abbrev pub BreaksBody : Image → ℕ → Reached → List ℕ → ℕ → Type 0
+BreaksBody image limit log body block = BreaksBodyBy (λ e root. FitsRoll log.roll e) image limit log body block
 
 -- ---- a log that breaks the format
 
 -- The gate is open, and there is an extent inside the log's blocks whose body breaks the format.
-pub record IsBrokenExtent (image : Image) (s : Super) (log : Reached) (block : ℕ) : Type 0 where
+pub record IsBrokenExtent (May : Entry → ℕ → Type 0) (image : Image) (s : Super) (log : Reached) (block : ℕ) : Type 0 where
   pub head : Head
   pub body : List ℕ
   pub extent : IsExtent image log.gate body head
   pub inside : log.gate + need body < s.blocks
-  pub breaks : BreaksBody image s.checkpoint log body block
+  pub breaks : BreaksBodyBy May image s.checkpoint log body block
 
--- The gate is open, but this block is the first one that breaks the format of an extent with the next entry or with a checkpoint.
+-- The gate is open, but this block is the first one that breaks the format of an extent with the next entry or with a checkpoint, if this
+-- lets an entry follow.
+abbrev pub IsDamagedNextBy : (Entry → ℕ → Type 0) → Image → Super → Reached → ℕ → Type 0
+IsDamagedNextBy May image s log block = IsDamagedExtent image s.blocks log.gate block ⊎ IsBrokenExtent May image s log block
+
+-- The same, as an opening tests it.
 abbrev pub IsDamagedNext : Image → Super → Reached → ℕ → Type 0
-IsDamagedNext image s log block = IsDamagedExtent image s.blocks log.gate block ⊎ IsBrokenExtent image s log block
+IsDamagedNext image s log block = IsDamagedNextBy (λ e root. FitsRoll log.roll e) image s log block
 
 -- This block is the first one of the log that breaks the format, at the gate to which a walk leads.
 pub record IsDamagedLog (image : Image) (s : Super) (block : ℕ) : Type 0 where

@@ -7,7 +7,8 @@ ghost use Rattle.btr_node.specs.Page.{Keeps, Fits, front};
 ghost use Rattle.btr_pages.specs.Pages.{Pages, slots_of_page, span_of_page, IsChildPage};
 ghost use Rattle.btr_pages.specs.Known.{ArePartOf, node_at};
 ghost use Rattle.btr_open.specs.Below.{StandBelow, IsStoredPage, HasNoPage};
-ghost use Rattle.btr_open.specs.Reading.{OnlyReads, BlockCause};
+ghost use Rattle.btr_open.specs.Reading.{BlockCause};
+ghost use Rattle.btr_open.specs.Reads.{OnlyReads};
 ghost use Rattle.btr_open.specs.Loading.{IsReaderOf, IsDeviceBlock, CanRead, HasReadBelow, IsReadPage, AreOfDevice, IsStoredWith};
 ghost use Rattle.btr_open.specs.Loading.{AddsBelow, GrowsBelow, StaysPart, IsFetched, HasNoneAbove, HasNoneFrom, KnowsChild, MakesBelow};
 ghost use Rattle.btr_open.specs.Loading.{IsBlock, IsSlotChild, FetchesAll, HaveNeeded, AreFetched};
@@ -265,8 +266,8 @@ impl BlockReader {
         self.make_unknown(alloc, disk, nodes, steps, block, page, i, slot)
     }
 
-    /// Does what [`BlockReader::make_child`] does if the slot has a point, and the child is in a lower block of which no tree was made. It is
-    /// apart because it holds a page, which the other slots need not pay for.
+    /// Does what [`BlockReader::make_child`] does if the slot has a point, and the child is in a lower block of which no tree was made. It
+    /// is a function of its own because it holds a page, for which memory is cleared: most slots need none.
     #[cycle(make)]
     fn make_unknown<D: Disk>(
         &mut self,

@@ -22,14 +22,20 @@ mod roll_content;
 mod roll_lengths;
 mod roll_roots;
 mod roll_trees;
+// who judges each extent
+mod judge;
 // what was read so far, and one extent more
 mod loading;
 // the opening
 mod opening;
+// the reading of a whole log, with a judge
+mod judged;
 // what holds of all devices
 mod laws;
 
 pub use decoding::decode_extent;
+pub use judge::Judge;
+pub use judged::{WholeLog, read_judged};
 pub use laws::{
     empty_store_holds_nothing, held_is_sound, one_history_is_held, outline_and_points_decide,
 };

@@ -7,11 +7,13 @@ ghost use Rattle.btr_engine.specs.Rolling.{rolled};
 ghost use Rattle.btr_engine.specs.Stage.{HasRoomFor};
 ghost use Rattle.btr_open.specs.Content.{HasContent, node_blocks_of};
 ghost use Rattle.btr_open.specs.Walk.{FitsRoll};
-ghost use Rattle.btr_open.specs.Loading.{AddsTree, BreaksNext, HasAdded, IsTreeOfRoot, IsCheckpointRead};
+ghost use Rattle.btr_open.specs.Loading.{AddsTree, HasNothingNext, BreaksEntry, BreaksNext, HasAdded, HasJudged, HasMarked};
+ghost use Rattle.btr_open.specs.Loading.{IsTreeOfRoot, IsCheckpointRead};
 ghost use Rattle.btr_open.specs.Reading.{WasReadTo};
 
 use crate::checkpoint::is_checkpoint;
 use crate::decoding::decode_extent;
+use crate::judge::Judge;
 use crate::roots::wrong_root;
 use btr_disk::BLOCK;
 use btr_engine::Board;
@@ -47,23 +49,26 @@ impl Loader {
         }
     }
 
-    /// Tests the body of a checkpoint after the gate at this block. Returns its first block if it is not that of a checkpoint of what
-    /// was read. An `Err` is out of memory.
-    pub(crate) fn test_checkpoint(
+    /// Tests the body of a checkpoint after the gate at this block, before the gate `next`. If it is that of a checkpoint of what was
+    /// read, the judge marks it; else its first block is returned. An `Err` is out of memory.
+    pub(crate) fn pass<J: Judge>(
         &self,
         alloc: Global,
+        judge: &mut J,
         head: &Head,
         body: &[u8],
         gate: u64,
+        next: u64,
     ) -> Result<Option<u64>, AllocError>
         requires body { IsBody body.now head.now }
         requires kind { head.now.kind ≡ 2 }
         requires few { self.now.board.entries < 2 ^ 64 - 1 }
         requires room { gate + need body.now < 2 ^ 33 }
-        ensures right { IfOk result (λ o. IfNone o (IsCheckpointRead body.now self.now)) }
-        ensures damaged { IfOk result (λ o. IfSome o (BreaksNext gate body.now (node_blocks_of head.now body.now) head.now.root self.now)) }
+        ensures marked { IfOk result (λ o. IfNone o (HasMarked ⟦<J as Judge>⟧ gate next body.now self.now judge.old judge.new)) }
+        ensures damaged { IfOk result (λ o. IfSome o (HasNothingNext gate body.now self.now)) }
     {
         if is_checkpoint(alloc, &self.board, head, body)? {
+            judge.mark(alloc, gate, next)?;
             Ok(None)
         } else {
             Ok(Some(gate + 1))
@@ -71,11 +76,12 @@ impl Loader {
     }
 
     /// Adds the entry and the pages of the body after the gate at this block, which is not that of a checkpoint. Returns the first
-    /// block of the body that breaks the format, if there is one. An `Err` is out of memory. After both the loader may have some of
-    /// the pages.
-    pub(crate) fn add(
+    /// block of the body that breaks the format, if there is one; an entry that the judge does not let follow breaks it in the first
+    /// block of its body. An `Err` is out of memory. After both the loader may have some of the pages.
+    pub(crate) fn add<J: Judge>(
         &mut self,
         alloc: Global,
+        judge: &mut J,
         head: &Head,
         body: &[u8],
         gate: u64,
@@ -85,8 +91,9 @@ impl Loader {
         requires few { self.old.board.entries < 2 ^ 64 - 1 }
         requires room { gate + need body.now < 2 ^ 33 }
         requires read { WasReadTo gate self.old }
-        ensures added { IfOk result (λ o. IfNone o (HasAdded gate body.now self.old self.new)) }
-        ensures damaged { IfOk result (λ o. IfSome o (BreaksNext gate body.now (node_blocks_of head.now body.now) head.now.root self.old)) }
+        ensures added { IfOk result (λ o. IfNone o (HasJudged ⟦<J as Judge>⟧ gate body.now self.old self.new judge.old judge.new)) }
+        ensures damaged { IfOk result (λ o. IfSome o
+            (BreaksNext ⟦<J as Judge>⟧ gate body.now (node_blocks_of head.now body.now) head.now.root self.old judge.old)) }
     {
         let number = self.board.entries() + 1;
         let Some(entry) = decode_extent(alloc, body, head, number)? else {
@@ -95,10 +102,15 @@ impl Loader {
         if self.board.refusal(&entry).is_some() {
             return Ok(Some(gate + 1));
         }
-        self.add_entry(alloc, &entry, head, body, gate)
+        if judge.judge(alloc, &entry, head.root)? {
+            self.add_entry(alloc, &entry, head, body, gate)
+        } else {
+            Ok(Some(gate + 1))
+        }
     }
 
-    /// Adds an entry that may follow, and the pages of its body. It promises what [`Loader::add`] does.
+    /// Adds an entry that may follow, and the pages of its body. Returns the first block of the body that breaks the format, if there
+    /// is one. An `Err` is out of memory.
     fn add_entry(
         &mut self,
         alloc: Global,
@@ -114,8 +126,9 @@ impl Loader {
         requires may { HasRoomFor self.old.board entry.now }
         requires allowed { FitsRoll (rolled self.old.board) entry.now }
         requires read { WasReadTo gate self.old }
-        ensures added { IfOk result (λ o. IfNone o (HasAdded gate body.now self.old self.new)) }
-        ensures damaged { IfOk result (λ o. IfSome o (BreaksNext gate body.now (node_blocks_of head.now body.now) head.now.root self.old)) }
+        ensures added { IfOk result (λ o. IfNone o (HasAdded gate body.now entry.now head.now.root self.old self.new)) }
+        ensures damaged { IfOk result (λ o. IfSome o
+            (BreaksEntry gate body.now (node_blocks_of head.now body.now) entry.now head.now.root self.old)) }
     {
         let content = blocks_of_content(head.length);
         let first = gate + 1 + content;

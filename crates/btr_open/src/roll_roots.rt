@@ -1,6 +1,6 @@
 //! The roots of the versions of a checkpoint, and the trees of the pages to which they lead.
 ghost use Rattle.std.specs.Prelude.{◌≡◌, ◌++◌, ◌<◌, ◌≤◌, ◌^◌, ℕ, [], IfErr, IfOk, OnOk, slice_get, Some};
-ghost use Rattle.btr_open.specs.Reading.{OnlyReads};
+ghost use Rattle.btr_open.specs.Reads.{OnlyReads};
 ghost use Rattle.btr_open.specs.Loading.{IsReaderOf, AddsBelow, GrowsBelow, StaysPart};
 ghost use Rattle.std.specs.Prelude.{IsSome};
 ghost use Rattle.btr_pages.specs.Pages.{Pages};

@@ -6,7 +6,8 @@ ghost use Rattle.btr_roll.specs.Roll.{IsRoll};
 ghost use Rattle.btr_super.specs.Super.{IsSuper};
 ghost use Rattle.btr_engine.specs.Board.{IsBoardOf};
 ghost use Rattle.btr_open.specs.Place.{IsPlaceIn};
-ghost use Rattle.btr_open.specs.Reading.{LogCause, OnlyReads, ReadsLog, WasRead, WasReadTo};
+ghost use Rattle.btr_open.specs.Reading.{FirstCause, ReadsLog, WasStarted, WasReadTo};
+ghost use Rattle.btr_open.specs.Reads.{OnlyReads};
 ghost use Rattle.btr_open.specs.Loading.{IsReaderOf};
 ghost use Rattle.btr_open.specs.Checkpoint.{AreOfSome, IsRollRead, IsLoaded, StartCause};
 
@@ -54,8 +55,8 @@ pub(crate) fn read_start<D: Disk>(
     ensures limit { reader.new.limit ≡ reader.old.limit }
     ensures place { IfOk result (IsPlaceIn found loader.new.board.entries) }
     ensures into { IfOk result (λ place. WasReadTo place.gate loader.new) }
-    ensures read { IfOk result (λ place. WasRead ⟦<D as Disk>⟧ (disk_of log.old) found place.gate loader.new) }
-    ensures cause { IfErr result (LogCause ⟦<D as Disk>⟧ found (disk_of log.old) (disk_of log.new)) }
+    ensures read { IfOk result (λ place. WasStarted ⟦<D as Disk>⟧ (disk_of log.old) found place.gate loader.new) }
+    ensures cause { IfErr result (FirstCause ⟦<D as Disk>⟧ found (disk_of log.old) (disk_of log.new)) }
 {
     if found.checkpoint == 0 {
         return Ok(Place {
@@ -94,7 +95,7 @@ fn read_checkpoint<D: Disk>(
     ensures reads { ReadsLog log.old log.new }
     ensures piece { D.is_observable → IsPieceOf (D.contents (disk_of log.new)) piece.new }
     ensures read { IfOk result (λ c. IsRollRead D.is_observable (D.contents (disk_of log.old)) found c.entries c.roll) }
-    ensures cause { IfErr result (LogCause ⟦<D as Disk>⟧ found (disk_of log.old) (disk_of log.new)) }
+    ensures cause { IfErr result (FirstCause ⟦<D as Disk>⟧ found (disk_of log.old) (disk_of log.new)) }
 {
     let found_there = match log.read_ahead(alloc, found.checkpoint, piece) {
         Ok(found_there) => found_there,

@@ -1,16 +1,16 @@
-use Rattle.std.specs.Prelude.{◌≡◌, ℕ, IfSome, IfNone, List}
-use Rattle.std.proofs.Common.{sym, subst, arith}
+use Rattle.std.specs.Prelude.{◌≡◌, ℕ, ◌+◌, IfSome, IfNone, List}
+use Rattle.std.proofs.Common.{sym, ◌∙◌, ap, subst, arith, inr}
 use Rattle.btr_disk.specs.Bytes.{Image}
 use Rattle.btr_log.specs.Log.{log_device as disk_of, log_blocks}
 use Rattle.btr_log.specs.Piece.{IsPieceOf}
-use Rattle.btr_log.specs.Extents.{IsExtent}
+use Rattle.btr_log.specs.Extents.{need, IsExtent}
 use Rattle.btr_log.specs.Found.{IsDamagedExtent, IsWhole, IsWholeExtent, MatchesDevice}
-use Rattle.btr_super.specs.Choose.{IsChosen}
 use Rattle.btr_open.specs.Below.{StandBelow}
-use Rattle.btr_open.specs.Reading.{OnlyReads}
+use Rattle.btr_open.specs.Reading.{IsDamagedStoreBy}
+use Rattle.btr_open.specs.Reads.{OnlyReads}
 use Rattle.btr_open.specs.Loading.{ReadsBody, BreaksAfter}
 use Rattle.btr_open.proofs.OnlyReading.{OnlyReads-trans, same-bytes}
-use Rattle.btr_open.proofs.OpenCauses.{found-extent, found-next, cause_along}
+use Rattle.btr_open.proofs.OpenCauses.{found-extent, found-next, cause-found}
 use Rattle.btr_open.proofs.NextLemmas.{start-low, read-on, body-damaged, gate-damaged}
 use Rattle.btr_open.proofs.opening.read_next.Given.{Over}
 use Rattle.btr_open.proofs.opening.read_next.Goals.{In-Extent}
@@ -22,10 +22,9 @@ returns-in-Err-clause-cause g c =
     let a = c.args in
     let d0 = disk_of a.log.now in
     let d1 = disk_of c.read_ahead.new.self in
-    let size = disk.size d0 in
     let image = disk.contents d0 in
-    cause_along disk.is_observable (disk.is_observable × IsChosen size image a.found) size image (log_blocks a.log.now) a.gate (disk.faults d0) (disk.faults d1) (λ r. r.0)
-    (λ r block damage. gate-damaged size image a.found a.gate a.loader.now block (c.requires.read r.0) (subst (λ n. IsDamagedExtent image n a.gate block) c.requires.blocks damage) r.1)
+    cause-found disk (IsDamagedStoreBy g.J.Judge.may image a.found) d0 d1 (log_blocks a.log.now) a.gate
+    (λ told block damage. inr (gate-damaged g.J.Judge (disk.size d0) image a.found a.gate a.loader.now a.judge.now (c.requires.read told) block (subst (λ n. IsDamagedExtent image n a.gate block) c.requires.blocks damage)))
     c.in-Err.fault c.cause_of.result c.cause_of.ensures.damaged c.cause_of.ensures.fault c.cause_of.ensures.want c.in-Err.ensures.cause
 
 -- The first call of the log only reads.
@@ -60,28 +59,35 @@ read_body-requires-clause-own g c told =
     let at = (goal.at.read_body-requires-clause-own g c).In-Extent in
     let image = g.D.Disk.contents (disk_of c.read_ahead.new.self) in
     let read = c.requires.read told in
-    let pages = read.log.pages in
-    (pages, subst (λ n. StandBelow image n pages) (sym c.requires.limit) (subst (λ (i : Image). StandBelow i c.args.found.checkpoint pages) (bytes-same g at told) read.stand), read.into.known)
+    let pages = read.read.log.pages in
+    (pages, subst (λ n. StandBelow image n pages) (sym c.requires.limit) (subst (λ (i : Image). StandBelow i c.args.found.checkpoint pages) (bytes-same g at told) read.read.stand), read.read.into.known)
+
+pub read_body-requires-clause-next : goal.read_body-requires-clause-next
+read_body-requires-clause-next g c =
+    let at = (goal.at.read_body-requires-clause-next g c).In-Extent in
+    found-next (log_blocks c.args.log.now) c.args.gate c.in-Extent.head c.in-Extent.body.items c.in-Extent.next (whole g at)
+    ∙ ap (λ (b : List ℕ). c.args.gate + need b) (sym c.deref.ensures.value)
 
 pub returns-in-Some-clause-cause : goal.returns-in-Some-clause-cause
-returns-in-Some-clause-cause g c known =
+returns-in-Some-clause-cause g c told =
     let disk = g.D.Disk in
+    let by = g.J.Judge in
     let a = c.args in
     let at = (goal.at.returns-in-Some-clause-cause g c).In-Extent in
     let d0 = disk_of a.log.now in
     let d1 = disk_of c.read_ahead.new.self in
     let body = c.in-Extent.body.items in
     let block = c.in-Some.block in
-    let told = known.0 in
-    let here : BreaksAfter (disk.contents d1) a.reader.now.limit a.gate c.deref.result.now a.loader.now block = subst (λ o. IfSome o (BreaksAfter (disk.contents d1) a.reader.now.limit a.gate c.deref.result.now a.loader.now)) c.in-Some.is (c.in_ok-block.ensures.damaged told) in
-    let breaks : BreaksAfter (disk.contents d0) a.found.checkpoint a.gate body a.loader.now block =
-    subst (λ (i : Image). BreaksAfter i a.found.checkpoint a.gate body a.loader.now block) (sym (bytes-same g at told))
-    (subst (λ n. BreaksAfter (disk.contents d1) n a.gate body a.loader.now block) c.requires.limit
-    (subst (λ (b : List ℕ). BreaksAfter (disk.contents d1) a.reader.now.limit a.gate b a.loader.now block) c.deref.ensures.value here))
+    let before = a.judge.now in
+    let here : BreaksAfter by (disk.contents d1) a.reader.now.limit a.gate c.deref.result.now a.loader.now before block = subst (λ o. IfSome o (BreaksAfter by (disk.contents d1) a.reader.now.limit a.gate c.deref.result.now a.loader.now before)) c.in-Some.is (c.in_ok-damaged.ensures.damaged told) in
+    let breaks : BreaksAfter by (disk.contents d0) a.found.checkpoint a.gate body a.loader.now before block =
+    subst (λ (i : Image). BreaksAfter by i a.found.checkpoint a.gate body a.loader.now before block) (sym (bytes-same g at told))
+    (subst (λ n. BreaksAfter by (disk.contents d1) n a.gate body a.loader.now before block) c.requires.limit
+    (subst (λ (b : List ℕ). BreaksAfter by (disk.contents d1) a.reader.now.limit a.gate b a.loader.now before block) c.deref.ensures.value here))
     in
     let is = whole g at in
-    body-damaged (disk.size d0) (disk.contents d0) a.found a.gate (start-low (disk.size d0) a.found a.gate c.requires.table c.requires.behind) body c.in-Extent.head (extent g at told) a.loader.now (c.requires.read told) block
-    (omega (arith, is.inside, found-next (log_blocks a.log.now) a.gate c.in-Extent.head body c.in-Extent.next is, c.requires.blocks)) breaks known.1
+    inr (body-damaged by (disk.size d0) (disk.contents d0) a.found a.gate a.loader.now before (c.requires.read told) (start-low (disk.size d0) a.found a.gate c.requires.table c.requires.after_start) body c.in-Extent.head (extent g at told) block
+    (omega (arith, is.inside, found-next (log_blocks a.log.now) a.gate c.in-Extent.head body c.in-Extent.next is, c.requires.blocks)) breaks)
 
 pub returns-clause-reads : goal.returns-clause-reads
 returns-clause-reads g c =
@@ -95,17 +101,20 @@ returns-clause-reads g c =
 pub returns-clause-read : goal.returns-clause-read
 returns-clause-read g c told =
     let disk = g.D.Disk in
+    let by = g.J.Judge in
     let a = c.args in
     let at = (goal.at.returns-clause-read g c).In-Extent in
     let d0 = disk_of a.log.now in
     let d1 = disk_of c.read_ahead.new.self in
     let body = c.in-Extent.body.items in
     let new = c.read_body.new.loader in
-    let here : ReadsBody (disk.contents d1) a.reader.now.limit a.gate c.deref.result.now a.loader.now new = subst (λ o. IfNone o (ReadsBody (disk.contents d1) a.reader.now.limit a.gate c.deref.result.now a.loader.now new)) c.in-None.is (c.in_ok-block.ensures.read told) in
-    let reads : ReadsBody (disk.contents d0) a.found.checkpoint a.gate body a.loader.now new =
-    subst (λ (i : Image). ReadsBody i a.found.checkpoint a.gate body a.loader.now new) (sym (bytes-same g at told))
-    (subst (λ n. ReadsBody (disk.contents d1) n a.gate body a.loader.now new) c.requires.limit
-    (subst (λ (b : List ℕ). ReadsBody (disk.contents d1) a.reader.now.limit a.gate b a.loader.now new) c.deref.ensures.value here))
+    let before = a.judge.now in
+    let after = c.read_body.new.judge in
+    let here : ReadsBody by (disk.contents d1) a.reader.now.limit a.gate c.deref.result.now a.loader.now new before after = subst (λ o. IfNone o (ReadsBody by (disk.contents d1) a.reader.now.limit a.gate c.deref.result.now a.loader.now new before after)) c.in-None.is (c.in_ok-damaged.ensures.read told) in
+    let reads : ReadsBody by (disk.contents d0) a.found.checkpoint a.gate body a.loader.now new before after =
+    subst (λ (i : Image). ReadsBody by i a.found.checkpoint a.gate body a.loader.now new before after) (sym (bytes-same g at told))
+    (subst (λ n. ReadsBody by (disk.contents d1) n a.gate body a.loader.now new before after) c.requires.limit
+    (subst (λ (b : List ℕ). ReadsBody by (disk.contents d1) a.reader.now.limit a.gate b a.loader.now new before after) c.deref.ensures.value here))
     in
-    read-on (disk.size d0) (disk.contents d0) a.found a.gate (start-low (disk.size d0) a.found a.gate c.requires.table c.requires.behind) body c.in-Extent.head (extent g at told) a.loader.now (c.requires.read told) new c.in-Extent.next
+    read-on by (disk.size d0) (disk.contents d0) a.found a.gate a.loader.now before (c.requires.read told) (start-low (disk.size d0) a.found a.gate c.requires.table c.requires.after_start) body c.in-Extent.head (extent g at told) new after c.in-Extent.next
     (found-next (log_blocks a.log.now) a.gate c.in-Extent.head body c.in-Extent.next (whole g at)) reads

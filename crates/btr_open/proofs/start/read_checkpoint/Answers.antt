@@ -3,8 +3,8 @@ use Rattle.std.proofs.Common.{refl, subst, inl, inr}
 use Rattle.btr_log.specs.Log.{log_device as disk_of, log_blocks}
 use Rattle.btr_log.specs.Found.{IsDamagedExtent, IsWhole, MatchesDevice}
 use Rattle.btr_roll.specs.Roll.{RollStreamValue}
-use Rattle.btr_open.specs.Start.{HasRoll}
-use Rattle.btr_open.proofs.OpenCauses.{damaged_start, cause_along}
+use Rattle.btr_open.specs.Start.{HasRoll, IsWrongStart}
+use Rattle.btr_open.proofs.OpenCauses.{cause-found}
 use Rattle.btr_open.proofs.StartExtent.{closed-gate, named-extent, other-extent, no-checkpoint-cause, no-roll-damage}
 use Rattle.btr_open.proofs.start.read_checkpoint.Goals.{then-head-ne2-via-then-head-ne2, then-head-ne2-via-else-head-ne2+then-next-found}
 use Rattle.btr_open.proofs.start.read_checkpoint.Goals as goal
@@ -15,9 +15,8 @@ returns-in-Err-clause-cause g c =
     let d0 = disk_of c.args.log.now in
     let d1 = disk_of c.read_ahead.new.self in
     let found = c.args.found in
-    cause_along disk.is_observable _ (disk.size d0) (disk.contents d0) (log_blocks c.args.log.now) found.checkpoint (disk.faults d0) (disk.faults d1)
-    (λ r. r.0)
-    (λ r block damage. damaged_start (disk.size d0) (disk.contents d0) found block (c.requires.some, inr (inl (subst (λ n. IsDamagedExtent (disk.contents d0) n found.checkpoint block) c.requires.blocks damage))) r.1)
+    cause-found disk (IsWrongStart (disk.contents d0) found) d0 d1 (log_blocks c.args.log.now) found.checkpoint
+    (λ told block damage. (c.requires.some, inr (inl (subst (λ n. IsDamagedExtent (disk.contents d0) n found.checkpoint block) c.requires.blocks damage))))
     c.in-Err.fault c.cause_of.result c.cause_of.ensures.damaged c.cause_of.ensures.fault c.cause_of.ensures.want c.in-Err.ensures.cause
 
 pub returns-in_default-clause-cause : goal.returns-in_default-clause-cause
@@ -43,13 +42,13 @@ returns-then-head-ne2-clause-cause g c =
     ]) refl)
 
 pub returns-clause-cause : goal.returns-clause-cause
-returns-clause-cause g c r =
+returns-clause-cause g c told =
     let disk = g.D.Disk in
     let d0 = disk_of c.args.log.now in
     let found = c.args.found in
     let body = c.in-Extent.body.items in
     let whole = subst (IsWhole (log_blocks c.args.log.now) found.checkpoint) c.in-Extent.is c.in-Ok.ensures.whole in
-    let matches = subst (MatchesDevice (disk.contents d0) found.checkpoint) c.in-Extent.is (c.in-Ok.ensures.matches r.0) in
+    let matches = subst (MatchesDevice (disk.contents d0) found.checkpoint) c.in-Extent.is (c.in-Ok.ensures.matches told) in
     let extent = named-extent (disk.contents d0) found (log_blocks c.args.log.now) c.in-Extent.head body c.in-Extent.next whole matches c.if-head-ne2.false c.if-next-found.false in
     let none = subst (λ l. (entries : ℕ) (roll : List RollStreamValue) → HasRoll found.checkpoint entries roll l → ⊥) c.deref.ensures.value (subst (λ o. IfNone o ((entries : ℕ) (roll : List RollStreamValue) → HasRoll found.checkpoint entries roll c.deref.result.now → ⊥)) c.in-None.is c.in_ok-roll.ensures.none) in
-    no-roll-damage disk found d0 (disk_of c.read_ahead.new.self) c.requires.some r body extent none
+    no-roll-damage disk found d0 (disk_of c.read_ahead.new.self) c.requires.some body extent none

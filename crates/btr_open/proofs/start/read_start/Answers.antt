@@ -39,7 +39,7 @@ returns-clause-place g c =
       inside = table.tail_to;
       counted = omega (arith, c.in_ok-load.ensures.entries);
       ends = omega (arith, read.has.bound, read.after);
-      behind = omega arith;
+      after_start = omega arith;
     }
 
 pub returns-clause-read : goal.returns-clause-read

@@ -1,6 +1,6 @@
 use Rattle.std.proofs.Common.{◌+◌, List, ℕ, Ok, refl, sym, ap, subst}
 use Rattle.btr_open.specs.Content.{HasContent}
-use Rattle.btr_open.specs.Loading.{BreaksNext}
+use Rattle.btr_open.specs.Loading.{BreaksEntry}
 use Rattle.btr_open.proofs.LoadingLemmas.{IsAllowed, MayLeadRead, wrong-root, wrong-node, tree-past, body-added}
 use Rattle.btr_open.proofs.loading.Loader.add_entry.Goals.{After-wrong_root-wrong}
 use Rattle.btr_open.proofs.loading.Loader.add_entry.Goals as goal
@@ -29,7 +29,7 @@ pub returns-in-Some-clause-damaged : goal.returns-in-Some-clause-damaged
 returns-in-Some-clause-damaged c =
     let at = (goal.at.returns-in-Some-clause-damaged c).After-wrong_root-wrong in
     let here = wrong-root c.args.gate (first at) (nodes at) c.args.body.now c.args.self.now c.args.head.now c.args.entry.now (is-allowed at) c.in-Some.block c.in-Some.ensures.wrong c.in-Some.ensures.named in
-    subst (λ xs. BreaksNext c.args.gate c.args.body.now xs c.args.head.now.root c.args.self.now c.in-Some.block) c.node_blocks-pages.ensures here
+    subst (λ xs. BreaksEntry c.args.gate c.args.body.now xs c.args.entry.now c.args.head.now.root c.args.self.now c.in-Some.block) c.node_blocks-pages.ensures here
 
 pub returns-in-Some-damaged-clause-damaged : goal.returns-in-Some-damaged-clause-damaged
 returns-in-Some-damaged-clause-damaged c =
@@ -37,7 +37,7 @@ returns-in-Some-damaged-clause-damaged c =
     let right : MayLeadRead (first at) (nodes at) c.args.self.now c.args.head.now.root c.args.entry.now = λ pages known. c.in_default.ensures.right pages known refl in
     let block = c.in-Some-damaged.block in
     let here = wrong-node c.args.gate (first at) (nodes at) c.args.body.now c.args.self.now c.args.head.now c.args.entry.now (is-allowed at) right c.add_blocks.new.self block (c.in_ok-damaged.ensures.damaged block (ap Ok c.in-Some-damaged.is)) in
-    subst (λ xs. BreaksNext c.args.gate c.args.body.now xs c.args.head.now.root c.args.self.now block) c.node_blocks-pages.ensures here
+    subst (λ xs. BreaksEntry c.args.gate c.args.body.now xs c.args.entry.now c.args.head.now.root c.args.self.now block) c.node_blocks-pages.ensures here
 
 pub add_tree-requires-clause-past : goal.add_tree-requires-clause-past
 add_tree-requires-clause-past c =

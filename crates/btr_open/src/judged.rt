@@ -1,0 +1,68 @@
+//! The reading of a whole log from its first gate, with a judge.
+ghost use Rattle.std.specs.Prelude.{IfErr, IfOk};
+ghost use Rattle.btr_super.specs.Super.{IsSuper};
+ghost use Rattle.btr_open.specs.Reads.{OnlyReads, PartCause};
+ghost use Rattle.btr_open.specs.Seen.{nothing_seen, first_reading, EndsInside, IsJudgedLog, IsDamagedLogBy};
+
+use crate::judge::Judge;
+use crate::loading::Loader;
+use crate::opening::{OpenCause, read_log};
+use btr_disk::Disk;
+use btr_log::Log;
+use btr_pages::Nodes;
+use btr_super::{LOG_START, Super};
+use std::alloc::Global;
+
+/// A log that was read whole.
+#[derive(Drop)]
+pub struct WholeLog {
+    /// The trees of its pages, by their blocks.
+    pub nodes: Nodes,
+
+    /// The gate after its last extent.
+    pub tail: u64,
+}
+
+/// Reads the log of this superblock from its first gate, whatever checkpoint the superblock names, and has each entry judged. It syncs and
+/// writes nothing.
+///
+/// Each extent is tested as [`open_store`](crate::open_store) does it; a checkpoint is compared with what is before it. An entry that may
+/// follow but that the judge does not let follow breaks the format in the first block of its body. The device is returned in each case.
+///
+/// The time is linear in the bytes of the log, but for logarithms of the streams, versions and ids, and what the judge takes.
+pub fn read_judged<D: Disk, J: Judge>(
+    alloc: Global,
+    disk: D,
+    found: Super,
+    judge: &mut J,
+) -> (D, Result<WholeLog, OpenCause>)
+    requires table { IsSuper (D.size disk) found }
+    requires judge { J.is_after nothing_seen judge.old }
+    ensures reads { OnlyReads ⟦<D as Disk>⟧ disk result.0 }
+    ensures ends { IfOk result.1 (EndsInside found.blocks) }
+    ensures read { D.is_observable
+        → IfOk result.1 (IsJudgedLog J.may J.is_after (D.contents disk) (first_reading found) judge.new) }
+    ensures cause { IfErr result.1
+        (PartCause ⟦<D as Disk>⟧ (IsDamagedLogBy J.may (D.contents disk) (first_reading found)) disk result.0) }
+{
+    let first = Super {
+        seq: 1,
+        side: found.side,
+        blocks: found.blocks,
+        tail: LOG_START,
+        checkpoint: 0,
+        format: found.format,
+    };
+    let mut log = Log::at(disk, LOG_START, found.blocks, 0);
+    let mut loader = Loader::empty(alloc);
+    let read = read_log(alloc, &mut log, &mut loader, judge, first);
+    let disk = log.into_disk();
+    match read {
+        Ok(place) => {
+            let Loader { nodes, .. } = loader;
+            let tail = place.gate;
+            (disk, Ok(WholeLog { nodes, tail }))
+        }
+        Err(cause) => (disk, Err(cause)),
+    }
+}
