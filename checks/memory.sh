@@ -66,3 +66,54 @@ case $seen in
     *little*enough*) ;;
     *) skip 'runs whose memory ends' 'no limit gave one here' ;;
 esac
+
+# ---- each command, from no memory for it to memory for all
+
+output=33333333-3333-4333-8333-333333333333
+other=22222222-2222-4222-8222-222222222222
+awk -v id="$id" 'BEGIN {
+    for (i = 0; i < 20000; i++) print id "," i * 1000 "," i % 97
+}' >rows
+awk -v id="$other" 'BEGIN {
+    for (i = 0; i < 20000; i++) print id "," i * 1000 "," i % 89
+}' >more_rows
+rm -f base
+"$program" base format --blocks 4096 >out 2>err </dev/null
+"$program" base load --batch 2000 <rows >out 2>err
+printf 'distiller %s sum 100000 0 %s\n' "$output" "$id" | "$program" base live >out 2>err
+printf 'range %s 0 100000000 latest\n' "$id" >points
+
+# Runs a command on a copy of the store with each of some limits, in KiB: NAME INPUT WORDS. It is done, or it ends for want of memory, or
+# the system does not start it. After each run `check` says that the store holds a legal history, with at least the entries of before.
+limited() {
+    local name=$1 input=$2 wrong='' seen='' limit before stands
+    shift 2
+    before=$("$program" base check </dev/null)
+    before=${before#stands }
+    for limit in $(seq 2000 1000 24000); do
+        cp base device
+        (ulimit -v "$limit"; exec "$program" device "$@" <"$input" >out 2>err) 2>/dev/null
+        status=$?
+        case $status in
+            0 | 1) seen="$seen enough" ;;
+            9) seen="$seen little" ;;
+            *) [ "$status" -ge 126 ] || wrong="limit $limit KiB: $(ended | cut -c 1-80)" ;;
+        esac
+        stands=$("$program" device check </dev/null)
+        case $stands in
+            stands*) [ "${stands#stands }" -ge "$before" ] || wrong="limit $limit KiB: after it $stands" ;;
+            *) wrong="limit $limit KiB: after it $stands" ;;
+        esac
+        [ -z "$wrong" ] || break
+    done
+    expect "$name with little memory" "$wrong" ''
+    case $seen in
+        *little*enough*) ;;
+        *) skip "$name whose memory ends" 'no limit gave one here' ;;
+    esac
+}
+limited load more_rows load --batch 500
+limited distil /dev/null distil
+limited ask points ask
+limited checkpoint /dev/null checkpoint
+limited check /dev/null check

@@ -2,10 +2,10 @@
 //! [`btr_top::run`].
 #![tactic(auto)]
 
-ghost use Rattle.std.specs.Prelude.{◌≡◌, ◌↔◌, map, string_bytes, IfOk, Some};
+ghost use Rattle.std.specs.Prelude.{◌≡◌, ◌↔◌, map, string_bytes, IfOk};
 ghost use Rattle.btr_host.specs.declared.file_disk.Lock.TheVariants.{Shared};
 ghost use Rattle.btr_words.specs.Words.{command_of};
-ghost use Rattle.btr_words.specs.declared.command.Command.TheVariants.{Ask};
+ghost use Rattle.btr_top.specs.Run.{IsReader};
 
 mod usage;
 
@@ -81,13 +81,13 @@ fn run_on<W: Threads + Wait + Sync>(
     }
 }
 
-/// The lock that a run takes on its device: a shared one for `ask`, which writes nothing there, and an exclusive one
-/// for all else. An `Err` means out of memory.
+/// The lock that a run takes on its device: a shared one for `ask` and `check`, which write nothing there, and an
+/// exclusive one for all else. An `Err` means out of memory.
 fn lock_of(alloc: Global, words: &[String]) -> Result<Lock, AllocError>
-    ensures { IfOk result (λ l. (l ≡ Shared) ↔ (command_of (map string_bytes words.now) ≡ Some Ask)) }
+    ensures { IfOk result (λ l. (l ≡ Shared) ↔ IsReader (command_of (map string_bytes words.now))) }
 {
     match read_words(alloc, words)? {
-        Some(Command::Ask) => Ok(Lock::Shared),
+        Some(Command::Ask | Command::Check) => Ok(Lock::Shared),
         _ => Ok(Lock::Exclusive),
     }
 }

@@ -1,13 +1,14 @@
 //! What is said on standard error of words that are refused.
 
 /// The commands, with their options and numbers, as COMMANDS has them.
-const COMMANDS: [&str; 7] = [
+const COMMANDS: [&str; 8] = [
     "format --blocks N",
     "live [--materialize] [--batch B]",
     "ask",
     "load [--workers K] [--batch B]",
     "distil [--workers K]",
     "checkpoint",
+    "check",
     "sample NUMBER STREAMS POINTS",
 ];
 

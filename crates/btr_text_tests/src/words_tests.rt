@@ -34,6 +34,8 @@ const COMMANDS: &[Words] = &[
     Words(&["ask", "--"], Some(Command::Ask)),
     Words(&["checkpoint"], Some(Command::Checkpoint)),
     Words(&["checkpoint", "--"], Some(Command::Checkpoint)),
+    Words(&["check"], Some(Command::Check)),
+    Words(&["check", "--"], Some(Command::Check)),
     Words(
         &["live"],
         Some(Command::Live {
@@ -408,7 +410,7 @@ const WRONG_CHECKPOINTS: &[Words] = &[
     Words(&["checkpoint", "--batch=8"], None),
     Words(&["checkpoint", "--materialize"], None),
     Words(&["checkpoint", "--help"], None),
-    Words(&["check"], None),
+    Words(&["checkpoin"], None),
     Words(&["checkpoints"], None),
     Words(&["Checkpoint"], None),
     Words(&["--checkpoint"], None),
@@ -418,6 +420,28 @@ const WRONG_CHECKPOINTS: &[Words] = &[
 #[test]
 fn wrong_words_of_a_checkpoint_give_none(rt: HostRuntime) -> Result<(), Fail> {
     all_hold(rt.alloc(), WRONG_CHECKPOINTS)
+}
+
+const WRONG_CHECKS: &[Words] = &[
+    // words after the command, and other spellings of it
+    Words(&["check", "1"], None),
+    Words(&["check", ""], None),
+    Words(&["check", "check"], None),
+    Words(&["check", "point"], None),
+    Words(&["check", "--", "--"], None),
+    Words(&["check", "--workers", "1"], None),
+    Words(&["check", "--batch=8"], None),
+    Words(&["check", "--help"], None),
+    Words(&["chec"], None),
+    Words(&["checks"], None),
+    Words(&["Check"], None),
+    Words(&["--check"], None),
+    Words(&["--", "check"], None),
+];
+
+#[test]
+fn wrong_words_of_a_check_give_none(rt: HostRuntime) -> Result<(), Fail> {
+    all_hold(rt.alloc(), WRONG_CHECKS)
 }
 
 const WRONG_FLAGS: &[Words] = &[

@@ -21,7 +21,7 @@ use Rattle.btr_engine.proofs.RollingLemmas.{rolled-is}
 use Rattle.btr_engine.proofs.StreamsLemmas.{has-streams}
 use Rattle.btr_open.specs.Opening.{IsOpenedEngine}
 use Rattle.btr_top.specs.declared.ending.Ending.{Ending}
-use Rattle.btr_top.specs.declared.ending.Ending.TheVariants.{Usage, NoSource, TooLong, OutOfMemory, NoDevice, NoStore, Damaged, Occupied, TooSmall, Formatted, Checkpointed, Full, Replied}
+use Rattle.btr_top.specs.declared.ending.Ending.TheVariants.{Usage, NoSource, TooLong, OutOfMemory, NoDevice, NoStore, Damaged, Occupied, TooSmall, Formatted, Checkpointed, Stands, Full, Replied}
 use Rattle.btr_top.specs.Command.{IsKept, OpeningCause}
 use Rattle.btr_top.specs.Checkpoint.{need_of_checkpoint, Lasts, AddsCheckpoint, CheckpointEnds}
 use Rattle.btr_top.proofs.OneStore.{AreOne, one_store}
@@ -67,6 +67,7 @@ module _ {D : Type 0} (disk : Ghosts D) where
     refused_cause (TooSmall asked has) why kept = absurd why
     refused_cause (Formatted made) why kept = absurd why
     refused_cause (Checkpointed entries) why kept = absurd why
+    refused_cause (Stands entries) why kept = absurd why
     refused_cause (Full need room) why kept = absurd why
     refused_cause (Replied transcript) why kept = absurd why
 

@@ -5,7 +5,7 @@ use Rattle.btr_disk.specs.Causes.{Rose}
 use Rattle.btr_engine.specs.Holds.{HoldsHistory}
 use Rattle.btr_open.specs.Laws.{HeldIsSound}
 use Rattle.btr_top.specs.declared.ending.Ending.{Ending}
-use Rattle.btr_top.specs.declared.ending.Ending.TheVariants.{Usage, NoSource, TooLong, OutOfMemory, NoDevice, NoStore, Damaged, Occupied, TooSmall, Formatted, Checkpointed, Full, Replied}
+use Rattle.btr_top.specs.declared.ending.Ending.TheVariants.{Usage, NoSource, TooLong, OutOfMemory, NoDevice, NoStore, Damaged, Occupied, TooSmall, Formatted, Checkpointed, Stands, Full, Replied}
 use Rattle.btr_top.specs.Ending.{status_of}
 use Rattle.btr_top.specs.Checkpoint.{CheckpointEnds, CanCheckpoint}
 use Rattle.btr_top.specs.Run.{IsPlainStatus}
@@ -26,6 +26,7 @@ module _ {D : Type 0} (disk : Ghosts D) (old new : D) (sound : HeldIsSound) (can
   benign_checkpoint (TooSmall asked has) why = absurd why.0
   benign_checkpoint (Formatted blocks) why = absurd why.0
   benign_checkpoint (Checkpointed entries) why = inl refl
+  benign_checkpoint (Stands entries) why = absurd why.0
   benign_checkpoint (Full need room) why =
       let is = why.2 told can.history can.blocks can.tail can.holds in
       absurd (omega (arith, why.0, is.0, is.1, can.fits))

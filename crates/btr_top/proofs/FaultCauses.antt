@@ -6,7 +6,7 @@ use Rattle.btr_io.specs.declared.sink.Sink.{Ghosts as SinkGhosts}
 use Rattle.btr_disk.specs.declared.disk.Disk.{Ghosts}
 use Rattle.btr_disk.specs.Causes.{Rose}
 use Rattle.btr_words.specs.declared.command.Command.{Command}
-use Rattle.btr_words.specs.declared.command.Command.TheVariants.{Format, Load, Ask, Distil, Live, Sample, Checkpoint}
+use Rattle.btr_words.specs.declared.command.Command.TheVariants.{Format, Load, Ask, Distil, Live, Sample, Checkpoint, Check}
 use Rattle.btr_rows.specs.Rows.{rows_of}
 use Rattle.btr_rows.specs.Streams.{list_of}
 use Rattle.btr_text.specs.Input.{questions_of, script_of}
@@ -20,11 +20,12 @@ use Rattle.btr_store.specs.Live.{LivesStore}
 use Rattle.btr_store.specs.Distil.{DistilsStore}
 use Rattle.btr_store.specs.SampleLaw.{SamplesStore}
 use Rattle.btr_top.specs.declared.ending.Ending.{Ending}
-use Rattle.btr_top.specs.declared.ending.Ending.TheVariants.{Usage, NoSource, TooLong, OutOfMemory, NoDevice, NoStore, Damaged, Occupied, TooSmall, Formatted, Checkpointed, Full, Replied}
+use Rattle.btr_top.specs.declared.ending.Ending.TheVariants.{Usage, NoSource, TooLong, OutOfMemory, NoDevice, NoStore, Damaged, Occupied, TooSmall, Formatted, Checkpointed, Stands, Full, Replied}
 use Rattle.btr_top.specs.Ending.{status_of, text_of, Writes, Shows}
 use Rattle.btr_top.specs.Command.{InputCause, CommandCause}
 use Rattle.btr_top.specs.Format.{FormatCause}
 use Rattle.btr_top.specs.Checkpoint.{CheckpointEnds}
+use Rattle.btr_top.specs.Check.{CheckCause}
 use Rattle.btr_top.specs.Work.{WorkSays, WorkCause, RowsCause}
 use Rattle.btr_top.specs.Ask.{QuestionsCause}
 use Rattle.btr_top.specs.Live.{ScriptCause}
@@ -76,6 +77,7 @@ module _ {D : Type 0} (disk : Ghosts D) (old new : D) where
   work_fault What (TooSmall asked has) why five = absurd why.0
   work_fault What (Formatted made) why five = absurd why.0
   work_fault What (Checkpointed entries) why five = absurd why.0
+  work_fault What (Stands entries) why five = absurd why.0
   work_fault What (Full need room) why five = absurd why.0
   work_fault What (Replied transcript) why five = why.plain.faulted (fault_of_code transcript.status five)
 
@@ -91,6 +93,7 @@ module _ {D : Type 0} (disk : Ghosts D) (old new : D) where
   asked_fault lines (TooSmall asked has) why five = absurd why.0
   asked_fault lines (Formatted made) why five = absurd why.0
   asked_fault lines (Checkpointed entries) why five = absurd why.0
+  asked_fault lines (Stands entries) why five = absurd why.0
   asked_fault lines (Full need room) why five = absurd why.0
   asked_fault lines (Replied transcript) why five = why.plain.faulted (fault_of_code transcript.status five)
 
@@ -106,6 +109,7 @@ module _ {D : Type 0} (disk : Ghosts D) (old new : D) where
   format_fault blocks (TooSmall asked has) why five = absurd (omega (arith, five))
   format_fault blocks (Formatted made) why five = absurd (omega (arith, five))
   format_fault blocks (Checkpointed entries) why five = absurd why
+  format_fault blocks (Stands entries) why five = absurd why
   format_fault blocks (Full need room) why five = absurd why
   format_fault blocks (Replied transcript) why five = absurd why
 
@@ -121,8 +125,25 @@ module _ {D : Type 0} (disk : Ghosts D) (old new : D) where
   checkpoint_fault (TooSmall asked has) why five = absurd why.0
   checkpoint_fault (Formatted made) why five = absurd why.0
   checkpoint_fault (Checkpointed entries) why five = absurd (omega (arith, five))
+  checkpoint_fault (Stands entries) why five = absurd why.0
   checkpoint_fault (Full need room) why five = absurd (omega (arith, five))
   checkpoint_fault (Replied transcript) why five = absurd why.0
+
+  check_fault : (e : Ending) → CheckCause disk old new e → status_of e ≡ 5 → Failed
+  check_fault Usage why five = absurd why
+  check_fault NoSource why five = absurd why
+  check_fault TooLong why five = absurd why
+  check_fault OutOfMemory why five = absurd (omega (arith, five))
+  check_fault NoDevice why five = why
+  check_fault NoStore why five = absurd (omega (arith, five))
+  check_fault (Damaged block) why five = absurd (omega (arith, five))
+  check_fault Occupied why five = absurd why
+  check_fault (TooSmall asked has) why five = absurd why
+  check_fault (Formatted made) why five = absurd why
+  check_fault (Checkpointed entries) why five = absurd why
+  check_fault (Stands entries) why five = absurd (omega (arith, five))
+  check_fault (Full need room) why five = absurd why
+  check_fault (Replied transcript) why five = absurd why
 
 -- An input that was not read is no fault of the device.
 input_five : {S : Type 0} (source : SourceGhosts S) (given rest : S) (e : Ending) → InputCause source given rest e → status_of e ≡ 5 → ⊥
@@ -137,6 +158,7 @@ input_five source given rest Occupied why five = why
 input_five source given rest (TooSmall asked has) why five = why
 input_five source given rest (Formatted made) why five = why
 input_five source given rest (Checkpointed entries) why five = why
+input_five source given rest (Stands entries) why five = why
 input_five source given rest (Full need room) why five = why
 input_five source given rest (Replied transcript) why five = why
 
@@ -168,6 +190,7 @@ module _ {S D : Type 0} (source : SourceGhosts S) (disk : Ghosts D) (given rest 
   cause_fault (Some (Sample number streams points)) e why five =
       work_fault disk old new (λ said start log own. SamplesStore number streams points start log said own) e why.1 five
   cause_fault (Some Checkpoint) e why five = checkpoint_fault disk old new e why.1 five
+  cause_fault (Some Check) e why five = check_fault disk old new e why.1.cause five
 
   run_fault : (command : Option Command) (e : Ending) → RunCause source disk command given rest old new e → status_of e ≡ 5 → Failed disk old new
   run_fault command e why five =

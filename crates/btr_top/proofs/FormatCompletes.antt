@@ -11,7 +11,7 @@ use Rattle.btr_super.specs.Format as format
 use Rattle.btr_words.specs.declared.command.Command.{Command}
 use Rattle.btr_words.specs.declared.command.Command.TheVariants.{Format}
 use Rattle.btr_top.specs.declared.ending.Ending.{Ending}
-use Rattle.btr_top.specs.declared.ending.Ending.TheVariants.{Usage, NoSource, TooLong, OutOfMemory, NoDevice, NoStore, Damaged, Occupied, TooSmall, Formatted, Checkpointed, Full, Replied}
+use Rattle.btr_top.specs.declared.ending.Ending.TheVariants.{Usage, NoSource, TooLong, OutOfMemory, NoDevice, NoStore, Damaged, Occupied, TooSmall, Formatted, Checkpointed, Stands, Full, Replied}
 use Rattle.btr_top.specs.Ending.{status_of, text_of, Writes, Shows}
 use Rattle.btr_top.specs.Format.{CanFormat, FormatCause}
 use Rattle.btr_top.specs.Run.{Cause, RunCause, DeviceAndSinkWork}
@@ -35,6 +35,7 @@ module _ {D : Type 0} (disk : Ghosts D) (old new : D) (told : disk.is_observable
   made (TooSmall asked has) why = let fits = can.fits in absurd (omega (arith, fits, why.0, why.1, why.2))
   made (Formatted blocks) why = refl
   made (Checkpointed entries) why = absurd why
+  made (Stands entries) why = absurd why
   made (Full need room) why = absurd why
   made (Replied transcript) why = absurd why
 

@@ -29,4 +29,5 @@ mod WorkCompletes
 mod AskCompletes
 mod FormatCompletes
 mod CheckpointCompletes
+mod CheckCompletes
 mod RunCompletes

@@ -6,7 +6,7 @@ use Rattle.btr_io.specs.Faults.{Rose as StreamRose}
 use Rattle.btr_disk.specs.declared.disk.Disk.{Ghosts}
 use Rattle.btr_disk.specs.Causes.{Rose}
 use Rattle.btr_words.specs.declared.command.Command.{Command}
-use Rattle.btr_words.specs.declared.command.Command.TheVariants.{Format, Load, Ask, Distil, Live, Sample, Checkpoint}
+use Rattle.btr_words.specs.declared.command.Command.TheVariants.{Format, Load, Ask, Distil, Live, Sample, Checkpoint, Check}
 use Rattle.btr_open.specs.Laws.{HeldIsSound, OneHistoryIsHeld}
 use Rattle.btr_top.specs.declared.ending.Ending.{Ending}
 use Rattle.btr_top.specs.Ending.{status_of}
@@ -15,6 +15,7 @@ use Rattle.btr_top.proofs.LiveCompletes.{benign_live}
 use Rattle.btr_top.proofs.AskCompletes.{benign_ask}
 use Rattle.btr_top.proofs.WorkCompletes.{benign_load, benign_distil, benign_sample}
 use Rattle.btr_top.proofs.CheckpointCompletes.{benign_checkpoint}
+use Rattle.btr_top.proofs.CheckCompletes.{benign_check}
 
 module _ {S D : Type 0} (source : SourceGhosts S) (disk : Ghosts D) (given rest : S) (old new : D) (sound : HeldIsSound) (one : OneHistoryIsHeld) (source_told : source.is_observable) (told : disk.is_observable) (source_works : StreamRose (source.faults given) (source.faults rest) → ⊥) (device_works : Rose (disk.faults old) (disk.faults new) → ⊥) where
   plain_cause : (command : Option Command) → CanRun source disk command given old → (e : Ending) → Cause source disk command given rest old new e → IsPlainStatus (status_of e)
@@ -30,6 +31,7 @@ module _ {S D : Type 0} (source : SourceGhosts S) (disk : Ghosts D) (given rest 
   plain_cause (Some (Sample number streams points)) can e why =
       benign_sample disk number streams points old new sound one can told device_works e why.1
   plain_cause (Some Checkpoint) can e why = benign_checkpoint disk old new sound can told device_works e why.1
+  plain_cause (Some Check) can e why = benign_check disk old new can told device_works e why.1
 
   pub plain_run : (command : Option Command) → CanRun source disk command given old → (e : Ending) → RunCause source disk command given rest old new e → IsPlainStatus (status_of e)
   plain_run command can e why =

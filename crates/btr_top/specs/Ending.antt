@@ -5,7 +5,7 @@ use Rattle.btr_io.specs.Faults.{Rose}
 use Rattle.btr_text.specs.Text.{line_text}
 use Rattle.btr_top.specs.declared.ending.Ending.{Ending}
 use Rattle.btr_top.specs.declared.ending.Ending.TheVariants.{Usage, NoSource, TooLong, OutOfMemory, NoDevice, NoStore}
-use Rattle.btr_top.specs.declared.ending.Ending.TheVariants.{Damaged, Occupied, TooSmall, Formatted, Checkpointed, Full, Replied}
+use Rattle.btr_top.specs.declared.ending.Ending.TheVariants.{Damaged, Occupied, TooSmall, Formatted, Checkpointed, Stands, Full, Replied}
 use Rattle.btr_top.specs.declared.command.TheConstants.{MAX_INPUT}
 use Rattle.btr_store.specs.Status.{code_of}
 
@@ -22,6 +22,7 @@ status_of Occupied = 6
 status_of (TooSmall asked blocks) = 8
 status_of (Formatted blocks) = 0
 status_of (Checkpointed entries) = 0
+status_of (Stands entries) = 0
 status_of (Full need left) = 8
 status_of (Replied transcript) = code_of transcript.status
 
@@ -38,6 +39,7 @@ text_of Occupied = line_text (codes "no" ∷ codes "occupied" ∷ [])
 text_of (TooSmall asked blocks) = line_text (codes "no" ∷ codes "small" ∷ decimal asked ∷ decimal blocks ∷ [])
 text_of (Formatted blocks) = line_text (codes "formatted" ∷ decimal blocks ∷ [])
 text_of (Checkpointed entries) = line_text (codes "checkpoint" ∷ decimal entries ∷ [])
+text_of (Stands entries) = line_text (codes "stands" ∷ decimal entries ∷ [])
 text_of (Full need left) = line_text (codes "no" ∷ codes "full" ∷ decimal need ∷ decimal left ∷ [])
 text_of (Replied transcript) = transcript.text.items
 

@@ -7,6 +7,7 @@ pub mod Live
 pub mod Ask
 pub mod Format
 pub mod Checkpoint
+pub mod Check
 -- the whole run
 pub mod Ending
 pub mod Run

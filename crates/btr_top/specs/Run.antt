@@ -7,7 +7,7 @@ use Rattle.btr_io.specs.Faults.{Rose as StreamRose}
 use Rattle.btr_disk.specs.declared.disk.Disk.{Ghosts}
 use Rattle.btr_disk.specs.Causes.{Rose}
 use Rattle.btr_words.specs.declared.command.Command.{Command}
-use Rattle.btr_words.specs.declared.command.Command.TheVariants.{Format, Load, Ask, Distil, Live, Sample, Checkpoint}
+use Rattle.btr_words.specs.declared.command.Command.TheVariants.{Format, Load, Ask, Distil, Live, Sample, Checkpoint, Check}
 use Rattle.btr_top.specs.declared.ending.Ending.{Ending}
 use Rattle.btr_top.specs.declared.ending.Ending.TheVariants.{Usage, OutOfMemory}
 use Rattle.btr_top.specs.declared.command.TheConstants.{MAX_INPUT}
@@ -16,6 +16,7 @@ use Rattle.btr_top.specs.Live.{LiveCause, CanLive}
 use Rattle.btr_top.specs.Ask.{AskCause, CanAsk}
 use Rattle.btr_top.specs.Format.{FormatCause, FormatLeaves, CanFormat}
 use Rattle.btr_top.specs.Checkpoint.{CheckpointEnds, CanCheckpoint}
+use Rattle.btr_top.specs.Check.{CheckEnds, HoldsLegalStore}
 use Rattle.btr_top.specs.Work.{LoadCause, DistilCause, SampleCause, CanLoad, CanDistil, CanSample}
 use Rattle.btr_top.specs.Ending.{Shows}
 
@@ -31,6 +32,7 @@ Cause source disk (Some (Distil workers)) given rest old new e = (rest ≡ given
 Cause source disk (Some (Sample number streams points)) given rest old new e =
     (rest ≡ given) × SampleCause disk number streams points old new e
 Cause source disk (Some Checkpoint) given rest old new e = (rest ≡ given) × CheckpointEnds disk old new e
+Cause source disk (Some Check) given rest old new e = (rest ≡ given) × CheckEnds disk old new e
 
 -- There was no memory to read the words, and nothing was done.
 abbrev pub WordsLackMemory : {S D : Type 0} → S → S → D → D → Ending → Type 0
@@ -42,7 +44,7 @@ RunCause source disk command given rest old new e =
     Cause source disk command given rest old new e ⊎ WordsLackMemory given rest old new e
 
 -- The device and the input are such that the command comes to its end if nothing fails: there is a store, with room for all that the
--- command may add. Of `format` it is said by `CanFormat`.
+-- command may add; for `check`, one with a legal history. Of `format` it is said by `CanFormat`.
 abbrev pub CanRun : {S D : Type 0} → SourceGhosts S → Ghosts D → Option Command → S → D → Type 0
 CanRun source disk None given old = ⊥
 CanRun source disk (Some (Format blocks)) given old = ⊥
@@ -52,6 +54,11 @@ CanRun source disk (Some (Load workers batch)) given old = CanLoad source disk b
 CanRun source disk (Some (Distil workers)) given old = CanDistil disk old
 CanRun source disk (Some (Sample number streams points)) given old = CanSample disk number streams points old
 CanRun source disk (Some Checkpoint) given old = CanCheckpoint disk old
+CanRun source disk (Some Check) given old = HoldsLegalStore disk old
+
+-- The command only reads the device.
+abbrev pub IsReader : Option Command → Type 0
+IsReader command = (command ≡ Some Ask) ⊎ (command ≡ Some Check)
 
 -- The status is 0 if all was done, 1 if something was refused, and 9 if memory ran out.
 abbrev pub IsPlainStatus : ℕ → Type 0
@@ -90,5 +97,5 @@ module _ {S K D : Type 0} (source : SourceGhosts S) (sink : SinkGhosts K) (disk 
     -- if there is a store with room for the command and nothing fails, the status is 0, or 1 for what was refused, or 9 without memory
     pub completes : source.is_observable → disk.is_observable → CanRun source disk command given old
         → AllWork given rest before after old new → IsPlainStatus status
-    -- however `ask` ends, nothing is written
-    pub kept : command ≡ Some Ask → IsKept disk old new
+    -- however `ask` or `check` ends, nothing is written
+    pub kept : IsReader command → IsKept disk old new

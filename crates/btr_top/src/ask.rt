@@ -1,10 +1,10 @@
 //! The command `ask`, which answers questions from the store of a device.
-ghost use Rattle.std.specs.Prelude.{◌≡◌, ◌⊎◌, ◌+◌, List, IfOk, OnOk};
+ghost use Rattle.std.specs.Prelude.{◌≡◌, ◌⊎◌, ◌+◌, true, List, IfOk, OnOk};
 ghost use Rattle.btr_io.specs.Bytes.{Gives};
 ghost use Rattle.btr_hist.specs.declared.entry.Entry.{Entry as EntrySpec};
 ghost use Rattle.btr_text.specs.Input.{questions_of};
 ghost use Rattle.btr_text.specs.declared.reply.LineReply.{LineReply as ReplySpec};
-ghost use Rattle.btr_engine.specs.Engine.{IsEngineOf};
+ghost use Rattle.btr_engine.specs.Engine.{is_home, IsEngineOf};
 ghost use Rattle.btr_engine.specs.Snapshot.{IsSnapshotOf};
 ghost use Rattle.btr_open.specs.Opening.{IsOpenedEngine};
 ghost use Rattle.btr_top.specs.declared.command.TheConstants.{MAX_INPUT};
@@ -74,6 +74,7 @@ fn ask_lines<D: Disk>(alloc: Global, lines: Vec<ScriptLine>, disk: D) -> Command
 
 /// Answers lines from a store that was opened.
 fn ask_opened<D: Disk>(alloc: Global, lines: Vec<ScriptLine>, engine: Engine<D>) -> CommandResult<D>
+    requires home { is_home engine ≡ true }
     ensures size { (old : D) → IsOpenedEngine ⟦<D as Disk>⟧ old engine → D.size result.disk ≡ D.size old }
     ensures cause { (old : D) → IsOpenedEngine ⟦<D as Disk>⟧ old engine
         → QuestionsCause ⟦<D as Disk>⟧ lines.items old result.disk result.ending }

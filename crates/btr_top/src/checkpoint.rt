@@ -1,6 +1,6 @@
 //! The command `checkpoint`, which adds a checkpoint to the log of a store.
-ghost use Rattle.std.specs.Prelude.{◌≡◌, false};
-ghost use Rattle.btr_engine.specs.Engine.{is_stopped};
+ghost use Rattle.std.specs.Prelude.{◌≡◌, true, false};
+ghost use Rattle.btr_engine.specs.Engine.{is_stopped, is_home};
 ghost use Rattle.btr_open.specs.Opening.{IsOpenedEngine};
 ghost use Rattle.btr_top.specs.Checkpoint.{CheckpointEnds};
 
@@ -29,6 +29,7 @@ pub(crate) fn run_checkpoint<D: Disk>(alloc: Global, disk: D) -> CommandResult<D
 /// Adds a checkpoint to the log of a store that was opened.
 fn mark_opened<D: Disk>(alloc: Global, engine: Engine<D>) -> CommandResult<D>
     requires runs { is_stopped engine ≡ false }
+    requires home { is_home engine ≡ true }
     ensures size { (old : D) → IsOpenedEngine ⟦<D as Disk>⟧ old engine → D.size result.disk ≡ D.size old }
     ensures cause { (old : D) → IsOpenedEngine ⟦<D as Disk>⟧ old engine
         → CheckpointEnds ⟦<D as Disk>⟧ old result.disk result.ending }

@@ -24,7 +24,7 @@ pub enum Ending {
     TooLong,
 
     /// There was no memory: for the words, for the input or what it says, for an opening, for a hall, for the lines of a script and their
-    /// replies, for the snapshot of `ask`, for a checkpoint, or for a text.
+    /// replies, for the snapshot of `ask`, for a checkpoint, for a check, or for a text.
     OutOfMemory,
 
     /// A call of the device failed.
@@ -33,7 +33,7 @@ pub enum Ending {
     /// The device has no store.
     NoStore,
 
-    /// This block of the device breaks the format of a store.
+    /// This block of the device breaks the format of a store; for `check` it is the first wrong block.
     Damaged { block: u64 },
 
     /// The device has a store already.
@@ -47,6 +47,9 @@ pub enum Ending {
 
     /// A checkpoint was added to the log. It has the streams of this many entries, which are all.
     Checkpointed { entries: u64 },
+
+    /// The device holds a legal history of this many entries.
+    Stands { entries: u64 },
 
     /// A checkpoint needs more blocks than are left.
     Full { need: u64, left: u64 },
@@ -116,6 +119,7 @@ fn status_of(ending: &Ending) -> u8
         Ending::TooSmall { .. } => 8,
         Ending::Formatted { .. } => 0,
         Ending::Checkpointed { .. } => 0,
+        Ending::Stands { .. } => 0,
         Ending::Full { .. } => 8,
         Ending::Replied(transcript) => transcript.status.code(),
     }
@@ -138,6 +142,7 @@ fn text_of(alloc: Global, ending: &Ending) -> Result<Vec<u8>, AllocError>
         Ending::TooSmall { asked, blocks } => two_numbers_text(alloc, b"small", *asked, *blocks),
         Ending::Formatted { blocks } => done_text(alloc, b"formatted", *blocks),
         Ending::Checkpointed { entries } => done_text(alloc, b"checkpoint", *entries),
+        Ending::Stands { entries } => done_text(alloc, b"stands", *entries),
         Ending::Full { need, left } => two_numbers_text(alloc, b"full", *need, *left),
         Ending::Replied(_) => Ok(Vec::new(alloc)),
     }
@@ -173,7 +178,7 @@ fn two_numbers_text(
     )
 }
 
-/// Returns the line that work was done, with one number.
+/// Returns the line that work was done, with its word and one number.
 fn done_text(alloc: Global, word: &[u8], number: u64) -> Result<Vec<u8>, AllocError>
     ensures { IfOk result (λ t. t.items ≡ line_text (word.now ∷ decimal number ∷ [])) }
 {

@@ -6,6 +6,7 @@
 
 // the commands
 mod ask;
+mod check;
 mod checkpoint;
 mod distil;
 mod format_store;

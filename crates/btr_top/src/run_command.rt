@@ -1,14 +1,15 @@
 //! The whole run of a command.
 ghost use Rattle.std.specs.Prelude.{◌≡◌, ℕ, ◌+◌, ◌≤◌, ◌^◌, map, string_bytes, Some};
 ghost use Rattle.btr_io.specs.Bytes.{Gives};
-ghost use Rattle.btr_words.specs.declared.command.Command.TheVariants.{Ask, Format};
+ghost use Rattle.btr_words.specs.declared.command.Command.TheVariants.{Format};
 ghost use Rattle.btr_top.specs.declared.command.TheConstants.{MAX_INPUT};
 ghost use Rattle.btr_words.specs.Words.{command_of};
 ghost use Rattle.btr_top.specs.Command.{IsKept};
 ghost use Rattle.btr_top.specs.Format.{FormatCause, FormatLeaves};
-ghost use Rattle.btr_top.specs.Run.{RunCause, Runs};
+ghost use Rattle.btr_top.specs.Run.{IsReader, RunCause, Runs};
 
 use crate::ask::run_ask;
+use crate::check::run_check;
 use crate::checkpoint::run_checkpoint;
 use crate::command::CommandResult;
 use crate::distil::run_distil;
@@ -93,7 +94,7 @@ fn dispatch<R: Threads + Wait + Sync, S: Source, D: Disk + Send, P: Pace + Sync>
         disk result.disk result.ending }
     ensures format_leaves { D.is_observable → (blocks : ℕ) → command_of (map string_bytes words.now) ≡ Some (Format blocks)
         → FormatLeaves ⟦<D as Disk>⟧ blocks disk result.disk }
-    ensures kept { command_of (map string_bytes words.now) ≡ Some Ask → IsKept ⟦<D as Disk>⟧ disk result.disk }
+    ensures kept { IsReader (command_of (map string_bytes words.now)) → IsKept ⟦<D as Disk>⟧ disk result.disk }
 {
     match read_words(alloc, words) {
         Err(_) => CommandResult {
@@ -123,6 +124,7 @@ fn dispatch<R: Threads + Wait + Sync, S: Source, D: Disk + Send, P: Pace + Sync>
             ),
         ) => run_sample(rt, alloc, number, streams, points, disk, pace),
         Ok(Some(Command::Checkpoint)) => run_checkpoint(alloc, disk),
+        Ok(Some(Command::Check)) => run_check(alloc, disk),
     }
 }
 

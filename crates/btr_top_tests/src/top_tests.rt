@@ -1,10 +1,12 @@
 //! Tests of whole runs on devices in memory.
 mod bulk;
 mod checkpoints;
+mod checks;
 mod crashes;
 mod device;
 mod fixture;
 mod lanes;
 mod outputs;
+mod stops;
 mod streams;
 mod transcripts;

@@ -8,7 +8,7 @@ use Rattle.clap.specs.Simple.{new_shape}
 use Rattle.clap.specs.declared.builder.action.ArgAction.TheVariants as action
 use Rattle.clap.specs.declared.builder.value_parser.ValueParser.TheVariants as vp
 use Rattle.btr_words.specs.declared.command.Command.{Command}
-use Rattle.btr_words.specs.declared.command.Command.TheVariants.{Format, Load, Ask, Distil, Live, Checkpoint}
+use Rattle.btr_words.specs.declared.command.Command.TheVariants.{Format, Load, Ask, Distil, Live, Checkpoint, Check}
 use Rattle.btr_words.specs.Words.{Text, number_of, sample_within}
 
 -- An option of this name that takes a number.
@@ -62,6 +62,9 @@ sample_app = with_rule (with_rule (with_rule (new_app (codes "sample")) number_r
 abbrev pub checkpoint_app : App
 checkpoint_app = new_app (codes "checkpoint")
 
+abbrev pub check_app : App
+check_app = new_app (codes "check")
+
 abbrev pub program_shape : Shape
 program_shape = record (new_shape (codes "btr")) {
   no_binary_name = true;
@@ -77,8 +80,9 @@ first_app = with_subcommand (with_subcommand (with_subcommand (record { top = pr
     ask_app.top
 
 abbrev pub program_app : App
-program_app = with_subcommand (with_subcommand (with_subcommand (with_subcommand first_app distil_app.top) live_app.top) sample_app.top)
-    checkpoint_app.top
+program_app =
+    with_subcommand (with_subcommand (with_subcommand (with_subcommand (with_subcommand first_app distil_app.top) live_app.top) sample_app.top)
+    checkpoint_app.top) check_app.top
 
 -- The number that the rows have for an argument.
 abbrev pub number_in : Text → List Row → ℕ → Option ℕ
@@ -112,7 +116,8 @@ command_with_rows name rows =
     else (if bytes_eq name (codes "live") then Some (live_in rows)
     else (if bytes_eq name (codes "sample") then sample_in rows
     else (if bytes_eq name (codes "checkpoint") then Some Checkpoint
-    else Some Ask)))))
+    else (if bytes_eq name (codes "check") then Some Check
+    else Some Ask))))))
 
 -- The command of the subcommand that was found.
 abbrev pub command_of_rows : Option (Text × List Row) → Option Command

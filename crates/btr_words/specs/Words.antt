@@ -8,7 +8,7 @@ use Rattle.std.specs.Str.Parse.{digits_value, without_leading_plus}
 use Rattle.clap.specs.Lexer.{long_of}
 use Rattle.clap.specs.ValueTests.{is_unsigned_in}
 use Rattle.btr_words.specs.declared.command.Command.{Command}
-use Rattle.btr_words.specs.declared.command.Command.TheVariants.{Format, Load, Ask, Distil, Live, Sample, Checkpoint}
+use Rattle.btr_words.specs.declared.command.Command.TheVariants.{Format, Load, Ask, Distil, Live, Sample, Checkpoint, Check}
 
 abbrev pub Text : Type 0
 Text = List ℕ
@@ -168,7 +168,8 @@ command_with name words =
     then option_map (λ found. Live (batch_of found) (materialize_of found)) (option_numbers live_arguments words)
     else (if bytes_eq (codes "sample") name
     then option_and_then sample_of (numbers_in_order sample_arguments (without_marker words))
-    else (if bytes_eq (codes "checkpoint") name then option_map (λ found. Checkpoint) (option_numbers [] words) else None))))))
+    else (if bytes_eq (codes "checkpoint") name then option_map (λ found. Checkpoint) (option_numbers [] words)
+    else (if bytes_eq (codes "check") name then option_map (λ found. Check) (option_numbers [] words) else None)))))))
 
 abbrev pub command_of : List Text → Option Command
 command_of [] = None
@@ -184,3 +185,4 @@ IsInBounds (Live batch materialize) = (1 ≤ batch) × (batch ≤ 65536)
 IsInBounds (Sample number streams points) =
     (number ≤ 2147483647) × (1 ≤ streams) × (streams ≤ 1000) × (1 ≤ points) × (points ≤ 1000000) × (streams * points ≤ 1000000)
 IsInBounds Checkpoint = Unit {0}
+IsInBounds Check = Unit {0}

@@ -38,4 +38,7 @@ pub enum Command {
 
     /// `checkpoint`: write a checkpoint, which has all streams with their versions, to the store, and a superblock that names it.
     Checkpoint,
+
+    /// `check`: read the whole store, and say whether it is right.
+    Check,
 }

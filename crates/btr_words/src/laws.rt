@@ -1,7 +1,7 @@
 //! What the definitions entail. Each law is a function with an empty body, and its contract is the law.
 ghost use Rattle.std.specs.Prelude.{◌≡◌, List, [], ◌∷◌, ◌++◌, codes, Some, None, true, false};
 ghost use Rattle.std.specs.Option.{option_map, option_and_then};
-ghost use Rattle.btr_words.specs.declared.command.Command.TheVariants.{Ask, Checkpoint, Distil, Format, Live, Load};
+ghost use Rattle.btr_words.specs.declared.command.Command.TheVariants.{Ask, Check, Checkpoint, Distil, Format, Live, Load};
 ghost use Rattle.btr_words.specs.Words.{Text, command_of, number_of, sample_within};
 
 /// The words of each command, each option written as two words.
@@ -9,6 +9,7 @@ pub fn commands_are_these()
     ensures none { command_of [] ≡ None }
     ensures ask { command_of (codes "ask" ∷ []) ≡ Some Ask }
     ensures checkpoint { command_of (codes "checkpoint" ∷ []) ≡ Some Checkpoint }
+    ensures check { command_of (codes "check" ∷ []) ≡ Some Check }
     ensures live { command_of (codes "live" ∷ []) ≡ Some (Live 4096 false) }
     ensures batch { (b : Text) → command_of (codes "live" ∷ codes "--batch" ∷ b ∷ [])
         ≡ option_map (λ n. Live n false) (number_of 1 65536 b) }

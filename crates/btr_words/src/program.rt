@@ -15,7 +15,8 @@ pub(crate) fn program<'a>(alloc: Global) -> Result<Command<'a>, AllocError>
         .subcommand(distil_command(alloc)?)?
         .subcommand(live_command(alloc)?)?
         .subcommand(sample_command(alloc)?)?
-        .subcommand(Command::new(alloc, "checkpoint"))
+        .subcommand(Command::new(alloc, "checkpoint"))?
+        .subcommand(Command::new(alloc, "check"))
 }
 
 /// Returns the description of the first three commands. An `Err` means out of memory.

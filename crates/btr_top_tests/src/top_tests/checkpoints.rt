@@ -318,7 +318,7 @@ const SECOND: &[(usize, &[u8])] = &[
 ];
 
 /// Adds a checkpoint to two entries. Returns the device.
-fn marked(rt: &(impl AllocGlobal + Threads + Wait + Sync)) -> Result<MemDisk, Fail> {
+pub(super) fn marked(rt: &(impl AllocGlobal + Threads + Wait + Sync)) -> Result<MemDisk, Fail> {
     Ok(run_on(rt, "checkpoint", b"", written(rt)?)?.disk)
 }
 

@@ -28,3 +28,6 @@ returns-in-Ok-Some-Sample-clause-input g c = λ told. gives_none 268435457 (g.S.
 
 pub returns-in-Ok-Some-Checkpoint-clause-input : goal.returns-in-Ok-Some-Checkpoint-clause-input
 returns-in-Ok-Some-Checkpoint-clause-input g c = λ told. gives_none 268435457 (g.S.Source.left c.args.source.now)
+
+pub returns-in-Ok-Some-Check-clause-input : goal.returns-in-Ok-Some-Check-clause-input
+returns-in-Ok-Some-Check-clause-input g c = λ told. gives_none 268435457 (g.S.Source.left c.args.source.now)

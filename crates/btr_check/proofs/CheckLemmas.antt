@@ -1,0 +1,137 @@
+-- The verdict on a device, by what each part of a check found out.
+use Rattle.std.specs.Prelude.{◌≡◌, ◌↔◌, ℕ, ◌+◌, ◌*◌, ◌≤◌, map, Option, Some, None, Result, Ok, Err, IfOk, IfErr}
+use Rattle.std.proofs.Common.{sym, subst, inl, inr, arith}
+use Rattle.btr_disk.specs.declared.disk.Disk.{Ghosts}
+use Rattle.btr_disk.specs.Bytes.{Image}
+use Rattle.btr_disk.specs.Gate.{IsClosed}
+use Rattle.btr_disk.specs.Causes.{CausesFault}
+use Rattle.btr_disk.specs.Moments.{WroteNothing}
+use Rattle.btr_super.specs.declared.superblock.Super.{Super}
+use Rattle.btr_super.specs.declared.choosing.ChooseFault.{ChooseFault}
+use Rattle.btr_super.specs.declared.choosing.ChooseFault.TheVariants as choice
+use Rattle.btr_super.specs.Choose.{HasNoSuper, IsChosen, IsDamagedSuper}
+use Rattle.btr_open.specs.declared.judged.WholeLog.{WholeLog}
+use Rattle.btr_open.specs.declared.opening.OpenCause.{OpenCause}
+use Rattle.btr_open.specs.declared.opening.OpenCause.TheVariants as cause
+use Rattle.btr_open.specs.Reads.{OnlyReads, PartCause}
+use Rattle.btr_open.specs.Seen.{IsJudgedLog, IsDamagedLogBy, first_reading}
+use Rattle.btr_open.proofs.OnlyReading.{same-bytes}
+use Rattle.btr_verify.specs.declared.verifying.VerifyFault.{VerifyFault}
+use Rattle.btr_verify.specs.declared.verifying.VerifyFault.TheVariants as verify
+use Rattle.btr_verify.specs.Trees.{VerifyCause}
+use Rattle.btr_check.specs.declared.checker.Checker.{Checker}
+use Rattle.btr_check.specs.declared.verdict.Verdict.{Verdict}
+use Rattle.btr_check.specs.declared.verdict.Verdict.TheVariants.{Stands, Wrong, NotAStore, Fault, Want}
+use Rattle.btr_check.specs.Rule.{MayStand}
+use Rattle.btr_check.specs.Whole.{IsLegalLog, IsNamedStart}
+use Rattle.btr_check.specs.Verdict.{IsVerdict}
+use Rattle.btr_check.specs.Check.{VerdictHolds, IsUnlessEnded}
+use Rattle.btr_check.specs.Checkpoints.{mark_of}
+use Rattle.btr_check.specs.Checker.{HasSeen}
+use Rattle.btr_check.specs.Checking.{verdict_of_choice, verdict_of_cause, verdict_of_trees, VerdictBetween, WasChecked, AreTreesFound}
+use Rattle.btr_check.proofs.LegalStands.{legal-stands}
+use Rattle.btr_check.proofs.OneVerdict.{one-verdict}
+
+-- A log that a check has read whole is legal.
+abbrev legal-log : (image : Image) (s : Super) (c : Checker) (w : WholeLog) → IsJudgedLog MayStand HasSeen image (first_reading s) c w → IsLegalLog image s
+legal-log image s c w l = record {
+  log = l.log;
+  walk = l.walk;
+  seen = l.seen;
+  keeps = l.keeps;
+  closed = subst (IsClosed image) (sym l.at) l.closed;
+  inside = omega (arith, l.at, l.inside);
+}
+
+module _ {D : Type 0} (disk : Ghosts D) where
+  -- ---- a whole log
+
+  module _ (old new : D) (s : Super) (c : Checker) (w : WholeLog) (chosen : disk.is_observable → IsChosen (disk.size old) (disk.contents old) s) (read : WasChecked disk old s c w) where
+    abbrev IsNamed : Type 0
+    IsNamed = IsNamedStart s (map mark_of c.checkpoints.items)
+
+    -- The superblock names a start exactly if it names one of the checkpoints that were seen.
+    named-seen : (told : disk.is_observable) → IsNamed → IsNamedStart s (read told).seen.marks
+    named-seen told named = subst (IsNamedStart s) (read told).judged.marked named
+
+    seen-named : (told : disk.is_observable) → IsNamedStart s (read told).seen.marks → IsNamed
+    seen-named told named = subst (IsNamedStart s) (sym (read told).judged.marked) named
+
+    -- If it names none, the block of its body is wrong.
+    pub unnamed-wrong : (IsNamed → ⊥) → (block : ℕ) → block ≡ 2 * s.side + 1 → VerdictBetween disk old new (Wrong block)
+    unnamed-wrong unnamed block is told =
+        let image = disk.contents old in
+        inr (s, chosen told, inr (inl (record { whole = legal-log image s c w (read told); unnamed = λ named. unnamed (seen-named told named); of = is })))
+
+    -- Else the trees decide.
+    pub named-verdict : IsNamed → (trees : Result (Option ℕ) VerifyFault) → (disk.is_observable → (l : IsJudgedLog MayStand HasSeen (disk.contents old) (first_reading s) c w) → IfOk trees (AreTreesFound l.log.pages l.seen.entries l.seen.roots)) → IfErr trees (VerifyCause disk old new) → VerdictBetween disk old new (verdict_of_trees c.board.entries trees)
+    named-verdict named (Ok None) found ended = λ told.
+        let l = read told in
+        let image = disk.contents old in
+        (l.seen.entries, legal-stands (disk.size old) image s (chosen told) (legal-log image s c w l) (named-seen told named) (found told l), l.judged.of.entries)
+    named-verdict named (Ok (Some block)) found ended = λ told.
+        let l = read told in
+        let first = found told l in
+        inr (s, chosen told, inr (inr (record { whole = legal-log (disk.contents old) s c w l; named = named-seen told named; n = first.0; first = first.1 })))
+    named-verdict named (Err verify.Fault) found ended = ended
+    named-verdict named (Err verify.Want) found ended = tt
+
+  -- ---- a log that is not whole
+
+  pub cause-verdict : (old new : D) (s : Super) (why : OpenCause) → (disk.is_observable → IsChosen (disk.size old) (disk.contents old) s) → PartCause disk (IsDamagedLogBy MayStand (disk.contents old) (first_reading s)) old new why → VerdictBetween disk old new (verdict_of_cause why)
+  cause-verdict old new s cause.NotAStore chosen is = absurd is
+  cause-verdict old new s (cause.Damaged block) chosen is = λ told. inr (s, chosen told, inl (is told))
+  cause-verdict old new s cause.Fault chosen is = is
+  cause-verdict old new s cause.Want chosen is = tt
+
+  -- ---- no superblock
+
+  pub choice-verdict : (old new : D) (result : Result Super ChooseFault) (fault : ChooseFault) → result ≡ Err fault → CausesFault (disk.faults old) (disk.faults new) (result ≡ Err choice.Fault) → (disk.is_observable → (result ≡ Err choice.Fault → ⊥) → (result ≡ Err choice.NotAStore) ↔ HasNoSuper (disk.size old) (disk.contents old)) → (disk.is_observable → (result ≡ Err choice.Fault → ⊥) → (block : ℕ) → (result ≡ Err (choice.Damaged block)) ↔ IsDamagedSuper (disk.size old) (disk.contents old) block) → VerdictBetween disk old new (verdict_of_choice fault)
+  choice-verdict old new result choice.NotAStore is rose none damaged = λ told. (none told (λ e. absurd (cc))).0 is
+  choice-verdict old new result (choice.Damaged block) is rose none damaged = λ told. inl ((damaged told (λ e. absurd (cc)) block).0 is)
+  choice-verdict old new result choice.Fault is rose none damaged = rose.rose is
+
+  -- The choice of a superblock only reads.
+  pub choice-reads : (old new : D) (fault : Type 0) → disk.size new ≡ disk.size old → disk.calls old ≤ disk.calls new → CausesFault (disk.faults old) (disk.faults new) fault → (disk.is_observable → WroteNothing disk.calls disk.contents disk.images_now disk.images_since old new) → OnlyReads disk old new
+  choice-reads old new fault size calls rose nothing =
+      record { counts = record { same_size = size; more_calls = calls; more_faults = rose.later }; nothing = nothing }
+
+  -- A superblock that was chosen is chosen on the device.
+  pub choice-chosen : (old : D) (result : Result Super ChooseFault) (s : Super) → result ≡ Ok s → (disk.is_observable → (result ≡ Err choice.Fault → ⊥) → (other : Super) → (result ≡ Ok other) ↔ IsChosen (disk.size old) (disk.contents old) other) → disk.is_observable → IsChosen (disk.size old) (disk.contents old) s
+  choice-chosen old result s is chosen told = (chosen told (λ e. absurd (cc)) s).0 is
+
+  -- ---- over more calls
+
+  -- A verdict on a device after calls that only read it is one on the device before them.
+  pub verdict-along : (old mid new : D) → OnlyReads disk old mid → (v : Verdict) → VerdictBetween disk mid new v → VerdictBetween disk old new v
+  verdict-along old mid new reads v is = go v is
+    where
+      same : disk.is_observable → (w : Verdict) → IsVerdict (disk.size mid) (disk.contents mid) w → IsVerdict (disk.size old) (disk.contents old) w
+      same told w was = subst {A = ℕ × Image} (λ p. IsVerdict p.0 p.1 w) (λ i. (reads.counts.same_size i, sym (same-bytes old mid reads told) i)) was
+
+      go : (w : Verdict) → VerdictBetween disk mid new w → VerdictBetween disk old new w
+      go (Stands entries) was = λ told. same told (Stands entries) (was told)
+      go (Wrong block) was = λ told. same told (Wrong block) (was told)
+      go NotAStore was = λ told. same told NotAStore (was told)
+      go Fault was = let low = reads.counts.more_faults in omega (arith, was, low)
+      go Want was = tt
+
+  -- A superblock that was chosen is so after calls that only read.
+  pub chosen-along : (old mid : D) (s : Super) → OnlyReads disk old mid → (disk.is_observable → IsChosen (disk.size old) (disk.contents old) s) → disk.is_observable → IsChosen (disk.size mid) (disk.contents mid) s
+  chosen-along old mid s reads chosen told =
+      subst {A = ℕ × Image} (λ p. IsChosen p.0 p.1 s) (λ i. (sym reads.counts.same_size i, same-bytes old mid reads told i)) (chosen told)
+
+  -- So is a log that was read whole.
+  pub checked-along : (old mid : D) (s : Super) (c : Checker) (w : WholeLog) → OnlyReads disk old mid → WasChecked disk old s c w → WasChecked disk mid s c w
+  checked-along old mid s c w reads was told =
+      subst (λ image. IsJudgedLog MayStand HasSeen image (first_reading s) c w) (same-bytes old mid reads told) (was told)
+
+-- ---- the verdict
+
+-- The verdict that is right is the one that was returned, unless there is none.
+pub exactly : (size : ℕ) (image : Image) (known : Type 0) (before after : ℕ) (v w : Verdict) → known → VerdictHolds known size image before after w → IsVerdict size image v → IsUnlessEnded v w
+exactly size image known before after v (Stands entries) told holds is = one-verdict size image (Stands entries) v (holds told) is
+exactly size image known before after v (Wrong block) told holds is = one-verdict size image (Wrong block) v (holds told) is
+exactly size image known before after v NotAStore told holds is = one-verdict size image NotAStore v (holds told) is
+exactly size image known before after v Fault told holds is = tt
+exactly size image known before after v Want told holds is = tt
