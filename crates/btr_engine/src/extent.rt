@@ -15,8 +15,7 @@ use btr_disk::BLOCK;
 use btr_entry::encode;
 use btr_hist::Entry;
 use btr_log::{HEAD_BYTES, Head, blocks_of_content};
-use btr_node::{NodePage, PAGE, spell};
-use btr_pages::page_of;
+use btr_pages::append_page;
 use btr_roll::{Roll, encode_roll};
 use btr_tree::NewNode;
 use std::alloc::{AllocError, Global};
@@ -98,16 +97,7 @@ fn put_pages(extent: &mut Vec<u8>, stream: u32, nodes: &[NewNode]) -> Result<(),
     ensures { OnOk result (extent.new.items ≡ extent.old.items ++ flat_map page_bytes (pages_of stream nodes.now)) }
 {
     for node in nodes {
-        put_page(extent, &page_of(node, stream))?;
+        append_page(extent, node, stream)?;
     }
     Ok(())
-}
-
-/// Appends the bytes of a page. An `Err` is out of memory.
-fn put_page(extent: &mut Vec<u8>, page: &NodePage) -> Result<(), AllocError>
-    ensures { OnOk result (extent.new.items ≡ extent.old.items ++ page_bytes page.now) }
-{
-    let mut bytes = [0; PAGE];
-    spell(page, &mut bytes);
-    extent.extend_from_slice(&bytes)
 }

@@ -1,4 +1,5 @@
 mod Pieces
+mod Appended
 mod Spelled
 mod Places
 mod FitLemmas

@@ -1,5 +1,5 @@
 -- Pages of nodes: the 4096 bytes of each, and the table that a page keeps.
-use Rattle.std.specs.Prelude.{◌≡◌, ℕ, ◌^◌, ◌<◌, ◌≤◌, ℤ, pos, ◌+ℤ◌, ◌≤ℤ◌, ◌<ℤ◌}
+use Rattle.std.specs.Prelude.{◌≡◌, ℕ, ◌-◌, ◌^◌, ◌<◌, ◌≤◌, ℤ, pos, ◌+ℤ◌, ◌≤ℤ◌, ◌<ℤ◌}
 use Rattle.std.specs.Prelude.{List, ◌++◌, length, take, drop, replicate, codes, Option, Some, None}
 use Rattle.std.specs.Int.{Width, w32, w64, w128, to_be_bytes, cast_unsigned}
 use Rattle.std.specs.Int.RustNames.{FitsSigned}
@@ -69,6 +69,16 @@ page_bytes (Inner start height stream version count slots) =
     ++ front_bytes (front (Inner start height stream version count slots))
     ++ flat_map slot_bytes slots
     ++ zeros 448
+
+-- ---- places that are not used
+
+-- The place of no point.
+abbrev pub unused_place : Point
+unused_place = record { time = pos 0; value = pos 0 }
+
+-- The 252 places of a leaf with these points: the points, at most 252, and unused places behind them.
+abbrev pub places_with : List Point → List Point
+places_with points = points ++ replicate (252 - length points) unused_place
 
 -- ---- the table
 

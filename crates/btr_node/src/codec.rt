@@ -12,10 +12,10 @@ use crate::writing::{put_front, put_points, put_slots};
 use btr_base::{Agg, Point};
 
 /// The first eight bytes of a leaf's page.
-const LEAF_MARK: [u8; 8] = *b"BTR-LEAF";
+pub(crate) const LEAF_MARK: [u8; 8] = *b"BTR-LEAF";
 
 /// The first eight bytes of an inner node's page.
-const NODE_MARK: [u8; 8] = *b"BTR-NODE";
+pub(crate) const NODE_MARK: [u8; 8] = *b"BTR-NODE";
 
 /// The zeros behind the fields of both kinds.
 const GAP: [u8; 24] = [0; 24];

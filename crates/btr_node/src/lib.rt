@@ -30,9 +30,12 @@ mod leaf_table;
 mod span_table;
 // the two directions
 mod codec;
+// pages behind one another in a list of bytes
+mod appending;
 // what the definitions entail
 mod laws;
 
+pub use appending::{append_inner_end, append_inner_front, append_leaf, append_slot};
 pub use codec::{decode, encode, spell};
 pub use laws::no_two_pages_have_the_same_bytes;
-pub use page::{NodePage, PAGE, PLACES, PageSlot, SLOTS};
+pub use page::{Front, NodePage, PAGE, PLACES, PageSlot, SLOTS};

@@ -9,7 +9,8 @@ use crate::page::{Front, PAGE, PLACES, PageSlot, SLOTS};
 use btr_base::{Agg, Point};
 
 /// Writes the fields of both kinds, from the index 8 on, and the zeros behind them.
-pub(crate) fn put_front(to: &mut [u8; PAGE], front: &Front)
+pub(crate) fn put_front<const N: usize>(to: &mut [u8; N], front: &Front)
+    requires { 64 ≤ N }
     ensures { take 64 to.new ≡ take 8 to.old ++ front_bytes front.now }
 {
     put_u64(to, 8, front.start.cast_unsigned());
@@ -30,8 +31,8 @@ pub(crate) fn put_points(to: &mut [u8; PAGE], points: &[Point; PLACES])
 }
 
 /// Writes a point.
-fn put_point(to: &mut [u8; PAGE], at: usize, point: &Point)
-    requires { at + 16 ≤ 4096 }
+pub(crate) fn put_point<const N: usize>(to: &mut [u8; N], at: usize, point: &Point)
+    requires { at + 16 ≤ N }
     ensures { take (at + 16) to.new ≡ take at to.old ++ point_bytes point.now }
 {
     put_u64(to, at, point.time.cast_unsigned());
@@ -48,8 +49,8 @@ pub(crate) fn put_slots(to: &mut [u8; PAGE], slots: &[PageSlot; SLOTS])
 }
 
 /// Writes a slot.
-fn put_slot(to: &mut [u8; PAGE], at: usize, slot: &PageSlot)
-    requires { at + 56 ≤ 4096 }
+pub(crate) fn put_slot<const N: usize>(to: &mut [u8; N], at: usize, slot: &PageSlot)
+    requires { at + 56 ≤ N }
     ensures { take (at + 56) to.new ≡ take at to.old ++ slot_bytes slot.now }
 {
     let (least, greatest) = ends_of(&slot.agg);

@@ -1,12 +1,12 @@
 -- Lemmas on the page of a node: it says the node, and what a page that says a node has.
-use Rattle.std.specs.Prelude.{◌≡◌, ℕ, ◌+◌, ◌-◌, ◌^◌, ◌%◌, ◌<◌, ◌≤◌, ℤ, pos, ◌+ℤ◌, true, List, [], ◌∷◌, ◌++◌, length, take, drop, replicate, map, get_or, slice_get, slice_set, Some, None}
+use Rattle.std.specs.Prelude.{◌≡◌, ℕ, ◌+◌, ◌-◌, ◌^◌, ◌%◌, ◌<◌, ◌≤◌, ℤ, pos, ◌+ℤ◌, true, List, [], ◌∷◌, ◌++◌, length, take, drop, replicate, map, get_or, slice_get, Some, None}
 use Rattle.std.specs.Int.{w64}
 use Rattle.std.specs.Int.RustNames.{FitsSigned}
 use Rattle.std.specs.List.{AllByRecursion, sum_by}
 use Rattle.std.proofs.Common.{zero, suc, refl, sym, ap, ◌∙◌, arith, subst, length-append}
 use Rattle.std.proofs.Math.Seq.{take-append_seam, drop-append_seam}
 use Rattle.std.proofs.lemmas.Int.{ints}
-use Rattle.std.proofs.lemmas.List.{length-take, length-replicate, length-map, drop-take, take_more, take_more_set, take_all, length-set}
+use Rattle.std.proofs.lemmas.List.{length-take, length-replicate, length-map, drop-take}
 use Rattle.std.proofs.lemmas.List.Sums.{sum_by-cons}
 use Rattle.btr_base.specs.declared.point.Point.{Point}
 use Rattle.btr_base.specs.Agg.{agg, IsValue, EndsFit, IsSummary}
@@ -53,7 +53,7 @@ fill-behind P m xs d few h =
     let part : drop (length xs) (take m (xs ++ replicate m d)) ≡ take (m - length xs) (replicate m d) = ap (λ k. drop (length xs) (take k (xs ++ replicate m d))) e ∙ drop-take (length xs) (m - length xs) (xs ++ replicate m d) ∙ ap (take (m - length xs)) (drop-append_seam xs (replicate m d)) in
     subst (AllByRecursion P) (sym part) (each-take P (m - length xs) (replicate m d) (each-replicate P m d h))
 
-fill-length : {X : Type 0} (m : ℕ) (xs : List X) (d : X) → length (take m (xs ++ replicate m d)) ≡ m
+pub fill-length : {X : Type 0} (m : ℕ) (xs : List X) (d : X) → length (take m (xs ++ replicate m d)) ≡ m
 fill-length m xs d =
     omega (arith, length-take m (xs ++ replicate m d), length-append xs (replicate m d), length-replicate m d)
 
@@ -71,31 +71,10 @@ get_or-replicate zero i d = refl
 get_or-replicate (suc m) zero d = refl
 get_or-replicate (suc m) (suc i) d = get_or-replicate m i d
 
-get_or-fill : {X : Type 0} (m : ℕ) (xs : List X) (i : ℕ) (d : X) → get_or (xs ++ replicate m d) i d ≡ get_or xs i d
+pub get_or-fill : {X : Type 0} (m : ℕ) (xs : List X) (i : ℕ) (d : X) → get_or (xs ++ replicate m d) i d ≡ get_or xs i d
 get_or-fill m [] i d = get_or-replicate m i d
 get_or-fill m (x ∷ xs) zero d = refl
 get_or-fill m (x ∷ xs) (suc i) d = get_or-fill m xs i d
-
--- The first places are those of the list that is filled up.
-abbrev pub IsFilledTo : {X : Type 0} → ℕ → List X → X → ℕ → List X → Type 0
-IsFilledTo m xs d i places =
-    (take i places ≡ take i (xs ++ replicate m d)) × (length places ≡ m)
-
-pub fill-more : {X : Type 0} (m : ℕ) (xs : List X) (d : X) (i : ℕ) (places : List X) (x : X) → i < m → x ≡ get_or xs i d → IsFilledTo m xs d i places → IsFilledTo m xs d (i + 1) (slice_set places i x)
-fill-more m xs d i places x lt is so_far =
-    let len = so_far.1 in
-    let long : i < length (xs ++ replicate m d) = omega (arith, length-append xs (replicate m d), length-replicate m d) in (
-      take_more_set places i x (omega arith)
-          ∙ ap (λ l. l ++ x ∷ []) so_far.0
-          ∙ ap (λ y. take i (xs ++ replicate m d) ++ y ∷ []) (is ∙ sym (get_or-fill m xs i d))
-          ∙ sym (take_more (xs ++ replicate m d) i d long),
-      length-set places i x ∙ so_far.1,
-    )
-
-pub fill-all : {X : Type 0} (m : ℕ) (xs : List X) (d : X) (i : ℕ) (places : List X) → i ≡ m → IsFilledTo m xs d i places → places ≡ take m (xs ++ replicate m d)
-fill-all m xs d i places done filled =
-    let len = filled.1 in
-    sym (take_all i places (omega arith)) ∙ filled.0 ∙ ap (λ k. take k (xs ++ replicate m d)) done
 
 -- ---- the page of a leaf, and of an inner node
 

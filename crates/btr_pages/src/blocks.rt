@@ -34,7 +34,7 @@ impl Nodes {
     {
         for i in 0..bytes.len() / PAGE {
             let block = first + i as u64;
-            if !self.add_block(alloc, block, &block_at(bytes, PAGE * i), steps)? {
+            if !self.add_block(alloc, block, block_at(bytes, PAGE * i), steps)? {
                 return Ok(Some(block));
             }
         }
@@ -57,19 +57,20 @@ impl Nodes {
         ensures kept { result ≢ Ok true → self.new ≡ self.old }
         ensures above { (k : ℕ) → IsSome (node_at self.new k) → k < block + 1 }
     {
-        match decode(bytes) {
+        match &decode(bytes) {
             None => Ok(false),
-            Some(page) => self.add(alloc, block, &page, steps),
+            Some(page) => self.add(alloc, block, page, steps),
         }
     }
 }
 
-/// The block of bytes from the index `at` on.
-fn block_at(bytes: &[u8], at: usize) -> [u8; PAGE]
+/// The block of bytes from the index `at` on. It is not copied.
+fn block_at(bytes: &[u8], at: usize) -> &[u8; PAGE]
     requires { at + 4096 ≤ length bytes.now }
-    ensures { result ≡ take 4096 (drop at bytes.now) }
+    ensures { result.now ≡ take 4096 (drop at bytes.now) }
 {
-    let mut block = [0; PAGE];
-    block.copy_from_slice(&bytes[at..at + PAGE]);
-    block
+    match bytes[at..].first_chunk::<PAGE>() {
+        Some(block) => block,
+        None => unreachable!(),
+    }
 }

@@ -1,80 +1,76 @@
 //! The page of a node that a commit wrote.
-ghost use Rattle.std.specs.Prelude.{◌≡◌, ◌<◌, ◌%◌, ◌^◌, map, get_or};
-ghost use Rattle.std.specs.List.{sum_by};
-ghost use Rattle.btr_pages.specs.Pages.{page_of as page_of_node, page_by, places_of as filled, unused};
-ghost use Rattle.btr_pages.specs.Pages.{page_slots_of, page_slot, unused_slot};
+ghost use Rattle.std.specs.Prelude.{◌≡◌, ◌<◌, ◌%◌, ◌^◌, ◌++◌, take, map, get_or, OnOk};
+ghost use Rattle.std.specs.List.{flat_map, sum_by};
+ghost use Rattle.btr_node.specs.Page.{page_bytes, slot_bytes};
+ghost use Rattle.btr_node.specs.declared.page.NodePage.TheVariants.{Inner};
+ghost use Rattle.btr_pages.specs.Pages.{page_of, page_slots_of, page_slot, unused_slot};
 
-use btr_base::{Agg, Point, Span};
-use btr_node::{NodePage, PLACES, PageSlot, SLOTS};
+use btr_base::{Agg, Point};
+use btr_node::{
+    Front, PLACES, PageSlot, SLOTS, append_inner_end, append_inner_front, append_leaf, append_slot,
+};
 use btr_tree::{NewNode, NewSlots};
+use std::alloc::AllocError;
 
-/// The page of a node of a stream. It takes constant time and no memory.
-pub fn page_of(node: &NewNode, stream: u32) -> NodePage
-    ensures { result ≡ page_of_node stream node.now }
+/// Appends the page of a node of a stream to a list of bytes. It takes constant time, and memory for the 4096 bytes of the page. An
+/// `Err` is out of memory, and a part of the page may have been appended.
+pub fn append_page(to: &mut Vec<u8>, node: &NewNode, stream: u32) -> Result<(), AllocError>
+    ensures { OnOk result (to.new.items ≡ to.old.items ++ page_bytes (page_of stream node.now)) }
 {
     if node.slots.len() > 0 {
-        return inner_page(node.span, stream, node.version, slots_of(&node.slots));
+        let front = front_of(node, stream, total(&node.slots));
+        return append_inner(to, &front, &node.slots);
     }
+    let front = front_of(node, stream, node.points.len() as u64);
+    append_leaf(to, &front, first_points(&node.points))
+}
+
+/// The fields of the page of a node of a stream, with this count.
+fn front_of(node: &NewNode, stream: u32, count: u64) -> Front
+    ensures { result ≡ record {
+      start = node.now.span.start;
+      height = node.now.span.height;
+      stream = stream;
+      version = node.now.version;
+      count = count;
+    } }
+{
     let span = node.span;
-    NodePage::Leaf {
+    Front {
         start: span.start,
         height: u32::from(span.height),
         stream,
         version: node.version,
-        count: node.points.len() as u64,
-        points: places_of(&node.points),
+        count,
     }
 }
 
-/// The page of an inner node with these slots.
-fn inner_page(span: Span, stream: u32, version: u64, slots: [PageSlot; SLOTS]) -> NodePage
-    ensures { result ≡ page_by stream span version slots }
+/// The points for which a page has places.
+fn first_points(points: &[Point]) -> &[Point]
+    ensures { result.now ≡ take 252 points.now }
 {
-    NodePage::Inner {
-        start: span.start,
-        height: u32::from(span.height),
-        stream,
-        version,
-        count: total(&slots),
-        slots,
-    }
+    &points[..points.len().min(PLACES)]
 }
 
-/// The points in the first places, and no point in the others.
-fn places_of(points: &[Point]) -> [Point; PLACES]
-    ensures { result ≡ filled points.now }
+/// Appends the page of an inner node with these fields and slots. An `Err` is out of memory, and a part of the page may have been
+/// appended.
+fn append_inner(to: &mut Vec<u8>, front: &Front, slots: &NewSlots) -> Result<(), AllocError>
+    ensures { OnOk result (to.new.items ≡ to.old.items ++ page_bytes (Inner front.now.start front.now.height front.now.stream
+        front.now.version front.now.count (page_slots_of slots.now))) }
 {
-    let mut places = [Point { time: 0, value: 0 }; PLACES];
-    for i in 0..PLACES {
-        places[i] = point_at(points, i);
-    }
-    places
+    append_inner_front(to, front)?;
+    append_slots(to, slots)?;
+    append_inner_end(to)
 }
 
-/// The point of a number, or that of an unused place if there are not so many.
-fn point_at(points: &[Point], i: usize) -> Point
-    ensures { result ≡ get_or points.now i unused }
+/// Appends the slots of a node as those of a page. An `Err` is out of memory, and some of them may have been appended.
+fn append_slots(to: &mut Vec<u8>, slots: &NewSlots) -> Result<(), AllocError>
+    ensures { OnOk result (to.new.items ≡ to.old.items ++ flat_map slot_bytes (page_slots_of slots.now)) }
 {
-    match points.get(i) {
-        None => Point { time: 0, value: 0 },
-        Some(point) => *point,
-    }
-}
-
-/// The slots of a node as those of a page.
-fn slots_of(slots: &NewSlots) -> [PageSlot; SLOTS]
-    ensures { result ≡ page_slots_of slots.now }
-{
-    let none = PageSlot {
-        agg: Agg::none(),
-        version: 0,
-        child: 0,
-    };
-    let mut all = [none; SLOTS];
     for i in 0..SLOTS {
-        all[i] = slot_at(slots, i as u8);
+        append_slot(to, &slot_at(slots, i as u8))?;
     }
-    all
+    Ok(())
 }
 
 /// The slot of a number, or a slot without a point if there are not so many.
@@ -95,13 +91,13 @@ fn slot_at(slots: &NewSlots, i: u8) -> PageSlot
     }
 }
 
-/// The sum of the counts of all slots. It wraps at the end of its type.
-fn total(slots: &[PageSlot; SLOTS]) -> u64
-    ensures { result ≡ sum_by (λ s. s.agg.count) slots.now % 2 ^ 64 }
+/// The sum of the counts of all slots of a page. It wraps at the end of its type.
+fn total(slots: &NewSlots) -> u64
+    ensures { result ≡ sum_by (λ s. s.agg.count) (page_slots_of slots.now) % 2 ^ 64 }
 {
     let mut all: u64 = 0;
-    for slot in slots {
-        all = all.wrapping_add(count_of(&slot.agg));
+    for i in 0..SLOTS {
+        all = all.wrapping_add(count_of(&slot_at(slots, i as u8).agg));
     }
     all
 }

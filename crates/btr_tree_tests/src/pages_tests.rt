@@ -6,7 +6,7 @@ use super::fixture::{Counts, Pairs, Row, Runs, all_hold, applied, bag_of, bag_of
 use super::tree_tests::nodes_in;
 use btr_base::{END, FIRST, Point, Range, Ranges};
 use btr_node::{NodePage, PAGE, PLACES, PageSlot, decode, spell};
-use btr_pages::{Nodes, page_of};
+use btr_pages::{Nodes, append_page};
 use btr_scan::range;
 use btr_tree::{NewNode, Steps, Tree};
 use std::alloc::Global;
@@ -62,6 +62,32 @@ impl Reader {
 
 // ---- what commits wrote
 
+/// The page of a node of a stream, read from the bytes that are appended for it. If they are no page, it is one that keeps no table.
+fn page_of(alloc: Global, node: &NewNode, stream: u32) -> NodePage {
+    match appended_page(alloc, node, stream) {
+        Some(page) => page,
+        None => NodePage::Leaf {
+            start: 0,
+            height: 0,
+            stream: 0,
+            version: 0,
+            count: 0,
+            points: [Point { time: 0, value: 0 }; PLACES],
+        },
+    }
+}
+
+/// The page that is read from the bytes that are appended for a node of a stream, if they are one.
+fn appended_page(alloc: Global, node: &NewNode, stream: u32) -> Option<NodePage> {
+    let mut bytes = Vec::new(alloc);
+    if append_page(&mut bytes, node, stream).is_err() || bytes.len() != PAGE {
+        return None;
+    }
+    let mut block = [0; PAGE];
+    block.copy_from_slice(&bytes);
+    decode(&block)
+}
+
 /// A commit: the runs of points that it adds, the bounds of its cut, and the numbers of points after it and of nodes that it
 /// wrote, found by hand.
 struct Commit(Runs, Pairs, u64, usize);
@@ -114,7 +140,7 @@ fn are_read(
     stream: u32,
 ) -> Result<bool, Fail> {
     for node in nodes {
-        if !reader.read(alloc, &page_of(node, stream))? {
+        if !reader.read(alloc, &page_of(alloc, node, stream))? {
             return Ok(false);
         }
     }
@@ -267,7 +293,7 @@ impl Row for Wrong {
     fn holds(&self, alloc: Global) -> Result<bool, Fail> {
         let mut reader = Reader::new(alloc);
         for (number, node) in written(alloc, self.0)?.iter().enumerate() {
-            let page = page_of(node, STREAM);
+            let page = page_of(alloc, node, STREAM);
             let is_taken = self.is_taken(alloc, &mut reader, number, &page)?;
             if number == self.3 {
                 return Ok(!is_taken && (number != self.1 || reader.read(alloc, &page)?));
@@ -372,7 +398,7 @@ fn page_of_a_leaf(rt: HostRuntime) -> Result<(), Fail> {
     let none = Ranges::none(alloc);
     let applied = applied(alloc, &Tree::empty(), &none, &added, 9, 4)?;
     let nodes = &applied.nodes;
-    assert!(rt; nodes.len() == 1 && page_of(&nodes[0], STREAM) == leaf());
+    assert!(rt; nodes.len() == 1 && page_of(alloc, &nodes[0], STREAM) == leaf());
     Ok(())
 }
 
@@ -416,7 +442,8 @@ fn is_root(page: &NodePage) -> bool {
 
 #[test]
 fn page_of_an_inner_node(rt: HostRuntime) -> Result<(), Fail> {
-    let nodes = written(rt.alloc(), TWO)?;
-    assert!(rt; nodes.len() == 3 && is_root(&page_of(&nodes[2], STREAM)));
+    let alloc = rt.alloc();
+    let nodes = written(alloc, TWO)?;
+    assert!(rt; nodes.len() == 3 && is_root(&page_of(alloc, &nodes[2], STREAM)));
     Ok(())
 }

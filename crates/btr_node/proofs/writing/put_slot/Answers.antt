@@ -6,7 +6,7 @@ use Rattle.btr_node.proofs.writing.put_slot.Goals as goal
 
 pub returns : goal.returns
 unfolding slot_bytes
-returns c =
+returns g c =
     let s = c.args.slot.now in
     let at = c.args.at in
     let t1 = c.put_u64.new.to in

@@ -1,7 +1,8 @@
-use Rattle.std.proofs.Common.{◌≡◌, ◌+◌, ◌-◌, take, drop, ap, ◌∙◌, arith}
+use Rattle.std.proofs.Common.{◌≤◌, ◌-◌, length, drop, ◌∙◌, arith}
+use Rattle.std.proofs.lemmas.List.{take-take}
 use Rattle.btr_pages.proofs.blocks.block_at.Goals as goal
 
 pub returns : goal.returns
 returns c =
-    let size : c.args.at + 4096 - c.args.at ≡ 4096 = omega arith in
-    c.copy_from_slice.ensures.after ∙ ap (λ n. take n (drop c.args.at c.args.bytes.now)) size
+    let fits : 4096 ≤ length c.args.bytes.now - c.args.at = omega (arith, c.requires) in
+    c.in-Some.ensures.cases.same ∙ take-take 4096 (length c.args.bytes.now - c.args.at) (drop c.args.at c.args.bytes.now) fits
