@@ -4,3 +4,4 @@ pub mod Log
 pub mod Append
 pub mod Found
 pub mod Piece
+pub mod Ahead

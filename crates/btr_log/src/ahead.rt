@@ -1,17 +1,20 @@
 //! Reading extents in order: one call of the device for about each mebibyte of the log.
-ghost use Rattle.std.specs.Prelude.{◌≡◌, ◌+◌, ◌<◌, ◌≤◌, IfErr, IfOk};
+ghost use Rattle.std.specs.Prelude.{◌≡◌, ◌+◌, ◌-◌, ◌<◌, ◌≤◌, ◌^◌, min, IfErr, IfOk, OnOk};
+ghost use Rattle.btr_disk.specs.Causes.{KeepsCounts};
+ghost use Rattle.btr_disk.specs.Moments.{WroteNothing};
 ghost use Rattle.btr_log.specs.Log.{log_device, log_blocks, KeepsLog, KeepsDevice, LogWroteNothing};
-ghost use Rattle.btr_log.specs.Found.{IsWhole, MatchesDevice, ExtentCause};
-ghost use Rattle.btr_log.specs.Piece.{IsPieceOf};
+ghost use Rattle.btr_log.specs.Found.{FindCause, ExtentCause, StartSays};
+ghost use Rattle.btr_log.specs.Piece.{IsPieceOf, HoldsBlocks, bytes_at};
+ghost use Rattle.btr_log.specs.Ahead.{HoldsWhole, MatchesPiece};
 
 use crate::read::{start_blocks, start_of};
-use crate::{ExtentFault, Found, Log, Piece};
-use btr_disk::{BLOCK, Disk};
-use std::alloc::Global;
+use crate::{ExtentFault, Head, Log, Piece};
+use btr_disk::Disk;
 
 impl<D: Disk> Log<D> {
-    /// Reads what is at this gate, which is below the log's blocks. What it returns, and when, is the same as
-    /// for [`Log::read_extent`], but blocks that the piece holds are taken from there.
+    /// Makes the piece hold the extent at this gate, which is below the log's blocks, and returns its head, or `None` if the gate is closed.
+    /// The body is not copied: it is the `head.n` blocks of the piece from `gate + 1` on, and the block after them is the next gate. What is
+    /// found, and when, is the same as for [`Log::read_extent`], but blocks that the piece holds are taken from there.
     ///
     /// The caller passes an empty piece, or the one that an earlier call on this log left, if nothing was
     /// written to its blocks since. A read takes at least 256 blocks, or as many as the log still has, and
@@ -19,17 +22,13 @@ impl<D: Disk> Log<D> {
     /// mebibyte, and one more for each larger extent.
     ///
     /// It makes at most two calls of the device: one if the gate and the block after it are not in the piece,
-    /// and one if the body is not. The body is copied once. The piece takes at most 1 MiB of memory, or the
-    /// bytes of the largest extent, and uses its memory again.
+    /// and one if the body is not. The piece takes at most 1 MiB of memory, or the bytes of the largest extent,
+    /// and uses its memory again.
     ///
-    /// `Damaged` is returned only if the gate is open and the named block breaks the format. `Fault` is
-    /// returned only if a call of the device failed. After an `Err` the piece still is one of this device.
-    pub fn read_ahead(
-        &mut self,
-        alloc: Global,
-        gate: u64,
-        piece: &mut Piece,
-    ) -> Result<Found, ExtentFault>
+    /// `Damaged` is returned only if the gate is open and the named block breaks the format, or if the device
+    /// does not return the same bytes in both calls. `Fault` is returned only if a call of the device failed.
+    /// After an `Err` the piece still is one of this device.
+    pub fn read_ahead(&mut self, gate: u64, piece: &mut Piece) -> Result<Option<Head>, ExtentFault>
         requires gate { gate < log_blocks self.old }
         requires piece { D.is_observable → IsPieceOf (D.contents (log_device self.old)) piece.old }
         ensures kept { KeepsLog self.old self.new }
@@ -37,25 +36,48 @@ impl<D: Disk> Log<D> {
         ensures calls { D.calls (log_device self.new) ≤ D.calls (log_device self.old) + 2 }
         ensures unwritten { D.is_observable → LogWroteNothing self.old self.new }
         ensures piece { D.is_observable → IsPieceOf (D.contents (log_device self.new)) piece.new }
-        ensures whole { IfOk result (IsWhole (log_blocks self.old) gate) }
-        ensures matches { D.is_observable → IfOk result (MatchesDevice (D.contents (log_device self.old)) gate) }
+        ensures whole { IfOk result (HoldsWhole (log_blocks self.old) gate piece.new) }
+        ensures matches { D.is_observable → IfOk result (MatchesPiece (D.contents (log_device self.old)) gate piece.new) }
         ensures cause { IfErr result (ExtentCause self.old self.new gate) }
     {
         let blocks = self.blocks;
         let count = start_blocks(blocks, gate);
-        piece.hold(&mut self.disk, blocks, gate, count)?;
-        let prefix = piece.blocks(gate, count);
-        let Some(head) = start_of(prefix, blocks, gate)? else {
-            return Ok(Found::Closed);
+        let Some(head) = hold_start(&mut self.disk, blocks, gate, count, piece)? else {
+            return Ok(None);
         };
-        let mut body = Vec::with_capacity(alloc, BLOCK * head.n as usize)?;
-        body.extend_from_slice(&prefix[BLOCK..])?;
-        piece.hold(&mut self.disk, blocks, gate, head.n + 1)?;
-        body.extend_from_slice(piece.blocks(gate + 2, head.n - 1))?;
-        Ok(Found::Extent {
-            head,
-            body,
-            next: gate + head.n + 1,
-        })
+        if piece.holds(gate, head.n + 1) {
+            return Ok(Some(head));
+        }
+        match hold_start(&mut self.disk, blocks, gate, head.n + 1, piece)? {
+            Some(again) if again.n == head.n => Ok(Some(again)),
+            _ => Err(ExtentFault::Damaged { block: gate + 1 }),
+        }
     }
+}
+
+/// Makes the piece hold the `count` blocks from the gate on, of a log of so many blocks on the device, and returns what the gate and the
+/// block after it say, as [`start_of`] does. It makes at most one call of the device.
+fn hold_start<D: Disk>(
+    disk: &mut D,
+    blocks: u64,
+    gate: u64,
+    count: u64,
+    piece: &mut Piece,
+) -> Result<Option<Head>, ExtentFault>
+    requires gate { gate < blocks }
+    requires start { min 2 (blocks - gate) ≤ count }
+    requires inside { gate + count ≤ blocks }
+    requires blocks { blocks ≤ D.size disk.old }
+    requires addressable { blocks ≤ 2 ^ 32 }
+    requires piece { D.is_observable → IsPieceOf (D.contents disk.old) piece.old }
+    ensures counts { KeepsCounts D.size D.calls D.faults disk.old disk.new }
+    ensures call { D.calls disk.new ≤ D.calls disk.old + 1 }
+    ensures unwritten { D.is_observable → WroteNothing D.calls D.contents D.images_now D.images_since disk.old disk.new }
+    ensures piece { D.is_observable → IsPieceOf (D.contents disk.new) piece.new }
+    ensures held { OnOk result (HoldsBlocks piece.new gate count) }
+    ensures start { IfOk result (StartSays blocks gate (bytes_at piece.new gate (min 2 (blocks - gate)))) }
+    ensures cause { IfErr result (FindCause D.is_observable (D.contents disk.old) blocks gate (D.faults disk.old) (D.faults disk.new)) }
+{
+    piece.hold(disk, blocks, gate, count)?;
+    start_of(piece.blocks(gate, start_blocks(blocks, gate)), blocks, gate)
 }

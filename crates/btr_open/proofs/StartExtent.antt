@@ -1,14 +1,14 @@
 -- Lemmas on the extent of the checkpoint that a superblock names, and why there is none.
-use Rattle.std.specs.Prelude.{◌≡◌, ◌⊎◌, ℕ, ◌+◌, ◌*◌, ◌<◌, List}
+use Rattle.std.specs.Prelude.{◌≡◌, ◌⊎◌, ℕ, ◌+◌, ◌*◌, ◌<◌, List, Option, None}
 use Rattle.std.proofs.Common.{refl, sym, ◌∙◌, subst, arith, inl, inr}
 use Rattle.btr_disk.specs.declared.disk.Disk.{Ghosts}
 use Rattle.btr_disk.specs.Bytes.{Image, Has}
 use Rattle.btr_disk.specs.Gate.{IsOpen, IsClosed}
 use Rattle.btr_log.specs.declared.head.Head.{Head}
-use Rattle.btr_log.specs.declared.found.Found.{Found}
-use Rattle.btr_log.specs.declared.found.Found.TheVariants.{Closed}
 use Rattle.btr_log.specs.Extents.{need, IsExtent}
-use Rattle.btr_log.specs.Found.{IsWholeExtent, MatchesDevice}
+use Rattle.btr_log.specs.Found.{IsWholeExtent}
+use Rattle.btr_log.specs.Piece.{PieceValue}
+use Rattle.btr_log.specs.Ahead.{MatchesPiece}
 use Rattle.btr_log.proofs.ExtentLemmas.{IsBody-blocks}
 use Rattle.btr_super.specs.declared.superblock.Super.{Super}
 use Rattle.btr_roll.specs.Roll.{RollStreamValue}
@@ -22,8 +22,8 @@ use Rattle.btr_open.proofs.OpenCauses.{found-extent}
 use Rattle.btr_open.proofs.OnlyReading.{same-bytes}
 
 -- What is found is no extent, so the gate is closed.
-pub closed-gate : (image : Image) (gate : ℕ) (f : Found) → f ≡ Closed → MatchesDevice image gate f → IsClosed image gate
-closed-gate image gate f is matches = subst (MatchesDevice image gate) is matches
+pub closed-gate : (image : Image) (gate : ℕ) (p : PieceValue) (o : Option Head) → o ≡ None → MatchesPiece image gate p o → IsClosed image gate
+closed-gate image gate p o is matches = subst (MatchesPiece image gate p) is matches
 
 module _ (image : Image) (found : Super) (blocks : ℕ) (head : Head) (body : List ℕ) (next : ℕ) (whole : IsWholeExtent blocks found.checkpoint head body next) (matches : IsOpen image found.checkpoint × Has image (4096 * (found.checkpoint + 1)) body) where
   its-extent : IsExtent image found.checkpoint body head

@@ -7,6 +7,7 @@ use Rattle.btr_disk.specs.Gate.{IsClosed}
 use Rattle.btr_log.specs.declared.log.Log.{Log}
 use Rattle.btr_log.specs.Log.{log_device, log_tail, log_blocks, is_log_stopped, IsLogMadeOf}
 use Rattle.btr_log.specs.Extents.{Extents}
+use Rattle.btr_log.specs.Piece.{PieceValue, IsPieceOf}
 use Rattle.btr_super.specs.declared.superblock.Super.{Super}
 use Rattle.btr_hist.specs.declared.entry.Entry.{Entry}
 use Rattle.btr_engine.specs.Body.{Prefix, prefix_to, LeadTo}
@@ -47,15 +48,16 @@ module _ {D : Type 0} {disk : Ghosts D} {J : Type 0} (by : Judging J) where
   -- ---- what was read so far
 
   -- The log of a superblock was read into the loader up to this place, by calls that only read. `old` is the log before them.
-  pub record IsReadSoFar (found : Super) (old new : Log D disk) (reader : BlockReader) (l : Loader) (judge : J) (place : Place) : Type 0 where
+  pub record IsReadSoFar (found : Super) (old new : Log D disk) (piece : PieceValue) (reader : BlockReader) (l : Loader) (judge : J) (place : Place) : Type 0 where
     pub reads : ReadsLog old new
     pub limit : reader.limit ≡ found.checkpoint
+    pub piece_of : disk.is_observable → IsPieceOf (disk.contents (log_device new)) piece
     pub holds : disk.is_observable → IsReaderOf (disk.contents (log_device new)) reader
     pub at : IsPlaceIn found l.board.entries place
     pub into : WasReadTo place.gate l
     pub read : WasJudged disk by (log_device old) found place.gate l judge
 
-  module _ (found : Super) (old mid : Log D disk) (reader : BlockReader) (l : Loader) (judge : J) (place : Place) (so_far : IsReadSoFar found old mid reader l judge place) where
+  module _ (found : Super) (old mid : Log D disk) (piece : PieceValue) (reader : BlockReader) (l : Loader) (judge : J) (place : Place) (so_far : IsReadSoFar found old mid piece reader l judge place) where
     size-so-far : disk.size (log_device mid) ≡ disk.size (log_device old)
     size-so-far = so_far.reads.reads.counts.same_size
 
@@ -82,10 +84,11 @@ module _ {D : Type 0} {disk : Ghosts D} {J : Type 0} (by : Judging J) where
         (λ told block damage. subst (λ i. IsDamagedStoreBy by.may i found block) (same-so-far told) damage) cause is
 
     -- One extent more was read.
-    pub read-more : (new : Log D disk) (reads : ReadsLog mid new) (after : BlockReader) (more : Loader) (judge_after : J) (next : ℕ) (behind : Place) → after.limit ≡ reader.limit → (disk.is_observable → IsReaderOf (disk.contents (log_device new)) after) → WasReadTo next more → IsNextPlace found.blocks place.gate l more next → WasJudged disk by (log_device mid) found next more judge_after → IsPlaceAfter place next behind → IsReadSoFar found old new after more judge_after behind
-    read-more new reads after more judge_after next behind limit holds into at read goes = record {
+    pub read-more : (new : Log D disk) (reads : ReadsLog mid new) (ahead : PieceValue) (after : BlockReader) (more : Loader) (judge_after : J) (next : ℕ) (behind : Place) → after.limit ≡ reader.limit → (disk.is_observable → IsPieceOf (disk.contents (log_device new)) ahead) → (disk.is_observable → IsReaderOf (disk.contents (log_device new)) after) → WasReadTo next more → IsNextPlace found.blocks place.gate l more next → WasJudged disk by (log_device mid) found next more judge_after → IsPlaceAfter place next behind → IsReadSoFar found old new ahead after more judge_after behind
+    read-more new reads ahead after more judge_after next behind limit piece_of holds into at read goes = record {
       reads = ReadsLog-trans old mid new so_far.reads reads;
       limit = limit ∙ so_far.limit;
+      piece_of = piece_of;
       holds = holds;
       at = record {
         inside = omega (arith, goes.gate, at.inside);

@@ -39,7 +39,6 @@ use Rattle.btr_open.specs.Reads.{OnlyReads}
 
 -- The blocks that the reader holds are those of the device.
 pub record IsReaderOf (image : Image) (reader : BlockReader) : Type 0 where
-  pub extents : IsPieceOf image reader.piece
   pub ahead : IsPieceOf image reader.ahead
   pub one : IsPieceOf image reader.one
 

@@ -40,12 +40,9 @@ pub(crate) enum Fetched {
     Broken { block: u64 },
 }
 
-/// What is held of a device while its log is read, so that no block is read twice in a row.
+/// What is held of the blocks below the checkpoint from which a log is read, so that no block is read twice in a row.
 #[derive(Drop)]
 pub(crate) struct BlockReader {
-    /// The run of blocks of the extent that was read last, and of those after it.
-    pub(crate) piece: Piece,
-
     /// The block below which single blocks are read: that of the checkpoint from which the log is read, or 0.
     pub(crate) limit: u64,
 
@@ -67,7 +64,6 @@ impl BlockReader {
         ensures nothing { (image : Image) → IsReaderOf image result }
     {
         BlockReader {
-            piece: Piece::new(alloc),
             limit,
             ahead: Piece::new(alloc),
             next: 0,

@@ -4,6 +4,7 @@ ghost use Rattle.btr_disk.specs.Causes.{KeepsCounts};
 ghost use Rattle.btr_disk.specs.Gate.{IsClosed};
 ghost use Rattle.btr_log.specs.Log.{log_device as disk_of, log_blocks};
 ghost use Rattle.btr_log.specs.Extents.{IsBody, need};
+ghost use Rattle.btr_log.specs.Piece.{IsPieceOf};
 ghost use Rattle.btr_pages.specs.Pages.{Pages};
 ghost use Rattle.btr_pages.specs.Known.{AreKnown};
 ghost use Rattle.btr_super.specs.Super.{IsSuper};
@@ -27,7 +28,7 @@ use crate::place::Place;
 use crate::start::read_start;
 use btr_disk::{Disk, Failed};
 use btr_engine::Engine;
-use btr_log::{ExtentFault, Found, Head, Log};
+use btr_log::{ExtentFault, Head, Log, Piece};
 use btr_super::{ChooseFault, Super, choose};
 use std::alloc::{AllocError, Global};
 use std::snapshot::Snapshot;
@@ -194,8 +195,18 @@ pub(crate) fn read_log<D: Disk, J: Judge>(
     ensures cause { IfErr result (LogCause ⟦<D as Disk>⟧ ⟦<J as Judge>⟧ found (disk_of log.old) (disk_of log.new)) }
 {
     let mut reader = BlockReader::new(alloc, found.checkpoint);
-    let mut place = read_start(alloc, log, &mut reader, loader, found)?;
-    while let Some(next) = read_next(alloc, log, &mut reader, loader, judge, found, place.gate)? {
+    let mut piece = Piece::new(alloc);
+    let mut place = read_start(alloc, log, &mut reader, &mut piece, loader, found)?;
+    while let Some(next) = read_next(
+        alloc,
+        log,
+        &mut reader,
+        &mut piece,
+        loader,
+        judge,
+        found,
+        place.gate,
+    )? {
         place = place.after(next);
     }
     Ok(place)
@@ -207,6 +218,7 @@ fn read_next<D: Disk, J: Judge>(
     alloc: Global,
     log: &mut Log<D>,
     reader: &mut BlockReader,
+    piece: &mut Piece,
     loader: &mut Loader,
     judge: &mut J,
     found: Super,
@@ -218,10 +230,12 @@ fn read_next<D: Disk, J: Judge>(
     requires after_start { found.tail ≤ gate }
     requires few { 2 * loader.old.board.entries + 4 ≤ gate }
     requires limit { reader.old.limit ≡ found.checkpoint }
+    requires piece { D.is_observable → IsPieceOf (D.contents (disk_of log.old)) piece.old }
     requires holds { D.is_observable → IsReaderOf (D.contents (disk_of log.old)) reader.old }
     requires into { WasReadTo gate loader.old }
     requires read { WasJudged ⟦<D as Disk>⟧ ⟦<J as Judge>⟧ (disk_of log.old) found gate loader.old judge.old }
     ensures reads { ReadsLog log.old log.new }
+    ensures piece { D.is_observable → IsPieceOf (D.contents (disk_of log.new)) piece.new }
     ensures holds { D.is_observable → IsReaderOf (D.contents (disk_of log.new)) reader.new }
     ensures limit { reader.new.limit ≡ reader.old.limit }
     ensures closed { D.is_observable → IfOk result (λ o. IfNone o (IsClosed (D.contents (disk_of log.old)) gate)) }
@@ -233,13 +247,14 @@ fn read_next<D: Disk, J: Judge>(
         (λ next. WasJudged ⟦<D as Disk>⟧ ⟦<J as Judge>⟧ (disk_of log.old) found next loader.new judge.new)) }
     ensures cause { IfErr result (LogCause ⟦<D as Disk>⟧ ⟦<J as Judge>⟧ found (disk_of log.old) (disk_of log.new)) }
 {
-    let found_there = match log.read_ahead(alloc, gate, &mut reader.piece) {
+    let found_there = match log.read_ahead(gate, piece) {
         Ok(found_there) => found_there,
         Err(fault) => return Err(cause_of(fault)),
     };
-    let Found::Extent { head, body, next } = found_there else {
+    let Some(head) = found_there else {
         return Ok(None);
     };
+    let next = gate + head.n + 1;
     let damaged = read_body(
         alloc,
         &mut log.disk,
@@ -247,7 +262,7 @@ fn read_next<D: Disk, J: Judge>(
         loader,
         judge,
         &head,
-        &body,
+        piece.blocks(gate + 1, head.n),
         gate,
         next,
     )?;

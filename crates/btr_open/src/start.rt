@@ -20,7 +20,7 @@ use crate::roll_roots::{fetch_roots, roots_below};
 use crate::roll_trees::trees_of;
 use btr_disk::Disk;
 use btr_engine::Board;
-use btr_log::{Found, Log, Piece};
+use btr_log::{Log, Piece};
 use btr_roll::Roll;
 use btr_super::{LOG_START, Super};
 use std::alloc::Global;
@@ -41,6 +41,7 @@ pub(crate) fn read_start<D: Disk>(
     alloc: Global,
     log: &mut Log<D>,
     reader: &mut BlockReader,
+    piece: &mut Piece,
     loader: &mut Loader,
     found: Super,
 ) -> Result<Place, OpenCause>
@@ -49,8 +50,10 @@ pub(crate) fn read_start<D: Disk>(
     requires board { IsBoardOf [] loader.old.board }
     requires nodes { loader.old.nodes ≡ [] }
     requires limit { reader.old.limit ≡ found.checkpoint }
+    requires piece { D.is_observable → IsPieceOf (D.contents (disk_of log.old)) piece.old }
     requires holds { D.is_observable → IsReaderOf (D.contents (disk_of log.old)) reader.old }
     ensures reads { ReadsLog log.old log.new }
+    ensures piece { D.is_observable → IsPieceOf (D.contents (disk_of log.new)) piece.new }
     ensures holds { D.is_observable → IsReaderOf (D.contents (disk_of log.new)) reader.new }
     ensures limit { reader.new.limit ≡ reader.old.limit }
     ensures place { IfOk result (IsPlaceIn found loader.new.board.entries) }
@@ -64,7 +67,7 @@ pub(crate) fn read_start<D: Disk>(
             extents: 0,
         });
     }
-    let checkpoint = read_checkpoint(alloc, log, &mut reader.piece, found)?;
+    let checkpoint = read_checkpoint(alloc, log, piece, found)?;
     let entries = checkpoint.entries;
     load(
         alloc,
@@ -97,17 +100,19 @@ fn read_checkpoint<D: Disk>(
     ensures read { IfOk result (λ c. IsRollRead D.is_observable (D.contents (disk_of log.old)) found c.entries c.roll) }
     ensures cause { IfErr result (FirstCause ⟦<D as Disk>⟧ found (disk_of log.old) (disk_of log.new)) }
 {
-    let found_there = match log.read_ahead(alloc, found.checkpoint, piece) {
+    let found_there = match log.read_ahead(found.checkpoint, piece) {
         Ok(found_there) => found_there,
         Err(fault) => return Err(cause_of(fault)),
     };
-    let Found::Extent { head, body, next } = found_there else {
+    let Some(head) = found_there else {
         return Err(no_checkpoint(found));
     };
+    let next = found.checkpoint + head.n + 1;
     if head.kind != 2 || next != found.tail {
         return Err(no_checkpoint(found));
     }
-    match decode_checkpoint(alloc, &head, &body, found.checkpoint)? {
+    let body = piece.blocks(found.checkpoint + 1, head.n);
+    match decode_checkpoint(alloc, &head, body, found.checkpoint)? {
         Some(roll) => Ok(Checkpoint {
             entries: head.number,
             roll,

@@ -1,12 +1,18 @@
 use Rattle.std.specs.Prelude.{ℕ, ◌+◌, ◌*◌, IfNone, List}
-use Rattle.std.proofs.Common.{refl, subst, inl, inr}
+use Rattle.std.proofs.Common.{refl, sym, subst, inl, inr}
+use Rattle.btr_disk.specs.Bytes.{Has}
+use Rattle.btr_disk.specs.Gate.{IsOpen}
 use Rattle.btr_log.specs.Log.{log_device as disk_of, log_blocks}
-use Rattle.btr_log.specs.Found.{IsDamagedExtent, IsWhole, MatchesDevice}
+use Rattle.btr_log.specs.Piece.{bytes_at}
+use Rattle.btr_log.specs.Extents.{IsBody}
+use Rattle.btr_log.specs.Found.{IsDamagedExtent}
+use Rattle.btr_log.specs.Ahead.{HoldsExtent, HoldsWhole, MatchesPiece}
 use Rattle.btr_roll.specs.Roll.{RollStreamValue}
 use Rattle.btr_open.specs.Start.{HasRoll, IsWrongStart}
 use Rattle.btr_open.proofs.OpenCauses.{cause-found}
 use Rattle.btr_open.proofs.StartExtent.{closed-gate, named-extent, other-extent, no-checkpoint-cause, no-roll-damage}
-use Rattle.btr_open.proofs.start.read_checkpoint.Goals.{then-head-ne2-via-then-head-ne2, then-head-ne2-via-else-head-ne2+then-next-found}
+use Rattle.btr_open.proofs.start.read_checkpoint.Given.{Over}
+use Rattle.btr_open.proofs.start.read_checkpoint.Goals.{In-Some, then-head-ne2-via-then-head-ne2, then-head-ne2-via-else-head-ne2+then-next-found}
 use Rattle.btr_open.proofs.start.read_checkpoint.Goals as goal
 
 pub returns-in-Err-clause-cause : goal.returns-in-Err-clause-cause
@@ -24,31 +30,50 @@ returns-in_default-clause-cause g c =
     let disk = g.D.Disk in
     let d0 = disk_of c.args.log.now in
     no-checkpoint-cause disk c.args.found d0 (disk_of c.read_ahead.new.self) c.requires.some c.no_checkpoint.result c.no_checkpoint.ensures (λ told. record {
-      why = inl (closed-gate (disk.contents d0) c.args.found.checkpoint c.in-Ok.found_there c.in_default.is (c.in-Ok.ensures.matches told));
+      why = inl (closed-gate (disk.contents d0) c.args.found.checkpoint c.read_ahead.new.piece c.in-Ok.found_there c.in_default.is (c.in-Ok.ensures.matches told));
       of = refl;
     })
+
+-- The body in the piece.
+abbrev body : (g : Over) (c : In-Some g) → List ℕ
+body g c = bytes_at c.read_ahead.new.piece (c.args.found.checkpoint + 1) c.in-Some.head.n
+
+held : (g : Over) (c : In-Some g) → HoldsExtent (log_blocks c.args.log.now) c.args.found.checkpoint c.read_ahead.new.piece c.in-Some.head
+held g c = subst (HoldsWhole (log_blocks c.args.log.now) c.args.found.checkpoint c.read_ahead.new.piece) c.in-Some.is c.in-Ok.ensures.whole
+
+matches : (g : Over) (c : In-Some g) → g.D.Disk.is_observable → IsOpen (g.D.Disk.contents (disk_of c.args.log.now)) c.args.found.checkpoint × Has (g.D.Disk.contents (disk_of c.args.log.now)) (4096 * (c.args.found.checkpoint + 1)) (body g c)
+matches g c told =
+    subst (MatchesPiece (g.D.Disk.contents (disk_of c.args.log.now)) c.args.found.checkpoint c.read_ahead.new.piece) c.in-Some.is (c.in-Ok.ensures.matches told)
 
 pub returns-then-head-ne2-clause-cause : goal.returns-then-head-ne2-clause-cause
 returns-then-head-ne2-clause-cause g c =
     let disk = g.D.Disk in
+    let at = (goal.at.returns-then-head-ne2-clause-cause g c).In-Some in
     let d0 = disk_of c.args.log.now in
     let found = c.args.found in
-    let whole = subst (IsWhole (log_blocks c.args.log.now) found.checkpoint) c.in-Extent.is c.in-Ok.ensures.whole in
+    let head = c.in-Some.head in
     no-checkpoint-cause disk found d0 (disk_of c.read_ahead.new.self) c.requires.some c.no_checkpoint-then-head-ne2.result c.no_checkpoint-then-head-ne2.ensures (λ told.
-    other-extent (disk.contents d0) found (log_blocks c.args.log.now) c.in-Extent.head c.in-Extent.body.items c.in-Extent.next whole (subst (MatchesDevice (disk.contents d0) found.checkpoint) c.in-Extent.is (c.in-Ok.ensures.matches told)) (2 * found.side + 1)
+    other-extent (disk.contents d0) found (log_blocks c.args.log.now) head (body g at) (found.checkpoint + head.n + 1) (held g at).whole (matches g at told) (2 * found.side + 1)
     (elim c.then-head-ne2.branch [
       | then-head-ne2-via-then-head-ne2 w ↦ inl w.if-head-ne2.true
       | then-head-ne2-via-else-head-ne2+then-next-found w ↦ inr w.if-next-found.true
     ]) refl)
 
-pub returns-clause-cause : goal.returns-clause-cause
-returns-clause-cause g c told =
+pub blocks-body-requires : goal.blocks-body-requires
+blocks-body-requires g c = (held g (goal.at.blocks-body-requires g c).In-Some).held
+
+pub decode_checkpoint-requires-clause-body : goal.decode_checkpoint-requires-clause-body
+decode_checkpoint-requires-clause-body g c =
+    let at = (goal.at.decode_checkpoint-requires-clause-body g c).In-Some in
+    subst (λ (b : List ℕ). IsBody b c.in-Some.head) (sym c.blocks-body.ensures) (held g at).whole.is_body
+
+pub returns-in-None-clause-cause : goal.returns-in-None-clause-cause
+returns-in-None-clause-cause g c told =
     let disk = g.D.Disk in
+    let at = (goal.at.returns-in-None-clause-cause g c).In-Some in
     let d0 = disk_of c.args.log.now in
     let found = c.args.found in
-    let body = c.in-Extent.body.items in
-    let whole = subst (IsWhole (log_blocks c.args.log.now) found.checkpoint) c.in-Extent.is c.in-Ok.ensures.whole in
-    let matches = subst (MatchesDevice (disk.contents d0) found.checkpoint) c.in-Extent.is (c.in-Ok.ensures.matches told) in
-    let extent = named-extent (disk.contents d0) found (log_blocks c.args.log.now) c.in-Extent.head body c.in-Extent.next whole matches c.if-head-ne2.false c.if-next-found.false in
-    let none = subst (λ l. (entries : ℕ) (roll : List RollStreamValue) → HasRoll found.checkpoint entries roll l → ⊥) c.deref.ensures.value (subst (λ o. IfNone o ((entries : ℕ) (roll : List RollStreamValue) → HasRoll found.checkpoint entries roll c.deref.result.now → ⊥)) c.in-None.is c.in_ok-roll.ensures.none) in
-    no-roll-damage disk found d0 (disk_of c.read_ahead.new.self) c.requires.some body extent none
+    let head = c.in-Some.head in
+    let extent = named-extent (disk.contents d0) found (log_blocks c.args.log.now) head (body g at) (found.checkpoint + head.n + 1) (held g at).whole (matches g at told) c.if-head-ne2.false c.if-next-found.false in
+    let none = subst (λ l. (entries : ℕ) (roll : List RollStreamValue) → HasRoll found.checkpoint entries roll l → ⊥) c.blocks-body.ensures (subst (λ o. IfNone o ((entries : ℕ) (roll : List RollStreamValue) → HasRoll found.checkpoint entries roll c.blocks-body.result.now → ⊥)) c.in-None.is c.in_ok-roll.ensures.none) in
+    no-roll-damage disk found d0 (disk_of c.read_ahead.new.self) c.requires.some (body g at) extent none

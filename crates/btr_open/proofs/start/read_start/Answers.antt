@@ -20,7 +20,6 @@ load-requires-clause-holds g c told =
     let held = c.requires.holds told in
     let same = same-bytes (disk_of c.args.log.now) (disk_of c.read_checkpoint.new.log) c.read_checkpoint.ensures.reads.reads told in
     record {
-      extents = c.read_checkpoint.ensures.piece told;
       ahead = subst (λ i. IsPieceOf i c.args.reader.now.ahead) same held.ahead;
       one = subst (λ i. IsPieceOf i c.args.reader.now.one) same held.one;
     }

@@ -1,84 +1,112 @@
-use Rattle.std.specs.Prelude.{◌≡◌, ◌+◌, ◌-◌, ◌*◌, ◌≤◌, ◌++◌, length}
+use Rattle.std.specs.Prelude.{◌≡◌, ◌+◌, ◌-◌, ◌≤◌, min, Some}
 use Rattle.std.proofs.Common.{sym, ◌∙◌, ap, subst, arith}
+use Rattle.std.proofs.lemmas.Option.{same_Some}
 use Rattle.std.proofs.lemmas.Result.{err_from_is_err_and}
-use Rattle.btr_disk.specs.Bytes.{Has, Same}
+use Rattle.btr_disk.specs.Bytes.{Same}
 use Rattle.btr_disk.proofs.ByteLemmas.{Same-trans}
-use Rattle.btr_log.specs.Found.{StartSays, IsOpenStart, IsWholeExtent, after_first}
-use Rattle.btr_log.specs.Piece.{IsPieceOf}
-use Rattle.btr_log.proofs.PieceLemmas.{min_some, min_two, length-bytes_at, Has-bytes_before, IsClosed-start, FindCause-start, whole_from_rest, matches_from_rest, holds_rest, appended}
+use Rattle.btr_log.specs.declared.head.Head.{Head}
+use Rattle.btr_log.specs.Found.{StartSays, IsOpenStart}
+use Rattle.btr_log.proofs.PieceLemmas.{start_bytes, length-start, min_few, Has-start, closed-start, holds-extent, matches-extent, FindCause-before, one-start}
+use Rattle.btr_log.proofs.log.Log.read_ahead.Given.{Over}
+use Rattle.btr_log.proofs.log.Log.read_ahead.Goals.{In-Some, in_default-2-via-in-Some-2+else-again-head, in_default-2-via-in_default-2}
 use Rattle.btr_log.proofs.log.Log.read_ahead.Goals as goal
 
-pub returns-in_err-head-clause-cause : goal.returns-in_err-head-clause-cause
-returns-in_err-head-clause-cause g c =
-    let disk = g.D.Disk in
-    let image = disk.contents c.args.self.now.disk in
-    let mid = disk.contents c.hold.new.disk in
-    let gate = c.args.gate in
-    let prefix = c.blocks-prefix.result.now in
-    let has : disk.is_observable → Has image (4096 * gate) prefix = λ o. subst (Has image (4096 * gate)) (sym c.blocks-prefix.ensures)
-    (Has-bytes_before image mid (c.in_ok-hold.ensures.unwritten o).same c.hold.new.self gate c.start_blocks-count.result c.in_ok-hold.ensures.held (c.in_ok-hold.ensures.piece o (c.requires.piece o))) in
-    let p = err_from_is_err_and c.from_residual-in_err-head.result c.from_residual-in_err-head.ensures.1 in
-    rw (p.1, p.2) (FindCause-start disk.is_observable image c.args.self.now.blocks gate _ _ prefix c.in_err-head.field-0.0 has c.in_err-head.ensures.damaged)
-
 pub returns-in_default-clause-matches : goal.returns-in_default-clause-matches
-returns-in_default-clause-matches g c is_observable =
+returns-in_default-clause-matches g c told =
     let disk = g.D.Disk in
-    let image = disk.contents c.args.self.now.disk in
-    let mid = disk.contents c.hold.new.disk in
-    let blocks = c.args.self.now.blocks in
-    let gate = c.args.gate in
-    let count = c.start_blocks-count.result in
-    let piece = c.hold.new.self in
-    let prefix = c.blocks-prefix.result.now in
-    let has : Has image (4096 * gate) prefix = subst (Has image (4096 * gate)) (sym c.blocks-prefix.ensures)
-    (Has-bytes_before image mid (c.in_ok-hold.ensures.unwritten is_observable).same piece gate count c.in_ok-hold.ensures.held (c.in_ok-hold.ensures.piece is_observable (c.requires.piece is_observable))) in
-    let some : 1 ≤ count = omega (arith, c.start_blocks-count.ensures, min_some (blocks - gate) (omega (arith, c.requires.gate))) in
-    let long : 8 ≤ length prefix = omega (arith, some, ap length c.blocks-prefix.ensures, length-bytes_at piece gate count c.in_ok-hold.ensures.held) in
-    IsClosed-start image gate prefix long has (subst (StartSays blocks gate prefix) c.in_default.is c.in_ok-head.ensures.start)
+    let a = c.args in
+    let blocks = a.self.now.blocks in
+    let image = disk.contents a.self.now.disk in
+    let ok = c.in_ok-head.ensures in
+    let few : min 2 (blocks - a.gate) ≤ c.start_blocks-count.result = omega (arith, c.start_blocks-count.ensures) in
+    let piece = c.hold_start.new.piece in
+    let has = Has-start piece blocks a.gate c.start_blocks-count.result few ok.held image (disk.contents c.hold_start.new.disk) (ok.unwritten told).same (ok.piece told) in
+    closed-start piece blocks a.gate c.start_blocks-count.result few ok.held image c.requires.gate has (subst (StartSays blocks a.gate (start_bytes piece blocks a.gate)) c.in_default.is ok.start)
 
-pub returns-clause-whole : goal.returns-clause-whole
-returns-clause-whole g c =
-    let blocks = c.args.self.now.blocks in
-    let gate = c.args.gate in
-    let count = c.start_blocks-count.result in
-    let head = c.in-Some.head in
-    let piece = c.hold.new.self in
-    let prefix = c.blocks-prefix.result.now in
-    let rest = c.blocks-2.result.now in
-    let start : IsOpenStart blocks gate prefix head = subst (StartSays blocks gate prefix) c.in-Some.is c.in_ok-head.ensures.start in
-    let two : count ≡ 2 = c.start_blocks-count.ensures ∙ min_two (blocks - gate) (omega (arith, start.inside)) in
-    let size : length prefix ≡ 8192 = omega (arith, two, ap length c.blocks-prefix.ensures, length-bytes_at piece gate count c.in_ok-hold.ensures.held) in
-    let some : 1 ≤ head.n = omega (arith, start.spells.is_head.blocks) in
-    let size_rest : length rest ≡ 4096 * (head.n - 1) = ap length c.blocks-2.ensures ∙ length-bytes_at c.hold-2.new.self (gate + 2) (head.n - 1) (holds_rest c.hold-2.new.self gate head.n some c.in_ok-hold-2.ensures.held) in
-    let body : c.extend_from_slice-2.new.self.items ≡ after_first prefix ++ rest =
-    appended c.in_ok-body.body.items c.extend_from_slice.new.self.items c.extend_from_slice-2.new.self.items (after_first prefix) rest c.in_ok-body.ensures.items c.in_ok-extend_from_slice.ensures.items c.in_ok-extend_from_slice-2.ensures.items in
-    subst (λ b. IsWholeExtent blocks gate head b (gate + head.n + 1)) (sym body) (whole_from_rest blocks gate prefix head size start rest some size_rest)
+-- What the first reading of the start says.
+start : (g : Over) (c : In-Some g) → IsOpenStart c.args.self.now.blocks c.args.gate (start_bytes c.hold_start.new.piece c.args.self.now.blocks c.args.gate) c.in-Some.head
+start g c =
+    subst (StartSays c.args.self.now.blocks c.args.gate (start_bytes c.hold_start.new.piece c.args.self.now.blocks c.args.gate)) c.in-Some.is c.in_ok-head.ensures.start
 
-pub returns-clause-matches : goal.returns-clause-matches
-returns-clause-matches g c is_observable =
+few : (g : Over) (c : In-Some g) → min 2 (c.args.self.now.blocks - c.args.gate) ≤ c.in-Some.head.n + 1
+few g c = min_few (c.args.self.now.blocks - c.args.gate) c.in-Some.head.n (omega (arith, (start g c).spells.is_head.blocks))
+
+pub returns-then-holds-clause-whole : goal.returns-then-holds-clause-whole
+returns-then-holds-clause-whole g c =
+    let at = (goal.at.returns-then-holds-clause-whole g c).In-Some in
+    holds-extent c.hold_start.new.piece c.args.self.now.blocks c.args.gate (c.in-Some.head.n + 1) (few g at) (c.holds.ensures c.if-holds.true) c.in-Some.head (start g at) (omega arith)
+
+pub returns-then-holds-clause-matches : goal.returns-then-holds-clause-matches
+returns-then-holds-clause-matches g c told =
     let disk = g.D.Disk in
-    let image = disk.contents c.args.self.now.disk in
-    let mid = disk.contents c.hold.new.disk in
-    let new = disk.contents c.hold-2.new.disk in
+    let at = (goal.at.returns-then-holds-clause-matches g c).In-Some in
+    let ok = c.in_ok-head.ensures in
+    matches-extent c.hold_start.new.piece c.args.self.now.blocks c.args.gate (c.in-Some.head.n + 1) (few g at) (c.holds.ensures c.if-holds.true) c.in-Some.head (start g at)
+    (disk.contents c.args.self.now.disk) (disk.contents c.hold_start.new.disk) (ok.unwritten told).same (ok.piece told) (omega arith)
+
+pub returns-in_err-again-clause-cause : goal.returns-in_err-again-clause-cause
+returns-in_err-again-clause-cause g c =
+    let disk = g.D.Disk in
+    let d0 = c.args.self.now.disk in
+    let d1 = c.hold_start.new.disk in
+    let d2 = c.hold_start-2.new.disk in
+    let p = err_from_is_err_and c.from_residual-in_err-again.result c.from_residual-in_err-again.ensures.1 in
+    rw (p.1, p.2) (FindCause-before disk.is_observable (disk.contents d0) (disk.contents d1) c.args.self.now.blocks c.args.gate (disk.faults d0) (disk.faults d1) (disk.faults d2) c.in_err-again.field-0.0
+    (λ told. (c.in_ok-head.ensures.unwritten told).same) c.in_ok-head.ensures.counts.more_faults c.in_err-again.ensures.cause)
+
+pub returns-in-Some-2-clause-whole : goal.returns-in-Some-2-clause-whole
+returns-in-Some-2-clause-whole g c =
+    let at = (goal.at.returns-in-Some-2-clause-whole g c).In-Some in
     let blocks = c.args.self.now.blocks in
     let gate = c.args.gate in
-    let count = c.start_blocks-count.result in
+    let piece = c.hold_start-2.new.piece in
+    let ok = c.in_ok-again.ensures in
+    let again = c.in-Some-2.again in
+    let start : IsOpenStart blocks gate (start_bytes piece blocks gate) again = subst (StartSays blocks gate (start_bytes piece blocks gate)) c.in-Some-2.is ok.start in
+    holds-extent piece blocks gate (c.in-Some.head.n + 1) (few g at) ok.held again start (omega (arith, c.if-again-head.true))
+
+pub returns-in-Some-2-clause-matches : goal.returns-in-Some-2-clause-matches
+returns-in-Some-2-clause-matches g c told =
+    let disk = g.D.Disk in
+    let at = (goal.at.returns-in-Some-2-clause-matches g c).In-Some in
+    let blocks = c.args.self.now.blocks in
+    let gate = c.args.gate in
+    let piece = c.hold_start-2.new.piece in
+    let again = c.in-Some-2.again in
+    let image = disk.contents c.args.self.now.disk in
+    let new = disk.contents c.hold_start-2.new.disk in
+    let ok = c.in_ok-again.ensures in
+    let same = Same-trans image (disk.contents c.hold_start.new.disk) new (c.in_ok-head.ensures.unwritten told).same (ok.unwritten told).same in
+    let start : IsOpenStart blocks gate (start_bytes piece blocks gate) again = subst (StartSays blocks gate (start_bytes piece blocks gate)) c.in-Some-2.is ok.start in
+    matches-extent piece blocks gate (c.in-Some.head.n + 1) (few g at) ok.held again start image new same (ok.piece told) (omega (arith, c.if-again-head.true))
+
+pub returns-in_default-2-clause-cause : goal.returns-in_default-2-clause-cause
+returns-in_default-2-clause-cause g c told =
+    let disk = g.D.Disk in
+    let at = (goal.at.returns-in_default-2-clause-cause g c).In-Some in
+    let a = c.args in
+    let blocks = a.self.now.blocks in
     let head = c.in-Some.head in
-    let piece = c.hold.new.self in
-    let prefix = c.blocks-prefix.result.now in
-    let rest = c.blocks-2.result.now in
-    let start : IsOpenStart blocks gate prefix head = subst (StartSays blocks gate prefix) c.in-Some.is c.in_ok-head.ensures.start in
-    let two : count ≡ 2 = c.start_blocks-count.ensures ∙ min_two (blocks - gate) (omega (arith, start.inside)) in
-    let size : length prefix ≡ 8192 = omega (arith, two, ap length c.blocks-prefix.ensures, length-bytes_at piece gate count c.in_ok-hold.ensures.held) in
-    let some : 1 ≤ head.n = omega (arith, start.spells.is_head.blocks) in
-    let first_kept = (c.in_ok-hold.ensures.unwritten is_observable).same in
-    let kept : Same image new = Same-trans image mid new first_kept (c.in_ok-hold-2.ensures.unwritten is_observable).same in
-    let is_piece : IsPieceOf mid piece = c.in_ok-hold.ensures.piece is_observable (c.requires.piece is_observable) in
-    let has : Has image (4096 * gate) prefix = subst (Has image (4096 * gate)) (sym c.blocks-prefix.ensures)
-    (Has-bytes_before image mid first_kept piece gate count c.in_ok-hold.ensures.held is_piece) in
-    let has_rest : Has image (4096 * (gate + 2)) rest = subst (Has image (4096 * (gate + 2))) (sym c.blocks-2.ensures)
-    (Has-bytes_before image new kept c.hold-2.new.self (gate + 2) (head.n - 1) (holds_rest c.hold-2.new.self gate head.n some c.in_ok-hold-2.ensures.held) (c.in_ok-hold-2.ensures.piece is_observable is_piece)) in
-    let body : c.extend_from_slice-2.new.self.items ≡ after_first prefix ++ rest =
-    appended c.in_ok-body.body.items c.extend_from_slice.new.self.items c.extend_from_slice-2.new.self.items (after_first prefix) rest c.in_ok-body.ensures.items c.in_ok-extend_from_slice.ensures.items c.in_ok-extend_from_slice-2.ensures.items in
-    let stored = matches_from_rest blocks gate prefix head size start rest image has has_rest in
-    (stored.0, subst (Has image (4096 * (gate + 1))) (sym body) stored.1)
+    let count = c.start_blocks-count.result in
+    let image = disk.contents a.self.now.disk in
+    let mid = disk.contents c.hold_start.new.disk in
+    let new = disk.contents c.hold_start-2.new.disk in
+    let ok = c.in_ok-head.ensures in
+    let ok2 = c.in_ok-again.ensures in
+    let first = c.hold_start.new.piece in
+    let second = c.hold_start-2.new.piece in
+    let one : min 2 (blocks - a.gate) ≤ count = omega (arith, c.start_blocks-count.ensures) in
+    let same : Same image new = Same-trans image mid new (ok.unwritten told).same (ok2.unwritten told).same in
+    let sizes = length-start first blocks a.gate count one ok.held ∙ sym (length-start second blocks a.gate (head.n + 1) (few g at) ok2.held) in
+    let has_first = Has-start first blocks a.gate count one ok.held image mid (ok.unwritten told).same (ok.piece told) in
+    let has_second = Has-start second blocks a.gate (head.n + 1) (few g at) ok2.held image new same (ok2.piece told) in
+    let found : c.in_ok-again.field-0 ≡ Some head =
+    one-start image blocks a.gate (start_bytes first blocks a.gate) (start_bytes second blocks a.gate) head c.in_ok-again.field-0 sizes has_first has_second (start g at) ok2.start
+    in
+    elim c.in_default-2.branch [
+      | in_default-2-via-in-Some-2+else-again-head w ↦
+          let is : c.in_ok-again.field-0 ≡ Some w.in-Some-2.again = w.in-Some-2.is in
+          let same : w.in-Some-2.again.n ≡ head.n = ap (λ (h : Head). h.n) (same_Some w.in-Some-2.again head (sym is ∙ found)) in
+          absurd (omega (arith, w.if-again-head.false, same))
+      | in_default-2-via-in_default-2 w ↦ absurd (w.in_default-2.not-Some head found)
+    ]

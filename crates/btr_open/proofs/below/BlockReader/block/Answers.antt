@@ -23,7 +23,6 @@ returns-then-block-self-clause-reads g c =
           let new = disk.contents c.read.new.disk in
           let same = (reads.nothing told).same in
           record {
-            extents = Has-Same old new (4096 * c.args.self.now.piece.first) c.args.self.now.piece.bytes same held.extents;
             ahead = Has-Same old new (4096 * c.args.self.now.ahead.first) c.args.self.now.ahead.bytes same held.ahead;
             one = c.read.ensures.piece told held.one;
           };

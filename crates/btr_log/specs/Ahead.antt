@@ -1,0 +1,22 @@
+-- What is found at a gate in the blocks that a piece holds.
+use Rattle.std.specs.Prelude.{ℕ, ◌+◌, ◌*◌, Option, None, Some}
+use Rattle.btr_disk.specs.Bytes.{Image, Has}
+use Rattle.btr_disk.specs.Gate.{IsOpen, IsClosed}
+use Rattle.btr_log.specs.declared.head.Head.{Head}
+use Rattle.btr_log.specs.Found.{IsWholeExtent}
+use Rattle.btr_log.specs.Piece.{PieceValue, HoldsBlocks, bytes_at}
+
+-- The piece holds the body of a whole extent with this head.
+pub record HoldsExtent (blocks gate : ℕ) (piece : PieceValue) (head : Head) : Type 0 where
+  pub held : HoldsBlocks piece (gate + 1) head.n
+  pub whole : IsWholeExtent blocks gate head (bytes_at piece (gate + 1) head.n) (gate + head.n + 1)
+
+-- The extent whose head is found is whole in the piece, whether the device is observable or not.
+abbrev pub HoldsWhole : ℕ → ℕ → PieceValue → Option Head → Type 0
+HoldsWhole blocks gate piece None = Unit {0}
+HoldsWhole blocks gate piece (Some head) = HoldsExtent blocks gate piece head
+
+-- What is found is what the device has.
+abbrev pub MatchesPiece : Image → ℕ → PieceValue → Option Head → Type 0
+MatchesPiece image gate piece None = IsClosed image gate
+MatchesPiece image gate piece (Some head) = IsOpen image gate × Has image (4096 * (gate + 1)) (bytes_at piece (gate + 1) head.n)
