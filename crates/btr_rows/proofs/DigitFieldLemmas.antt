@@ -1,5 +1,5 @@
 -- Lemmas on a field that is read up to the byte that ends it.
-use Rattle.std.proofs.Common.{◌≡◌, ℕ, zero, suc, ◌+◌, ◌-◌, ◌*◌, ◌^◌, ◌<◌, ◌≤◌, pos, neg_ℤ, Bool, true, false, nat_lt, eqb, List, [], ◌∷◌, ◌++◌, length, take, get_or, Some, refl, sym, ap, ◌∙◌, arith}
+use Rattle.std.proofs.Common.{◌≡◌, ℕ, zero, suc, ◌+◌, ◌-◌, ◌*◌, ◌^◌, ◌<◌, ◌≤◌, pos, neg_ℤ, Bool, true, false, nat_lt, eqb, List, [], ◌∷◌, ◌++◌, length, take, drop, get_or, Some, refl, sym, ap, ◌∙◌, arith}
 use Rattle.std.specs.List.{list_all, slice_index}
 use Rattle.std.specs.Char.{is_ascii_digit, digit_value}
 use Rattle.std.specs.Str.Parse.{digits_value, digits_value_after}
@@ -28,8 +28,18 @@ digit-inside c h = grind (arith, nat_tests)
 not-minus : (c : ℕ) → is_ascii_digit c ≡ true → eqb c 45 ≡ false
 not-minus c h = grind (arith, nat_tests)
 
-pub id-at : (text : List ℕ) → 36 < length text → list_all (λ b. nat_lt 44 b) (take 36 text) ≡ true → get_or text 36 0 ≡ 44 → 36 ≡ field_size text
-id-at text h all end = sym (field-at (λ b. nat_lt 44 b) above-inside text 36 h all (ap ends_field end))
+front-at : (text : List ℕ) (i : ℕ) → list_all (λ b. nat_lt 44 b) (take i text) ≡ true → eqb (slice_index (drop i text) 0) 44 ≡ true → field_size text ≡ i
+front-at [] zero all comma = refl
+front-at [] (suc i) all comma = cc comma
+front-at (c ∷ text) zero all comma = rw comma refl
+front-at (c ∷ text) (suc i) all comma =
+    let parts = and_parts (nat_lt 44 c) (list_all (λ b. nat_lt 44 b) (take i text)) all in
+    rw (above-inside c parts.0, front-at text i parts.1 comma, one_more i) refl
+
+-- A field ends where a comma follows bytes that are greater.
+pub id-at : (text front rest : List ℕ) → front ≡ take 36 text → rest ≡ drop 36 text → list_all (λ b. nat_lt 44 b) front ≡ true → true ≡ eqb (slice_index rest 0) 44 → field_size text ≡ 36
+id-at text front rest f r all comma =
+    front-at text 36 (ap (list_all (λ b. nat_lt 44 b)) (sym f) ∙ all) (ap (λ l. eqb (slice_index l 0) 44) (sym r) ∙ sym comma)
 
 pub digits-at : (text : List ℕ) (i : ℕ) → i < length text → list_all is_ascii_digit (take i text) ≡ true → ends_field (get_or text i 0) ≡ true → field_size text ≡ i
 digits-at text i h all end = field-at is_ascii_digit digit-inside text i h all end

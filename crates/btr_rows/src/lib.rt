@@ -11,6 +11,7 @@
 mod row;
 // what one record says
 mod field;
+mod ids;
 mod record;
 // what all records say, by streams
 mod builder;

@@ -1,6 +1,6 @@
-ghost use Rattle.std.specs.Prelude.{◌≡◌, ◌≢◌, ◌≤◌, ◌<◌, ◌==◌, ◌-◌, ◌^◌, ℕ, nat_lt, pos, true, Some, IfSome};
+ghost use Rattle.std.specs.Prelude.{◌≡◌, ◌≢◌, ◌≤◌, ◌<◌, ◌==◌, ◌-◌, ◌^◌, ℕ, pos, true, Some, IfSome};
 ghost use Rattle.std.specs.Prelude.{List, ◌∷◌, length, take, drop, slice_index};
-ghost use Rattle.std.specs.List.{list_all, prefix_len};
+ghost use Rattle.std.specs.List.{prefix_len};
 ghost use Rattle.std.specs.Char.{is_ascii_digit};
 ghost use Rattle.btr_base.specs.Decimal.{number_up_to, signed_of};
 ghost use Rattle.btr_rows.specs.Field.{row_id_of};
@@ -9,6 +9,7 @@ ghost use Rattle.btr_rows.specs.Rows.{records_of};
 ghost use Rattle.btr_rows.specs.Reading.{ends_field, ends_line, field_size};
 
 use crate::field::read_id;
+use crate::ids::{ID_LENGTH, KnownIds};
 use crate::record::row_from;
 use crate::row::{Row, RowReason};
 use btr_base::{MINUS, negative, read_signed_decimal};
@@ -27,15 +28,15 @@ const QUOTE: u8 = b'"';
 /// The first byte of a byte order mark.
 const MARK: u8 = 0xEF;
 
-/// The number of bytes of an id in its usual form: 32 digits and 4 hyphens.
-const ID_LENGTH: usize = 36;
-
 /// A number to which one more digit can be added: ten times it, and 9, is within `i64`.
 const MOST_BEFORE_DIGIT: u64 = 922337203685477579;
 
 /// Reads the first record of a text, if it has three fields and none of them begins with a quote. Returns what it says, and
 /// the text from the end of its line on. A text that may begin with a byte order mark is not read.
-pub fn plain_row(text: &[u8]) -> Option<(Result<Row, RowReason>, &[u8])>
+pub fn plain_row<'a>(
+    text: &'a [u8],
+    known: &mut KnownIds,
+) -> Option<(Result<Row, RowReason>, &'a [u8])>
     ensures row { IfSome result (λ r. (fields : List (List ℕ)) × (r.0 ≡ row_of fields)
         × (records_of text.now ≡ fields ∷ records_of r.1.now)) }
     ensures shorter { IfSome result (λ r. length r.1.now < length text.now) }
@@ -43,7 +44,7 @@ pub fn plain_row(text: &[u8]) -> Option<(Result<Row, RowReason>, &[u8])>
     if begins_with(text, MARK) {
         return None;
     }
-    let (id, rest) = id_field(after_line_ends(text))?;
+    let (id, rest) = id_field(after_line_ends(text), known)?;
     let (time, rest) = number_field(after_comma(rest)?)?;
     let (value, rest) = number_field(after_comma(rest)?)?;
     if begins_with(rest, COMMA) {
@@ -53,42 +54,32 @@ pub fn plain_row(text: &[u8]) -> Option<(Result<Row, RowReason>, &[u8])>
 }
 
 /// Reads the id that a text begins with, up to the end of its first field. Returns `None` if the text begins with a quote.
-fn id_field(text: &[u8]) -> Option<(Option<u128>, &[u8])>
+fn id_field<'a>(text: &'a [u8], known: &mut KnownIds) -> Option<(Option<u128>, &'a [u8])>
     ensures quote { IfSome result (λ r. slice_index text.now 0 ≢ QUOTE) }
     ensures value { IfSome result (λ r. r.0 ≡ row_id_of (take (field_size text.now) text.now)) }
     ensures rest { IfSome result (λ r. r.1.now ≡ drop (field_size text.now) text.now) }
 {
+    if let Some((id, rest)) = usual_id(text, known) {
+        return Some((Some(id), rest));
+    }
     if begins_with(text, QUOTE) {
         return None;
     }
-    let (field, rest) = text.split_at(id_length(text));
+    let (field, rest) = text.split_at(field_length(text));
     Some((read_id(field), rest))
 }
 
-/// Returns the number of bytes before the end of the first field. It looks first whether they are as many as an id has.
-fn id_length(text: &[u8]) -> usize
-    ensures size { result ≡ field_size text.now }
-    ensures within { result ≤ length text.now }
+/// Reads the id that a text begins with, if it is in its usual form and a comma follows it.
+fn usual_id<'a>(text: &'a [u8], known: &mut KnownIds) -> Option<(u128, &'a [u8])>
+    ensures quote { IfSome result (λ r. slice_index text.now 0 ≢ QUOTE) }
+    ensures value { IfSome result (λ r. row_id_of (take (field_size text.now) text.now) ≡ Some r.0) }
+    ensures rest { IfSome result (λ r. r.1.now ≡ drop (field_size text.now) text.now) }
 {
-    if text.len() > ID_LENGTH && text[ID_LENGTH] == COMMA {
-        let (front, _) = text.split_at(ID_LENGTH);
-        if are_above_comma(front) {
-            return ID_LENGTH;
-        }
+    let (front, rest) = text.split_first_chunk::<ID_LENGTH>()?;
+    if !begins_with(rest, COMMA) {
+        return None;
     }
-    field_length(text)
-}
-
-/// Returns whether all bytes are greater than a comma, as digits, letters and hyphens are. It reads all of them, so that the
-/// compiler can compare many at once.
-fn are_above_comma(bytes: &[u8]) -> bool
-    ensures { result ≡ list_all (λ b. nat_lt COMMA b) bytes.now }
-{
-    let mut all = true;
-    for byte in bytes {
-        all &= *byte > COMMA;
-    }
-    all
+    Some((known.read(front)?, rest))
 }
 
 /// Reads the number that a text begins with, up to the end of its first field. Returns `None` if the text begins with a quote.

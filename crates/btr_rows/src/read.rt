@@ -3,6 +3,7 @@ ghost use Rattle.btr_rows.specs.Rows.{rows_of};
 ghost use Rattle.btr_rows.specs.Streams.{list_of};
 
 use crate::builder::Builder;
+use crate::ids::KnownIds;
 use crate::list::RowList;
 use crate::plain::plain_row;
 use crate::quoted::read_records;
@@ -25,8 +26,9 @@ pub fn read_rows(alloc: Global, bytes: &[u8]) -> Result<RowList, AllocError>
     ensures { IfOk result (λ l. l ≡ list_of (rows_of bytes.now)) }
 {
     let mut rows = Builder::new(alloc);
+    let mut known = KnownIds::new();
     let mut rest = bytes;
-    while let Some((said, after)) = plain_row(rest) {
+    while let Some((said, after)) = plain_row(rest, &mut known) {
         rows.add(alloc, said)?;
         rest = after;
     }

@@ -3,4 +3,5 @@ mod fixture;
 mod good;
 mod records;
 mod refused;
+mod repeated;
 mod sample;
