@@ -1,5 +1,6 @@
 #!/usr/bin/env bash
-# What clauses on steps rest on beside the proofs: which crates can make counters, and where nodes are made.
+# What no proof shows of the source: which crates can make counters and where nodes are made, on which clauses on steps rest; and where
+# memory is not freed.
 # shellcheck source=checks/common.sh
 . "$(dirname "$0")/common.sh"
 
@@ -9,3 +10,7 @@ expect 'btr_tree and btr_diff make no counter of their own' \
 # Each node is made by one function, which counts it.
 expect 'nodes of trees are made in one place' \
     "$(grep -rnoE 'Arc::(new|try_new|from)\b' "$top/crates/btr_tree/src" | sed "s|^$top/||; s|:[0-9]*:| |")" 'crates/btr_tree/src/node.rt Arc::new'
+# A library frees what is dropped. Only the program, which ends, leaves memory to the system.
+expect 'memory is forgotten in one place' \
+    "$(grep -rnoE '\b(forget|leak|ManuallyDrop::new)\(' "$top"/crates/*/src | sed "s|^$top/||; s|:[0-9]*:| |")" \
+    'crates/btr_run/src/main.rt forget('

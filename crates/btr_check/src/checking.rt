@@ -16,6 +16,7 @@ ghost use Rattle.btr_check.specs.Checking.{VerdictBetween, WasChecked, AreTreesF
 
 use crate::checker::Checker;
 use crate::checkpoints::is_named;
+use crate::remains::CheckRemains;
 use crate::verdict::Verdict;
 use btr_disk::Disk;
 use btr_open::{OpenCause, WholeLog, read_judged};
@@ -23,13 +24,16 @@ use btr_super::{ChooseFault, Super, choose};
 use btr_verify::{VerifyFault, first_wrong_node};
 use std::alloc::Global;
 
-/// A device that was checked, and the verdict on it.
+/// A device that was checked, the verdict on it, and what the check leaves in memory.
 #[derive(Drop)]
 pub struct Checked<D> {
     pub verdict: Verdict,
 
     /// The device, as the calls left it.
     pub disk: D,
+
+    /// What the check leaves in memory, if it read the whole log.
+    pub remains: Option<CheckRemains>,
 }
 
 /// Checks whether a device holds a legal history, and returns the verdict. It writes and syncs nothing.
@@ -58,6 +62,7 @@ pub fn check<D: Disk>(alloc: Global, disk: D) -> Checked<D>
         Err(fault) => Checked {
             verdict: verdict_of_choice(fault),
             disk,
+            remains: None,
         },
     }
 }
@@ -72,10 +77,18 @@ fn check_store<D: Disk>(alloc: Global, disk: D, found: Super) -> Checked<D>
     let mut checker = Checker::empty(alloc);
     let (disk, read) = read_judged(alloc, disk, found, &mut checker);
     match read {
-        Ok(whole) => check_whole(alloc, disk, found, &checker, &whole),
+        Ok(whole) => {
+            let (verdict, disk) = check_whole(alloc, disk, found, &checker, &whole);
+            Checked {
+                verdict,
+                disk,
+                remains: Some(CheckRemains { checker, whole }),
+            }
+        }
         Err(cause) => Checked {
             verdict: verdict_of_cause(cause),
             disk,
+            remains: None,
         },
     }
 }
@@ -87,25 +100,22 @@ fn check_whole<D: Disk>(
     found: Super,
     checker: &Checker,
     whole: &WholeLog,
-) -> Checked<D>
+) -> (Verdict, D)
     requires table { IsSuper (D.size disk) found }
     requires chosen { D.is_observable → IsChosen (D.size disk) (D.contents disk) found }
     requires ends { EndsInside found.blocks whole.now }
     requires read { WasChecked ⟦<D as Disk>⟧ disk found checker.now whole.now }
-    ensures reads { OnlyReads ⟦<D as Disk>⟧ disk result.disk }
-    ensures verdict { VerdictBetween ⟦<D as Disk>⟧ disk result.disk result.verdict }
+    ensures reads { OnlyReads ⟦<D as Disk>⟧ disk result.1 }
+    ensures verdict { VerdictBetween ⟦<D as Disk>⟧ disk result.1 result.0 }
 {
     if !is_named(&checker.checkpoints, &found) {
         let block = 2 * (found.side as u64) + 1;
-        return Checked {
-            verdict: Verdict::Wrong { block },
-            disk,
-        };
+        return (Verdict::Wrong { block }, disk);
     }
     let mut disk = disk;
     let trees = judge_trees(alloc, &mut disk, checker, whole);
     let verdict = verdict_of_trees(checker.board.entries(), trees);
-    Checked { verdict, disk }
+    (verdict, disk)
 }
 
 /// Judges the trees that are stored on a device, by the entries of the whole log. Returns the block of the first wrong node, if there is

@@ -5,6 +5,7 @@
 #![tactic(auto)]
 
 // what a check returns
+mod remains;
 mod verdict;
 // the judge of the entries
 mod checker;
@@ -17,4 +18,5 @@ mod laws;
 
 pub use checking::{Checked, check};
 pub use laws::{legal_log_stands, one_verdict_holds};
+pub use remains::CheckRemains;
 pub use verdict::Verdict;

@@ -5,6 +5,7 @@ ghost use Rattle.btr_engine.specs.Place.{log_in};
 
 use crate::board::Board;
 use crate::place::Place;
+use crate::remains::Remains;
 use crate::snapshot::Snapshot;
 use btr_disk::Disk;
 use btr_hist::Spec;
@@ -128,14 +129,25 @@ impl<D: Disk> Engine<D> {
         self.stopped
     }
 
-    /// Returns the device, as the engine's calls left it. The caller passes an engine whose log is at home.
+    /// Returns the device, as the engine's calls left it. The caller passes an engine whose log is at home. The history in memory is
+    /// freed: [`Engine::into_parts`] returns it too.
     pub fn into_disk(self) -> D
         requires home { is_home self ≡ true }
         ensures { result ≡ device self }
     {
-        let Engine { place, .. } = self;
+        let (disk, _remains) = self.into_parts();
+        disk
+    }
+
+    /// Returns the device, as the engine's calls left it, and what the engine leaves in memory. The caller passes an engine whose log is at
+    /// home. It takes constant time and no memory, and frees none.
+    pub fn into_parts(self) -> (D, Remains)
+        requires home { is_home self ≡ true }
+        ensures { result.0 ≡ device self }
+    {
+        let Engine { place, board, .. } = self;
         match place {
-            Place::Home(log) => log.into_disk(),
+            Place::Home(log) => (log.into_disk(), Remains { board }),
             Place::Out(_) => unreachable!(),
         }
     }

@@ -21,11 +21,13 @@ mod staging;
 mod checkpoint;
 mod engine;
 mod place;
+mod remains;
 mod step;
 mod travel;
 
 pub use board::{Board, PushFault, Receipt, Staged};
 pub use engine::Engine;
+pub use remains::Remains;
 pub use snapshot::Snapshot;
 pub use step::StepFault;
 pub use travel::Ready;

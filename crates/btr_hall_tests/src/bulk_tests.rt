@@ -39,7 +39,7 @@ fn sampled<R: Threads + Wait + Sync>(
     points: u32,
 ) -> Result<(MemDisk, u8, Vec<u8>), Fail> {
     match sample_store(rt, alloc, number, streams, points, &NoPace, disk) {
-        Ok(Worked { said, disk }) => {
+        Ok(Worked { said, disk, .. }) => {
             let Transcript { status, text } = said?;
             Ok((disk, status.code(), text))
         }

@@ -10,12 +10,14 @@ ghost use Rattle.btr_top.specs.Run.{IsReader};
 mod usage;
 
 use crate::usage::say_usage;
+use btr_disk::Disk;
 use btr_host::{FileDisk, Lock, NoDisk, StdSink, StdSource};
-use btr_top::run;
+use btr_top::{Outcome, run};
 use btr_words::{Command, read_words};
 use std::alloc::{AllocError, Global};
 use std::env;
 use std::io::ErrorKind;
+use std::mem::forget;
 use std::process::ExitCode;
 use std::sync::Wait;
 use std::thread::Threads;
@@ -49,11 +51,7 @@ fn run_words<W: Threads + Wait + Sync>(rt: &HostRuntime, wait: &W, words: &[Stri
             Ok(lock) => run_on(rt, wait, path.as_str(), lock, rest),
             Err(_) => end_without_memory(rt),
         },
-        _ => {
-            let mut source = StdSource::new(rt.stdin());
-            let mut sink = StdSink::new(rt.stdout());
-            run(wait, rt.alloc(), &[], &mut source, &mut sink, NoDisk::new()).status
-        }
+        _ => run_with(rt, wait, &[], NoDisk::new()),
     }
 }
 
@@ -65,20 +63,29 @@ fn run_on<W: Threads + Wait + Sync>(
     lock: Lock,
     words: &[String],
 ) -> u8 {
+    match FileDisk::open(rt, path, lock) {
+        Ok(disk) => run_with(rt, wait, words, disk),
+        Err(_) => run_with(rt, wait, words, NoDisk::new()),
+    }
+}
+
+/// Runs words on a device, from standard input to standard output, and waits by `wait`. What the run leaves in memory is left to the
+/// system, since the process ends after it.
+fn run_with<W: Threads + Wait + Sync, D: Disk + Send + Drop>(
+    rt: &HostRuntime,
+    wait: &W,
+    words: &[String],
+    disk: D,
+) -> u8 {
     let mut source = StdSource::new(rt.stdin());
     let mut sink = StdSink::new(rt.stdout());
-    match FileDisk::open(rt, path, lock) {
-        Ok(disk) => run(wait, rt.alloc(), words, &mut source, &mut sink, disk).status,
-        Err(_) => run(
-            wait,
-            rt.alloc(),
-            words,
-            &mut source,
-            &mut sink,
-            NoDisk::new(),
-        )
-        .status,
-    }
+    let Outcome {
+        status,
+        remains,
+        ..
+    } = run(wait, rt.alloc(), words, &mut source, &mut sink, disk);
+    forget(remains);
+    status
 }
 
 /// The lock that a run takes on its device: a shared one for `ask` and `check`, which write nothing there, and an

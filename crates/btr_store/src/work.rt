@@ -15,12 +15,12 @@ ghost use Rattle.btr_store.specs.Closing.{BeginsOn};
 use crate::status::Status;
 use crate::transcript::Transcript;
 use btr_disk::Disk;
-use btr_engine::Engine;
+use btr_engine::{Engine, Remains};
 use btr_hall::{Hall, Session};
 use btr_open::{OpenCause, OpenFault, open_store};
 use std::alloc::{AllocError, Global};
 
-/// What work on a store says, and the device.
+/// What work on a store says, the device, and what the store leaves in memory.
 #[derive(Drop)]
 pub struct Worked<D> {
     /// The lines that say what was done. An `Err` means that there was no memory to do all of it, or for the lines.
@@ -28,6 +28,9 @@ pub struct Worked<D> {
 
     /// The device, as the calls left it.
     pub disk: D,
+
+    /// What the store leaves in memory.
+    pub remains: Remains,
 }
 
 /// Opens the store on a device, and makes a hall of it. Returns the hall and its only session. Nothing is written. The fault also says
@@ -62,7 +65,7 @@ fn begin_hall<D: Disk>(
 }
 
 /// Closes a hall whose only session is this one, takes the device out, and returns what is said of the work. It takes constant time and no
-/// memory, and does not call the device.
+/// memory, and does not call the device. What the store leaves in memory is handed back beside the device, and not freed.
 ///
 /// What is said is handed on. But if its status says that the device failed, and no step failed, it is that memory ran out: then the
 /// status is right on each device. It never comes on a device that held a history.
@@ -85,10 +88,11 @@ pub fn close_hall<D: Disk>(
 {
     let engine = hall.close(session);
     let failed = engine.stopped();
-    let disk = engine.into_disk();
+    let (disk, remains) = engine.into_parts();
     Worked {
         said: confirmed(said, failed),
         disk,
+        remains,
     }
 }
 

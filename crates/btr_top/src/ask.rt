@@ -18,6 +18,7 @@ ghost use Rattle.btr_top.specs.declared.ending.Ending.TheVariants.{OutOfMemory, 
 
 use crate::command::{CommandResult, open_refusal, read_input};
 use crate::ending::Ending;
+use crate::remains::RunRemains;
 use btr_disk::Disk;
 use btr_engine::{Engine, Snapshot};
 use btr_io::Source;
@@ -41,7 +42,11 @@ pub(crate) fn run_ask<S: Source, D: Disk>(
 {
     match read_input(alloc, source) {
         Ok(input) => ask_input(alloc, &input, disk),
-        Err(ending) => CommandResult { ending, disk },
+        Err(ending) => CommandResult {
+            ending,
+            disk,
+            remains: RunRemains::Nothing,
+        },
     }
 }
 
@@ -56,6 +61,7 @@ fn ask_input<D: Disk>(alloc: Global, input: &[u8], disk: D) -> CommandResult<D>
         Err(_) => CommandResult {
             ending: Ending::OutOfMemory,
             disk,
+            remains: RunRemains::Nothing,
         },
     }
 }
@@ -81,12 +87,16 @@ fn ask_opened<D: Disk>(alloc: Global, lines: Vec<ScriptLine>, engine: Engine<D>)
     ensures kept { (old : D) → IsOpenedEngine ⟦<D as Disk>⟧ old engine → IsKept ⟦<D as Disk>⟧ old result.disk }
 {
     let answered = answer_all(alloc, &engine, lines);
-    let disk = engine.into_disk();
+    let (disk, remains) = engine.into_parts();
     let ending = match answered {
         Ok(transcript) => ending_of_replies(transcript),
         Err(_) => Ending::OutOfMemory,
     };
-    CommandResult { ending, disk }
+    CommandResult {
+        ending,
+        disk,
+        remains: RunRemains::Store(remains),
+    }
 }
 
 /// Returns how `ask` ends with these replies. No reply to a question says that the device failed. If the status said so, the command

@@ -5,7 +5,8 @@ ghost use Rattle.btr_top.specs.Command.{IsKept};
 
 use crate::command::CommandResult;
 use crate::ending::Ending;
-use btr_check::{Checked, Verdict, check};
+use crate::remains::RunRemains;
+use btr_check::{CheckRemains, Checked, Verdict, check};
 use btr_disk::Disk;
 use std::alloc::Global;
 
@@ -17,10 +18,23 @@ pub(crate) fn run_check<D: Disk>(alloc: Global, disk: D) -> CommandResult<D>
     ensures cause { CheckEnds ⟦<D as Disk>⟧ disk result.disk result.ending }
     ensures kept { IsKept ⟦<D as Disk>⟧ disk result.disk }
 {
-    let Checked { verdict, disk } = check(alloc, disk);
+    let Checked {
+        verdict,
+        disk,
+        remains,
+    } = check(alloc, disk);
     CommandResult {
         ending: ending_of(verdict),
         disk,
+        remains: left_of(remains),
+    }
+}
+
+/// Returns what a run leaves whose check leaves this.
+fn left_of(remains: Option<CheckRemains>) -> RunRemains {
+    match remains {
+        Some(remains) => RunRemains::Check(remains),
+        None => RunRemains::Nothing,
     }
 }
 

@@ -6,6 +6,7 @@ ghost use Rattle.btr_top.specs.Checkpoint.{CheckpointEnds};
 
 use crate::command::{CommandResult, open_refusal};
 use crate::ending::Ending;
+use crate::remains::RunRemains;
 use btr_disk::Disk;
 use btr_engine::{Engine, StepFault};
 use btr_open::open_store;
@@ -43,8 +44,10 @@ fn mark_opened<D: Disk>(alloc: Global, engine: Engine<D>) -> CommandResult<D>
         // the engine ran, and a checkpoint adds no entry
         Err(StepFault::Stopped { .. } | StepFault::Rejected(_)) => unreachable!(),
     };
+    let (disk, remains) = engine.into_parts();
     CommandResult {
         ending,
-        disk: engine.into_disk(),
+        disk,
+        remains: RunRemains::Store(remains),
     }
 }

@@ -7,6 +7,7 @@ ghost use Rattle.btr_top.specs.declared.command.TheConstants.{MAX_INPUT};
 ghost use Rattle.btr_top.specs.Work.{ending_of};
 
 use crate::ending::Ending;
+use crate::remains::RunRemains;
 use btr_disk::Disk;
 use btr_io::{ReadAllFault, Source, read_all};
 use btr_open::{OpenCause, OpenFault};
@@ -23,6 +24,9 @@ pub(crate) struct CommandResult<D> {
 
     /// The device, as the command's calls left it.
     pub(crate) disk: D,
+
+    /// What the command leaves in memory.
+    pub(crate) remains: RunRemains,
 }
 
 /// Reads the source to its end, and returns its bytes. It reads at most one byte more than [`MAX_INPUT`]. An `Err` is how the command
@@ -55,6 +59,7 @@ pub(crate) fn open_refusal<D: Disk>(fault: OpenFault<D>) -> CommandResult<D>
     CommandResult {
         ending,
         disk: fault.disk,
+        remains: RunRemains::Nothing,
     }
 }
 
@@ -63,10 +68,18 @@ pub(crate) fn work_result<D>(worked: Worked<D>) -> CommandResult<D>
     ensures disk { result.disk ≡ worked.disk }
     ensures ending { result.ending ≡ ending_of worked.said }
 {
-    let Worked { said, disk } = worked;
+    let Worked {
+        said,
+        disk,
+        remains,
+    } = worked;
     let ending = match said {
         Ok(transcript) => Ending::Replied(transcript),
         Err(_) => Ending::OutOfMemory,
     };
-    CommandResult { ending, disk }
+    CommandResult {
+        ending,
+        disk,
+        remains: RunRemains::Store(remains),
+    }
 }

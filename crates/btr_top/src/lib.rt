@@ -15,6 +15,7 @@ mod load;
 mod sample;
 // what the commands share
 mod command;
+mod remains;
 // how a run ends, and what it writes
 mod ending;
 // the whole
@@ -26,4 +27,5 @@ pub use btr_live::{lines_keep_legal, refreshes_are_current};
 pub use command::MAX_INPUT;
 pub use ending::Ending;
 pub use laws::{run_limits_are_these, script_fits};
+pub use remains::RunRemains;
 pub use run_command::{Outcome, run, run_paced};

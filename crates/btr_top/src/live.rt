@@ -8,6 +8,7 @@ ghost use Rattle.btr_top.specs.Live.{LiveCause, ScriptCause};
 
 use crate::command::{CommandResult, open_refusal, read_input, work_result};
 use crate::ending::Ending;
+use crate::remains::RunRemains;
 use btr_disk::Disk;
 use btr_io::Source;
 use btr_jobs::Pace;
@@ -39,7 +40,11 @@ pub(crate) fn run_live<R: Threads + Wait + Sync, S: Source, D: Disk + Send, P: P
 {
     match read_input(alloc, source) {
         Ok(input) => run_script(rt, alloc, batch, materialize, &input, disk, pace),
-        Err(ending) => CommandResult { ending, disk },
+        Err(ending) => CommandResult {
+            ending,
+            disk,
+            remains: RunRemains::Nothing,
+        },
     }
 }
 
@@ -70,6 +75,7 @@ fn run_script<R: Threads + Wait + Sync, D: Disk + Send, P: Pace + Sync>(
         Err(_) => CommandResult {
             ending: Ending::OutOfMemory,
             disk,
+            remains: RunRemains::Nothing,
         },
     }
 }

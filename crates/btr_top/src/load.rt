@@ -9,6 +9,7 @@ ghost use Rattle.btr_top.specs.Work.{LoadCause, RowsCause};
 
 use crate::command::{CommandResult, open_refusal, read_input, work_result};
 use crate::ending::Ending;
+use crate::remains::RunRemains;
 use btr_disk::Disk;
 use btr_io::Source;
 use btr_jobs::Pace;
@@ -37,7 +38,11 @@ pub(crate) fn run_load<R: Threads + Wait + Sync, S: Source, D: Disk + Send, P: P
 {
     match read_input(alloc, source) {
         Ok(input) => load_input(rt, alloc, workers, batch, &input, disk, pace),
-        Err(ending) => CommandResult { ending, disk },
+        Err(ending) => CommandResult {
+            ending,
+            disk,
+            remains: RunRemains::Nothing,
+        },
     }
 }
 
@@ -63,6 +68,7 @@ fn load_input<R: Threads + Wait + Sync, D: Disk + Send, P: Pace + Sync>(
         Err(_) => CommandResult {
             ending: Ending::OutOfMemory,
             disk,
+            remains: RunRemains::Nothing,
         },
     }
 }

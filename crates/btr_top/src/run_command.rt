@@ -17,6 +17,7 @@ use crate::ending::{Ending, show};
 use crate::format_store::format_store;
 use crate::live::run_live;
 use crate::load::run_load;
+use crate::remains::RunRemains;
 use crate::sample::run_sample;
 use btr_disk::Disk;
 use btr_io::{Sink, Source};
@@ -35,6 +36,9 @@ pub struct Outcome<D> {
 
     /// The device, as the run's calls left it.
     pub disk: D,
+
+    /// What the run leaves in memory.
+    pub remains: RunRemains,
 }
 
 /// Runs the command that the words say: it works on the device, and writes the text of its ending to the sink. `load`, `live` and `ask`
@@ -70,13 +74,21 @@ pub fn run_paced<R: Threads + Wait + Sync, S: Source, K: Sink, D: Disk + Send, P
     ensures runs { Runs ⟦<S as Source>⟧ ⟦<K as Sink>⟧ ⟦<D as Disk>⟧ (command_of (map string_bytes words.now))
         source.old source.new sink.old sink.new disk result.disk result.status }
 {
-    let CommandResult { ending, disk } = dispatch(rt, alloc, words, source, disk, pace);
+    let CommandResult {
+        ending,
+        disk,
+        remains,
+    } = dispatch(rt, alloc, words, source, disk, pace);
     let status = show(alloc, sink, &ending);
     // so a device that holds a history is not refused as one without a store, or as a damaged one
     held_is_sound();
     // and what it holds is one history
     one_history_is_held();
-    Outcome { status, disk }
+    Outcome {
+        status,
+        disk,
+        remains,
+    }
 }
 
 /// Does what the words say.
@@ -100,10 +112,12 @@ fn dispatch<R: Threads + Wait + Sync, S: Source, D: Disk + Send, P: Pace + Sync>
         Err(_) => CommandResult {
             ending: Ending::OutOfMemory,
             disk,
+            remains: RunRemains::Nothing,
         },
         Ok(None) => CommandResult {
             ending: Ending::Usage,
             disk,
+            remains: RunRemains::Nothing,
         },
         Ok(Some(Command::Format { blocks })) => make_store(disk, blocks),
         Ok(Some(Command::Live { batch, materialize })) => {
@@ -138,5 +152,9 @@ fn make_store<D: Disk>(disk: D, blocks: u64) -> CommandResult<D>
 {
     let mut disk = disk;
     let ending = format_store(&mut disk, blocks);
-    CommandResult { ending, disk }
+    CommandResult {
+        ending,
+        disk,
+        remains: RunRemains::Nothing,
+    }
 }

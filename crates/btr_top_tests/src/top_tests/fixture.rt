@@ -89,7 +89,7 @@ pub(super) fn run_words(
 ) -> Result<(u8, MemDisk), Fail> {
     let alloc = rt.alloc();
     let given = split_words(alloc, words)?;
-    let Outcome { status, disk } = run(rt, alloc, &given, source, sink, disk);
+    let Outcome { status, disk, .. } = run(rt, alloc, &given, source, sink, disk);
     Ok((status, disk))
 }
 
@@ -152,7 +152,7 @@ pub(super) fn run_beside(
         begun: AtomicU32::new(0),
         beside: AtomicU32::new(0),
     };
-    let Outcome { status, disk } = run_paced(
+    let Outcome { status, disk, .. } = run_paced(
         rt,
         alloc,
         &given,

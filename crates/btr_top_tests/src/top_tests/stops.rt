@@ -172,7 +172,7 @@ fn run_word<D: Disk + Send + Drop>(
     let alloc = rt.alloc();
     let (mut source, mut sink) = ends_of(alloc, input)?;
     let words = vec![in alloc; word.to_string(alloc)?]?;
-    let Outcome { status, disk } = run(rt, alloc, &words, &mut source, &mut sink, disk);
+    let Outcome { status, disk, .. } = run(rt, alloc, &words, &mut source, &mut sink, disk);
     let text = String::from_utf8_lossy(alloc, sink.written())?;
     Ok(Given { text, status, disk })
 }

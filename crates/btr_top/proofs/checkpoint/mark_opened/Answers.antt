@@ -23,24 +23,24 @@ returns-clause-cause g c = λ old opened.
     let counts_now = g.met.D.Disk.counts_now in
     let engine = c.args.engine in
     let new = c.checkpoint.new.self in
-    let end = c.into_disk.result in
+    let end = c.into_parts-disk.result.0 in
     let did = c.checkpoint.ensures in
     let Ends : Ending → Type 0 = λ e. CheckpointEnds disk old end e in
     elim c.match-checkpoint.branch [
       | in-Ok w ↦
           subst Ends (sym w.ending-is)
-          (added_cause disk counts_now old engine opened new end w.in-Ok.entries c.into_disk.ensures w.in-Ok.ensures.marked did.kept w.in-Ok.ensures.at_rest w.in-Ok.ensures.named did.moments)
+          (added_cause disk counts_now old engine opened new end w.in-Ok.entries c.into_parts-disk.ensures w.in-Ok.ensures.marked did.kept w.in-Ok.ensures.at_rest w.in-Ok.ensures.named did.moments)
       | in-Err-Want w ↦
           let arm = w.in-Err-Want in
           subst Ends (sym w.ending-is)
-          (want_cause disk counts_now old engine opened new end c.into_disk.ensures (of_fault engine new c.checkpoint.result arm.field-0 Want arm.is arm.field-0-is did.cause))
+          (want_cause disk counts_now old engine opened new end c.into_parts-disk.ensures (of_fault engine new c.checkpoint.result arm.field-0 Want arm.is arm.field-0-is did.cause))
       | in-Err-DeviceFull w ↦
           let arm = w.in-Err-DeviceFull in
           subst Ends (sym w.ending-is)
-          (full_cause disk counts_now old engine opened new end arm.need arm.left c.into_disk.ensures
+          (full_cause disk counts_now old engine opened new end arm.need arm.left c.into_parts-disk.ensures
           (of_fault engine new c.checkpoint.result arm.field-0 (DeviceFull arm.need arm.left) arm.is arm.field-0-is did.cause))
       | in-Err-DeviceFault w ↦
           let arm = w.in-Err-DeviceFault in
           subst Ends (sym w.ending-is)
-          (fault_cause disk counts_now old engine opened new end c.into_disk.ensures (of_fault engine new c.checkpoint.result arm.field-0 DeviceFault arm.is arm.field-0-is did.cause) did.moments)
+          (fault_cause disk counts_now old engine opened new end c.into_parts-disk.ensures (of_fault engine new c.checkpoint.result arm.field-0 DeviceFault arm.is arm.field-0-is did.cause) did.moments)
     ]
