@@ -26,7 +26,7 @@ use Rattle.btr_engine.specs.Place.{log_in, log_here}
 use Rattle.btr_engine.specs.Engine.{log_of, device, board_of, entries_of, tail_of, room_of, super_of, is_stopped, is_home, IsEngineOf, IsAtRest, IsDurable, KeepsOpening}
 use Rattle.btr_engine.specs.Stage.{IsReceipt}
 use Rattle.btr_engine.specs.Step.{IsBeforeOrAfter, CanStep, StopsByFault, HasResult, StepCause, IsStep, in_flight_after}
-use Rattle.btr_engine.specs.Travel.{IsStaged, HoldsNow, IsReadyFor, IsReadyOn, IsWritten, HasFailed, IsLike, IsSettled}
+use Rattle.btr_engine.specs.Travel.{IsStaged, HoldsNow, IsReadyFor, IsReadyOn, IsWritten, HasFailed, IsLike, IsHomeAgain}
 use Rattle.btr_engine.proofs.EngineLemmas.{durable_as}
 use Rattle.btr_engine.proofs.HoldsLemmas.{roots-held}
 use Rattle.btr_engine.proofs.Streams.{few_versions}
@@ -202,7 +202,7 @@ module _ {D : Type 0} {disk : Ghosts D} where
           (moments seen h (board_of old) (super_of old) (staged h rest.of) (now_of_rest h old rest))
 
     -- The entry was written, and the log is back with it.
-    pub written_step : (result : Option Receipt) (receipt : Receipt) → result ≡ Some receipt → IsWritten (log_of old) l r → HoldsEntry (log_of old) l e r → IsSettled out l (Some r) new result → IsStep old new e (Ok receipt)
+    pub written_step : (result : Option Receipt) (receipt : Receipt) → result ≡ Some receipt → IsWritten (log_of old) l r → HoldsEntry (log_of old) l e r → IsHomeAgain out l (Some r) new result → IsStep old new e (Ok receipt)
     written_step result receipt is written holds settled =
         let w : IsWritten (log_of old) (log_of new) r = subst (λ x. IsWritten (log_of old) x r) (sym settled.log_is) written in
         let runs = on.ready_for.runs in
@@ -248,7 +248,7 @@ module _ {D : Type 0} {disk : Ghosts D} where
         }
 
     -- The device failed in the write, and the log is back without the entry.
-    pub failed_step : (result : Option Receipt) → HasFailed (log_of old) l → IsSettled out l None new result → IsStep old new e (Err DeviceFault)
+    pub failed_step : (result : Option Receipt) → HasFailed (log_of old) l → IsHomeAgain out l None new result → IsStep old new e (Err DeviceFault)
     failed_step result failed settled =
         let f : HasFailed (log_of old) (log_of new) = subst (HasFailed (log_of old)) (sym settled.log_is) failed in
         let runs = on.ready_for.runs in

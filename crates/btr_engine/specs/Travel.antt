@@ -117,7 +117,7 @@ module _ {D : Type 0} {disk : Ghosts D} where
 
   -- The log is at home again. The engine has the board that was staged, and the receipt is that of its entry; or it has the board that it
   -- had, and there is no receipt.
-  pub record IsSettled (old : Engine D disk) (l : Log D disk) (ready : Option Ready) (new : Engine D disk) (result : Option Receipt)
+  pub record IsHomeAgain (old : Engine D disk) (l : Log D disk) (ready : Option Ready) (new : Engine D disk) (result : Option Receipt)
       : Type 0 where
     pub home : is_home new ≡ true
     pub log_is : log_of new ≡ l

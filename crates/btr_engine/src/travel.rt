@@ -9,7 +9,7 @@ ghost use Rattle.btr_engine.specs.Engine.{log_of, board_of, entries_of, tail_of,
 ghost use Rattle.btr_engine.specs.Step.{IsBeforeOrAfter, HasResult, StepCause};
 ghost use Rattle.btr_engine.specs.Stage.{WritesEntry};
 ghost use Rattle.btr_engine.specs.Travel.{IsMade, IsStaged, HoldsNow, IsReadyFor, IsReadyOn, IsWritten, HasFailed};
-ghost use Rattle.btr_engine.specs.Travel.{IsTaken, Settles, IsSettled};
+ghost use Rattle.btr_engine.specs.Travel.{IsTaken, Settles, IsHomeAgain};
 
 use crate::board::{Receipt, Staged};
 use crate::engine::Engine;
@@ -130,7 +130,7 @@ impl<D: Disk> Engine<D> {
     pub fn settle(&mut self, log: Log<D>, ready: Option<Ready>, faulted: bool) -> Option<Receipt>
         requires out { is_home self.old ≡ false }
         requires settles { Settles self.old log ready faulted }
-        ensures { IsSettled self.old log ready self.new result }
+        ensures { IsHomeAgain self.old log ready self.new result }
     {
         self.place.put_back(log);
         self.stopped |= faulted;

@@ -9,7 +9,7 @@ use Rattle.btr_engine.specs.declared.step.StepFault.{StepFault}
 use Rattle.btr_engine.specs.declared.step.StepFault.TheVariants.{DeviceFault}
 use Rattle.btr_engine.specs.declared.travel.Ready.{Ready}
 use Rattle.btr_engine.specs.Engine.{log_of, board_of, tail_of, is_home, IsEngineOf}
-use Rattle.btr_engine.specs.Travel.{IsLike, IsReadyOn, IsStaged, IsSettled}
+use Rattle.btr_engine.specs.Travel.{IsLike, IsReadyOn, IsStaged, IsHomeAgain}
 use Rattle.btr_gate.specs.declared.view.View.{View}
 use Rattle.btr_gate.specs.declared.view.Stage.TheVariants.{Idle}
 use Rattle.btr_gate.specs.declared.turn.Turn.{Turn}
@@ -77,10 +77,10 @@ module _ {D : Type 0} {disk : Ghosts D} where
   abbrev pub Brings : {A B : Type 0} → Store D disk → Store D disk → Log D disk → Ready → Entry → Result A B
       → Result Receipt StepFault → Option (Item D disk) → Type 0
   Brings old new l r e (Ok written) result added =
-      (receipt : Receipt) × (result ≡ Ok receipt) × IsSettled old.engine l (Some r) new.engine (Some receipt)
+      (receipt : Receipt) × (result ≡ Ok receipt) × IsHomeAgain old.engine l (Some r) new.engine (Some receipt)
       × (new.opening ≡ old.opening) × (new.halted ≡ old.halted) × (added ≡ Some (Added (shown e) (shown new.engine)))
   Brings old new l r e (Err failed) result added =
-      (none : Option Receipt) × (result ≡ Err DeviceFault) × IsSettled old.engine l None new.engine none
+      (none : Option Receipt) × (result ≡ Err DeviceFault) × IsHomeAgain old.engine l None new.engine none
       × (new.opening ≡ old.opening) × (new.halted ≡ true) × (added ≡ Some (Halted (shown e) (shown new.engine)))
 
   -- The pass added an entry, or was refused, in a turn with this store and in those after it. Its view was `v` in that turn. No other pass

@@ -21,9 +21,9 @@ impl<D: Disk> Session<D> {
     /// entry if it was accepted, or with its halt if the device failed; the number of this item is then one of its own. After a
     /// halt each session's entries are refused as `Stopped`.
     ///
-    /// It waits in a queue until those before it have brought the log back, then for a turn, and then costs what a step costs. It
-    /// sleeps if it waits long. While the device writes others have their turns. The result and the entry are those of a step after
-    /// the list of the first turn: nobody adds an entry in between.
+    /// It waits until nobody else has the log, then for a turn, and then costs what a step costs. It sleeps if it waits long. Who
+    /// commits again at once may pass those who sleep, for about a millisecond. While the device writes others have their turns. The
+    /// result and the entry are those of a step after the list of the first turn: nobody adds an entry in between.
     pub fn commit<R: Wait>(
         &mut self,
         rt: &R,

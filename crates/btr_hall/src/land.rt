@@ -72,7 +72,7 @@ impl<D: Disk> Session<D> {
         let turn = home_turn(rt, hall, &mut self.pass);
         if let Some(version) = turn.state.superseded(plan) {
             hall.gate.leave(&mut self.pass, turn);
-            hall.queue.leave();
+            hall.lock.release();
             return Err(LandFault::Superseded { version });
         }
         match add_in(rt, alloc, hall, &mut self.pass, turn, plan.entry()) {

@@ -2,7 +2,7 @@
 //!
 //! The list of a hall has each entry of the history, in order. A session adds an entry in two turns, and has then seen the whole
 //! list ([`Session::commit`]). In between the log is out of the engine while the entry is written. Others have their turns then, but
-//! none adds an entry: those who want to wait in a queue. A snapshot is taken in a turn and answers after it ([`Session::admit`]).
+//! none adds an entry: those who want to wait at a lock. A snapshot is taken in a turn and answers after it ([`Session::admit`]).
 //! What an engine promises of a step, also after a crash, holds of each turn, and of the engine that [`Hall::close`] returns.
 //! Nothing is said of how long a call waits, nor in which order sessions get their turns.
 #![tactic(auto)]
@@ -18,7 +18,7 @@ mod land;
 mod look;
 mod share;
 // how an entry is added
-mod queue;
+mod lock;
 mod travel;
 
 pub use item::Item;

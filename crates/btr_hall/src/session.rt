@@ -4,7 +4,7 @@ ghost use Rattle.btr_gate.specs.declared.view.Stage.TheVariants.{Idle};
 ghost use Rattle.btr_gate.specs.Gates.{view};
 
 use crate::item::Item;
-use crate::queue::LogQueue;
+use crate::lock::LogLock;
 use crate::store::Store;
 use btr_disk::Disk;
 use btr_engine::Engine;
@@ -18,7 +18,7 @@ use std::snapshot::Snapshot as State;
 pub struct Hall<D: Disk> {
     pub(crate) gate: Gate<Store<D>, Item<D>, Engine<D>>,
     /// Where those wait who want the log.
-    pub(crate) queue: LogQueue,
+    pub(crate) lock: LogLock,
     /// The engine with which the hall began, for contracts alone.
     pub(crate) opening: State<Engine<D>>,
 }
@@ -59,11 +59,11 @@ impl<D: Disk> Hall<D> {
         };
         match Gate::begin(alloc, store) {
             Ok((gate, pass)) => {
-                let queue = LogQueue::new();
+                let lock = LogLock::new();
                 Ok((
                     Hall {
                         gate,
-                        queue,
+                        lock,
                         opening,
                     },
                     Session { pass },
@@ -97,7 +97,7 @@ impl<D: Disk> Hall<D> {
     {
         let Hall {
             gate,
-            queue: _,
+            lock: _,
             opening: _,
         } = self;
         let Session { pass } = session;

@@ -22,8 +22,8 @@ use std::alloc::Global;
 use std::sync::Wait;
 use std::thread;
 
-/// Waits until it is the first in the queue, and then for a turn in which the log is at home. The first of the queue finds it at home in
-/// its first turn, which no clause says. In each turn in which it is out the pass adds nothing.
+/// Takes the lock of the log, and then waits for a turn in which the log is at home. Who holds the lock finds it at home in the first
+/// turn, which no clause says. In each turn in which it is out the pass adds nothing.
 pub(crate) fn home_turn<R: Wait, D: Disk>(
     rt: &R,
     hall: &Hall<D>,
@@ -36,7 +36,7 @@ pub(crate) fn home_turn<R: Wait, D: Disk>(
     ensures own { IsPassOf hall.now.gate pass.new }
     ensures gets { Gets (opening_of hall.now) (view pass.old) (view pass.new) result }
 {
-    hall.queue.join(rt);
+    hall.lock.take(rt);
     for _ in rt.forever() {
         let turn = hall.gate.enter(rt, pass);
         if !turn.state.engine.is_out() {
@@ -48,7 +48,7 @@ pub(crate) fn home_turn<R: Wait, D: Disk>(
     unreachable!()
 }
 
-/// Adds an entry in a turn in which the log is at home, ends the turn, and leaves the queue. The log is out while the entry is written,
+/// Adds an entry in a turn in which the log is at home, ends the turn, and releases the lock. The log is out while the entry is written,
 /// and others have their turns. A second turn brings the log back. An entry that is refused needs no second turn.
 pub(crate) fn add_in<R: Wait, D: Disk>(
     rt: &R,
@@ -67,7 +67,7 @@ pub(crate) fn add_in<R: Wait, D: Disk>(
     match turn.state.take(alloc, entry) {
         Err(fault) => {
             hall.gate.leave(pass, turn);
-            hall.queue.leave();
+            hall.lock.release();
             Err(fault)
         }
         Ok((log, ready)) => {
@@ -77,7 +77,7 @@ pub(crate) fn add_in<R: Wait, D: Disk>(
             let (result, item) = last.state.bring(log, ready, written, entry);
             last.added = item;
             hall.gate.leave(pass, last);
-            hall.queue.leave();
+            hall.lock.release();
             result
         }
     }
