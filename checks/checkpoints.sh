@@ -67,10 +67,10 @@ printf 'streams\ninfo %s latest\ninfo %s 3\n' "$id" "$output" >all
 all_answers="0: ok 310 3/$id 303 plain/$plain 1 plain/$output 3 output/"
 all_answers+="ok 303 1/plain 305 74951 1 399/ok 3 2/output 5 172 10 70/reads 3/"
 
-# Waits for a random moment of a run: in even rounds until the file has grown, else for a random time.
+# Waits for a random moment of a run: in even rounds until the file has changed, else for a random time.
 wait_in_round() {
     if [ $(($1 % 2)) = 0 ]; then
-        while [ "$(wc -c <device)" = "$2" ] && kill -0 "$running" 2>/dev/null; do :; done
+        while cmp -s device before && kill -0 "$running" 2>/dev/null; do :; done
     else
         sleep "0.0$(printf '%02d' $((RANDOM % 25)))"
     fi
@@ -81,10 +81,9 @@ cut=0
 for round in $(seq 40); do
     cp device before
     : >held
-    size=$(wc -c <device)
     "$program" device checkpoint >held 2>err </dev/null &
     running=$!
-    wait_in_round "$round" "$size"
+    wait_in_round "$round"
     { kill -KILL "$running"; wait "$running"; } 2>/dev/null
     found=$(ask_all)
     [ "$found" = "$all_answers" ] || wrong="round $round: $found"

@@ -58,6 +58,21 @@ expect 'ask on an empty file' "$(ended)" '6: no store/'
 play before format --blocks 64 </dev/null
 expect 'format where a store is' "$(ended)" '6: no occupied/'
 
+# The file grows by whole steps, and by what is written alone where the system refuses a step.
+play stepped format --blocks 64 </dev/null
+expect 'a file grows by whole steps' "$(ended), $(wc -c <stepped | tr -d ' ')" '0: formatted 64/, 65536'
+(
+    trap '' XFSZ
+    ulimit -f 48
+    exec "$program" written format --blocks 64 >out 2>err </dev/null
+)
+status=$?
+expect 'a step that the system refuses' "$(ended), $(wc -c <written | tr -d ' ')" '0: formatted 64/, 20480'
+play written live <one_more
+found=$(ended)
+play written check </dev/null
+expect 'a file that was made without steps' "$found, $(ended)" '1: no stream/, 0: stands 0/'
+
 # A file that the system lets grow no further. The store ends at 40 KiB, and the next commit is refused.
 printf 'insert %s 9 9\ninsert %s 10 9\nrange %s 0 100 latest\n' "$id" "$id" "$id" >script
 cp before device

@@ -12,6 +12,15 @@ use std::io::ErrorKind;
 use std::os::fd::AsRawFd;
 use std::os::unix::fs::FileExt;
 
+/// A file is made longer to a multiple of so many bytes.
+const STEP: u64 = 1048576;
+
+/// A small file is made longer to a multiple of so many bytes.
+const SMALL_STEP: u64 = 65536;
+
+/// The number of bytes from which a file is not small.
+const LARGE: u64 = 8388608;
+
 /// The lock on a device's file, which excludes other processes that lock it too.
 #[derive(Clone, Copy, PartialEq, Eq)]
 pub enum Lock {
@@ -22,15 +31,19 @@ pub enum Lock {
     Exclusive,
 }
 
-/// A file as a device of `2^32` blocks. Bytes past the file's end read as zeros, and a write past it makes the file
-/// longer. A sync is the system's `fsync`. The file's descriptor is at least 3, so it is never that of a standard
-/// stream that was closed. The file is locked until the device is dropped or the process ends.
+/// A file as a device of `2^32` blocks. Bytes past the file's end read as zeros. A write past it makes the file longer,
+/// to a multiple of 64 KiB, from 8 MiB on of 1 MiB: so a sync seldom has to write the file's length too. A sync is the
+/// system's `fdatasync`, which writes the bytes and all that is needed to read them. The file's descriptor is at least
+/// 3, so it is never that of a standard stream that was closed. The file is locked until the device is dropped or the
+/// process ends.
 ///
 /// No contract says what the file holds. The system and the disk are trusted: a write reaches the file, a read returns
 /// what was written, and what was synced survives a crash.
 #[derive(Drop)]
 pub struct FileDisk {
     file: File,
+    /// A number of bytes that the file does not exceed.
+    length: u64,
     calls: u64,
     faults: u64,
     ghost above_streams: { pos 3 ≤ℤ file_raw_fd file },
@@ -49,11 +62,30 @@ impl FileDisk {
         options.read(true).write(true).create(true);
         let file = above_streams(options.open(rt, path)?)?;
         take_lock(&file, lock)?;
+        let length = file.metadata()?.len();
         Ok(FileDisk {
             file,
+            length,
             calls: 0,
             faults: 0,
         })
+    }
+
+    /// Makes the file longer before a write up to this byte, if it may be shorter. It never makes it shorter. If the
+    /// system refuses, the write alone makes it longer, or fails.
+    fn lengthen(&mut self, end: u64)
+        requires { end < 2 ^ 63 }
+        ensures calls { self.new.calls ≡ self.old.calls }
+        ensures faults { self.new.faults ≡ self.old.faults }
+    {
+        if end <= self.length {
+            return;
+        }
+        let length = length_for(end);
+        self.length = match self.file.set_len(length) {
+            Ok(()) => length,
+            Err(_) => end,
+        };
     }
 
     /// Counts a fault if the system has returned an error.
@@ -99,13 +131,15 @@ impl Disk for FileDisk {
 
     fn write(&mut self, first: u64, bytes: &[u8]) -> Result<(), Failed> {
         raise(&mut self.calls);
-        let answer = self.file.write_all_at(bytes, first * BLOCK as u64);
+        let offset = first * BLOCK as u64;
+        self.lengthen(offset + bytes.len() as u64);
+        let answer = self.file.write_all_at(bytes, offset);
         self.counted(answer)
     }
 
     fn sync(&mut self) -> Result<(), Failed> {
         raise(&mut self.calls);
-        let answer = self.file.sync_all();
+        let answer = self.file.sync_data();
         self.counted(answer)
     }
 
@@ -118,6 +152,15 @@ impl Disk for FileDisk {
     ghost only_now = { λ observable. absurd observable };
 
     ghost fewer_later = { λ observable. absurd observable };
+}
+
+/// The length of a file that has at least so many bytes: it depends on them alone, and not on the writes before.
+fn length_for(end: u64) -> u64
+    requires { end < 2 ^ 63 }
+    ensures { end ≤ result }
+{
+    let step = if end < LARGE { SMALL_STEP } else { STEP };
+    (end + step - 1) / step * step
 }
 
 /// The same open file at a descriptor of at least 3. A file that is opened while a standard stream is closed gets the
