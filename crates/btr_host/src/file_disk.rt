@@ -1,5 +1,5 @@
 //! A device in a file.
-ghost use Rattle.std.specs.Prelude.{◌≡◌, ◌+◌, ◌^◌, ◌<◌, ◌≤◌, ◌≤ℤ◌, ◌↔◌, length, pos, IfOk, IsOk};
+ghost use Rattle.std.specs.Prelude.{◌≡◌, ◌+◌, ◌^◌, ◌<◌, ◌≤◌, ◌≤ℤ◌, ◌↔◌, length, max, pos, IfOk, IsOk};
 ghost use Rattle.std.specs.Fd.{file_raw_fd};
 ghost use Rattle.btr_disk.specs.Causes.{Counted, HasCause};
 
@@ -77,6 +77,9 @@ impl FileDisk {
         requires { end < 2 ^ 63 }
         ensures calls { self.new.calls ≡ self.old.calls }
         ensures faults { self.new.faults ≡ self.old.faults }
+        ensures longer { self.old.length ≤ self.new.length }
+        ensures reaches { end ≤ self.new.length }
+        ensures near { self.new.length < max self.old.length end + 2 ^ 20 }
     {
         if end <= self.length {
             return;
@@ -157,7 +160,8 @@ impl Disk for FileDisk {
 /// The length of a file that has at least so many bytes: it depends on them alone, and not on the writes before.
 fn length_for(end: u64) -> u64
     requires { end < 2 ^ 63 }
-    ensures { end ≤ result }
+    ensures least { end ≤ result }
+    ensures near { result < end + 2 ^ 20 }
 {
     let step = if end < LARGE { SMALL_STEP } else { STEP };
     (end + step - 1) / step * step
