@@ -2,6 +2,7 @@ pub mod ByteLemmas
 pub mod GateLemmas
 pub mod ImageLemmas
 pub mod MomentLemmas
+pub mod PartLemmas
 mod PublishCalls
 mod NeitherByte
 mod TornBlocks

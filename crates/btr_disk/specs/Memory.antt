@@ -1,8 +1,9 @@
 -- What a device in memory means: its images now, those since a call number, and which of its calls fail.
-use Rattle.std.specs.Prelude.{ℕ, ◌==◌, Bool, length, IsTrue, IsFalse}
+use Rattle.std.specs.Prelude.{ℕ, ◌==◌, Bool, length, take, drop, IsTrue, IsFalse}
 use Rattle.std.specs.List.{list_any}
 use Rattle.btr_disk.specs.Bytes.{Image}
-use Rattle.btr_disk.specs.CallRecord.{CanRecord, contents_of, MayLeaveNow, MayLeaveSince}
+use Rattle.btr_disk.specs.CallRecord.{CanRecord, Records, contents_of, MayLeaveNow, MayLeaveSince}
+use Rattle.btr_disk.specs.declared.call_record.Call.TheVariants.{Wrote}
 use Rattle.btr_disk.specs.declared.memory.MemDisk.{MemDisk}
 
 -- What a crash may leave now.
@@ -23,3 +24,7 @@ pub record FailsAsListed (bytes : ℕ) (disk : MemDisk) (fails : Type 0) : Type 
   pub listed : IsTrue (is_listed disk) → fails
   pub full : (CanRecord disk.made bytes → ⊥) → fails
   pub alone : IsFalse (is_listed disk) → CanRecord disk.made bytes → fails → ⊥
+
+-- A write of n bytes at the address is in the record, with the bytes that it replaces.
+abbrev pub RecordsWrite : ℕ → ℕ → MemDisk → MemDisk → Type 0
+RecordsWrite address n old new = Records (Wrote address n) (take n (drop address old.bytes.items)) old.made new.made

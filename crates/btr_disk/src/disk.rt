@@ -5,6 +5,8 @@ ghost use Rattle.btr_disk.specs.Images.{Only, SameImages, Tears};
 ghost use Rattle.btr_disk.specs.Moments.{Elapses};
 ghost use Rattle.btr_disk.specs.Causes.{Counted, HasCause};
 
+use crate::Parts;
+
 /// Bytes in a block.
 pub const BLOCK: usize = 4096;
 
@@ -36,7 +38,7 @@ pub trait Disk {
     /// What a crash may have left at some moment from this call number on, also inside a call.
     ghost images_since: { Self → ℕ → Image → Type 0 };
 
-    /// The number of calls of `read`, `write` and `sync`, failed ones included.
+    /// The number of calls of `read`, `write`, `write_parts` and `sync`, failed ones included.
     ghost calls: { Self → ℕ };
 
     /// The number of calls that failed.
@@ -64,6 +66,17 @@ pub trait Disk {
     /// Until a sync succeeds a crash may leave any bytes in these blocks, also if the write fails. If it
     /// fails, a read of these blocks may give any bytes too. All other blocks are as before.
     fn write(&mut self, first: u64, bytes: &[u8]) -> Result<(), Failed>
+        requires { IsBlockRange (size self.old) first (length bytes.now) }
+        ensures size { size self.new ≡ size self.old }
+        ensures calls { Counted (calls self.old) (calls self.new) }
+        ensures cause { HasCause (faults self.old) (faults self.new) result }
+        ensures written { is_observable → OnOk result (Has (contents self.new) (4096 * first) bytes.now) }
+        ensures elsewhere { is_observable → SameBut (4096 * first) (length bytes.now) (contents self.old) (contents self.new) }
+        ensures images { is_observable → Tears (4096 * first) (length bytes.now) (images_now self.old) (images_now self.new) }
+        ensures time { is_observable → Elapses (calls self.old) (images_since self.old) (images_since self.new) (images_now self.new) };
+
+    /// Writes `bytes` as [`Disk::write`] does, from several parts, in one call.
+    fn write_parts(&mut self, first: u64, bytes: &Parts) -> Result<(), Failed>
         requires { IsBlockRange (size self.old) first (length bytes.now) }
         ensures size { size self.new ≡ size self.old }
         ensures calls { Counted (calls self.old) (calls self.new) }

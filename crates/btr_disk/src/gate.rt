@@ -7,7 +7,7 @@ ghost use Rattle.btr_disk.specs.Images.{Only};
 ghost use Rattle.btr_disk.specs.Moments.{Leaves};
 ghost use Rattle.btr_disk.specs.Publish.{IsBeforeOrHasBody, Published};
 
-use crate::{BLOCK, Disk, Failed};
+use crate::{BLOCK, Disk, Failed, Parts};
 
 /// The first eight bytes of an open gate: ASCII `BTR-GATE`.
 pub const GATE_MARK: [u8; 8] = *b"BTR-GATE";
@@ -41,7 +41,7 @@ pub fn open_gate() -> [u8; BLOCK]
 pub fn publish<D: Disk>(
     device: &mut D,
     first: u64,
-    body: &[u8],
+    body: &Parts,
     at: u64,
     gate: &[u8],
 ) -> Result<(), Failed>
@@ -61,7 +61,7 @@ pub fn publish<D: Disk>(
         → Leaves D.calls D.images_since device.old device.new
         (IsBeforeOrHasBody (D.contents device.old) (4096 * first) body.now (4096 * at)) }
 {
-    device.write(first, body)?;
+    device.write_parts(first, body)?;
     device.sync()?;
     device.write(at, gate)?;
     device.sync()

@@ -13,6 +13,7 @@ mod gate;
 mod image;
 pub mod laws;
 mod memory;
+mod parts;
 mod torn;
 
 pub use disk::{BLOCK, Disk, Failed};
@@ -20,3 +21,4 @@ pub use fuse::FuseDisk;
 pub use gate::{GATE_MARK, is_open_gate, open_gate, publish};
 pub use image::Fill;
 pub use memory::{Capacity, MemDisk};
+pub use parts::Parts;

@@ -1,5 +1,6 @@
 //! A device in memory, for tests.
 ghost use Rattle.std.specs.Prelude.{◌≡◌, ◌+◌, ◌-◌, min, ◌*◌, ◌/◌, ◌%◌, ◌<◌, ◌≤◌, ◌^◌, ℕ, true, length, IfOk, IsErr, slice_index};
+ghost use Rattle.std.specs.List.{flat_map};
 ghost use Rattle.btr_disk.specs.Bytes.{AreBytes, Has, SameBut};
 ghost use Rattle.btr_disk.specs.CallRecord.{HasCapacity, contents_of, newest_first};
 ghost use Rattle.btr_disk.specs.Replay.{is_replayable};
@@ -7,7 +8,7 @@ ghost use Rattle.btr_disk.specs.Images.{Only};
 ghost use Rattle.btr_disk.specs.Causes.{Counted};
 
 use crate::call_record::{Call, CallRecord};
-use crate::{BLOCK, Disk, Failed, Fill};
+use crate::{BLOCK, Disk, Failed, Fill, Parts};
 use std::alloc::{AllocError, Global};
 
 /// How much a [`MemDisk`] can remember.
@@ -43,9 +44,14 @@ pub struct MemDisk {
 }
 
 impl MemDisk {
-    ghost use Rattle.std.specs.Prelude.{[]};
+    ghost use Rattle.std.specs.Prelude.{[], OnOk, OnErr};
+    ghost use Rattle.btr_disk.specs.Bytes.{IsBlockRange};
+    ghost use Rattle.btr_disk.specs.Causes.{HasCause};
+    ghost use Rattle.btr_disk.specs.Images.{Tears};
+    ghost use Rattle.btr_disk.specs.Moments.{Elapses};
+    ghost use Rattle.btr_disk.specs.CallRecord.{call_count};
     ghost use Rattle.btr_disk.specs.Fill.{HasFill};
-    ghost use Rattle.btr_disk.specs.Memory.{is_listed, images_of};
+    ghost use Rattle.btr_disk.specs.Memory.{is_listed, images_of, since_of, FailsAsListed, RecordsWrite};
 
     /// A device of `blocks` blocks of zeros, at most 2^32, on which no call was made.
     ///
@@ -163,6 +169,32 @@ impl MemDisk {
     {
         self.failing.contains(&(self.made.recorded() as u64))
     }
+
+    /// Takes a write of `count` bytes at block `first` into the record, before they replace what is there. An `Err` means that the
+    /// write fails; then its blocks are unsynced.
+    fn begin_write(&mut self, first: u64, count: usize) -> Result<(), Failed>
+        requires { IsBlockRange (length self.old.bytes.items / 4096) first count }
+        ensures bytes { self.new.bytes.items ≡ self.old.bytes.items }
+        ensures calls { Counted (call_count self.old.made) (call_count self.new.made) }
+        ensures cause { HasCause self.old.faults self.new.faults result }
+        ensures fails { FailsAsListed count self.old (IsErr result) }
+        ensures recorded { OnOk result (RecordsWrite (4096 * first) count self.old self.new) }
+        ensures images { OnErr result (Tears (4096 * first) count (images_of self.old) (images_of self.new)) }
+        ensures time { OnErr result
+            (Elapses (call_count self.old.made) (since_of self.old) (since_of self.new) (images_of self.new)) }
+    {
+        let at = BLOCK * first as usize;
+        let fails = self.fails_now();
+        let call = Call::Wrote(at, count);
+        if !self.made.note(call, &self.bytes[at..at + count]) {
+            self.made.tear(first as usize, count / BLOCK);
+            return Err(fault(&mut self.faults));
+        }
+        if fails {
+            return Err(fault(&mut self.faults));
+        }
+        Ok(())
+    }
 }
 
 /// Counts a fault.
@@ -182,6 +214,21 @@ fn overwrite(file: &mut Vec<u8>, at: usize, bytes: &[u8])
     ensures are_bytes { AreBytes (contents_of file.new.items) }
 {
     file[at..at + bytes.len()].copy_from_slice(bytes);
+}
+
+/// Writes the parts at the address `at`, one after the other.
+fn overwrite_parts(file: &mut Vec<u8>, at: usize, parts: &[Vec<u8>])
+    requires { at + length (flat_map (λ p. p.items) parts.now) ≤ length file.old.items }
+    ensures length { length file.new.items ≡ length file.old.items }
+    ensures written { Has (contents_of file.new.items) at (flat_map (λ p. p.items) parts.now) }
+    ensures elsewhere { SameBut at (length (flat_map (λ p. p.items) parts.now)) (contents_of file.old.items) (contents_of file.new.items) }
+    ensures are_bytes { AreBytes (contents_of file.new.items) }
+{
+    let mut place = at;
+    for part in parts {
+        overwrite(file, place, part);
+        place += part.len();
+    }
 }
 
 impl Disk for MemDisk {
@@ -259,18 +306,26 @@ impl Disk for MemDisk {
         ensures images { Tears (4096 * first) (length bytes.now) (images_of self.old) (images_of self.new) }
         ensures time { Elapses (call_count self.old.made) (since_of self.old) (since_of self.new) (images_of self.new) }
     {
-        let at = BLOCK * first as usize;
-        let end = at + bytes.len();
-        let fails = self.fails_now();
-        let call = Call::Wrote(at, bytes.len());
-        if !self.made.note(call, &self.bytes[at..end]) {
-            self.made.tear(first as usize, bytes.len() / BLOCK);
-            return Err(fault(&mut self.faults));
-        }
-        if fails {
-            return Err(fault(&mut self.faults));
-        }
-        overwrite(&mut self.bytes, at, bytes);
+        self.begin_write(first, bytes.len())?;
+        overwrite(&mut self.bytes, BLOCK * first as usize, bytes);
+        Ok(())
+    }
+
+    /// The clauses of the trait, and one more: which calls fail.
+    fn write_parts(&mut self, first: u64, bytes: &Parts) -> Result<(), Failed>
+        requires { IsBlockRange (length self.old.bytes.items / 4096) first (length bytes.now) }
+        ensures size { length self.new.bytes.items / 4096 ≡ length self.old.bytes.items / 4096 }
+        ensures calls { Counted (call_count self.old.made) (call_count self.new.made) }
+        ensures cause { HasCause self.old.faults self.new.faults result }
+        ensures fails { FailsAsListed (length bytes.now) self.old (IsErr result) }
+        ensures written { OnOk result (Has (contents_of self.new.bytes.items) (4096 * first) bytes.now) }
+        ensures elsewhere { SameBut (4096 * first) (length bytes.now)
+            (contents_of self.old.bytes.items) (contents_of self.new.bytes.items) }
+        ensures images { Tears (4096 * first) (length bytes.now) (images_of self.old) (images_of self.new) }
+        ensures time { Elapses (call_count self.old.made) (since_of self.old) (since_of self.new) (images_of self.new) }
+    {
+        self.begin_write(first, bytes.len())?;
+        overwrite_parts(&mut self.bytes, BLOCK * first as usize, bytes.as_slices());
         Ok(())
     }
 

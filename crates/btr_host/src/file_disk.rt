@@ -1,21 +1,22 @@
 //! A device in a file.
 ghost use Rattle.std.specs.Prelude.{◌≡◌, ◌+◌, ◌^◌, ◌<◌, ◌≤◌, ◌≤ℤ◌, ◌↔◌, length, max, pos, IfOk, IsOk};
 ghost use Rattle.std.specs.Fd.{file_raw_fd};
+ghost use Rattle.std.specs.List.{flat_map};
 ghost use Rattle.btr_disk.specs.Causes.{Counted, HasCause};
 
 use crate::MAX_BLOCKS;
 use crate::count::raise;
-use btr_disk::{BLOCK, Disk, Failed};
+use btr_disk::{BLOCK, Disk, Failed, Parts};
 use std::fs::{File, Files, OpenOptions};
 use std::io;
 use std::io::ErrorKind;
 use std::os::fd::AsRawFd;
 use std::os::unix::fs::FileExt;
 
-/// A file is made longer to a multiple of so many bytes.
+/// A file is made longer to a multiple of this many bytes.
 const STEP: u64 = 1048576;
 
-/// A small file is made longer to a multiple of so many bytes.
+/// A small file is made longer to a multiple of this many bytes.
 const SMALL_STEP: u64 = 65536;
 
 /// The number of bytes from which a file is not small.
@@ -140,6 +141,14 @@ impl Disk for FileDisk {
         self.counted(answer)
     }
 
+    fn write_parts(&mut self, first: u64, bytes: &Parts) -> Result<(), Failed> {
+        raise(&mut self.calls);
+        let offset = first * BLOCK as u64;
+        self.lengthen(offset + bytes.len() as u64);
+        let answer = write_each(&self.file, offset, bytes.as_slices());
+        self.counted(answer)
+    }
+
     fn sync(&mut self) -> Result<(), Failed> {
         raise(&mut self.calls);
         let answer = self.file.sync_data();
@@ -157,7 +166,7 @@ impl Disk for FileDisk {
     ghost fewer_later = { λ observable. absurd observable };
 }
 
-/// The length of a file that has at least so many bytes: it depends on them alone, and not on the writes before.
+/// The length of a file that has at least this many bytes: it depends on them alone, and not on the writes before.
 fn length_for(end: u64) -> u64
     requires { end < 2 ^ 63 }
     ensures least { end ≤ result }
@@ -188,6 +197,18 @@ fn take_lock(file: &File, lock: Lock) -> io::Result<()> {
     match lock {
         Lock::Shared => file.try_lock_shared()?,
         Lock::Exclusive => file.try_lock()?,
+    }
+    Ok(())
+}
+
+/// Writes the parts from this offset on, one after the other, and stops at the first that fails.
+fn write_each(file: &File, offset: u64, parts: &[Vec<u8>]) -> io::Result<()>
+    requires { offset + length (flat_map (λ p. p.items) parts.now) < 2 ^ 63 }
+{
+    let mut place = offset;
+    for part in parts {
+        file.write_all_at(part, place)?;
+        place += part.len() as u64;
     }
     Ok(())
 }

@@ -4,7 +4,7 @@ ghost use Rattle.btr_disk.specs.Causes.{Counted};
 
 use crate::MAX_BLOCKS;
 use crate::count::raise;
-use btr_disk::{Disk, Failed};
+use btr_disk::{Disk, Failed, Parts};
 
 /// A device of `2^32` blocks on which each read, write and sync fails: the device of a run without a path, or whose
 /// file cannot be opened. Its contents are not observable.
@@ -61,6 +61,10 @@ impl Disk for NoDisk {
     }
 
     fn write(&mut self, _first: u64, _bytes: &[u8]) -> Result<(), Failed> {
+        Err(self.fail())
+    }
+
+    fn write_parts(&mut self, _first: u64, _bytes: &Parts) -> Result<(), Failed> {
         Err(self.fail())
     }
 

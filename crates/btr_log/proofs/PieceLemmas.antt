@@ -55,7 +55,7 @@ FindCause-start P image blocks gate before after bytes (Damaged block) has damag
 FindCause-start P image blocks gate before after bytes Fault has damaged = absurd damaged
 FindCause-start P image blocks gate before after bytes Want has damaged = tt
 
--- a piece holds fewer blocks too, and the bytes of so many from a block on
+-- a piece holds fewer blocks too, and the bytes of this many from a block on
 pub fewer : (p : PieceValue) (block n count : ℕ) → n ≤ count → HoldsBlocks p block count → HoldsBlocks p block n
 fewer p block n count le holds = record { begins = holds.begins; ends = omega (arith, le, holds.ends) }
 

@@ -12,9 +12,10 @@ use crate::{ExtentFault, Head, Log, Piece};
 use btr_disk::Disk;
 
 impl<D: Disk> Log<D> {
-    /// Makes the piece hold the extent at this gate, which is below the log's blocks, and returns its head, or `None` if the gate is closed.
-    /// The body is not copied: it is the `head.n` blocks of the piece from `gate + 1` on, and the block after them is the next gate. What is
-    /// found, and when, is the same as for [`Log::read_extent`], but blocks that the piece holds are taken from there.
+    /// Makes the piece hold the extent at this gate, which is below the log's blocks, and returns its head, or `None` if
+    /// the gate is closed. The body is not copied: it is the `head.n` blocks of the piece from `gate + 1` on, and the block
+    /// after them is the next gate. What is found, and when, is the same as for [`Log::read_extent`], but blocks that the
+    /// piece holds are taken from there.
     ///
     /// The caller passes an empty piece, or the one that an earlier call on this log left, if nothing was
     /// written to its blocks since. A read takes at least 256 blocks, or as many as the log still has, and
@@ -55,7 +56,7 @@ impl<D: Disk> Log<D> {
     }
 }
 
-/// Makes the piece hold the `count` blocks from the gate on, of a log of so many blocks on the device, and returns what the gate and the
+/// Makes the piece hold the `count` blocks from the gate on, of a log of this many blocks on the device, and returns what the gate and the
 /// block after it say, as [`start_of`] does. It makes at most one call of the device.
 fn hold_start<D: Disk>(
     disk: &mut D,

@@ -7,7 +7,7 @@ ghost use Rattle.btr_log.specs.Log.{log_device, log_tail, log_room, extents_of, 
 ghost use Rattle.btr_log.specs.Append.{body_in_run, IsAppendRun, IsTooLong, IsMoment, AppendCause, IsAppended};
 
 use crate::Log;
-use btr_disk::{BLOCK, Disk, open_gate, publish};
+use btr_disk::{BLOCK, Disk, Parts, open_gate, publish};
 
 /// Why a body was not appended.
 #[derive(Clone, Copy, PartialEq, Eq)]
@@ -33,7 +33,7 @@ impl<D: Disk> Log<D> {
     ///
     /// It makes four calls of the device, a write and a sync for the run and then for the gate, or fewer
     /// if one of them fails. It allocates no memory.
-    pub fn append(&mut self, run: &[u8]) -> Result<(), AppendFault>
+    pub fn append(&mut self, run: &Parts) -> Result<(), AppendFault>
         requires { IsAppendRun run.now }
         ensures stopped { IsTrue (is_log_stopped self.old)
             → result ≡ Err (AppendFault.Stopped (extents_of self.old)) }

@@ -33,8 +33,8 @@ impl<D: Disk> Log<D> {
     }
 }
 
-/// Reads what is at the gate, which is below `blocks`, in a log of so many blocks on the device. It is [`Log::read_extent`] without a log:
-/// what it returns, and when, is the same. It writes nothing, and makes at most two calls of the device.
+/// Reads what is at the gate, which is below `blocks`, in a log of this many blocks on the device. It is [`Log::read_extent`] without a
+/// log: what it returns, and when, is the same. It writes nothing, and makes at most two calls of the device.
 pub fn find_extent<D: Disk>(
     alloc: Global,
     disk: &mut D,

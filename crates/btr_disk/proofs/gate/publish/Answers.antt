@@ -54,86 +54,86 @@ module _ {D : Type 0} (disk : Ghosts D) (d0 d1 d2 : D) (a : ℕ) (body : List �
         (λ x left. body_synced (disk.contents d0) a body p (disk.contents d2) done.but x (done.synced.each x left)))
         next (gate_torn (disk.contents d0) a body p apart above (disk.contents d2) (disk.images_now d2) (disk.images_now d3) done.has done.but done.synced torn)
 
-pub returns-in_err-write-clause-moments : goal.returns-in_err-write-clause-moments
-returns-in_err-write-clause-moments g c is_observable settled =
+pub returns-in_err-write_parts-clause-moments : goal.returns-in_err-write_parts-clause-moments
+returns-in_err-write_parts-clause-moments g c is_observable settled =
     let disk = g.D.Disk in
     let d0 = c.args.device.now in
-    to_first disk.calls disk.images_since disk.images_now disk.contents d0 (4096 * c.args.first) c.args.body.now (4096 * c.args.at) c.write.new.self (g.met.D.Disk.only_now is_observable d0) settled
-    (record { counted = c.write.ensures.calls; time = c.write.ensures.time is_observable }) (c.write.ensures.images is_observable).torn
+    to_first disk.calls disk.images_since disk.images_now disk.contents d0 (4096 * c.args.first) c.args.body.now (4096 * c.args.at) c.write_parts.new.self (g.met.D.Disk.only_now is_observable d0) settled
+    (record { counted = c.write_parts.ensures.calls; time = c.write_parts.ensures.time is_observable }) (c.write_parts.ensures.images is_observable).torn
 
 pub returns-in_err-sync-clause-moments : goal.returns-in_err-sync-clause-moments
 returns-in_err-sync-clause-moments g c is_observable settled =
     let disk = g.D.Disk in
     let d0 = c.args.device.now in
-    let d1 = c.write.new.self in
+    let d1 = c.write_parts.new.self in
     let a = 4096 * c.args.first in
     let body = c.args.body.now in
     let p = 4096 * c.args.at in
     let first = to_first disk.calls disk.images_since disk.images_now disk.contents d0 a body p d1 (g.met.D.Disk.only_now is_observable d0) settled
-    (record { counted = c.write.ensures.calls; time = c.write.ensures.time is_observable }) (c.write.ensures.images is_observable).torn in
+    (record { counted = c.write_parts.ensures.calls; time = c.write_parts.ensures.time is_observable }) (c.write_parts.ensures.images is_observable).torn in
     to_next disk.calls disk.images_since disk.images_now disk.contents d0 a body p d1 c.sync.new.self first
     (record { counted = c.sync.ensures.calls; time = c.sync.ensures.time is_observable })
-    (λ x left. body_torn (disk.contents d0) a body p (disk.images_now d0) (disk.images_now d1) settled (c.write.ensures.images is_observable).torn x ((c.in_err-sync.ensures.unsynced is_observable).none_new x left))
+    (λ x left. body_torn (disk.contents d0) a body p (disk.images_now d0) (disk.images_now d1) settled (c.write_parts.ensures.images is_observable).torn x ((c.in_err-sync.ensures.unsynced is_observable).none_new x left))
 
-pub returns-in_err-write-2-clause-moments : goal.returns-in_err-write-2-clause-moments
-returns-in_err-write-2-clause-moments g c is_observable settled =
+pub returns-in_err-write-clause-moments : goal.returns-in_err-write-clause-moments
+returns-in_err-write-clause-moments g c is_observable settled =
     let disk = g.D.Disk in
     let d0 = c.args.device.now in
-    let d1 = c.write.new.self in
+    let d1 = c.write_parts.new.self in
     let d2 = c.sync.new.self in
-    let d3 = c.write-2.new.self in
+    let d3 = c.write.new.self in
     let a = 4096 * c.args.first in
     let body = c.args.body.now in
     let p = 4096 * c.args.at in
-    let done = body_is_synced disk d0 d1 d2 a body (c.in_ok-write.ensures.written is_observable) (c.write.ensures.elsewhere is_observable) (c.sync.ensures.contents is_observable) (c.in_ok-sync.ensures.synced is_observable) in
+    let done = body_is_synced disk d0 d1 d2 a body (c.in_ok-write_parts.ensures.written is_observable) (c.write_parts.ensures.elsewhere is_observable) (c.sync.ensures.contents is_observable) (c.in_ok-sync.ensures.synced is_observable) in
     let above : p < a → p + 4096 ≤ a = λ lt. omega arith in
     let first = to_first disk.calls disk.images_since disk.images_now disk.contents d0 a body p d1 (g.met.D.Disk.only_now is_observable d0) settled
-    (record { counted = c.write.ensures.calls; time = c.write.ensures.time is_observable }) (c.write.ensures.images is_observable).torn in
-    let torn : Torn p 4096 (disk.images_now d2) (disk.images_now d3) = rw c.requires.one_block at (c.write-2.ensures.images is_observable).torn in
+    (record { counted = c.write_parts.ensures.calls; time = c.write_parts.ensures.time is_observable }) (c.write_parts.ensures.images is_observable).torn in
+    let torn : Torn p 4096 (disk.images_now d2) (disk.images_now d3) = rw c.requires.one_block at (c.write.ensures.images is_observable).torn in
     gate_moments disk d0 d1 d2 a body p first (record { counted = c.sync.ensures.calls; time = c.sync.ensures.time is_observable }) done d3 c.requires.apart above
-    (record { counted = c.write-2.ensures.calls; time = c.write-2.ensures.time is_observable }) torn
+    (record { counted = c.write.ensures.calls; time = c.write.ensures.time is_observable }) torn
 
 pub returns-clause-published : goal.returns-clause-published
 returns-clause-published g c is_observable =
     let disk = g.D.Disk in
     let d0 = c.args.device.now in
-    let d1 = c.write.new.self in
+    let d1 = c.write_parts.new.self in
     let d2 = c.sync.new.self in
-    let d3 = c.write-2.new.self in
+    let d3 = c.write.new.self in
     let a = 4096 * c.args.first in
     let body = c.args.body.now in
     let p = 4096 * c.args.at in
     let d4 = c.sync-2.new.self in
     let gate = c.args.gate.now in
-    let done = body_is_synced disk d0 d1 d2 a body (c.in_ok-write.ensures.written is_observable) (c.write.ensures.elsewhere is_observable) (c.sync.ensures.contents is_observable) (c.in_ok-sync.ensures.synced is_observable) in
+    let done = body_is_synced disk d0 d1 d2 a body (c.in_ok-write_parts.ensures.written is_observable) (c.write_parts.ensures.elsewhere is_observable) (c.sync.ensures.contents is_observable) (c.in_ok-sync.ensures.synced is_observable) in
     let above : p < a → p + 4096 ≤ a = λ lt. omega arith in
-    let then : SameBut p 4096 (disk.contents d2) (disk.contents d3) = rw c.requires.one_block at c.write-2.ensures.elsewhere is_observable in
+    let then : SameBut p 4096 (disk.contents d2) (disk.contents d3) = rw c.requires.one_block at c.write.ensures.elsewhere is_observable in
     on_ok c.sync-2.result _
     (Published-Same (disk.contents d0) a body p gate (disk.contents d3) (disk.contents d4)
-    (gate_written (disk.contents d0) a body p c.requires.apart above (disk.contents d2) (disk.contents d3) gate done.has done.but then (c.in_ok-write-2.ensures.written is_observable))
+    (gate_written (disk.contents d0) a body p c.requires.apart above (disk.contents d2) (disk.contents d3) gate done.has done.but then (c.in_ok-write.ensures.written is_observable))
     (c.sync-2.ensures.contents is_observable))
 
 pub returns-clause-moments : goal.returns-clause-moments
 returns-clause-moments g c is_observable settled =
     let disk = g.D.Disk in
     let d0 = c.args.device.now in
-    let d1 = c.write.new.self in
+    let d1 = c.write_parts.new.self in
     let d2 = c.sync.new.self in
-    let d3 = c.write-2.new.self in
+    let d3 = c.write.new.self in
     let a = 4096 * c.args.first in
     let body = c.args.body.now in
     let p = 4096 * c.args.at in
     let d4 = c.sync-2.new.self in
     let P : Image → Type 0 = IsBeforeOrHasBody (disk.contents d0) a body p in
-    let done = body_is_synced disk d0 d1 d2 a body (c.in_ok-write.ensures.written is_observable) (c.write.ensures.elsewhere is_observable) (c.sync.ensures.contents is_observable) (c.in_ok-sync.ensures.synced is_observable) in
+    let done = body_is_synced disk d0 d1 d2 a body (c.in_ok-write_parts.ensures.written is_observable) (c.write_parts.ensures.elsewhere is_observable) (c.sync.ensures.contents is_observable) (c.in_ok-sync.ensures.synced is_observable) in
     let above : p < a → p + 4096 ≤ a = λ lt. omega arith in
     let first = to_first disk.calls disk.images_since disk.images_now disk.contents d0 a body p d1 (g.met.D.Disk.only_now is_observable d0) settled
-    (record { counted = c.write.ensures.calls; time = c.write.ensures.time is_observable }) (c.write.ensures.images is_observable).torn in
-    let torn : Torn p 4096 (disk.images_now d2) (disk.images_now d3) = rw c.requires.one_block at (c.write-2.ensures.images is_observable).torn in
-    let then : SameBut p 4096 (disk.contents d2) (disk.contents d3) = rw c.requires.one_block at c.write-2.ensures.elsewhere is_observable in
+    (record { counted = c.write_parts.ensures.calls; time = c.write_parts.ensures.time is_observable }) (c.write_parts.ensures.images is_observable).torn in
+    let torn : Torn p 4096 (disk.images_now d2) (disk.images_now d3) = rw c.requires.one_block at (c.write.ensures.images is_observable).torn in
+    let then : SameBut p 4096 (disk.contents d2) (disk.contents d3) = rw c.requires.one_block at c.write.ensures.elsewhere is_observable in
     to_next disk.calls disk.images_since disk.images_now disk.contents d0 a body p d3 d4
     (gate_moments disk d0 d1 d2 a body p first (record { counted = c.sync.ensures.calls; time = c.sync.ensures.time is_observable }) done d3 c.requires.apart above
-    (record { counted = c.write-2.ensures.calls; time = c.write-2.ensures.time is_observable }) torn)
+    (record { counted = c.write.ensures.calls; time = c.write.ensures.time is_observable }) torn)
     (record { counted = c.sync-2.ensures.calls; time = c.sync-2.ensures.time is_observable })
     (after_sync c.sync-2.result (disk.contents d4) (disk.images_now d3) (disk.images_now d4) P (c.sync-2.ensures.synced is_observable) (c.sync-2.ensures.unsynced is_observable)
     (λ x same. gate_synced (disk.contents d0) a body p c.requires.apart above (disk.contents d2) (disk.contents d3) x done.has done.but then (Same-trans (disk.contents d3) (disk.contents d4) x (c.sync-2.ensures.contents is_observable) same))

@@ -1,5 +1,5 @@
-use Rattle.std.specs.Prelude.{◌≡◌, ◌-◌, ◌*◌, min, IfErr}
-use Rattle.std.proofs.Common.{sym, ◌∙◌, ap, subst}
+use Rattle.std.specs.Prelude.{◌≡◌, ◌*◌, IfErr}
+use Rattle.std.proofs.Common.{◌∙◌, ap, subst}
 use Rattle.btr_disk.specs.Bytes.{Has}
 use Rattle.btr_log.specs.Found.{IsDamagedStart}
 use Rattle.btr_log.specs.Piece.{bytes_at}
@@ -14,7 +14,7 @@ returns-clause-cause g c =
     let new = disk.contents c.hold.new.disk in
     let piece = c.hold.new.self in
     let bytes : c.blocks-2.result.now ≡ start_bytes piece a.blocks a.gate = c.blocks-2.ensures ∙ ap (bytes_at piece a.gate) c.start_blocks.ensures in
-    let has : disk.is_observable → Has image (4096 * a.gate) (start_bytes piece a.blocks a.gate) = λ told.
-    Has-start piece a.blocks a.gate a.count c.requires.start c.in_ok-hold.ensures.held image new (c.in_ok-hold.ensures.unwritten told).same (c.in_ok-hold.ensures.piece told (c.requires.piece told)) in
+    let has : disk.is_observable → Has image (4096 * a.gate) (start_bytes piece a.blocks a.gate) = λ reported.
+    Has-start piece a.blocks a.gate a.count c.requires.start c.in_ok-hold.ensures.held image new (c.in_ok-hold.ensures.unwritten reported).same (c.in_ok-hold.ensures.piece reported (c.requires.piece reported)) in
     FindCause-result disk.is_observable image a.blocks a.gate _ _ (start_bytes piece a.blocks a.gate) c.start_of.result has
     (subst (λ b. IfErr c.start_of.result (IsDamagedStart a.blocks a.gate b)) bytes c.start_of.ensures.damaged)

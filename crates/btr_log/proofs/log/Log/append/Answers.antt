@@ -32,7 +32,8 @@ returns-clause-at_rest g c is_observable bodies rest =
     let log = c.args.self.now in
     let new = c.publish-written.new.device in
     let ran : is_err c.publish-written.result ≡ false = sym c.is_err.ensures.value ∙ c.if-is_err.false in
-    at_the_end (disk.contents log.disk) log.tail bodies c.args.run.now c.requires rest.extents (disk.contents new) (disk.images_now new)
+    rw c.len.ensures
+    (at_the_end (disk.contents log.disk) log.tail bodies c.args.run.now c.requires rest.extents (disk.contents new) (disk.images_now new)
     c.open_gate.result c.open_gate.ensures
     (from_ok c.publish-written.result _ ran (c.publish-written.ensures.published is_observable))
-    (from_ok c.publish-written.result _ ran (c.publish-written.ensures.synced is_observable))
+    (from_ok c.publish-written.result _ ran (c.publish-written.ensures.synced is_observable)))

@@ -12,7 +12,7 @@ use Rattle.btr_log.proofs.log.Log.read_ahead.Goals.{In-Some, in_default-2-via-in
 use Rattle.btr_log.proofs.log.Log.read_ahead.Goals as goal
 
 pub returns-in_default-clause-matches : goal.returns-in_default-clause-matches
-returns-in_default-clause-matches g c told =
+returns-in_default-clause-matches g c reported =
     let disk = g.D.Disk in
     let a = c.args in
     let blocks = a.self.now.blocks in
@@ -20,7 +20,7 @@ returns-in_default-clause-matches g c told =
     let ok = c.in_ok-head.ensures in
     let few : min 2 (blocks - a.gate) ≤ c.start_blocks-count.result = omega (arith, c.start_blocks-count.ensures) in
     let piece = c.hold_start.new.piece in
-    let has = Has-start piece blocks a.gate c.start_blocks-count.result few ok.held image (disk.contents c.hold_start.new.disk) (ok.unwritten told).same (ok.piece told) in
+    let has = Has-start piece blocks a.gate c.start_blocks-count.result few ok.held image (disk.contents c.hold_start.new.disk) (ok.unwritten reported).same (ok.piece reported) in
     closed-start piece blocks a.gate c.start_blocks-count.result few ok.held image c.requires.gate has (subst (StartSays blocks a.gate (start_bytes piece blocks a.gate)) c.in_default.is ok.start)
 
 -- What the first reading of the start says.
@@ -37,12 +37,12 @@ returns-then-holds-clause-whole g c =
     holds-extent c.hold_start.new.piece c.args.self.now.blocks c.args.gate (c.in-Some.head.n + 1) (few g at) (c.holds.ensures c.if-holds.true) c.in-Some.head (start g at) (omega arith)
 
 pub returns-then-holds-clause-matches : goal.returns-then-holds-clause-matches
-returns-then-holds-clause-matches g c told =
+returns-then-holds-clause-matches g c reported =
     let disk = g.D.Disk in
     let at = (goal.at.returns-then-holds-clause-matches g c).In-Some in
     let ok = c.in_ok-head.ensures in
     matches-extent c.hold_start.new.piece c.args.self.now.blocks c.args.gate (c.in-Some.head.n + 1) (few g at) (c.holds.ensures c.if-holds.true) c.in-Some.head (start g at)
-    (disk.contents c.args.self.now.disk) (disk.contents c.hold_start.new.disk) (ok.unwritten told).same (ok.piece told) (omega arith)
+    (disk.contents c.args.self.now.disk) (disk.contents c.hold_start.new.disk) (ok.unwritten reported).same (ok.piece reported) (omega arith)
 
 pub returns-in_err-again-clause-cause : goal.returns-in_err-again-clause-cause
 returns-in_err-again-clause-cause g c =
@@ -52,7 +52,7 @@ returns-in_err-again-clause-cause g c =
     let d2 = c.hold_start-2.new.disk in
     let p = err_from_is_err_and c.from_residual-in_err-again.result c.from_residual-in_err-again.ensures.1 in
     rw (p.1, p.2) (FindCause-before disk.is_observable (disk.contents d0) (disk.contents d1) c.args.self.now.blocks c.args.gate (disk.faults d0) (disk.faults d1) (disk.faults d2) c.in_err-again.field-0.0
-    (λ told. (c.in_ok-head.ensures.unwritten told).same) c.in_ok-head.ensures.counts.more_faults c.in_err-again.ensures.cause)
+    (λ reported. (c.in_ok-head.ensures.unwritten reported).same) c.in_ok-head.ensures.counts.more_faults c.in_err-again.ensures.cause)
 
 pub returns-in-Some-2-clause-whole : goal.returns-in-Some-2-clause-whole
 returns-in-Some-2-clause-whole g c =
@@ -66,7 +66,7 @@ returns-in-Some-2-clause-whole g c =
     holds-extent piece blocks gate (c.in-Some.head.n + 1) (few g at) ok.held again start (omega (arith, c.if-again-head.true))
 
 pub returns-in-Some-2-clause-matches : goal.returns-in-Some-2-clause-matches
-returns-in-Some-2-clause-matches g c told =
+returns-in-Some-2-clause-matches g c reported =
     let disk = g.D.Disk in
     let at = (goal.at.returns-in-Some-2-clause-matches g c).In-Some in
     let blocks = c.args.self.now.blocks in
@@ -76,12 +76,12 @@ returns-in-Some-2-clause-matches g c told =
     let image = disk.contents c.args.self.now.disk in
     let new = disk.contents c.hold_start-2.new.disk in
     let ok = c.in_ok-again.ensures in
-    let same = Same-trans image (disk.contents c.hold_start.new.disk) new (c.in_ok-head.ensures.unwritten told).same (ok.unwritten told).same in
+    let same = Same-trans image (disk.contents c.hold_start.new.disk) new (c.in_ok-head.ensures.unwritten reported).same (ok.unwritten reported).same in
     let start : IsOpenStart blocks gate (start_bytes piece blocks gate) again = subst (StartSays blocks gate (start_bytes piece blocks gate)) c.in-Some-2.is ok.start in
-    matches-extent piece blocks gate (c.in-Some.head.n + 1) (few g at) ok.held again start image new same (ok.piece told) (omega (arith, c.if-again-head.true))
+    matches-extent piece blocks gate (c.in-Some.head.n + 1) (few g at) ok.held again start image new same (ok.piece reported) (omega (arith, c.if-again-head.true))
 
 pub returns-in_default-2-clause-cause : goal.returns-in_default-2-clause-cause
-returns-in_default-2-clause-cause g c told =
+returns-in_default-2-clause-cause g c reported =
     let disk = g.D.Disk in
     let at = (goal.at.returns-in_default-2-clause-cause g c).In-Some in
     let a = c.args in
@@ -96,10 +96,10 @@ returns-in_default-2-clause-cause g c told =
     let first = c.hold_start.new.piece in
     let second = c.hold_start-2.new.piece in
     let one : min 2 (blocks - a.gate) ≤ count = omega (arith, c.start_blocks-count.ensures) in
-    let same : Same image new = Same-trans image mid new (ok.unwritten told).same (ok2.unwritten told).same in
+    let same : Same image new = Same-trans image mid new (ok.unwritten reported).same (ok2.unwritten reported).same in
     let sizes = length-start first blocks a.gate count one ok.held ∙ sym (length-start second blocks a.gate (head.n + 1) (few g at) ok2.held) in
-    let has_first = Has-start first blocks a.gate count one ok.held image mid (ok.unwritten told).same (ok.piece told) in
-    let has_second = Has-start second blocks a.gate (head.n + 1) (few g at) ok2.held image new same (ok2.piece told) in
+    let has_first = Has-start first blocks a.gate count one ok.held image mid (ok.unwritten reported).same (ok.piece reported) in
+    let has_second = Has-start second blocks a.gate (head.n + 1) (few g at) ok2.held image new same (ok2.piece reported) in
     let found : c.in_ok-again.field-0 ≡ Some head =
     one-start image blocks a.gate (start_bytes first blocks a.gate) (start_bytes second blocks a.gate) head c.in_ok-again.field-0 sizes has_first has_second (start g at) ok2.start
     in

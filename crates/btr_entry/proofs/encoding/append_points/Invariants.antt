@@ -1,7 +1,7 @@
 use Rattle.std.proofs.Common.{◌≡◌, ◌++◌, take}
 use Rattle.std.specs.List.{flat_map}
 use Rattle.btr_entry.specs.Grammar.{point, ValuesFit}
-use Rattle.btr_entry.proofs.encoding.put_points.Given as goal
+use Rattle.btr_entry.proofs.encoding.append_points.Given as goal
 
 abbrev pub invariant-loop-point : goal.invariant-loop-point
 invariant-loop-point l = record {
