@@ -5,7 +5,7 @@ use Rattle.std.proofs.Common.{refl, sym, ap, ◌∙◌, arith, mul-le-mul_right,
 use Rattle.std.proofs.lemmas.Bool.{both_ways, and_parts, or_parts}
 use Rattle.std.proofs.lemmas.List.{length-append, length-map}
 use Rattle.std.specs.Ordering.{int_eq}
-use Rattle.std.proofs.lemmas.Int.{ints}
+use Rattle.std.proofs.lemmas.Int.{ints, clamps}
 use Rattle.std.proofs.lemmas.Nat.{pow-add, pow_pos, le-div}
 use Rattle.std.proofs.Math.Nat.{div-mul-le_self, lt-div-mul-add}
 use Rattle.btr_base.specs.declared.limits.TheConstants.{FIRST, END}
@@ -13,6 +13,7 @@ use Rattle.btr_base.specs.declared.point.Point.{Point}
 use Rattle.btr_base.specs.Point.{is_not_after, InDomain, AreInDomain, in_domain, same_point}
 use Rattle.btr_base.specs.Range.{RangeValue, IsRange, IsCut, AreApart, contains, covered}
 use Rattle.btr_base.specs.Bag.{IsInOrder, sort}
+use Rattle.btr_base.specs.Cut.{lengthened}
 use Rattle.btr_base.specs.Changes.{points_at, same_points, differ_at, changed, slot_around, joined_before, runs, changes}
 use Rattle.btr_base.proofs.ListLemmas.{each-weaker, each-both, filter-passes, filter-append, filter-all, filter-none, filter-swap, length-filter}
 use Rattle.btr_base.proofs.PointLemmas.{sort-in_order, filter-in_order, is_not_after-times, same_point-true, filter-sort, length-sort}
@@ -103,6 +104,33 @@ runs-covered [] t h rise = refl
 runs-covered (r ∷ rs) t h rise =
     joined-covered r (runs rs) t (each-both (Follows r) IsRange (runs rs) (runs-follow r rs rise.0) (runs-each rs h.1 rise.1))
     ∙ ap (λ b. contains r t || b) (runs-covered rs t h.1 rise.1)
+
+-- ---- all of them, longer
+
+join-lengthened : (lead : ℕ) (r s : RangeValue) (t : ℤ) → Follows r s → IsRange s → s.from ≤ℤ r.to → contains (lengthened lead (record { from = r.from; to = s.to })) t ≡ (contains (lengthened lead r) t || contains (lengthened lead s) t)
+join-lengthened lead r s t f k e =
+    let low = f.0 in
+    let high = f.1 in
+    let ends = k.ends in
+    grind (arith, ints, clamps)
+
+joined-lengthened : (lead : ℕ) (r : RangeValue) (rs : List RangeValue) (t : ℤ) → AllByRecursion (λ s. Follows r s × IsRange s) rs → covered (map (lengthened lead) (joined_before r rs)) t ≡ covered (map (lengthened lead) (r ∷ rs)) t
+joined-lengthened lead r [] t h = refl
+joined-lengthened lead r (s ∷ rs) t h =
+    elim (int_le s.from r.to) as (λ u. int_le s.from r.to ≡ u → covered (map (lengthened lead) (cond u (record { from = r.from; to = s.to } ∷ rs) (r ∷ s ∷ rs))) t ≡ covered (map (lengthened lead) (r ∷ s ∷ rs)) t) [
+      | true ↦ λ e.
+          let near : s.from ≤ℤ r.to = grind (arith, ints) in
+          let rest = covered (map (lengthened lead) rs) t in
+          ap (λ b. b || rest) (join-lengthened lead r s t h.0.0 h.0.1 near) ∙ either (contains (lengthened lead r) t) (contains (lengthened lead s) t) rest
+      | false ↦ λ _. refl
+    ] refl
+
+-- The runs of ranges, longer, cover the times of the ranges, longer.
+pub runs-lengthened : (lead : ℕ) (rs : List RangeValue) (t : ℤ) → AllByRecursion IsRange rs → Rise rs → covered (map (lengthened lead) (runs rs)) t ≡ covered (map (lengthened lead) rs) t
+runs-lengthened lead [] t h rise = refl
+runs-lengthened lead (r ∷ rs) t h rise =
+    joined-lengthened lead r (runs rs) t (each-both (Follows r) IsRange (runs rs) (runs-follow r rs rise.0) (runs-each rs h.1 rise.1))
+    ∙ ap (λ b. contains (lengthened lead r) t || b) (runs-lengthened lead rs t h.1 rise.1)
 
 -- ---- aligned slots
 
@@ -216,6 +244,18 @@ changes-covered p a b t low =
     let in_domain = changed-domain a b in
     runs-covered (map (λ q. slot_around p q.time) (changed a b)) t (slots-each p (changed a b) low in_domain) (slots-rise p (changed a b) in_domain (changed-in_order a b))
     ∙ covered-map p (changed a b) t
+
+covered-longer : (lead p : ℕ) (ps : List Point) (t : ℤ) → covered (map (lengthened lead) (map (λ q. slot_around p q.time) ps)) t ≡ list_any (λ q. contains (lengthened lead (slot_around p q.time)) t) ps
+covered-longer lead p [] t = refl
+covered-longer lead p (q ∷ ps) t =
+    ap (λ b. contains (lengthened lead (slot_around p q.time)) t || b) (covered-longer lead p ps t)
+
+-- The changed runs, longer, cover the times of the changed slots, longer.
+pub changes-lengthened : (lead p : ℕ) (a b : List Point) (t : ℤ) → p ≤ 62 → covered (map (lengthened lead) (changes p a b)) t ≡ list_any (λ q. contains (lengthened lead (slot_around p q.time)) t) (changed a b)
+changes-lengthened lead p a b t low =
+    let in_domain = changed-domain a b in
+    runs-lengthened lead (map (λ q. slot_around p q.time) (changed a b)) t (slots-each p (changed a b) low in_domain) (slots-rise p (changed a b) in_domain (changed-in_order a b))
+    ∙ covered-longer lead p (changed a b) t
 
 -- ---- how many there are
 

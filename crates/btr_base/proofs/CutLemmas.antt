@@ -40,6 +40,19 @@ lengthened-covered lead (r ∷ rs) u t h early late inside =
       | inr later ↦ or_right (contains (lengthened lead r) t) rest (lengthened-covered lead rs u t later early late inside)
     ]
 
+lengthened-zero : (r : RangeValue) → IsRange r → lengthened 0 r ≡ r
+lengthened-zero r h =
+    let ends = h.ends in
+    let same : int_min END (r.to +ℤ pos 0) ≡ r.to = omega (arith, ints, clamps) in
+    λ i. record { from = r.from; to = same i }
+
+each_lengthened-zero : (rs : List RangeValue) → AllByRecursion IsRange rs → map (lengthened 0) rs ≡ rs
+each_lengthened-zero [] h = refl
+each_lengthened-zero (r ∷ rs) h =
+    let first = lengthened-zero r h.0 in
+    let rest = each_lengthened-zero rs h.1 in
+    λ i. first i ∷ rest i
+
 -- ---- two ranges that touch or overlap
 
 -- From the earlier begin to the later end.
@@ -154,3 +167,7 @@ union-is cut rs h k same = same_from-covered cut (union rs) h (union-cut rs k) (
 -- The union of a set of times is that set.
 pub union-of_cut : (rs : List RangeValue) → IsCut rs → union rs ≡ rs
 union-of_cut rs h = sym (union-is rs rs h h.each (λ t. refl))
+
+-- Ranges in order and apart that are lengthened by nothing are as they were.
+pub union-zero : (rs : List RangeValue) → IsCut rs → union (map (lengthened 0) rs) ≡ rs
+union-zero rs h = ap union (each_lengthened-zero rs h.each) ∙ union-of_cut rs h

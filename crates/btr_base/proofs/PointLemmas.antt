@@ -1,5 +1,5 @@
 -- Lemmas on points, their order, and bags.
-use Rattle.std.specs.Prelude.{◌≡◌, ℕ, ◌+◌, ◌<◌, ◌≤◌, slice_index_or, drop, Bool, true, false, not, ◌≤ℤ◌, ◌<ℤ◌, ◌⊎◌, List, [], ◌∷◌, ◌++◌, length, cond, IsTrue}
+use Rattle.std.specs.Prelude.{◌≡◌, ℕ, ◌+◌, ◌<◌, ◌≤◌, slice_index_or, drop, Bool, true, false, not, ℤ, ◌≤ℤ◌, ◌<ℤ◌, ◌⊎◌, List, [], ◌∷◌, ◌++◌, length, cond, IsTrue}
 use Rattle.std.specs.List.{filter, count_by, AllByRecursion}
 use Rattle.std.proofs.Common.{zero, suc, refl, sym, ap, ◌∙◌, arith, subst}
 use Rattle.std.proofs.lemmas.Int.{ints}
@@ -117,6 +117,14 @@ in_order-from_sorted (p ∷ q ∷ b) h =
     let rest : IsInOrder (q ∷ b) = in_order-from_sorted (q ∷ b) (sorted-tail p (q ∷ b) h) in
     let first : is_not_after p q ≡ true = ap not (h 0 p (omega arith) (omega arith)) in
     ((first, each-weaker (λ r. IsTrue (is_not_after q r)) (λ r. IsTrue (is_not_after p r)) (λ r k. is_not_after-trans p q r first k) b rest.0), rest)
+
+-- Points in order, none of them after a time, and then a point after it.
+pub in_order-push : (ps : List Point) (q : Point) (t : ℤ) → IsInOrder ps → AllByRecursion (λ p. p.time ≤ℤ t) ps → t <ℤ q.time → IsInOrder (ps ++ q ∷ [])
+in_order-push [] q t h k late = (tt, tt)
+in_order-push (p ∷ ps) q t h k late =
+    let early = k.0 in
+    let after : is_not_after p q ≡ true = grind (arith, ints) in
+    (each-append (λ r. is_not_after p r ≡ true) ps (q ∷ []) h.0 (after, tt), in_order-push ps q t h.1 k.1 late)
 
 pub sorted-from_in_order : (b : List Point) → IsInOrder b → IsSorted point_cmp b
 sorted-from_in_order [] h k d low high = absurd (omega arith)

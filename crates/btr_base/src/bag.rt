@@ -1,5 +1,5 @@
 ghost use Rattle.std.specs.Prelude.{◌≡◌, ℕ, ◌≤◌, ◌<◌, ℤ, ◌≤ℤ◌, ◌<ℤ◌, List, [], ◌++◌, length, drop};
-ghost use Rattle.std.specs.Prelude.{slice_index_or, IfOk, filter, int_lt, not};
+ghost use Rattle.std.specs.Prelude.{slice_index_or, IfOk, IsTrue, filter, int_lt, not};
 ghost use Rattle.btr_base.specs.declared.point.Point.{Point as APoint};
 ghost use Rattle.btr_base.specs.Bag.{IsInOrder, sort, outside, within};
 ghost use Rattle.btr_base.specs.Range.{RangeValue, IsCut, covered};
@@ -30,10 +30,14 @@ impl Model for Bag {
 }
 
 impl Bag {
-    /// The bag of these points. It sorts them in place, in `n log n` time, and takes no memory.
+    /// The bag of these points. It sorts them in place, in `n log n` time, or in linear time if each is later than the one before. It
+    /// takes no memory.
     pub fn from_points(points: Vec<Point>) -> Bag
         ensures { result ≡ sort points.items }
     {
+        if do_times_rise(&points) {
+            return Bag { points };
+        }
         let mut points = points;
         points.sort_unstable();
         Bag { points }
@@ -81,6 +85,20 @@ impl Bag {
         let points = Vec::from_slice(alloc, &self.points)?;
         Ok(Bag { points })
     }
+}
+
+/// Whether each point is later than the one before it, and the first one than the least `i64`. It takes one pass.
+fn do_times_rise(points: &[Point]) -> bool
+    ensures { IsTrue result → IsInOrder points.now }
+{
+    let mut last = i64::MIN;
+    for point in points {
+        if point.time <= last {
+            return false;
+        }
+        last = point.time;
+    }
+    true
 }
 
 /// The points of a list in order whose time no range covers. It takes one pass over points and ranges, and memory for as many

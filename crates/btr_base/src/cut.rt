@@ -1,26 +1,13 @@
-//! Sets of times that are lengthened or united.
-ghost use Rattle.std.specs.Prelude.{◌≡◌, ℤ, ◌++◌, ◌||◌, map, IfOk, OnOk};
+//! Sets of times that are united.
+ghost use Rattle.std.specs.Prelude.{◌≡◌, ℤ, ◌++◌, ◌||◌, IfOk, OnOk};
 ghost use Rattle.btr_base.specs.Range.{covered};
-ghost use Rattle.btr_base.specs.Cut.{lengthened, union};
+ghost use Rattle.btr_base.specs.Cut.{union};
 
-use crate::limits::{END, MAX_WIDTH};
 use crate::range::Range;
 use crate::ranges::Ranges;
 use std::alloc::{AllocError, Global};
 
 impl Ranges {
-    /// The same ranges, each with its end later by `lead` nanoseconds, at most the domain's end, and joined if they touch or
-    /// overlap. It takes time linear in the number of ranges. An `Err` means out of memory.
-    pub fn with_lead(&self, alloc: Global, lead: u64) -> Result<Ranges, AllocError>
-        ensures ranges { IfOk result (λ r. r ≡ union (map (lengthened lead) self.now)) }
-        ensures times { IfOk result (λ r. (t : ℤ) → covered r t ≡ covered (map (lengthened lead) self.now) t) }
-    {
-        let longer = all_lengthened(alloc, self.as_slice(), lead)?;
-        // the proof reads here that the ranges are in order and apart
-        let _ = longer.as_slice();
-        Ok(longer)
-    }
-
     /// The times of both. It takes time linear in the number of ranges of both. An `Err` means out of memory.
     pub fn union(&self, alloc: Global, other: &Ranges) -> Result<Ranges, AllocError>
         ensures ranges { IfOk result (λ r. r ≡ union (self.now ++ other.now)) }
@@ -30,28 +17,6 @@ impl Ranges {
         // the proof reads here that the ranges are in order and apart
         let _ = all.as_slice();
         Ok(all)
-    }
-}
-
-/// The times of the ranges, each with its end later. The ranges are in order, so each is added in constant time.
-fn all_lengthened(alloc: Global, ranges: &[Range], lead: u64) -> Result<Ranges, AllocError>
-    ensures { IfOk result (λ r. (t : ℤ) → covered r t ≡ covered (map (lengthened lead) ranges.now) t) }
-{
-    let mut longer = Ranges::none(alloc);
-    for range in ranges {
-        longer.add(lengthened(range, lead))?;
-    }
-    Ok(longer)
-}
-
-/// The range with its end later, at most the domain's end.
-fn lengthened(range: &Range, lead: u64) -> Range
-    ensures { result ≡ lengthened lead range.now }
-{
-    let to = range.to + lead.min(MAX_WIDTH) as i64;
-    Range {
-        from: range.from,
-        to: to.min(END),
     }
 }
 

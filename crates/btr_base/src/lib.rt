@@ -14,7 +14,7 @@ mod point;
 // what a commit removes
 mod range;
 mod ranges;
-// sets of times that are lengthened or united
+// sets of times that are united
 mod cut;
 // what a version holds
 mod bag;

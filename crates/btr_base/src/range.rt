@@ -1,7 +1,8 @@
 ghost use Rattle.std.specs.Prelude.{◌≡◌, ◌↔◌, IsSome, IfSome};
 ghost use Rattle.btr_base.specs.Range.{IsRange};
+ghost use Rattle.btr_base.specs.Cut.{lengthened};
 
-use crate::limits::{END, FIRST};
+use crate::limits::{END, FIRST, MAX_WIDTH};
 use std::marker::Model;
 
 /// The times from `from` up to, and without, `to`, in nanoseconds. A range is never empty, and lies in the domain.
@@ -34,5 +35,16 @@ impl Range {
             return None;
         }
         Some(Range { from, to })
+    }
+
+    /// The range with its end later by `lead` nanoseconds, at most the domain's end.
+    pub fn lengthened(self, lead: u64) -> Range
+        ensures { result ≡ lengthened lead self }
+    {
+        let to = self.to + lead.min(MAX_WIDTH) as i64;
+        Range {
+            from: self.from,
+            to: to.min(END),
+        }
     }
 }

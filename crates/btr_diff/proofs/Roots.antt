@@ -1,11 +1,12 @@
 -- Lemmas on the comparison of whole trees.
-use Rattle.std.specs.Prelude.{◌≡◌, ℕ, ◌+◌, ◌≤◌, List, [], Option}
+use Rattle.std.specs.Prelude.{◌≡◌, ℕ, ◌+◌, ◌≤◌, List, [], map, Option}
 use Rattle.std.proofs.Common.{sym, subst, arith}
 use Rattle.std.proofs.lemmas.Int.{ints}
 use Rattle.btr_base.specs.declared.point.Point.{Point}
 use Rattle.btr_base.specs.Point.{AreInDomain}
 use Rattle.btr_base.specs.declared.limits.TheConstants.{FIRST}
 use Rattle.btr_base.specs.Range.{RangeValue, IsCut}
+use Rattle.btr_base.specs.Cut.{lengthened, union}
 use Rattle.btr_base.specs.Changes.{changes}
 use Rattle.btr_base.specs.Span.{SpanValue}
 use Rattle.btr_tree.specs.declared.node.NodeData.{NodeData}
@@ -19,6 +20,7 @@ use Rattle.btr_tree.specs.EachHistory.{points_in}
 use Rattle.btr_tree.proofs.RootLemmas.{root-points, end-root}
 use Rattle.btr_tree.proofs.VersionLemmas.{points-since}
 use Rattle.btr_tree.specs.Shape.{IsChild}
+use Rattle.btr_diff.specs.declared.comparison.Comparison.{Comparison}
 use Rattle.btr_diff.specs.Comparison.{AddsChangedSlots, IsInside, BelongsTo, IsChildOf, newer_below}
 use Rattle.btr_diff.proofs.ChangedSlots.{adds-all}
 use Rattle.btr_diff.proofs.Slots.{adds-as}
@@ -48,14 +50,14 @@ agree-since since h k e =
     subst (λ x. AgreeSince since x k) (sym e) at
 
 -- What is added in the root's span, by whatever name.
-pub root-adds : (span : SpanValue) (p : ℕ) (was now : List RangeValue) (a b : List Point) → span ≡ root_part → AddsChangedSlots p was now (points_in span a) (points_in span b) → AddsChangedSlots p was now (points_in root_part a) (points_in root_part b)
-root-adds span p was now a b e adds = subst (λ (s : SpanValue). AddsChangedSlots p was now (points_in s a) (points_in s b)) e adds
+pub root-adds : (span : SpanValue) (by : Comparison) (was now : List RangeValue) (a b : List Point) → span ≡ root_part → AddsChangedSlots by was now (points_in span a) (points_in span b) → AddsChangedSlots by was now (points_in root_part a) (points_in root_part b)
+root-adds span by was now a b e adds = subst (λ (s : SpanValue). AddsChangedSlots by was now (points_in s a) (points_in s b)) e adds
 
--- What is added in the root's span are the changes.
-pub root-changes : (p : ℕ) (was now : List RangeValue) (h k : Past) → p ≤ 62 → was ≡ [] → IsCut now → AreInDomain (bag h) → AreInDomain (bag k) → AddsChangedSlots p was now (points_in root_part (bag h)) (points_in root_part (bag k)) → now ≡ changes p (bag h) (bag k)
-root-changes p was now h k low none cut old new adds =
-    let whole = adds-as p was now _ _ _ _ (root-points (bag h) old) (root-points (bag k) new) adds in
-    adds-all p now (bag h) (bag k) low cut (subst (λ x. AddsChangedSlots p x now (bag h) (bag k)) none whole)
+-- What is added in the root's span are the changes, longer.
+pub root-changes : (by : Comparison) (was now : List RangeValue) (h k : Past) → by.p ≤ 62 → was ≡ [] → IsCut now → AreInDomain (bag h) → AreInDomain (bag k) → AddsChangedSlots by was now (points_in root_part (bag h)) (points_in root_part (bag k)) → now ≡ union (map (lengthened by.lead) (changes by.p (bag h) (bag k)))
+root-changes by was now h k low none cut old new adds =
+    let whole = adds-as by was now _ _ _ _ (root-points (bag h) old) (root-points (bag k) new) adds in
+    adds-all by now (bag h) (bag k) low cut (subst (λ x. AddsChangedSlots by x now (bag h) (bag k)) none whole)
 
 -- The nodes below the root's span, by whatever name.
 pub root-below : (span : SpanValue) (first last since : ℕ) (k : Past) → span ≡ root_part → last ≤ first + newer_below span.height span.start k since → last ≤ first + newer_below 10 FIRST k since

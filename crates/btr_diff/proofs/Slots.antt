@@ -17,31 +17,32 @@ use Rattle.btr_tree.specs.Nodes.{points_of, is_inner, last_change}
 use Rattle.btr_tree.specs.Shape.{slot_start, HasSlots}
 use Rattle.btr_tree.proofs.NodeLemmas.{slot-next, slot-from, points-slot, prefix-none, prefix-next, prefix-done, child-at}
 use Rattle.btr_tree.proofs.VersionLemmas.{bag-in_order}
+use Rattle.btr_diff.specs.declared.comparison.Comparison.{Comparison}
 use Rattle.btr_diff.specs.Comparison.{AddsChangedSlots, AreSlotsOf, IsSlotOf, ArePointsOf, IncludesPointsOf}
 use Rattle.btr_diff.proofs.ChangedSlots.{adds-none, adds-within}
 
 -- ---- What is added.
 
-pub adds-as : (p : ℕ) (was now : List RangeValue) (a b c d : List Point) → a ≡ c → b ≡ d → AddsChangedSlots p was now a b → AddsChangedSlots p was now c d
-adds-as p was now a b c d e f h = subst (λ x. AddsChangedSlots p was now x d) e (subst (AddsChangedSlots p was now a) f h)
+pub adds-as : (by : Comparison) (was now : List RangeValue) (a b c d : List Point) → a ≡ c → b ≡ d → AddsChangedSlots by was now a b → AddsChangedSlots by was now c d
+adds-as by was now a b c d e f h = subst (λ x. AddsChangedSlots by was now x d) e (subst (AddsChangedSlots by was now a) f h)
 
 -- Of no slot.
-pub adds-first : (p : ℕ) (was : List RangeValue) (below : ℕ) (s : ℤ) (h k : Past) → AddsChangedSlots p was was (within s (slot_start below s 0) (bag h)) (within s (slot_start below s 0) (bag k))
-adds-first p was below s h k =
-    adds-as p was was [] [] _ _ (sym (prefix-none below s h)) (sym (prefix-none below s k)) (adds-none p was [])
+pub adds-first : (by : Comparison) (was : List RangeValue) (below : ℕ) (s : ℤ) (h k : Past) → AddsChangedSlots by was was (within s (slot_start below s 0) (bag h)) (within s (slot_start below s 0) (bag k))
+adds-first by was below s h k =
+    adds-as by was was [] [] _ _ (sym (prefix-none below s h)) (sym (prefix-none below s k)) (adds-none by was [])
 
 -- Of one slot more.
-pub adds-slot : (p : ℕ) (was mid now : List RangeValue) (below : ℕ) (s : ℤ) (i : ℕ) (part : SpanValue) (h k : Past) → part ≡ record { start = slot_start below s i; height = below } → AddsChangedSlots p was mid (within s (slot_start below s i) (bag h)) (within s (slot_start below s i) (bag k)) → AddsChangedSlots p mid now (points_of part.height part.start (bag h)) (points_of part.height part.start (bag k)) → AddsChangedSlots p was now (within s (slot_start below s (i + 1)) (bag h)) (within s (slot_start below s (i + 1)) (bag k))
-adds-slot p was mid now below s i part h k is before here =
+pub adds-slot : (by : Comparison) (was mid now : List RangeValue) (below : ℕ) (s : ℤ) (i : ℕ) (part : SpanValue) (h k : Past) → part ≡ record { start = slot_start below s i; height = below } → AddsChangedSlots by was mid (within s (slot_start below s i) (bag h)) (within s (slot_start below s i) (bag k)) → AddsChangedSlots by mid now (points_of part.height part.start (bag h)) (points_of part.height part.start (bag k)) → AddsChangedSlots by was now (within s (slot_start below s (i + 1)) (bag h)) (within s (slot_start below s (i + 1)) (bag k))
+adds-slot by was mid now below s i part h k is before here =
     let next = slot-next below s i in
-    let at = subst (λ (u : SpanValue). AddsChangedSlots p mid now (points_of u.height u.start (bag h)) (points_of u.height u.start (bag k))) is here in
-    let to = subst (λ e. AddsChangedSlots p mid now (within (slot_start below s i) e (bag h)) (within (slot_start below s i) e (bag k))) (sym next) at in
-    adds-within p was mid now s (slot_start below s i) (slot_start below s (i + 1)) (bag h) (bag k) (slot-from below s i) (omega (arith, ints)) (bag-in_order h) (bag-in_order k) before to
+    let at = subst (λ (u : SpanValue). AddsChangedSlots by mid now (points_of u.height u.start (bag h)) (points_of u.height u.start (bag k))) is here in
+    let to = subst (λ e. AddsChangedSlots by mid now (within (slot_start below s i) e (bag h)) (within (slot_start below s i) e (bag k))) (sym next) at in
+    adds-within by was mid now s (slot_start below s i) (slot_start below s (i + 1)) (bag h) (bag k) (slot-from below s i) (omega (arith, ints)) (bag-in_order h) (bag-in_order k) before to
 
 -- Of all slots.
-pub adds-done : (p : ℕ) (was now : List RangeValue) (height below : ℕ) (s : ℤ) (i : ℕ) (h k : Past) → i ≡ 64 → height ≡ suc below → AddsChangedSlots p was now (within s (slot_start below s i) (bag h)) (within s (slot_start below s i) (bag k)) → AddsChangedSlots p was now (points_of height s (bag h)) (points_of height s (bag k))
-adds-done p was now height below s i h k e is all =
-    adds-as p was now _ _ _ _ (prefix-done height below s i h e is) (prefix-done height below s i k e is) all
+pub adds-done : (by : Comparison) (was now : List RangeValue) (height below : ℕ) (s : ℤ) (i : ℕ) (h k : Past) → i ≡ 64 → height ≡ suc below → AddsChangedSlots by was now (within s (slot_start below s i) (bag h)) (within s (slot_start below s i) (bag k)) → AddsChangedSlots by was now (points_of height s (bag h)) (points_of height s (bag k))
+adds-done by was now height below s i h k e is all =
+    adds-as by was now _ _ _ _ (prefix-done height below s i h e is) (prefix-done height below s i k e is) all
 
 -- ---- A slot of an inner node.
 

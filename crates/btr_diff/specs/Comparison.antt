@@ -7,6 +7,7 @@ use Rattle.btr_base.specs.declared.point.Point.{Point}
 use Rattle.btr_base.specs.Span.{width, SpanValue}
 use Rattle.btr_base.specs.Point.{InDomain, AreInDomain}
 use Rattle.btr_base.specs.Range.{RangeValue, contains, covered}
+use Rattle.btr_base.specs.Cut.{lengthened}
 use Rattle.btr_base.specs.Changes.{changed, slot_around}
 use Rattle.btr_tree.specs.declared.node.NodeData.{NodeData}
 use Rattle.btr_tree.specs.declared.node.Node.{Node}
@@ -21,13 +22,17 @@ use Rattle.btr_diff.specs.declared.comparison.Comparison.{Comparison}
 
 -- ---- What is added.
 
--- The time is in a slot in which the two bags differ.
-unfoldable pub is_changed_at : ℕ → List Point → List Point → ℤ → Bool
-is_changed_at p a b t = list_any (λ q. contains (slot_around p q.time) t) (changed a b)
+-- What a change at a time adds: the aligned slot around the time, lengthened by the lead.
+abbrev pub reach : Comparison → ℤ → RangeValue
+reach by t = lengthened by.lead (slot_around by.p t)
 
--- The slots in which the two bags differ are added to the ranges.
-pub record AddsChangedSlots (p : ℕ) (old new : List RangeValue) (a b : List Point) : Type 0 where
-  pub times : (t : ℤ) → covered new t ≡ (covered old t || is_changed_at p a b t)
+-- The time is in the reach of a time at which the two bags differ.
+unfoldable pub is_changed_at : Comparison → List Point → List Point → ℤ → Bool
+is_changed_at by a b t = list_any (λ q. contains (reach by q.time) t) (changed a b)
+
+-- The slots in which the two bags differ, each lengthened by the lead, are added to the ranges.
+pub record AddsChangedSlots (by : Comparison) (old new : List RangeValue) (a b : List Point) : Type 0 where
+  pub times : (t : ℤ) → covered new t ≡ (covered old t || is_changed_at by a b t)
 
 -- The points from a time on.
 abbrev pub rest_from : ℤ → List Point → List Point
@@ -87,14 +92,14 @@ pub record BelongsTo (span : SpanValue) (Belongs : Past → Type 0) : Type 0 whe
 
 -- ---- What the comparison of a span adds and visits.
 
--- If both sides agree since the version, the changed slots of the span are added.
+-- If both sides agree since the version, the changed slots of the span are added, lengthened by the lead.
 abbrev pub Compares : Comparison → SpanValue → (Past → Type 0) → (Past → Type 0) → List RangeValue → List RangeValue → Type 0
 Compares by span IsOlder IsNewer old new =
     (h k : Past)
     → IsOlder h
     → IsNewer k
     → AgreeSince by.since h k
-    → AddsChangedSlots by.p old new (points_in span (bag h)) (points_in span (bag k))
+    → AddsChangedSlots by old new (points_in span (bag h)) (points_in span (bag k))
 
 -- How many nodes below a span carry a version above this one.
 unfoldable pub newer_below : ℕ → ℤ → Past → ℕ → ℕ

@@ -1,7 +1,8 @@
 //! The changed slots between two trees.
-ghost use Rattle.std.specs.Prelude.{◌≡◌, ◌+◌, ◌≤◌, IfOk, OnOk};
+ghost use Rattle.std.specs.Prelude.{◌≡◌, ◌+◌, ◌≤◌, map, IfOk, OnOk};
 ghost use Rattle.btr_base.specs.declared.limits.TheConstants.{FIRST as FIRST_TIME};
 ghost use Rattle.btr_base.specs.Changes.{changes as changes_of};
+ghost use Rattle.btr_base.specs.Cut.{lengthened, union};
 ghost use Rattle.btr_tree.specs.History.{Past, bag};
 ghost use Rattle.btr_base.specs.Span.{SpanValue};
 ghost use Rattle.btr_tree.specs.Nodes.{above_root, node_version, up_to};
@@ -38,13 +39,44 @@ pub fn changes<L>(
         → steps.new ≤ steps.old + 1 + newer_nodes 10 FIRST_TIME above_root k since }
     ensures never_falls { steps.old ≤ steps.new }
 {
+    changes_with_lead(alloc, old, new, since, p, 0, steps)
+}
+
+/// Returns the runs that [`changes`] returns, each with its end later by `lead` nanoseconds, at most the domain's end, and
+/// joined where they then touch or overlap. `p` is 0 to 62, the caller's condition.
+///
+/// The answer is exact if `old` is version `since` of the same stream as `new`. It visits the nodes that `changes` visits,
+/// and costs as much. Each changed slot is lengthened as it is added, so no list of all changed slots is made: of ranges,
+/// the call takes memory for those that it returns alone.
+pub fn changes_with_lead<L>(
+    alloc: Global,
+    old: Uncounted<'_>,
+    new: &Tree,
+    since: u64,
+    p: u8,
+    lead: u64,
+    steps: &mut Steps<L>,
+) -> Result<Ranges, AllocError>
+    requires { p ≤ 62 }
+    ensures runs { IfOk result (λ r. (h k : Past) → IsTree h (uncounted_tree old.entry) → IsTree k new.now → h ≡ up_to since k
+        → r ≡ union (map (lengthened lead) (changes_of p (bag h) (bag k)))) }
+    ensures bounded { (k : Past) → IsTree k new.now
+        → steps.new ≤ steps.old + 1 + newer_nodes 10 FIRST_TIME above_root k since }
+    ensures never_falls { steps.old ≤ steps.new }
+{
     let mut out = Ranges::none(alloc);
-    let comparison = Comparison { alloc, since, p };
+    let comparison = Comparison {
+        alloc,
+        since,
+        p,
+        lead,
+    };
     compare_roots(old, new, comparison, &mut out, steps)?;
     Ok(out)
 }
 
-/// Adds to `out` the slots in which the trees differ. Visits the newer root, and continues if its version is above `since`.
+/// Adds to `out` the slots in which the trees differ, each lengthened by the lead. Visits the newer root, and continues if
+/// its version is above `since`.
 fn compare_roots<L>(
     old: Uncounted<'_>,
     new: &Tree,

@@ -13,4 +13,7 @@ pub(crate) struct Comparison {
 
     /// A slot is `2^p` ns wide.
     pub(crate) p: u8,
+
+    /// A changed slot ends this many nanoseconds later, at most at the domain's end.
+    pub(crate) lead: u64,
 }

@@ -71,9 +71,9 @@ fn compare_points_with_slot<L>(
     }
     let here = points_between(old, span.start, span.end());
     match visit(new, steps) {
-        None => compare_points(here, &[], comparison.p, out),
+        None => compare_points(here, &[], comparison, out),
         Some(node) => match node {
-            Node::Leaf { points, .. } => compare_points(here, points, comparison.p, out),
+            Node::Leaf { points, .. } => compare_points(here, points, comparison, out),
             Node::Inner { slots, .. } => {
                 compare_points_with_slots(span, here, slots, comparison, out, steps)
             }

@@ -1,7 +1,8 @@
 //! The changes between two versions of a stream, found by their trees (BTrDB, FAST 2016).
 //!
 //! [`changes`] compares two trees and returns the slots of time in which they differ (BTrDB's ComputeDiff). It visits
-//! no part of the newer tree that is as old as the older version: that part is equal in both trees.
+//! no part of the newer tree that is as old as the older version: that part is equal in both trees. [`changes_with_lead`]
+//! returns the same times, and those that follow them for as long as a lead.
 #![tactic(auto)]
 
 // two lists of points
@@ -13,4 +14,4 @@ mod gathering;
 mod leaf_walk;
 mod tree_walk;
 
-pub use comparing::changes;
+pub use comparing::{changes, changes_with_lead};

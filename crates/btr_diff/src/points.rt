@@ -1,39 +1,96 @@
 //! The slots in which two lists of points differ.
-ghost use Rattle.std.specs.Prelude.{◌≡◌, ◌≤◌, MatchOption, [], OnOk};
+ghost use Rattle.std.specs.Prelude.{◌≡◌, ◌<◌, ◌≤◌, ◌-◌, ◌<ℤ◌, ◌≤ℤ◌, int_lt, not};
+ghost use Rattle.std.specs.Prelude.{[], ◌++◌, length, slice_index_or, filter, MatchOption, OnOk};
+ghost use Rattle.btr_base.specs.declared.point.Point.{Point as APoint};
 ghost use Rattle.btr_base.specs.Bag.{IsInOrder};
 ghost use Rattle.btr_base.specs.Point.{AreInDomain};
 ghost use Rattle.btr_diff.specs.Comparison.{AddsChangedSlots, IsFirstTime};
 
-use btr_base::{Point, Ranges, parted, slot_around};
+use crate::comparison::Comparison;
+use btr_base::{FIRST, Point, Ranges, slot_around};
 use std::alloc::AllocError;
 
-/// Adds to `out` the aligned slots of `2^p` ns in which two lists of points in order differ. It goes through both lists
-/// once, time by time.
+/// Adds to `out` the aligned slots of `2^p` ns in which two lists of points in order differ, each lengthened by the lead. It goes
+/// through both lists once: time by time, and from the first time at which they differ to the end of the slot in one step.
 pub(crate) fn compare_points(
     old: &[Point],
     new: &[Point],
-    p: u8,
+    comparison: Comparison,
     out: &mut Ranges,
 ) -> Result<(), AllocError>
-    requires p { p ≤ 62 }
+    requires p { comparison.p ≤ 62 }
     requires old_order { IsInOrder old.now }
     requires new_order { IsInOrder new.now }
     requires old_domain { AreInDomain old.now }
     requires new_domain { AreInDomain new.now }
-    ensures { OnOk result (AddsChangedSlots p out.old out.new old.now new.now) }
+    ensures { OnOk result (AddsChangedSlots comparison out.old out.new old.now new.now) }
 {
+    if old.is_empty() {
+        return add_each(new, comparison, out);
+    }
     let mut old_left = old;
     let mut new_left = new;
     while let Some(time) = first_time(old_left, new_left) {
-        let (old_here, old_rest) = parted(old_left, time + 1);
-        let (new_here, new_rest) = parted(new_left, time + 1);
+        let (old_here, old_rest) = parted_near(old_left, time + 1);
+        let (new_here, new_rest) = parted_near(new_left, time + 1);
         if old_here != new_here {
-            out.add(slot_around(time, p))?;
+            let slot = slot_around(time, comparison.p);
+            out.add(slot.lengthened(comparison.lead))?;
+            let (_, old_later) = parted_near(old_rest, slot.to);
+            let (_, new_later) = parted_near(new_rest, slot.to);
+            old_left = old_later;
+            new_left = new_later;
+        } else {
+            old_left = old_rest;
+            new_left = new_rest;
         }
-        old_left = old_rest;
-        new_left = new_rest;
     }
     Ok(())
+}
+
+/// Adds to `out` the slots of `2^p` ns that have a point, each lengthened by the lead: where the older version has no points, each
+/// point is a change. It goes through the points once, and adds each slot at its first point.
+fn add_each(new: &[Point], comparison: Comparison, out: &mut Ranges) -> Result<(), AllocError>
+    requires p { comparison.p ≤ 62 }
+    requires order { IsInOrder new.now }
+    requires domain { AreInDomain new.now }
+    ensures { OnOk result (AddsChangedSlots comparison out.old out.new [] new.now) }
+{
+    let mut end = FIRST;
+    for point in new {
+        if point.time >= end {
+            let slot = slot_around(point.time, comparison.p);
+            let longer = slot.lengthened(comparison.lead);
+            out.add(longer)?;
+            end = slot.to;
+        }
+    }
+    Ok(())
+}
+
+/// Divides points in order at a time: those before it, and those from it on. It walks through the former, one point at a
+/// time.
+fn parted_near(points: &[Point], time: i64) -> (&[Point], &[Point])
+    requires { IsInOrder points.now }
+    ensures before { result.0.now ≡ filter (λ p. int_lt p.time time) points.now }
+    ensures from { result.1.now ≡ filter (λ p. not (int_lt p.time time)) points.now }
+    ensures all { result.0.now ++ result.1.now ≡ points.now }
+{
+    let place = place_near(points, time);
+    (&points[..place], &points[place..])
+}
+
+/// The index of the first point that is not before a time, or the number of points. It walks there from the first point.
+fn place_near(points: &[Point], time: i64) -> usize
+    ensures within { result ≤ length points.now }
+    ensures before { (d : APoint) → 0 < result → (slice_index_or points.now (result - 1) d).time <ℤ time }
+    ensures from { (d : APoint) → result < length points.now → time ≤ℤ (slice_index_or points.now result d).time }
+{
+    let mut place = 0;
+    while place < points.len() && points[place].time < time {
+        place += 1;
+    }
+    place
 }
 
 /// Returns the first time of two lists of points in order, or `None` if both are empty.

@@ -150,16 +150,16 @@ pub(crate) fn compare_with_points(
     requires order { IsInOrder new.now }
     requires domain { AreInDomain new.now }
     ensures { OnOk result ((h : Past) → IsChildOf span (uncounted_child old.entry) h
-        → AddsChangedSlots comparison.p out.old out.new (points_in span (bag h)) new.now) }
+        → AddsChangedSlots comparison out.old out.new (points_in span (bag h)) new.now) }
 {
     match visit_uncounted(old) {
-        None => compare_points(&[], new, comparison.p, out),
+        None => compare_points(&[], new, comparison, out),
         Some(node) => match node {
-            UncountedNode::Leaf { points, .. } => compare_points(points, new, comparison.p, out),
+            UncountedNode::Leaf { points, .. } => compare_points(points, new, comparison, out),
             UncountedNode::Inner { slots, .. } => {
                 let mut points = Vec::new(comparison.alloc);
                 gather_slots(comparison.alloc, span, slots, &mut points)?;
-                compare_points(&points, new, comparison.p, out)
+                compare_points(&points, new, comparison, out)
             }
         },
     }

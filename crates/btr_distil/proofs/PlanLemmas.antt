@@ -32,7 +32,7 @@ union-unions a b h k =
     ∙ sym (covered-append a b t))
 
 -- The changes of both inputs, widened and united, are the cut of the definition.
-pub affected-is : (spec : Spec) (old new : Inputs) (first second cut : List RangeValue) → is_good spec ≡ true → first ≡ changes spec.grain old.first new.first → second ≡ changes spec.grain old.second new.second → cut ≡ union (union (map (widened spec) first) ++ union (map (widened spec) second)) → cut ≡ affected spec old new
+pub affected-is : (spec : Spec) (old new : Inputs) (first second cut : List RangeValue) → is_good spec ≡ true → first ≡ union (map (widened spec) (changes spec.grain old.first new.first)) → second ≡ union (map (widened spec) (changes spec.grain old.second new.second)) → cut ≡ union (first ++ second) → cut ≡ affected spec old new
 affected-is spec old new first second cut good f s is =
     let fit = good-is spec good in
     let wide = widened-is spec fit in
@@ -42,8 +42,8 @@ affected-is spec old new first second cut good f s is =
     let each_a = widened-each (looks_at spec) (widened spec) a wide (changes-cut spec.grain old.first new.first fit.grain).each in
     let each_b = widened-each (looks_at spec) (widened spec) b wide (changes-cut spec.grain old.second new.second fit.grain).each in
     is
-    ∙ ap (λ rs. union (union (longer rs) ++ union (longer second))) f
-    ∙ ap (λ rs. union (union (longer a) ++ union (longer rs))) s
+    ∙ ap (λ rs. union (rs ++ second)) f
+    ∙ ap (λ rs. union (union (longer a) ++ rs)) s
     ∙ union-unions (longer a) (longer b) each_a each_b
     ∙ ap union (sym (map-append (widened spec) a b))
 

@@ -9,7 +9,7 @@ ghost use Rattle.btr_distil.specs.Sight.{IsInput, IsSecondInput, IsSightOf};
 
 use crate::sight::Sight;
 use btr_base::Ranges;
-use btr_diff::changes;
+use btr_diff::changes_with_lead;
 use btr_hist::Spec;
 use btr_tree::{Label, Steps, Tree};
 use std::alloc::{AllocError, Global};
@@ -23,72 +23,48 @@ impl Label for InputWalk {}
 pub(crate) fn affected(alloc: Global, sight: &Sight<'_>) -> Result<Ranges, AllocError>
     ensures { IfOk result (λ r. (old new : Inputs) → IsSightOf sight.now old new → r ≡ affected_of sight.now.spec old new) }
 {
-    let first = changed_first(alloc, sight)?;
+    let since = sight.old_reads.first;
+    let first = changed(alloc, sight.old_first, sight.new_first, since, &sight.spec)?;
     let second = changed_second(alloc, sight)?;
-    let after_first = widened(alloc, &sight.spec, &first)?;
-    let after_second = widened(alloc, &sight.spec, &second)?;
-    let all = after_first.union(alloc, &after_second)?;
+    let all = first.union(alloc, &second)?;
     Ok(all)
 }
 
-/// The times at which an output may differ if an input differs in these ranges: their times, and after them for as long as the
-/// kernel looks back.
-fn widened(alloc: Global, spec: &Spec, ranges: &Ranges) -> Result<Ranges, AllocError>
-    ensures { IfOk result (λ r. r ≡ union (map (widened_range spec.now) ranges.now)) }
-{
-    let lead = spec.lead;
-    let longer = ranges.with_lead(alloc, lead)?;
-    Ok(longer)
-}
-
-/// The slots in which the first input differs.
-fn changed_first(alloc: Global, sight: &Sight<'_>) -> Result<Ranges, AllocError>
-    ensures { IfOk result (λ r. (before after : List Point)
-        → IsInput sight.now.old_reads.first sight.now.old_first sight.now.new_first before after
-        → r ≡ changes_of sight.now.spec.grain before after) }
-{
-    let since = sight.old_reads.first;
-    changed(
-        alloc,
-        sight.old_first,
-        sight.new_first,
-        since,
-        sight.spec.grain,
-    )
-}
-
-/// The slots in which the second input differs: none if there is no second input.
+/// The slots in which the second input differs, widened: none if there is no second input.
 fn changed_second(alloc: Global, sight: &Sight<'_>) -> Result<Ranges, AllocError>
     ensures { IfOk result (λ r. (before after : List Point)
         → IsSecondInput sight.now.old_reads.second sight.now.old_second sight.now.new_second before after
-        → r ≡ changes_of sight.now.spec.grain before after) }
+        → r ≡ union (map (widened_range sight.now.spec) (changes_of sight.now.spec.grain before after))) }
 {
     let since = sight.old_reads.second;
     match (since, sight.old_second, sight.new_second) {
-        (Some(since), Some(old), Some(new)) => changed(alloc, old, new, since, sight.spec.grain),
+        (Some(since), Some(old), Some(new)) => changed(alloc, old, new, since, &sight.spec),
         _ => Ok(Ranges::none(alloc)),
     }
 }
 
-/// The slots of `2^grain` ns in which an input differs. It visits the parts of the new tree that are newer than `since`.
+/// The slots of `2^grain` ns in which an input differs, and the times after each for as long as the kernel looks back. It visits
+/// the parts of the new tree that are newer than `since`.
 fn changed(
     alloc: Global,
     old: &Tree,
     new: &Tree,
     since: u64,
-    grain: u8,
+    spec: &Spec,
 ) -> Result<Ranges, AllocError>
-    requires { grain ≤ 62 }
+    requires { spec.now.grain ≤ 62 }
     ensures { IfOk result (λ r. (before after : List Point) → IsInput since old.now new.now before after
-        → r ≡ changes_of grain before after) }
+        → r ≡ union (map (widened_range spec.now) (changes_of spec.now.grain before after))) }
 {
     let mut steps = Steps::<InputWalk>::new();
-    let slots = changes(
+    let lead = spec.lead;
+    let slots = changes_with_lead(
         alloc,
         old.uncounted::<InputWalk>(),
         new,
         since,
-        grain,
+        spec.grain,
+        lead,
         &mut steps,
     )?;
     Ok(slots)

@@ -1,5 +1,5 @@
 //! The points of an output, computed in several threads.
-ghost use Rattle.std.specs.Prelude.{◌≡◌, true, IfOk, filter};
+ghost use Rattle.std.specs.Prelude.{◌≡◌, true, IfOk, filter, length, min};
 ghost use Rattle.std.specs.List.{AllZip, flat_map};
 ghost use Rattle.std.specs.Option.{option_map, is_some};
 ghost use Rattle.btr_base.specs.Range.{covered};
@@ -21,7 +21,7 @@ use std::alloc::{AllocError, Global};
 use std::marker::Sync;
 use std::thread::Threads;
 
-/// The points of the output over the new inputs at the times of the ranges, computed by at most so many threads at once.
+/// The points of the output over the new inputs at the times of the ranges, computed by at most this many threads at once.
 pub(crate) fn output_shared<R: Threads + Sync>(
     rt: &R,
     alloc: Global,
@@ -78,13 +78,30 @@ fn swept<R: Threads + Sync>(
     made
 }
 
-/// Lists of points, one after the other. An `Err` means out of memory.
+/// Lists of points, one after the other. The first list keeps its memory, which is lengthened once for the points of the
+/// others. An `Err` means out of memory.
 fn joined(alloc: Global, lists: Vec<Vec<Point>>) -> Result<Vec<Point>, AllocError>
     ensures { IfOk result (λ v. v.items ≡ flat_map (λ l. l.items) lists.items) }
 {
-    let mut points = Vec::new(alloc);
-    for list in &lists {
-        points.extend_from_slice(list)?;
+    let room = room_for(&lists);
+    let mut others = lists.into_iter();
+    let Some(mut points) = others.next() else {
+        return Ok(Vec::new(alloc));
+    };
+    points.reserve_exact(room.saturating_sub(points.len()))?;
+    while let Some(list) = others.next() {
+        points.extend_from_slice(&list)?;
     }
     Ok(points)
+}
+
+/// How many points lists have, or the greatest number there is.
+fn room_for(lists: &[Vec<Point>]) -> usize
+    ensures { result ≡ min 18446744073709551615 (length (flat_map (λ l. l.items) lists.now)) }
+{
+    let mut room = 0usize;
+    for list in lists {
+        room = room.saturating_add(list.len());
+    }
+    room
 }

@@ -40,7 +40,7 @@ pub(crate) fn split_times(
     Ok(times)
 }
 
-/// How many parts are made of so many points.
+/// How many parts are made of this many points.
 fn part_count(points: u64, threads: usize) -> u64 {
     (points / LEAST_POINTS).min(MOST_PARTS).min(threads as u64)
 }
@@ -58,7 +58,7 @@ fn counts(alloc: Global, tree: &Tree, ranges: &[Range]) -> Result<Vec<u64>, Allo
     Ok(ends)
 }
 
-/// A time before which about so many points of the tree lie in the ranges, from how many lie in the ranges up to each of them.
+/// A time before which about this many points of the tree lie in the ranges, from how many lie in the ranges up to each of them.
 fn time_after(tree: &Tree, ranges: &[Range], ends: &[u64], place: u64) -> i64 {
     let index = ends.partition_point(|end| *end <= place);
     let before = match index.checked_sub(1) {
@@ -71,7 +71,7 @@ fn time_after(tree: &Tree, ranges: &[Range], ends: &[u64], place: u64) -> i64 {
     }
 }
 
-/// A time in a range before which about so many points of the tree lie in it, by bisection.
+/// A time in a range before which about this many points of the tree lie in it, by bisection.
 fn time_in(tree: &Tree, range: Range, place: u64) -> i64 {
     let mut steps = Steps::<CountWalk>::new();
     let mut low = range.from;

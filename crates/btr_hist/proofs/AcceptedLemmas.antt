@@ -26,7 +26,7 @@ use Rattle.btr_hist.proofs.RejectionLemmas.{first_none, rest_none, map_none, whe
 
 -- ---- what is known of an accepted commit
 
--- The stream exists, the added points lie in the domain, and the new version has at most so many points as a version can have.
+-- The stream exists, the added points lie in the domain, and the new version has at most as many points as a version can have.
 pub record IsAccepted (h : List Entry) (stream : ℕ) (c : Change) : Type 0 where
   pub known : stream < length (ids h)
   pub in_domain : AreInDomain c.added

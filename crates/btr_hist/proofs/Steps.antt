@@ -1,8 +1,10 @@
 -- Lemmas on one step of a walk over the entries of a history.
-use Rattle.std.specs.Prelude.{◌≡◌, ℕ, ◌+◌, ◌≤◌, ◌<◌, Bool, true, false, not, Option, Some, None, List, ◌∷◌, length, take, drop, get_or, cond}
-use Rattle.std.specs.List.{filter_map, cons_option}
+use Rattle.std.specs.Prelude.{◌≡◌, ℕ, ◌+◌, ◌≤◌, ◌<◌, ◌≤ℤ◌, int_lt, Bool, true, false, not, Option, Some, None, List, [], ◌∷◌, length, take, drop, get_or, slice_get, cond}
+use Rattle.std.specs.List.{filter, filter_map, cons_option, AllByRecursion}
 use Rattle.std.proofs.Common.{suc, refl, sym, ap, ◌∙◌, arith}
 use Rattle.std.proofs.lemmas.List.{drop_more}
+use Rattle.std.proofs.lemmas.Int.{ints}
+use Rattle.btr_base.specs.declared.limits.TheConstants.{FIRST, END}
 use Rattle.btr_base.specs.declared.point.Point.{Point}
 use Rattle.btr_base.specs.Point.{in_domain}
 use Rattle.btr_base.specs.Commit.{Change, after}
@@ -28,6 +30,16 @@ out_of_domain-first p b out = ap {A = Bool} {B = Option Point} (λ t. cond (not 
 
 pub out_of_domain-rest : (p : Point) (b : List Point) → in_domain p.time ≡ true → first_out_of_domain (p ∷ b) ≡ first_out_of_domain b
 out_of_domain-rest p b inside = ap {A = Bool} {B = Option Point} (λ t. cond (not t) (Some p) (first_out_of_domain b)) inside
+
+-- Of points that are not before the domain, the first one outside it is the first one after it.
+pub out_of_domain-late : (b : List Point) → AllByRecursion (λ p. FIRST ≤ℤ p.time) b → first_out_of_domain b ≡ slice_get (filter (λ p. not (int_lt p.time END)) b) 0
+out_of_domain-late [] h = refl
+out_of_domain-late (p ∷ b) h =
+    let low = h.0 in
+    elim (int_lt p.time END) as (λ t. int_lt p.time END ≡ t → first_out_of_domain (p ∷ b) ≡ slice_get (cond (not t) (p ∷ filter (λ q. not (int_lt q.time END)) b) (filter (λ q. not (int_lt q.time END)) b)) 0) [
+      | true ↦ λ e. out_of_domain-rest p b (grind (arith, ints)) ∙ out_of_domain-late b h.1
+      | false ↦ λ e. out_of_domain-first p b (grind (arith, ints))
+    ] refl
 
 -- ---- a walk that applies the first commits
 

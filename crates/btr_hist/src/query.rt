@@ -6,7 +6,7 @@ use btr_base::Toward;
 /// The version of a stream that a question is about.
 #[derive(Clone, Copy, PartialEq)]
 pub enum At {
-    /// The version after the first so many commits of the stream. Version 0 is empty.
+    /// The version after this many commits of the stream. Version 0 is empty.
     Number(u64),
 
     /// The version after all commits of the stream.

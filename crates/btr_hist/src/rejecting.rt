@@ -17,8 +17,8 @@ use crate::walks::{
     has_id, latest_of, points_after, points_of_version, read_by, spec_of, stream_count,
 };
 use btr_base::{
-    Bag, MAX_COMMIT_POINTS, MAX_COMMIT_RANGES, MAX_POINTS, MAX_STREAMS, MAX_VERSIONS, Point, Range,
-    Ranges,
+    Bag, END, FIRST, MAX_COMMIT_POINTS, MAX_COMMIT_RANGES, MAX_POINTS, MAX_STREAMS, MAX_VERSIONS,
+    Point, Ranges, parted,
 };
 use std::alloc::{AllocError, Global};
 
@@ -82,7 +82,7 @@ pub(crate) fn commit(
     if spec_of(entries, stream as usize).is_some() {
         return Ok(Some(Rejection::NotWritable));
     }
-    if let Some(found) = change_rejection(cut.as_slice(), added.as_slice()) {
+    if let Some(found) = change_rejection(cut, added) {
         return Ok(Some(found));
     }
     next_version(alloc, entries, stream, cut, added)
@@ -106,7 +106,7 @@ pub(crate) fn distillate(
     if !takes_reads(entries, stream, reads) {
         return Ok(Some(Rejection::NotWritable));
     }
-    if let Some(found) = distillate_change_rejection(cut.as_slice(), added.as_slice()) {
+    if let Some(found) = distillate_change_rejection(cut, added) {
         return Ok(Some(found));
     }
     next_version(alloc, entries, stream, cut, added)
@@ -181,11 +181,13 @@ fn may_read_second(
     }
 }
 
-/// The reason why a commit of these ranges and points is not allowed, whatever the stream holds, or `None`. It takes time linear
+/// The reason why a commit of these ranges and points is not allowed, whatever the stream holds, or `None`. It takes time logarithmic
 /// in the number of points, and no memory.
-pub fn change_rejection(cut: &[Range], added: &[Point]) -> Option<Rejection>
+pub fn change_rejection(cut: &Ranges, added: &Bag) -> Option<Rejection>
     ensures { result ≡ change_rejection (record { cut = cut.now; added = added.now }) }
 {
+    let cut = cut.as_slice();
+    let added = added.as_slice();
     if let Some(time) = time_out_of_domain(added) {
         return Some(Rejection::OutOfDomain { time });
     }
@@ -201,11 +203,12 @@ pub fn change_rejection(cut: &[Range], added: &[Point]) -> Option<Rejection>
 }
 
 /// The reason why a distillate of these ranges and points is not allowed, whatever the stream holds, or `None`. It takes time
-/// linear in the number of points, and no memory.
-pub fn distillate_change_rejection(cut: &[Range], added: &[Point]) -> Option<Rejection>
+/// logarithmic in the number of points, and no memory.
+pub fn distillate_change_rejection(cut: &Ranges, added: &Bag) -> Option<Rejection>
     ensures { result ≡ distillate_change_rejection (record { cut = cut.now; added = added.now }) }
 {
-    if let Some(time) = time_out_of_domain(added) {
+    let cut = cut.as_slice();
+    if let Some(time) = time_out_of_domain(added.as_slice()) {
         return Some(Rejection::OutOfDomain { time });
     }
     if cut.len() > MAX_DISTILLATE_RANGES {
@@ -231,14 +234,17 @@ pub fn points_rejection(points: &[Point]) -> Option<Rejection>
     None
 }
 
-/// The time of the first point outside the domain.
+/// The time of the first of some points in order that lies outside the domain. It is the first point's, or the first one's after the
+/// domain.
 fn time_out_of_domain(points: &[Point]) -> Option<i64>
+    requires { IsInOrder points.now }
     ensures { result ≡ option_map (λ p. p.time) (first_out_of_domain points.now) }
 {
-    for point in points {
-        if !point.is_in_domain() {
-            return Some(point.time);
-        }
+    let first = points.first()?;
+    if first.time < FIRST {
+        return Some(first.time);
     }
-    None
+    let (_, after) = parted(points, END);
+    let late = after.first()?;
+    Some(late.time)
 }

@@ -11,7 +11,7 @@ ghost use Rattle.btr_kernel.specs.Past.{begun_earlier as earlier};
 ghost use Rattle.btr_kernel.specs.Sources.{IsSecond, second_past_points};
 
 use btr_base::{FIRST, Point, ROOT_HEIGHT, Range, Ranges};
-use btr_scan::range;
+use btr_scan::append_range;
 use btr_tree::Tree;
 use std::alloc::{AllocError, Global};
 
@@ -54,7 +54,7 @@ pub(crate) fn gather(alloc: Global, tree: &Tree, ranges: &Ranges) -> Result<Vec<
     }
     let mut points = Vec::new(alloc);
     for part in ranges.as_slice() {
-        points.extend_from_slice(&range(alloc, tree, *part)?)?;
+        append_range(tree, *part, &mut points)?;
     }
     Ok(points)
 }

@@ -64,6 +64,17 @@ pub(crate) fn stored(value: i128) -> Option<i64>
     Some(value as i64)
 }
 
+/// `floor(sum / count)`. It divides in 64 bits if both numbers fit, which is faster than a division in 128 bits.
+fn mean(sum: i128, count: u64) -> i128
+    requires { 0 < count }
+    ensures { result ≡ int_div_euclid sum (pos count) }
+{
+    match (i64::try_from(sum), i64::try_from(count)) {
+        (Ok(short_sum), Ok(short_count)) => i128::from(short_sum.div_euclid(short_count)),
+        _ => sum.div_euclid(i128::from(count)),
+    }
+}
+
 /// Whether the kernel looks at the aggregate of the first input's window alone.
 pub(crate) fn is_total(kernel: Kernel) -> bool
     ensures { result ≡ is_total_kernel kernel }
@@ -82,7 +93,7 @@ pub(crate) fn of_total(kernel: Kernel, all: &Agg) -> Option<i128>
 {
     match kernel {
         Kernel::Sum => Some(all.sum),
-        Kernel::Mean => Some(all.sum.div_euclid(i128::from(all.count))),
+        Kernel::Mean => Some(mean(all.sum, all.count)),
         Kernel::Least => all.ends.map(|ends| i128::from(ends.0)),
         Kernel::Greatest => all.ends.map(|ends| i128::from(ends.1)),
         Kernel::Count => Some(i128::from(all.count)),

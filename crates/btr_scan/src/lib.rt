@@ -1,7 +1,8 @@
 //! Raw points of one version of a stream, read from its tree (BTrDB, FAST 2016).
 //!
-//! [`range`] returns the points of a range of time (BTrDB's GetRange). [`nearest`] returns the point that is nearest to a time
-//! in one direction (BTrDB's GetNearestValue). Both visit only nodes whose spans can hold the answer, and no empty slot.
+//! [`range`] returns the points of a range of time (BTrDB's GetRange), and [`append_range`] appends them to a list. [`nearest`]
+//! returns the point that is nearest to a time in one direction (BTrDB's GetNearestValue). All of them visit only nodes whose
+//! spans can hold the answer, and no empty slot.
 #![tactic(auto)]
 
 // the points of a range
@@ -12,4 +13,4 @@ mod forward;
 mod nearest_walk;
 
 pub use nearest_walk::nearest;
-pub use range_walk::range;
+pub use range_walk::{append_range, range};

@@ -22,10 +22,18 @@ pub fn range(alloc: Global, tree: &Tree, range: Range) -> Result<Vec<Point>, All
     ensures { IfOk result (λ v. AtEachTree tree.now (λ h. v.items ≡ within range.from range.to (bag h))) }
 {
     let mut rows = Vec::new(alloc);
+    append_range(tree, range, &mut rows)?;
+    Ok(rows)
+}
+
+/// Appends the points of a version in a range, as [`range`] returns them. An `Err` is out of memory, and a part of them may
+/// have been appended.
+pub fn append_range(tree: &Tree, range: Range, rows: &mut Vec<Point>) -> Result<(), AllocError>
+    ensures { OnOk result (AtEachTree tree.now (λ h. rows.new.items ≡ rows.old.items ++ within range.from range.to (bag h))) }
+{
     let mut steps = Steps::<RangeWalk>::new();
     prove!(FIRST < range.to && range.from < END);
-    walk_child(root_span(), tree.link(), range, &mut rows, &mut steps)?;
-    Ok(rows)
+    walk_child(root_span(), tree.link(), range, rows, &mut steps)
 }
 
 /// Appends the points of a child whose times are in a range that meets the span.

@@ -1,18 +1,11 @@
-use Rattle.std.proofs.Common.{subst}
-use Rattle.btr_base.specs.Range.{IsCut}
-use Rattle.btr_diff.proofs.Roots.{root-changes, root-bounded, agree-since}
+use Rattle.std.proofs.Common.{◌∙◌}
+use Rattle.std.proofs.lemmas.Result.{IfOk-weaker}
+use Rattle.btr_base.specs.Changes.{changes as changes_of}
+use Rattle.btr_base.proofs.ChangesLemmas.{changes-cut}
+use Rattle.btr_base.proofs.CutLemmas.{union-zero}
+use Rattle.btr_tree.specs.History.{bag}
 use Rattle.btr_diff.proofs.comparing.changes.Goals as goal
 
 pub returns-clause-runs : goal.returns-clause-runs
-returns-clause-runs over c h k old new version =
-    let cut = subst IsCut c.out.view_is c.out.invariant in
-    let added = c.in_ok-compare_roots.ensures.adds h k old new (agree-since c.args.since h k version) in
-    root-changes c.args.p c.none-out.result c.compare_roots.new.out h k c.requires c.none-out.ensures cut old.times new.times added
-
-pub returns-clause-bounded : goal.returns-clause-bounded
-returns-clause-bounded over c k new =
-    root-bounded c.args.steps.now c.compare_roots.new.steps c.args.since k (c.compare_roots.ensures.bounded k new)
-
-pub returns-in_err-compare_roots-clause-bounded : goal.returns-in_err-compare_roots-clause-bounded
-returns-in_err-compare_roots-clause-bounded over c k new =
-    root-bounded c.args.steps.now c.compare_roots.new.steps c.args.since k (c.compare_roots.ensures.bounded k new)
+returns-clause-runs g c =
+    IfOk-weaker c.changes_with_lead.result _ _ (λ r is h k old new version. is h k old new version ∙ union-zero (changes_of c.args.p (bag h) (bag k)) (changes-cut c.args.p (bag h) (bag k) c.requires)) c.changes_with_lead.ensures.runs

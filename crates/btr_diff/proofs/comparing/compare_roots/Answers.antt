@@ -18,7 +18,7 @@ returns-then-version_of-comparison-clause-adds over c h g was now agree =
     let node = found-node span (node_of c.link.result) c.in-Some.node _ _ c.in-Some.ensures g child in
     let version = c.version_of.ensures span g node in
     let same = agree.nodes node.0 span.height span.start (omega arith) in
-    root-adds span c.args.comparison.p c.args.out.now c.args.out.now (bag h) (bag g) is (adds-as c.args.comparison.p c.args.out.now c.args.out.now _ _ _ _ (λ i. points_of span.height span.start (bag h)) same (adds-none c.args.comparison.p c.args.out.now (points_of span.height span.start (bag h))))
+    root-adds span c.args.comparison c.args.out.now c.args.out.now (bag h) (bag g) is (adds-as c.args.comparison c.args.out.now c.args.out.now _ _ _ _ (λ i. points_of span.height span.start (bag h)) same (adds-none c.args.comparison c.args.out.now (points_of span.height span.start (bag h))))
 
 pub returns-else-version_of-comparison-clause-adds : goal.returns-else-version_of-comparison-clause-adds
 returns-else-version_of-comparison-clause-adds over c =
@@ -27,7 +27,7 @@ returns-else-version_of-comparison-clause-adds over c =
     on_ok_weaker c.compare_node.result (λ e h g was now agree.
     let child = root-child span (uncounted_child c.root-old.result) h is (c.root-old.ensures.child h was) in
     let node = found-node span (node_of c.link.result) c.in-Some.node _ _ c.in-Some.ensures g (root-child span (node_of c.link.result) g is (c.link.ensures.child g now)) in
-    root-adds span c.args.comparison.p c.args.out.now c.compare_node.new.out (bag h) (bag g) is (e h g child node agree)) c.compare_node.ensures.adds
+    root-adds span c.args.comparison c.args.out.now c.compare_node.new.out (bag h) (bag g) is (e h g child node agree)) c.compare_node.ensures.adds
 
 pub returns-else-version_of-comparison-clause-bounded : goal.returns-else-version_of-comparison-clause-bounded
 returns-else-version_of-comparison-clause-bounded over c g now =

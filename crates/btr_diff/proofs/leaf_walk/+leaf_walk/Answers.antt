@@ -20,7 +20,7 @@ pub compare_points_with_slot-returns-then-version-comparison-clause-adds : goal.
 compare_points_with_slot-returns-then-version-comparison-clause-adds over t c h g same slot agree =
     let span = c.args.span in
     let equal = agree.slots slot.above slot.begin span.height span.start (omega (arith, slot.carried, c.if-version-comparison.true)) in
-    adds-as c.args.comparison.p c.args.out.now c.args.out.now _ _ _ _ (λ i. points_of span.height span.start (bag h)) equal (adds-none c.args.comparison.p c.args.out.now _)
+    adds-as c.args.comparison c.args.out.now c.args.out.now _ _ _ _ (λ i. points_of span.height span.start (bag h)) equal (adds-none c.args.comparison c.args.out.now _)
 
 -- The points that are found between the bounds of a slot are in order and in the domain.
 found-in_order : (x y : ℤ) (all here : List Point) → here ≡ within x y all → IsInOrder all → IsInOrder here
@@ -90,7 +90,7 @@ compare_points_with_slots-slot-requires over t c = let high = c.requires.new.hol
 pub compare_points_with_slots-loop-i-init : goal.compare_points_with_slots-loop-i-init
 compare_points_with_slots-loop-i-init over t c =
     record {
-      adds = λ h g same slots agree. adds-first c.args.comparison.p c.args.out.now slots.below c.args.span.start h g;
+      adds = λ h g same slots agree. adds-first c.args.comparison c.args.out.now slots.below c.args.span.start h g;
       bounded = λ g slots. omega arith;
       never_falls = omega arith;
     }
@@ -119,7 +119,7 @@ compare_points_with_slots-loop-i-preserved over t c =
           let at = child-at span slots.below g i part (node_of c.child.result) c.args.new.now slots.height slots.each low c.slot.ensures c.child.ensures in
           let slot = slot-belongs span c.args.new.now g i part c.slot-slot.result (node_of c.child.result) slots low c.slot.ensures c.slot-slot.ensures c.child.ensures in
           let old = slot-points span slots.below i part h c.args.old.now slots.height low at.is same in
-          adds-slot c.args.comparison.p c.args.out.now c.loop-i.out c.compare_points_with_slot.new.out slots.below start i part h g at.is (before.adds h g same slots agree) (done.adds h g old slot agree);
+          adds-slot c.args.comparison c.args.out.now c.loop-i.out c.compare_points_with_slot.new.out slots.below start i part h g at.is (before.adds h g same slots agree) (done.adds h g old slot agree);
       bounded = λ g slots.
           let at = child-at span slots.below g i part (node_of c.child.result) c.args.new.now slots.height slots.each low c.slot.ensures c.child.ensures in
           let slot = slot-belongs span c.args.new.now g i part c.slot-slot.result (node_of c.child.result) slots low c.slot.ensures c.slot-slot.ensures c.child.ensures in
@@ -130,7 +130,7 @@ compare_points_with_slots-loop-i-preserved over t c =
 
 pub compare_points_with_slots-returns-clause-adds : goal.compare_points_with_slots-returns-clause-adds
 compare_points_with_slots-returns-clause-adds over t c h g same slots agree =
-    adds-done c.args.comparison.p c.args.out.now c.loop-i.out c.args.span.height slots.below c.args.span.start c.loop-i.i h g (omega arith) slots.height (c.loop-i.invariant.adds h g same slots agree)
+    adds-done c.args.comparison c.args.out.now c.loop-i.out c.args.span.height slots.below c.args.span.start c.loop-i.i h g (omega arith) slots.height (c.loop-i.invariant.adds h g same slots agree)
 
 pub compare_points_with_slots-returns-clause-bounded : goal.compare_points_with_slots-returns-clause-bounded
 compare_points_with_slots-returns-clause-bounded over t c g slots =

@@ -12,7 +12,7 @@ invariant-loop-time l = record {
   new_order : IsInOrder l.new_left;
   old_domain : AreInDomain l.old_left;
   new_domain : AreInDomain l.new_left;
-  times : (now : List RangeValue) → AddsChangedSlots l.p l.out now l.old_left l.new_left → AddsChangedSlots l.p l.fn.out now l.fn.old l.fn.new;
+  times : (now : List RangeValue) → AddsChangedSlots l.comparison l.out now l.old_left l.new_left → AddsChangedSlots l.comparison l.fn.out now l.fn.old l.fn.new;
 }
 
 abbrev pub decreases-loop-time : goal.decreases-loop-time

@@ -36,7 +36,7 @@ pub compare_node-returns-in-Leaf-clause-adds : goal.compare_node-returns-in-Leaf
 compare_node-returns-in-Leaf-clause-adds over t c =
     let span = c.args.span in
     on_ok_weaker c.compare_with_points.result (λ e h g was is agree.
-    adds-as c.args.comparison.p c.args.out.now c.compare_with_points.new.out _ _ _ _ (λ i. points_of span.height span.start (bag h)) (leaf-points span g c.args.new c.in-Leaf.version c.in-Leaf.points c.in-Leaf.is is) (e h was)) c.compare_with_points.ensures
+    adds-as c.args.comparison c.args.out.now c.compare_with_points.new.out _ _ _ _ (λ i. points_of span.height span.start (bag h)) (leaf-points span g c.args.new c.in-Leaf.version c.in-Leaf.points c.in-Leaf.is is) (e h was)) c.compare_with_points.ensures
 
 pub compare_node-returns-in-Inner-clause-adds : goal.compare_node-returns-in-Inner-clause-adds
 compare_node-returns-in-Inner-clause-adds over t c =
@@ -88,7 +88,7 @@ pub compare_slot-returns-then-version-comparison-clause-adds : goal.compare_slot
 compare_slot-returns-then-version-comparison-clause-adds over t c h g was slot agree =
     let span = c.args.span in
     let same = agree.slots slot.above slot.begin span.height span.start (omega (arith, slot.carried, c.if-version-comparison.true)) in
-    adds-as c.args.comparison.p c.args.out.now c.args.out.now _ _ _ _ (λ i. points_of span.height span.start (bag h)) same (adds-none c.args.comparison.p c.args.out.now _)
+    adds-as c.args.comparison c.args.out.now c.args.out.now _ _ _ _ (λ i. points_of span.height span.start (bag h)) same (adds-none c.args.comparison c.args.out.now _)
 
 pub compare_slot-compare_node-requires : goal.compare_slot-compare_node-requires
 compare_slot-compare_node-requires over t c κs outlives =
@@ -100,7 +100,7 @@ pub compare_slot-returns-in-None-clause-adds : goal.compare_slot-returns-in-None
 compare_slot-returns-in-None-clause-adds over t c =
     let span = c.args.span in
     on_ok_weaker c.compare_with_points.result (λ e h g was slot agree.
-    adds-as c.args.comparison.p c.args.out.now c.compare_with_points.new.out _ _ _ _ (λ i. points_of span.height span.start (bag h)) (sym (found-none span (node_of c.args.new) _ _ c.in-None.ensures g (is_inner slot.above slot.begin, slot.holds))) (e h was)) c.compare_with_points.ensures
+    adds-as c.args.comparison c.args.out.now c.compare_with_points.new.out _ _ _ _ (λ i. points_of span.height span.start (bag h)) (sym (found-none span (node_of c.args.new) _ _ c.in-None.ensures g (is_inner slot.above slot.begin, slot.holds))) (e h was)) c.compare_with_points.ensures
 
 pub compare_slot-returns-in-Some-clause-adds : goal.compare_slot-returns-in-Some-clause-adds
 compare_slot-returns-in-Some-clause-adds over t c =
@@ -124,7 +124,7 @@ compare_slots-slot-requires over t c = let high = c.requires.old.holds.height in
 pub compare_slots-loop-i-init : goal.compare_slots-loop-i-init
 compare_slots-loop-i-init over t c =
     record {
-      adds = λ h g was slots agree. adds-first c.args.comparison.p c.args.out.now slots.below c.args.span.start h g;
+      adds = λ h g was slots agree. adds-first c.args.comparison c.args.out.now slots.below c.args.span.start h g;
       bounded = λ g slots. omega arith;
       never_falls = omega arith;
     }
@@ -160,7 +160,7 @@ compare_slots-loop-i-preserved over t c =
           let each = below-same span.height slots.below was.below start h (uncounted_slots c.args.old) slots.height was.height was.each in
           let old = child-at span slots.below h i part (uncounted_child c.child.result) (uncounted_slots c.args.old) slots.height each low c.slot.ensures c.child.ensures in
           let slot = slot-belongs span c.args.new.now g i part c.slot-slot.result (node_of c.child-in-loop-i.result) slots low c.slot.ensures c.slot-slot.ensures c.child-in-loop-i.ensures in
-          adds-slot c.args.comparison.p c.args.out.now c.loop-i.out c.compare_slot.new.out slots.below start i part h g old.is (before.adds h g was slots agree) (done.adds h g (is_inner (suc slots.below) start, old.holds) slot agree);
+          adds-slot c.args.comparison c.args.out.now c.loop-i.out c.compare_slot.new.out slots.below start i part h g old.is (before.adds h g was slots agree) (done.adds h g (is_inner (suc slots.below) start, old.holds) slot agree);
       bounded = λ g slots.
           let at = child-at span slots.below g i part (node_of c.child-in-loop-i.result) c.args.new.now slots.height slots.each low c.slot.ensures c.child-in-loop-i.ensures in
           let slot = slot-belongs span c.args.new.now g i part c.slot-slot.result (node_of c.child-in-loop-i.result) slots low c.slot.ensures c.slot-slot.ensures c.child-in-loop-i.ensures in
@@ -171,7 +171,7 @@ compare_slots-loop-i-preserved over t c =
 
 pub compare_slots-returns-clause-adds : goal.compare_slots-returns-clause-adds
 compare_slots-returns-clause-adds over t c h g was slots agree =
-    adds-done c.args.comparison.p c.args.out.now c.loop-i.out c.args.span.height slots.below c.args.span.start c.loop-i.i h g (omega arith) slots.height (c.loop-i.invariant.adds h g was slots agree)
+    adds-done c.args.comparison c.args.out.now c.loop-i.out c.args.span.height slots.below c.args.span.start c.loop-i.i h g (omega arith) slots.height (c.loop-i.invariant.adds h g was slots agree)
 
 pub compare_slots-returns-clause-bounded : goal.compare_slots-returns-clause-bounded
 compare_slots-returns-clause-bounded over t c g slots =

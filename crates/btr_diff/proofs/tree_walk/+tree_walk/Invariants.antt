@@ -12,7 +12,7 @@ use Rattle.btr_diff.proofs.tree_walk.+tree_walk.Given as goal
 -- What the slots so far have added, and how many nodes were visited.
 abbrev pub invariant-compare_slots-loop-i : goal.invariant-compare_slots-loop-i
 invariant-compare_slots-loop-i g l = record {
-  adds : (h k : Past) → AreSlotsOf l.span (uncounted_slots l.old) h → (new : AreSlotsOf l.span l.new k) → AgreeSince l.comparison.since h k → AddsChangedSlots l.comparison.p l.fn.out l.out (within l.span.start (slot_start new.below l.span.start l.i) (bag h)) (within l.span.start (slot_start new.below l.span.start l.i) (bag k));
+  adds : (h k : Past) → AreSlotsOf l.span (uncounted_slots l.old) h → (new : AreSlotsOf l.span l.new k) → AgreeSince l.comparison.since h k → AddsChangedSlots l.comparison l.fn.out l.out (within l.span.start (slot_start new.below l.span.start l.i) (bag h)) (within l.span.start (slot_start new.below l.span.start l.i) (bag k));
   bounded : (k : Past) → (new : AreSlotsOf l.span l.new k) → l.steps ≤ l.fn.steps + sum_of l.i (λ j. newer_nodes new.below (slot_start new.below l.span.start j) (is_inner (suc new.below) l.span.start) k l.comparison.since);
   never_falls : l.fn.steps ≤ l.steps;
 }

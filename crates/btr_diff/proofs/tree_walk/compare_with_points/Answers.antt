@@ -49,12 +49,12 @@ compare_points-requires-in-Inner-clause-old_domain c =
 pub returns-in-None : goal.returns-in-None
 returns-in-None c =
     on_ok_weaker c.compare_points.result (λ e h is.
-    adds-as c.args.comparison.p c.args.out.now c.compare_points.new.out _ _ _ _ (sym (found-none_uncounted c.args.span (uncounted_child c.args.old) c.in-None.ensures h is)) (λ i. c.args.new.now) e) c.compare_points.ensures
+    adds-as c.args.comparison c.args.out.now c.compare_points.new.out _ _ _ _ (sym (found-none_uncounted c.args.span (uncounted_child c.args.old) c.in-None.ensures h is)) (λ i. c.args.new.now) e) c.compare_points.ensures
 
 pub returns-in-Leaf : goal.returns-in-Leaf
 returns-in-Leaf c =
     on_ok_weaker c.compare_points-in-Leaf.result (λ e h is.
-    adds-as c.args.comparison.p c.args.out.now c.compare_points-in-Leaf.new.out _ _ _ _ (leaf-points c.args.span h (as_counted c.in-Some.node) c.in-Leaf.version c.in-Leaf.points (ap as_counted c.in-Leaf.is) (found-uncounted c.args.span (uncounted_child c.args.old) c.in-Some.node c.in-Some.ensures h is)) (λ i. c.args.new.now) e) c.compare_points-in-Leaf.ensures
+    adds-as c.args.comparison c.args.out.now c.compare_points-in-Leaf.new.out _ _ _ _ (leaf-points c.args.span h (as_counted c.in-Some.node) c.in-Leaf.version c.in-Leaf.points (ap as_counted c.in-Leaf.is) (found-uncounted c.args.span (uncounted_child c.args.old) c.in-Some.node c.in-Some.ensures h is)) (λ i. c.args.new.now) e) c.compare_points-in-Leaf.ensures
 
 pub returns-in_ok-gather_slots-in-Inner : goal.returns-in_ok-gather_slots-in-Inner
 returns-in_ok-gather_slots-in-Inner c =
@@ -62,4 +62,4 @@ returns-in_ok-gather_slots-in-Inner c =
     on_ok_weaker c.compare_points-in-Inner.result (λ e h is.
     let children = inner-slots span h (as_counted c.in-Some.node) c.in-Inner.version c.in-Inner.slots.slots (ap as_counted c.in-Inner.is) (found-uncounted span (uncounted_child c.args.old) c.in-Some.node c.in-Some.ensures h is) in
     let gathered = c.deref.ensures.value ∙ c.in_ok-gather_slots-in-Inner.ensures h children ∙ ap (λ x. x ++ points_of span.height span.start (bag h)) c.new-points.ensures.items in
-    adds-as c.args.comparison.p c.args.out.now c.compare_points-in-Inner.new.out _ _ _ _ gathered (λ i. c.args.new.now) e) c.compare_points-in-Inner.ensures
+    adds-as c.args.comparison c.args.out.now c.compare_points-in-Inner.new.out _ _ _ _ gathered (λ i. c.args.new.now) e) c.compare_points-in-Inner.ensures

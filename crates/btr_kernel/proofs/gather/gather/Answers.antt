@@ -4,7 +4,7 @@ use Rattle.std.proofs.lemmas.List.{take_more}
 use Rattle.btr_base.specs.declared.point.Point.{Point}
 use Rattle.btr_base.specs.Point.{InDomain, AreInDomain}
 use Rattle.btr_base.specs.Range.{RangeValue, IsCut, covered}
-use Rattle.btr_base.specs.Bag.{IsInOrder}
+use Rattle.btr_base.specs.Bag.{IsInOrder, within}
 use Rattle.btr_base.proofs.ListLemmas.{each-filter}
 use Rattle.btr_base.proofs.PointLemmas.{filter-in_order}
 use Rattle.btr_base.proofs.RangeLemmas.{IsCut-take}
@@ -27,9 +27,8 @@ loop-part-preserved c h tree =
     let more : take (i + 1) rs ≡ take i rs ++ r ∷ [] = take_more rs i r (omega arith) ∙ ap (λ x. take i rs ++ x ∷ []) (sym c.part-item.is) in
     let cut = subst IsCut (sym c.as_slice-part-items.ensures.ranges) c.as_slice-part-items.ensures.cut in
     let prefix = subst IsCut more (IsCut-take (i + 1) rs cut) in
-    let part = c.deref.ensures.value ∙ c.in_ok-range.ensures h tree in
-    c.in_ok-extend_from_slice.ensures.items
-    ∙ (λ k. c.loop-part.invariant h tree k ++ part k)
+    c.in_ok-append_range.ensures h tree
+    ∙ ap (λ x. x ++ within r.from r.to (bag h)) (c.loop-part.invariant h tree)
     ∙ sym (gather-more (bag h) (take i rs) r (bag-in_order h) prefix)
     ∙ ap (λ l. filter (λ (p : Point). covered l p.time) (bag h)) (sym more)
 

@@ -1,6 +1,6 @@
 use Rattle.std.proofs.Common.{◌++◌, ◌<ℤ◌, ◌∙◌, ap, sym, subst, arith}
 use Rattle.std.proofs.lemmas.Int.{ints}
-use Rattle.btr_base.specs.declared.limits.TheConstants.{FIRST}
+use Rattle.std.proofs.lemmas.Result.{on_ok_weaker}
 use Rattle.btr_base.specs.Bag.{within}
 use Rattle.btr_base.specs.Span.{SpanValue}
 use Rattle.btr_tree.specs.Change.{end_of}
@@ -9,7 +9,7 @@ use Rattle.btr_tree.specs.Slots.{node_of}
 use Rattle.btr_tree.specs.Nodes.{points_of, above_root}
 use Rattle.btr_tree.specs.Shape.{IsChild}
 use Rattle.btr_tree.proofs.RootLemmas.{end-root, root-points}
-use Rattle.btr_scan.proofs.range_walk.range.Goals as goal
+use Rattle.btr_scan.proofs.range_walk.append_range.Goals as goal
 
 pub walk_child-requires-clause-begins : goal.walk_child-requires-clause-begins
 walk_child-requires-clause-begins c =
@@ -19,9 +19,9 @@ walk_child-requires-clause-begins c =
     subst (λ u. c.args.range.from <ℤ end_of u) (sym c.root_span.ensures) (omega (arith, ints))
 
 pub returns : goal.returns
-returns c h tree =
+returns c =
+    on_ok_weaker c.walk_child.result (λ e h tree.
     let place = subst (λ (u : SpanValue). IsChild u.height u.start above_root h (node_of c.link.result)) (sym c.root_span.ensures) (c.link.ensures.child h tree) in
-    c.in_ok-walk_child.ensures above_root h place
-    ∙ ap (λ (u : SpanValue). c.new-rows.result.items ++ within c.args.range.from c.args.range.to (points_of u.height u.start (bag h))) c.root_span.ensures
-    ∙ ap (λ x. x ++ within c.args.range.from c.args.range.to (points_of 10 FIRST (bag h))) c.new-rows.ensures.items
-    ∙ ap (within c.args.range.from c.args.range.to) (root-points (bag h) tree.times)
+    e above_root h place
+    ∙ ap (λ (u : SpanValue). c.args.rows.now.items ++ within c.args.range.from c.args.range.to (points_of u.height u.start (bag h))) c.root_span.ensures
+    ∙ ap (λ x. c.args.rows.now.items ++ within c.args.range.from c.args.range.to x) (root-points (bag h) tree.times)) c.walk_child.ensures
