@@ -24,7 +24,7 @@ pub two-filled : (m n : ℕ) (first array p q : List ℕ) → take m first ≡ p
 two-filled m n first array p q e1 e2 long =
     one-filled n array (p ++ q) (e2 ∙ ap (λ l. l ++ q) e1) long
 
--- Zeros behind the whole list.
+-- Zeros after the whole list.
 pub zeros-appended : {X E : Type 0} (r : Result X E) (new old : List ℕ) (n size filled : ℕ) → size ≡ filled → filled ≡ length old → new ≡ (if is_ok r then take (size + n) old ++ replicate (size + n - filled) 0 else old) → OnOk r (new ≡ old ++ zeros n)
 unfolding zeros
 zeros-appended (Ok x) new old n size filled same long e =

@@ -1,4 +1,4 @@
--- Pieces that are written one behind another.
+-- Pieces that are written one after another.
 use Rattle.std.specs.Prelude.{◌≡◌, ℕ, ◌+◌, ◌*◌, ◌<◌, List, ◌++◌, length, take}
 use Rattle.std.proofs.Common.{get_or, sym, ap, ◌∙◌, arith, append_assoc}
 use Rattle.std.specs.List.{flat_map}
@@ -8,11 +8,11 @@ use Rattle.std.proofs.lemmas.List.{take_all, take_more, flat_map_more}
 pub ends-at : (m n : ℕ) (new x : List ℕ) → m ≡ n → take n new ≡ x → take m new ≡ x
 ends-at m n new x e h = ap (λ k. take k new) e ∙ h
 
--- Two pieces behind a prefix.
+-- Two pieces after a prefix.
 pub two-pieces : (x x1 x2 p q : List ℕ) → x1 ≡ x ++ p → x2 ≡ x1 ++ q → x2 ≡ x ++ (p ++ q)
 two-pieces x x1 x2 p q e1 e2 = e2 ∙ ap (λ l. l ++ q) e1 ∙ append_assoc x p q
 
--- Six pieces behind a prefix.
+-- Six pieces after a prefix.
 pub six-pieces : (x x1 x2 x3 x4 x5 x6 p q r s u v : List ℕ) → x1 ≡ x ++ p → x2 ≡ x1 ++ q → x3 ≡ x2 ++ r → x4 ≡ x3 ++ s → x5 ≡ x4 ++ u → x6 ≡ x5 ++ v → x6 ≡ x ++ (p ++ q ++ r ++ s ++ u ++ v)
 six-pieces x x1 x2 x3 x4 x5 x6 p q r s u v e1 e2 e3 e4 e5 e6 =
     two-pieces x x5 x6 (p ++ q ++ r ++ s ++ u) v

@@ -1,11 +1,11 @@
 -- Pages of nodes: the 4096 bytes of each, and the table that a page keeps.
 use Rattle.std.specs.Prelude.{◌≡◌, ℕ, ◌-◌, ◌^◌, ◌<◌, ◌≤◌, ℤ, pos, ◌+ℤ◌, ◌≤ℤ◌, ◌<ℤ◌}
-use Rattle.std.specs.Prelude.{List, ◌++◌, length, take, drop, replicate, codes, Option, Some, None}
+use Rattle.std.specs.Prelude.{List, [], ◌++◌, length, take, drop, replicate, codes, Option, Some, None}
 use Rattle.std.specs.Int.{Width, w32, w64, w128, to_be_bytes, cast_unsigned}
 use Rattle.std.specs.Int.RustNames.{FitsSigned}
 use Rattle.std.specs.List.{flat_map, sum_by, AllByRecursion}
 use Rattle.btr_base.specs.declared.point.Point.{Point}
-use Rattle.btr_base.specs.Span.{width, IsSpan}
+use Rattle.btr_base.specs.Span.{SpanValue, width, IsSpan}
 use Rattle.btr_base.specs.Bag.{IsInOrder}
 use Rattle.btr_base.specs.Agg.{IsSummary}
 use Rattle.btr_node.specs.declared.page.Front.{Front}
@@ -58,6 +58,15 @@ front (Leaf start height stream version count points) =
 front (Inner start height stream version count slots) =
     record { start = start; height = height; stream = stream; version = version; count = count }
 
+-- The span that a page is about.
+abbrev pub span_of_page : NodePage → SpanValue
+span_of_page page = record { start = (front page).start; height = (front page).height }
+
+-- The slots of a page: none of a leaf.
+abbrev pub slots_of_page : NodePage → List PageSlot
+slots_of_page (Leaf start height stream version count points) = []
+slots_of_page (Inner start height stream version count slots) = slots
+
 -- The 4096 bytes of a page: a mark, the fields of both kinds, and all places for points, or all slots and zeros.
 unfoldable pub page_bytes : NodePage → List ℕ
 page_bytes (Leaf start height stream version count points) =
@@ -76,7 +85,7 @@ page_bytes (Inner start height stream version count slots) =
 abbrev pub unused_place : Point
 unused_place = record { time = pos 0; value = pos 0 }
 
--- The 252 places of a leaf with these points: the points, at most 252, and unused places behind them.
+-- The 252 places of a leaf with these points: the points, at most 252, and unused places after them.
 abbrev pub places_with : List Point → List Point
 places_with points = points ++ replicate (252 - length points) unused_place
 

@@ -18,7 +18,7 @@ u64_in at bytes = from_be_bytes w64 (take 8 (drop at bytes))
 abbrev pub u128_in : ℕ → List ℕ → ℕ
 u128_in at bytes = from_be_bytes w128 (take 16 (drop at bytes))
 
--- The fields of both kinds, behind the mark.
+-- The fields of both kinds, after the mark.
 unfoldable pub front_in : List ℕ → Front
 front_in bytes = record {
   start = cast_signed w64 (u64_in 8 bytes);

@@ -11,7 +11,7 @@ use crate::writing::{put_front, put_point, put_slot};
 use btr_base::Point;
 use std::alloc::AllocError;
 
-/// Appends the page of a leaf with these fields and points, and unused places behind them. It takes time linear in the points, and
+/// Appends the page of a leaf with these fields and points, and unused places after them. It takes time linear in the points, and
 /// that of 4096 bytes of zeros. An `Err` is out of memory, and some of the bytes may have been appended.
 pub fn append_leaf(to: &mut Vec<u8>, front: &Front, points: &[Point]) -> Result<(), AllocError>
     requires few { length points.now ≤ 252 }

@@ -1,12 +1,12 @@
 //! The two directions: from a page to its bytes, and back.
 ghost use Rattle.std.specs.Prelude.{◌≡◌, IfSome, take, codes};
 ghost use Rattle.btr_node.specs.declared.page.NodePage.{NodePage as PageValue};
-ghost use Rattle.btr_node.specs.Page.{page_bytes, Keeps, Spells, Fits, front};
+ghost use Rattle.btr_node.specs.Page.{page_bytes, Keeps, Spells, Fits};
 
 use crate::fields::put;
 use crate::inner_table::is_inner;
 use crate::leaf_table::is_leaf;
-use crate::page::{Front, NodePage, PAGE, PLACES, PageSlot, SLOTS};
+use crate::page::{NodePage, PAGE, PLACES, PageSlot, SLOTS};
 use crate::reading::{read_front, read_points, read_slots};
 use crate::writing::{put_front, put_points, put_slots};
 use btr_base::{Agg, Point};
@@ -17,10 +17,10 @@ pub(crate) const LEAF_MARK: [u8; 8] = *b"BTR-LEAF";
 /// The first eight bytes of an inner node's page.
 pub(crate) const NODE_MARK: [u8; 8] = *b"BTR-NODE";
 
-/// The zeros behind the fields of both kinds.
+/// The zeros after the fields of both kinds.
 const GAP: [u8; 24] = [0; 24];
 
-/// The zeros behind the slots of an inner node.
+/// The zeros after the slots of an inner node.
 const TAIL: [u8; 448] = [0; 448];
 
 /// Writes the bytes of a page that keeps the table: [`decode`] turns them into the page again. It takes constant time and no
@@ -36,7 +36,7 @@ pub fn encode(page: &NodePage, to: &mut [u8; PAGE])
 pub fn spell(page: &NodePage, to: &mut [u8; PAGE])
     ensures { to.new ≡ page_bytes page.now }
 {
-    let front = front_of(page);
+    let front = page.front();
     match page {
         NodePage::Leaf { points, .. } => {
             put(to, 0, &LEAF_MARK);
@@ -130,34 +130,4 @@ fn inner_of(bytes: &[u8; PAGE]) -> Option<NodePage>
         count: front.count,
         slots,
     })
-}
-
-/// The fields that both kinds have.
-fn front_of(page: &NodePage) -> Front
-    ensures { result ≡ front page.now }
-{
-    match page {
-        NodePage::Leaf {
-            start,
-            height,
-            stream,
-            version,
-            count,
-            ..
-        }
-        | NodePage::Inner {
-            start,
-            height,
-            stream,
-            version,
-            count,
-            ..
-        } => Front {
-            start: *start,
-            height: *height,
-            stream: *stream,
-            version: *version,
-            count: *count,
-        },
-    }
 }

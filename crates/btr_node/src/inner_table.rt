@@ -5,7 +5,6 @@ ghost use Rattle.btr_node.specs.Page.{IsInnerPage, IsSlot};
 
 use crate::page::{Front, PageSlot, SLOTS};
 use crate::span_table::kept_span;
-use crate::writing::count_of;
 use btr_base::{LEAF_POINTS, MAX_POINTS};
 
 /// Whether an inner node's page keeps the table.
@@ -26,7 +25,7 @@ fn total(slots: &[PageSlot; SLOTS]) -> u128
 {
     let mut all = 0;
     for slot in slots {
-        all += u128::from(count_of(&slot.agg));
+        all += u128::from(slot.count());
     }
     all
 }
@@ -50,7 +49,7 @@ fn is_slot(slot: &PageSlot, version: u64) -> bool
     if slot.version > version {
         return false;
     }
-    if count_of(&slot.agg) == 0 {
+    if slot.count() == 0 {
         slot.child == 0
     } else {
         1 <= slot.version && 1 <= slot.child

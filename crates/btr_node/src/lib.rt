@@ -30,7 +30,7 @@ mod leaf_table;
 mod span_table;
 // the two directions
 mod codec;
-// pages behind one another in a list of bytes
+// pages after one another in a list of bytes
 mod appending;
 // what the definitions entail
 mod laws;

@@ -1,5 +1,8 @@
 //! A node's page: what it says of a span of a stream.
-use btr_base::{Agg, Point};
+ghost use Rattle.std.specs.Prelude.{◌≡◌};
+ghost use Rattle.btr_node.specs.Page.{Keeps, front, slots_of_page, span_of_page};
+
+use btr_base::{Agg, Point, Span};
 
 /// The number of bytes of a page.
 pub const PAGE: usize = 4096;
@@ -34,7 +37,7 @@ pub enum NodePage {
         /// The number of points.
         count: u64,
 
-        /// The points, and zeros behind them.
+        /// The points, and zeros after them.
         points: [Point; 252],
     },
 
@@ -60,6 +63,60 @@ pub enum NodePage {
     },
 }
 
+impl NodePage {
+    /// The fields that both kinds have. It takes constant time.
+    pub fn front(&self) -> Front
+        ensures { result ≡ front self.now }
+    {
+        match self {
+            NodePage::Leaf {
+                start,
+                height,
+                stream,
+                version,
+                count,
+                ..
+            }
+            | NodePage::Inner {
+                start,
+                height,
+                stream,
+                version,
+                count,
+                ..
+            } => Front {
+                start: *start,
+                height: *height,
+                stream: *stream,
+                version: *version,
+                count: *count,
+            },
+        }
+    }
+
+    /// The span of a page that keeps the table. It takes constant time.
+    pub fn span(&self) -> Span
+        requires { Keeps self.now }
+        ensures { result ≡ span_of_page self.now }
+    {
+        let front = self.front();
+        Span {
+            start: front.start,
+            height: front.height as u8,
+        }
+    }
+
+    /// The slots: none of a leaf. It takes constant time.
+    pub fn slots(&self) -> &[PageSlot]
+        ensures { result.now ≡ slots_of_page self.now }
+    {
+        match self {
+            NodePage::Leaf { .. } => &[],
+            NodePage::Inner { slots, .. } => slots,
+        }
+    }
+}
+
 /// One of the 64 spans of the next lower height that an inner node consists of, as its page says it.
 ///
 /// The version is at most that of the node. Where there is a point, version and child are not 0; where there is none, the child
@@ -74,6 +131,15 @@ pub struct PageSlot {
 
     /// The block of the child's page, or 0 for none.
     pub child: u64,
+}
+
+impl PageSlot {
+    /// The number of points of the slot.
+    pub fn count(&self) -> u64
+        ensures { result ≡ self.now.agg.count }
+    {
+        self.agg.count
+    }
 }
 
 /// The fields that both kinds of pages have.

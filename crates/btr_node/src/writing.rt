@@ -1,4 +1,4 @@
-//! A page's fields, points and slots written in order, each behind the last.
+//! A page's fields, points and slots written in order, each after the last.
 ghost use Rattle.std.specs.Prelude.{◌≡◌, ◌+◌, ◌≤◌, ◌++◌, take};
 ghost use Rattle.std.specs.Int.{w64, w128, cast_unsigned};
 ghost use Rattle.std.specs.List.{flat_map};
@@ -8,7 +8,7 @@ use crate::fields::{put, put_u32, put_u64, put_u128};
 use crate::page::{Front, PAGE, PLACES, PageSlot, SLOTS};
 use btr_base::{Agg, Point};
 
-/// Writes the fields of both kinds, from the index 8 on, and the zeros behind them.
+/// Writes the fields of both kinds, from the index 8 on, and the zeros after them.
 pub(crate) fn put_front<const N: usize>(to: &mut [u8; N], front: &Front)
     requires { 64 ≤ N }
     ensures { take 64 to.new ≡ take 8 to.old ++ front_bytes front.now }
@@ -54,19 +54,12 @@ pub(crate) fn put_slot<const N: usize>(to: &mut [u8; N], at: usize, slot: &PageS
     ensures { take (at + 56) to.new ≡ take at to.old ++ slot_bytes slot.now }
 {
     let (least, greatest) = ends_of(&slot.agg);
-    put_u64(to, at, count_of(&slot.agg));
+    put_u64(to, at, slot.count());
     put_u128(to, at + 8, sum_of(&slot.agg));
     put_u64(to, at + 24, least);
     put_u64(to, at + 32, greatest);
     put_u64(to, at + 40, slot.version);
     put_u64(to, at + 48, slot.child);
-}
-
-/// The count of an aggregate.
-pub(crate) fn count_of(agg: &Agg) -> u64
-    ensures { result ≡ agg.now.count }
-{
-    agg.count
 }
 
 /// The sum of an aggregate, in two's complement.

@@ -9,11 +9,11 @@ use Rattle.std.proofs.lemmas.List.Concat.{flat_map-cons}
 use Rattle.btr_disk.specs.Bytes.{Image, Has, Same}
 use Rattle.btr_disk.proofs.ByteLemmas.{Has-one, Has-append, Has-take, Has-Same, Same-sym}
 use Rattle.btr_log.specs.Piece.{PieceValue, IsPieceOf, HoldsBlocks, bytes_at}
-use Rattle.btr_node.specs.Page.{page_bytes, Fits, Spells}
+use Rattle.btr_node.specs.Page.{page_bytes, Fits, Spells, slots_of_page}
 use Rattle.btr_node.specs.declared.page.NodePage.{NodePage}
 use Rattle.btr_node.specs.declared.page.PageSlot.{PageSlot}
 use Rattle.btr_node.proofs.PageLemmas.{page-once}
-use Rattle.btr_pages.specs.Pages.{Pages, with_pages, slots_of_page, IsPageAt, IsChildPage, HasChildPage}
+use Rattle.btr_pages.specs.Pages.{Pages, with_pages, IsPageAt, IsChildPage, HasChildPage}
 use Rattle.btr_pages.proofs.BlockLemmas.{length-pages, each-places}
 use Rattle.btr_pages.proofs.KnownLemmas.{pages-below, pages-from}
 use Rattle.btr_pages.proofs.PagesLemmas.{right-along}

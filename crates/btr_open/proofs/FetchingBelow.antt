@@ -5,10 +5,10 @@ use Rattle.std.proofs.lemmas.Bool.{cases_lt}
 use Rattle.std.proofs.lemmas.Option.{slice_get_past}
 use Rattle.btr_disk.specs.declared.disk.Disk.{Ghosts}
 use Rattle.btr_disk.specs.Bytes.{Image}
-use Rattle.btr_node.specs.Page.{Fits, Spells}
+use Rattle.btr_node.specs.Page.{Fits, Spells, slots_of_page}
 use Rattle.btr_node.specs.declared.page.NodePage.{NodePage}
 use Rattle.btr_node.specs.declared.page.PageSlot.{PageSlot}
-use Rattle.btr_pages.specs.Pages.{Pages, slots_of_page}
+use Rattle.btr_pages.specs.Pages.{Pages}
 use Rattle.btr_pages.specs.Blocks.{block_of_bytes}
 use Rattle.btr_pages.specs.Known.{NodesValue, node_at}
 use Rattle.btr_open.specs.declared.below.BlockReader.{BlockReader}
@@ -203,7 +203,7 @@ module _ {D : Type 0} (disk : Ghosts D) where
     can = can;
     grows = grows-none r.limit nodes;
     own = own;
-    all = λ told. fetches-none (disk.contents d) r.limit blocks nodes none;
+    all = λ reported. fetches-none (disk.contents d) r.limit blocks nodes none;
   }
 
   pub fetched-more : (before mid now : D) (r m s : BlockReader) (first second all : ℕ → Type 0) (was nodes new : NodesValue) → HasFetched before mid r m first was nodes → HasReadBelow disk m s mid now → GrowsBelow m.limit nodes new → (disk.is_observable → FetchesAll (disk.contents mid) m.limit second nodes new) → ((k : ℕ) → first k → all k) → ((k : ℕ) → second k → all k) → ((k : ℕ) → all k → first k ⊎ second k) → HasFetched before now r s all was new
@@ -211,12 +211,12 @@ module _ {D : Type 0} (disk : Ghosts D) where
     read = read-on disk r m s before mid now so_far.read read;
     can = can-on disk m s mid now so_far.can read;
     grows = grows-on r.limit was nodes new so_far.grows (grows-in disk before mid r m nodes new so_far.read grows);
-    own = λ told.
-        subst (λ l. AreOfDevice (disk.contents now) l new) (sym read.limit) (subst (λ i. AreOfDevice i m.limit new) (sym (same-image disk mid now read.reads told))
-        (device-on (disk.contents mid) m.limit nodes new (more told).adds (so_far.own told)));
-    all = λ told.
-        fetches-on (disk.contents before) r.limit first second all was nodes new (so_far.all told)
-        (subst (λ l. FetchesAll (disk.contents before) l second nodes new) so_far.read.limit (subst (λ i. FetchesAll i m.limit second nodes new) (same-image disk before mid so_far.read.reads told) (more told)))
+    own = λ reported.
+        subst (λ l. AreOfDevice (disk.contents now) l new) (sym read.limit) (subst (λ i. AreOfDevice i m.limit new) (sym (same-image disk mid now read.reads reported))
+        (device-on (disk.contents mid) m.limit nodes new (more reported).adds (so_far.own reported)));
+    all = λ reported.
+        fetches-on (disk.contents before) r.limit first second all was nodes new (so_far.all reported)
+        (subst (λ l. FetchesAll (disk.contents before) l second nodes new) so_far.read.limit (subst (λ i. FetchesAll i m.limit second nodes new) (same-image disk before mid so_far.read.reads reported) (more reported)))
         from_first from_second from_all;
   }
 
@@ -226,7 +226,7 @@ module _ {D : Type 0} (disk : Ghosts D) where
     can = so_far.can;
     grows = so_far.grows;
     own = so_far.own;
-    all = λ told. fetches-same (disk.contents before) r.limit blocks other was nodes (so_far.all told) to back;
+    all = λ reported. fetches-same (disk.contents before) r.limit blocks other was nodes (so_far.all reported) to back;
   }
 
   -- The same states under other names.

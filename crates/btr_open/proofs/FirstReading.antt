@@ -47,9 +47,9 @@ whole-judged by size image s l judge w is closed inside nodes = record {
 module _ {D : Type 0} (disk : Ghosts D) {J : Type 0} (by : Judging J) (found : Super) (old begun : D) (same : begun ≡ old) where
   -- The log was read whole.
   pub log-judged : (l : Loader) (judge : J) (w : WholeLog) → WasJudged disk by begun (first_reading found) w.tail l judge → (disk.is_observable → IsClosed (disk.contents begun) w.tail) → w.tail < found.blocks → w.nodes ≡ l.nodes → disk.is_observable → IsJudgedLog by.may by.is_after (disk.contents old) (first_reading found) judge w
-  log-judged l judge w read closed inside nodes told =
+  log-judged l judge w read closed inside nodes reported =
       subst (λ d. IsJudgedLog by.may by.is_after (disk.contents d) (first_reading found) judge w) same
-      (whole-judged by (disk.size begun) (disk.contents begun) (first_reading found) l judge w (read told) (closed told) inside nodes)
+      (whole-judged by (disk.size begun) (disk.contents begun) (first_reading found) l judge w (read reported) (closed reported) inside nodes)
 
   -- It was not. The superblock names no checkpoint whose start could be wrong.
   pub cause-judged : (new : D) (cause : OpenCause) → LogCause disk by (first_reading found) begun new cause → PartCause disk (IsDamagedLogBy by.may (disk.contents old) (first_reading found)) old new cause
@@ -57,7 +57,7 @@ module _ {D : Type 0} (disk : Ghosts D) {J : Type 0} (by : Judging J) (found : S
       let s = first_reading found in
       let here : LogCause disk by s old new cause = subst (λ d. LogCause disk by s d new cause) same is in
       cause-along disk (IsDamagedStoreBy by.may (disk.contents old) s) (IsDamagedLogBy by.may (disk.contents old) s) old old new (omega arith)
-      (λ told block damage. elim damage [
+      (λ reported block damage. elim damage [
         | inl wrong ↦ let some = wrong.0 in absurd (omega (arith, some))
         | inr broken ↦ broken
       ]) cause here

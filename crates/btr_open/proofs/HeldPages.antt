@@ -20,7 +20,7 @@ use Rattle.btr_pages.specs.Pages.{Pages, IsPageAt}
 use Rattle.btr_pages.proofs.BlockLemmas.{each-places, length-pages}
 use Rattle.btr_pages.proofs.KnownLemmas.{pages-below, pages-from}
 use Rattle.btr_pages.proofs.PagesLemmas.{right-along}
-use Rattle.btr_pages.proofs.ToldLemmas.{with-either}
+use Rattle.btr_pages.proofs.ReportedLemmas.{with-either}
 use Rattle.btr_hist.specs.declared.entry.Entry.{Entry}
 use Rattle.btr_entry.specs.Grammar.{spelling}
 use Rattle.btr_engine.specs.Body.{Prefix, padding, body_of, no_extents, first_page, pages_after, with_extent, with_checkpoint, IsBodyOf, LeadTo}

@@ -14,7 +14,7 @@ use Rattle.btr_tree.proofs.LeadsLemmas.{leads-along}
 use Rattle.btr_node.specs.declared.page.NodePage.{NodePage}
 use Rattle.btr_pages.specs.Pages.{Pages, node_of_stream, HasRootPage, MayBeRoot}
 use Rattle.btr_pages.proofs.KnownLemmas.{pages-below}
-use Rattle.btr_pages.proofs.ToldLemmas.{page-in}
+use Rattle.btr_pages.proofs.ReportedLemmas.{page-in}
 use Rattle.btr_hist.specs.declared.entry.Entry.{Entry}
 use Rattle.btr_hist.specs.declared.kernel.Spec.{Spec}
 use Rattle.btr_hist.specs.declared.entry.Entry.TheVariants.{Create, Define, Commit, Distillate}

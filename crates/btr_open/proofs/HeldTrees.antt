@@ -11,7 +11,7 @@ use Rattle.btr_tree.specs.Root.{TreeValue, IsTree}
 use Rattle.btr_tree.specs.Stored.{IsBelow}
 use Rattle.btr_pages.specs.Pages.{nodes_in}
 use Rattle.btr_pages.specs.Known.{NodesValue, ArePartOf}
-use Rattle.btr_pages.specs.Told.{AreKept}
+use Rattle.btr_pages.specs.Reported.{AreKept}
 use Rattle.btr_hist.specs.declared.entry.Entry.{Entry}
 use Rattle.btr_hist.specs.History.{ids, commits, latest}
 use Rattle.btr_hist.specs.Legal.{Follows}

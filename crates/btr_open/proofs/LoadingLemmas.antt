@@ -12,13 +12,13 @@ use Rattle.btr_log.specs.declared.head.Head.{Head}
 use Rattle.btr_log.specs.Head.{content_blocks, head_bytes, entry_head}
 use Rattle.btr_log.specs.Extents.{IsBody, need}
 use Rattle.btr_log.proofs.HeadLemmas.{length-head_bytes}
-use Rattle.btr_node.specs.Page.{Spells, Fits}
+use Rattle.btr_node.specs.Page.{Spells, Fits, slots_of_page}
 use Rattle.btr_node.specs.declared.page.NodePage.{NodePage}
-use Rattle.btr_pages.specs.Pages.{Pages, with_pages, slots_of_page, HasChildPage, IsPageAt, ArePages}
+use Rattle.btr_pages.specs.Pages.{Pages, with_pages, HasChildPage, IsPageAt, ArePages}
 use Rattle.btr_pages.specs.Blocks.{block_of_bytes, AreAmong, AllWereAdded, IsDamagedBlock}
 use Rattle.btr_pages.specs.Known.{NodesValue, AreKnown, ArePartOf, node_at}
 use Rattle.btr_pages.proofs.KnownLemmas.{block-at, known-at, pages-below, pages-from}
-use Rattle.btr_pages.proofs.ToldLemmas.{with-either}
+use Rattle.btr_pages.proofs.ReportedLemmas.{with-either}
 use Rattle.btr_tree.specs.Root.{TreeValue}
 use Rattle.btr_hist.specs.declared.entry.Entry.{Entry}
 use Rattle.btr_hist.specs.declared.entry.Entry.TheVariants.{Create, Define, Commit, Distillate}

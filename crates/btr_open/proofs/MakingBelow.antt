@@ -8,11 +8,11 @@ use Rattle.btr_disk.specs.Bytes.{Image}
 use Rattle.btr_disk.proofs.ByteLemmas.{Same-is}
 use Rattle.btr_disk.proofs.MomentLemmas.{none_written, nothing_composes}
 use Rattle.btr_base.specs.Span.{SpanValue}
-use Rattle.btr_node.specs.Page.{front, Keeps}
+use Rattle.btr_node.specs.Page.{front, Keeps, slots_of_page}
 use Rattle.btr_node.specs.declared.page.NodePage.{NodePage}
 use Rattle.btr_node.specs.declared.page.NodePage.TheVariants.{Leaf, Inner}
 use Rattle.btr_node.specs.declared.page.PageSlot.{PageSlot}
-use Rattle.btr_pages.specs.Pages.{Pages, slots_of_page, IsPageAt, IsChildPage}
+use Rattle.btr_pages.specs.Pages.{Pages, IsPageAt, IsChildPage}
 use Rattle.btr_pages.specs.Known.{NodesValue, node_at, ArePartOf, KnowsChildren, TakesPage}
 use Rattle.btr_pages.proofs.KnownLemmas.{HasOnly}
 use Rattle.btr_open.specs.declared.below.BlockReader.{BlockReader}
@@ -153,11 +153,11 @@ module _ {D : Type 0} (disk : Ghosts D) where
   only-on : (old mid new : D) → OnlyReads disk old mid → OnlyReads disk mid new → OnlyReads disk old new
   only-on old mid new first second = record {
     counts = counts-trans disk old mid new first.counts second.counts;
-    nothing = λ told. nothing_composes disk.calls disk.images_since disk.contents disk.images_now old mid new (first.nothing told) (second.nothing told);
+    nothing = λ reported. nothing_composes disk.calls disk.images_since disk.contents disk.images_now old mid new (first.nothing reported) (second.nothing reported);
   }
 
   pub same-image : (old new : D) → OnlyReads disk old new → disk.is_observable → disk.contents new ≡ disk.contents old
-  same-image old new reads told = Same-is (disk.contents old) (disk.contents new) (reads.nothing told).same
+  same-image old new reads reported = Same-is (disk.contents old) (disk.contents new) (reads.nothing reported).same
 
   -- Nothing was read. `only_now` is the device's law.
   pub read-none : (r : BlockReader) (d : D) → (disk.is_observable → (c : Image) → disk.images_since d (disk.calls d) c → disk.images_now d c) → CanRead disk r d → HasReadBelow disk r r d d
@@ -165,7 +165,7 @@ module _ {D : Type 0} (disk : Ghosts D) where
     limit = refl;
     reads = record {
       counts = record { same_size = refl; more_calls = omega arith; more_faults = omega arith };
-      nothing = λ told. none_written disk.calls disk.images_since disk.contents disk.images_now d (only_now told);
+      nothing = λ reported. none_written disk.calls disk.images_since disk.contents disk.images_now d (only_now reported);
     };
     holds = can.holds;
   }
@@ -211,9 +211,9 @@ module _ {D : Type 0} (disk : Ghosts D) where
     only = λ k has. inl has;
     grows = grows-none r.limit nodes;
     device = device;
-    adds = λ told. adds-none (disk.contents d) r.limit nodes;
-    part = λ told pages stand some are. are;
-    known = λ told i lt. absurd (omega arith);
+    adds = λ reported. adds-none (disk.contents d) r.limit nodes;
+    part = λ reported pages stand some are. are;
+    known = λ reported i lt. absurd (omega arith);
   }
 
   -- Trees that were made, in terms of the first state.
@@ -222,12 +222,12 @@ module _ {D : Type 0} (disk : Ghosts D) where
 
   -- What a slot's child made, in terms of the first state.
   pub made-in : (d e : D) (r s : BlockReader) (block : ℕ) (page : NodePage) (mid new : NodesValue) (done : Type 0) (o : Option ℕ) → HasReadBelow disk r s d e → disk.is_observable → MakesBelow (disk.contents e) s.limit block page mid new done o → MakesBelow (disk.contents d) r.limit block page mid new done o
-  made-in d e r s block page mid new done o read told made =
-      subst (λ l. MakesBelow (disk.contents d) l block page mid new done o) read.limit (subst (λ i. MakesBelow i s.limit block page mid new done o) (same-image d e read.reads told) made)
+  made-in d e r s block page mid new done o read reported made =
+      subst (λ l. MakesBelow (disk.contents d) l block page mid new done o) read.limit (subst (λ i. MakesBelow i s.limit block page mid new done o) (same-image d e read.reads reported) made)
 
   pub device-still : (old new : D) (r s : BlockReader) (block : ℕ) (page : NodePage) (nodes : NodesValue) → HasReadBelow disk r s old new → disk.is_observable → IsStoredWith (disk.contents old) r.limit block page nodes → IsStoredWith (disk.contents new) s.limit block page nodes
-  device-still old new r s block page nodes read told is =
-      subst (λ l. IsStoredWith (disk.contents new) l block page nodes) (sym read.limit) (subst (λ i. IsStoredWith i r.limit block page nodes) (sym (same-image old new read.reads told)) is)
+  device-still old new r s block page nodes read reported is =
+      subst (λ l. IsStoredWith (disk.contents new) l block page nodes) (sym read.limit) (subst (λ i. IsStoredWith i r.limit block page nodes) (sym (same-image old new read.reads reported)) is)
 
   -- Trees that were made after those of the first slots.
   pub made-and : (before mid : D) (r m : BlockReader) (block : ℕ) (page : NodePage) (was nodes new : NodesValue) (n : ℕ) → IsMadeTo before mid r m block page was nodes n → GrowsBelow m.limit nodes new → GrowsBelow r.limit was new
@@ -237,34 +237,34 @@ module _ {D : Type 0} (disk : Ghosts D) where
   -- One child more.
   pub made-more : (before mid now : D) (r m s : BlockReader) (block : ℕ) (page : NodePage) (slot : PageSlot) (was nodes new : NodesValue) (n : ℕ) → IsMadeTo before mid r m block page was nodes n → HasReadBelow disk m s mid now → HasNoneFrom block nodes new → GrowsBelow m.limit nodes new → (disk.is_observable → MakesBelow (disk.contents mid) m.limit block page nodes new (KnowsChild block new slot) None) → slice_get (slots_of_page page) n ≡ Some slot → IsMadeTo before now r s block page was new (n + 1)
   made-more before mid now r m s block page slot was nodes new n so_far read only grows made there =
-      let here = λ (told : disk.is_observable). made-in before mid r m block page nodes new (KnowsChild block new slot) None so_far.read told (made told) in
+      let here = λ (reported : disk.is_observable). made-in before mid r m block page nodes new (KnowsChild block new slot) None so_far.read reported (made reported) in
       record {
         read = read-on r m s before mid now so_far.read read;
         can = can-on m s mid now so_far.can read;
         only = λ k has. ⊎_elim (λ was_there. so_far.only k was_there) (λ low. inr low) (only k has);
         grows = made-and before mid r m block page was nodes new n so_far grows;
-        device = λ told. record {
-          stored = (so_far.device told).stored;
-          own = device-on (disk.contents before) r.limit nodes new (here told).adds (so_far.device told).own;
+        device = λ reported. record {
+          stored = (so_far.device reported).stored;
+          own = device-on (disk.contents before) r.limit nodes new (here reported).adds (so_far.device reported).own;
         };
-        adds = λ told. adds-on (disk.contents before) r.limit was nodes new (so_far.adds told) (here told).adds;
-        part = λ told pages stand some are. (here told).part pages stand some (so_far.part told pages stand some are);
-        known = λ told i lt.
+        adds = λ reported. adds-on (disk.contents before) r.limit was nodes new (so_far.adds reported) (here reported).adds;
+        part = λ reported pages stand some are. (here reported).part pages stand some (so_far.part reported pages stand some are);
+        known = λ reported i lt.
             ⊎_elim
-            (λ less. knows-still r.limit block nodes new (here told).adds.grows (slice_get (slots_of_page page) i) (so_far.known told i less))
+            (λ less. knows-still r.limit block nodes new (here reported).adds.grows (slice_get (slots_of_page page) i) (so_far.known reported i less))
             (λ from.
             let same : n ≡ i = omega arith in
-            subst (λ k. IfSome (slice_get (slots_of_page page) k) (KnowsChild block new)) same (subst (λ o. IfSome o (KnowsChild block new)) (sym there) (here told).found))
+            subst (λ k. IfSome (slice_get (slots_of_page page) k) (KnowsChild block new)) same (subst (λ o. IfSome o (KnowsChild block new)) (sym there) (here reported).found))
             (cases_lt i n);
       }
 
   -- A child breaks the format.
-  pub made-broken : (before mid : D) (r m : BlockReader) (block : ℕ) (page : NodePage) (was nodes new : NodesValue) (n : ℕ) (child own : Type 0) (o : Option ℕ) → IsMadeTo before mid r m block page was nodes n → (told : disk.is_observable) → MakesBelow (disk.contents mid) m.limit block page nodes new child o → IsSome o → MakesBelow (disk.contents before) r.limit block page was new own o
-  made-broken before mid r m block page was nodes new n child own o so_far told made some =
-      let here = made-in before mid r m block page nodes new child o so_far.read told made in
+  pub made-broken : (before mid : D) (r m : BlockReader) (block : ℕ) (page : NodePage) (was nodes new : NodesValue) (n : ℕ) (child own : Type 0) (o : Option ℕ) → IsMadeTo before mid r m block page was nodes n → (reported : disk.is_observable) → MakesBelow (disk.contents mid) m.limit block page nodes new child o → IsSome o → MakesBelow (disk.contents before) r.limit block page was new own o
+  made-broken before mid r m block page was nodes new n child own o so_far reported made some =
+      let here = made-in before mid r m block page nodes new child o so_far.read reported made in
       record {
-        adds = adds-on (disk.contents before) r.limit was nodes new (so_far.adds told) here.adds;
-        part = λ pages stand has are. here.part pages stand has (so_far.part told pages stand has are);
+        adds = adds-on (disk.contents before) r.limit was nodes new (so_far.adds reported) here.adds;
+        part = λ pages stand has are. here.part pages stand has (so_far.part reported pages stand has are);
         found = broken-still (disk.contents before) block page child own o some here.found;
       }
 
@@ -274,24 +274,24 @@ module _ {D : Type 0} (disk : Ghosts D) where
       grows-on r.limit was nodes new so_far.grows (grows-one r.limit block page nodes new read.below (none-still block was nodes so_far.only fresh) takes only)
 
   pub made-all : (before mid : D) (r m : BlockReader) (block : ℕ) (page : NodePage) (was nodes new : NodesValue) (n : ℕ) → IsMadeTo before mid r m block page was nodes n → IsReadPage block r.limit page → IsNone (node_at was block) → TakesPage nodes new block page → HasOnly nodes new block → disk.is_observable → MakesBelow (disk.contents before) r.limit block page was new (IsSome (node_at new block)) None
-  made-all before mid r m block page was nodes new n so_far read fresh takes only told =
+  made-all before mid r m block page was nodes new n so_far read fresh takes only reported =
       let image = disk.contents before in
       let none = none-still block was nodes so_far.only fresh in
-      let stored = (so_far.device told).stored in
+      let stored = (so_far.device reported).stored in
       record {
-        adds = adds-on image r.limit was nodes new (so_far.adds told) (adds-one image r.limit block page nodes new read.some read.below stored none takes only);
+        adds = adds-on image r.limit was nodes new (so_far.adds reported) (adds-one image r.limit block page nodes new read.some read.below stored none takes only);
         part = λ pages stand has are.
-            part-one image r.limit block page nodes new read.some read.below stored none takes only pages stand has (so_far.part told pages stand has are);
+            part-one image r.limit block page nodes new read.some read.below stored none takes only pages stand has (so_far.part reported pages stand has are);
         found = takes.stands;
       }
 
   -- The page was refused: a child that was known before is not the page of its slot.
   pub made-refused : (before mid : D) (r m : BlockReader) (block : ℕ) (page : NodePage) (was nodes : NodesValue) (n : ℕ) (own : Type 0) → IsMadeTo before mid r m block page was nodes n → IsReadPage block r.limit page → length (slots_of_page page) ≤ n → ((pages : Pages) → ArePartOf pages nodes → KnowsChildren pages nodes page → IsPageAt pages block page → ⊥) → disk.is_observable → MakesBelow (disk.contents before) r.limit block page was nodes own (Some block)
-  made-refused before mid r m block page was nodes n own so_far read all refused told =
+  made-refused before mid r m block page was nodes n own so_far read all refused reported =
       let image = disk.contents before in
-      let device = so_far.device told in
+      let device = so_far.device reported in
       record {
-        adds = so_far.adds told;
-        part = so_far.part told;
-        found = refused-breaks image r.limit block page nodes read.below device.own.0 device.own.1 device.own.2 device.stored (knows-all_slots block page nodes n all (so_far.known told)) refused;
+        adds = so_far.adds reported;
+        part = so_far.part reported;
+        found = refused-breaks image r.limit block page nodes read.below device.own.0 device.own.1 device.own.2 device.stored (knows-all_slots block page nodes n all (so_far.known reported)) refused;
       }

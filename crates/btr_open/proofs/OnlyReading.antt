@@ -15,7 +15,7 @@ module _ {D : Type 0} {disk : Ghosts D} where
   pub OnlyReads-trans : (old mid new : D) → OnlyReads disk old mid → OnlyReads disk mid new → OnlyReads disk old new
   OnlyReads-trans old mid new first second = record {
     counts = counts-trans disk old mid new first.counts second.counts;
-    nothing = λ told. nothing_composes disk.calls disk.images_since disk.contents disk.images_now old mid new (first.nothing told) (second.nothing told);
+    nothing = λ reported. nothing_composes disk.calls disk.images_since disk.contents disk.images_now old mid new (first.nothing reported) (second.nothing reported);
   }
 
   pub ReadsLog-trans : (old mid new : Log D disk) → ReadsLog old mid → ReadsLog mid new → ReadsLog old new
@@ -32,4 +32,4 @@ module _ {D : Type 0} {disk : Ghosts D} where
 
   -- The device has the same bytes.
   pub same-bytes : (old new : D) → OnlyReads disk old new → disk.is_observable → disk.contents old ≡ disk.contents new
-  same-bytes old new reads told = sym (Same-is (disk.contents old) (disk.contents new) (reads.nothing told).same)
+  same-bytes old new reads reported = sym (Same-is (disk.contents old) (disk.contents new) (reads.nothing reported).same)

@@ -30,16 +30,16 @@ use Rattle.btr_open.proofs.OpenCauses.{cause-of-store}
 
 -- All that a crash left since the sync of the opening holds the engine's history.
 held_since : {D : Type 0} {disk : Ghosts D} (old : D) (h : List Entry) (e : Engine D disk) → disk.is_observable → IsAtRest h e → SyncsFirst disk old (synced_of e) (device e) → IsHeldSince h (calls_at_open e) e
-held_since old h e told rest synced = record {
+held_since old h e reported rest synced = record {
   of = rest.of;
-  since = λ c left. holds_in h e rest c ((synced.since told).each c left);
-  now = λ c left. holds_in h e rest c ((synced.now told).each c left);
+  since = λ c left. holds_in h e rest c ((synced.since reported).each c left);
+  now = λ c left. holds_in h e rest c ((synced.now reported).each c left);
 }
 
 -- The history of an engine is durable since the sync of the opening.
 opened_on : {D : Type 0} {disk : Ghosts D} (old : D) (h : List Entry) (e : Engine D disk) → disk.is_observable → entries_at_open e ≡ entries_of e → IsAtRest h e → SyncsFirst disk old (synced_of e) (device e) → IsOpenedOn disk h e
-opened_on old h e told entries rest synced =
-    let held = held_since old h e told rest synced in
+opened_on old h e reported entries rest synced =
+    let held = held_since old h e reported rest synced in
     record {
       at_rest = rest;
       held = held;
@@ -82,49 +82,49 @@ module _ (size : ℕ) (image : Image) (found : Super) (tail : ℕ) (board : Kept
 module _ {D : Type 0} (disk : Ghosts D) (old mid : D) (found : Super) (counts_now : disk.is_observable → (d : D) (t : ℕ) (c : Image) → t ≤ disk.calls d → disk.images_now d c → disk.images_since d t c) (kept : KeepsDisk disk old mid) (chosen : disk.is_observable → IsChosen (disk.size old) (disk.contents old) found) where
   -- A crash after the choice leaves no more than before it.
   back : disk.is_observable → (c : Image) → disk.images_now mid c → disk.images_now old c
-  back told =
-      left_now disk.calls disk.images_since old mid (disk.images_now old) (disk.images_now mid) (counts_now told mid) (kept.unwritten told).moments
+  back reported =
+      left_now disk.calls disk.images_since old mid (disk.images_now old) (disk.images_now mid) (counts_now reported mid) (kept.unwritten reported).moments
 
   same_bytes : disk.is_observable → disk.contents mid ≡ disk.contents old
-  same_bytes told = Same-is (disk.contents old) (disk.contents mid) (kept.unwritten told).same
+  same_bytes reported = Same-is (disk.contents old) (disk.contents mid) (kept.unwritten reported).same
 
   keeps : (new : D) → OnlyReads disk mid new → KeepsDisk disk old new
   keeps new reads = record {
     counts = counts-trans disk old mid new kept.counts reads.counts;
-    unwritten = λ told. unwritten_on disk.calls disk.contents disk.images_now disk.images_since old mid new (kept.unwritten told) (back told) (reads.nothing told);
+    unwritten = λ reported. unwritten_on disk.calls disk.contents disk.images_now disk.images_since old mid new (kept.unwritten reported) (back reported) (reads.nothing reported);
   }
 
   module _ (e : Engine D disk) (synced : D) (first : SyncsFirst disk old synced mid) (read : IsReadEngine disk found mid synced e) where
     so_far : SyncsFirst disk old (synced_of e) (device e)
     so_far =
-        subst (λ s. SyncsFirst disk old s (device e)) (sym read.synced) (reads_on disk old synced mid (device e) first read.reads (λ told. counts_now told (device e)))
+        subst (λ s. SyncsFirst disk old s (device e)) (sym read.synced) (reads_on disk old synced mid (device e) first read.reads (λ reported. counts_now reported (device e)))
 
     -- The log that was read is that of the device as it was.
     whole : disk.is_observable → IsWholeLog (disk.size old) (disk.contents old) found (tail_of e) (board_of e)
-    whole told =
+    whole reported =
         subst (λ n. IsWholeLog n (disk.contents old) found (tail_of e) (board_of e)) kept.counts.same_size
-        (subst (λ i. IsWholeLog (disk.size mid) i found (tail_of e) (board_of e)) (same_bytes told) (read.whole told))
+        (subst (λ i. IsWholeLog (disk.size mid) i found (tail_of e) (board_of e)) (same_bytes reported) (read.whole reported))
 
     -- If the device held a history, the engine is of it.
     at_rest : disk.is_observable → (h : List Entry) → HoldsHistory (disk.size old) (disk.contents old) h → IsAtRest h e
-    at_rest told h holds =
+    at_rest reported h holds =
         let on = keeps (device e) read.reads in
-        let bytes : disk.contents old ≡ disk.contents (device e) = sym (Same-is (disk.contents old) (disk.contents (device e)) (on.unwritten told).same) in
+        let bytes : disk.contents old ≡ disk.contents (device e) = sym (Same-is (disk.contents old) (disk.contents (device e)) (on.unwritten reported).same) in
         let size : disk.size old ≡ disk.size (device e) = sym on.counts.same_size in
         let streams = (board_of e).streams in
         let there : HoldsTrees (disk.size (device e)) (disk.contents (device e)) (blocks_of e) (tail_of e) h found streams =
         subst (λ n. HoldsTrees n (disk.contents (device e)) (blocks_of e) (tail_of e) h found streams) size
         (subst (λ i. HoldsTrees (disk.size old) i (blocks_of e) (tail_of e) h found streams) bytes
         (subst (λ b. HoldsTrees (disk.size old) (disk.contents old) b (tail_of e) h found streams) (sym read.blocks_are)
-        (trees (disk.size old) (disk.contents old) found (tail_of e) (board_of e) (chosen told) (whole told) h holds)))
+        (trees (disk.size old) (disk.contents old) found (tail_of e) (board_of e) (chosen reported) (whole reported) h holds)))
         in
         record {
-          of = board_is (disk.size old) (disk.contents old) found (tail_of e) (board_of e) (chosen told) (whole told) h holds;
+          of = board_is (disk.size old) (disk.contents old) found (tail_of e) (board_of e) (chosen reported) (whole reported) h holds;
           holds = there.0;
           under = there.1 ∙ sym read.under;
           stored = there.2;
           roots = there.3;
-          only = so_far.now told;
+          only = so_far.now reported;
         }
 
     opened_engine : IsOpenedEngine disk old e
@@ -134,9 +134,9 @@ module _ {D : Type 0} (disk : Ghosts D) (old mid : D) (found : Super) (counts_no
       runs = read.runs;
       home = read.home;
       entries = read.entries;
-      chosen = λ told. subst (IsChosen (disk.size old) (disk.contents old)) (sym read.under) (chosen told);
-      stood = λ told h holds. opened_on old h e told read.entries (at_rest told h holds) so_far;
-      sound = λ told. undamaged (disk.size old) (disk.contents old) found (tail_of e) (board_of e) (chosen told) (whole told) read.inside;
+      chosen = λ reported. subst (IsChosen (disk.size old) (disk.contents old)) (sym read.under) (chosen reported);
+      stood = λ reported h holds. opened_on old h e reported read.entries (at_rest reported h holds) so_far;
+      sound = λ reported. undamaged (disk.size old) (disk.contents old) found (tail_of e) (board_of e) (chosen reported) (whole reported) read.inside;
     }
 
   pub opened : (result : Result (Engine D disk) (OpenFault D)) (synced : D) → SyncsFirst disk old synced mid → IfOk result (IsReadEngine disk found mid synced) → IfOk result (IsOpenedEngine disk old)
@@ -145,8 +145,8 @@ module _ {D : Type 0} (disk : Ghosts D) (old mid : D) (found : Super) (counts_no
 
   -- If the device held a history, the engine is of it.
   pub stood : (result : Result (Engine D disk) (OpenFault D)) → IfOk result (IsOpenedEngine disk old) → disk.is_observable → (h : List Entry) → HoldsHistory (disk.size old) (disk.contents old) h → IfOk result (IsOpenedOn disk h)
-  stood (Ok e) is told h holds = is.stood told h holds
-  stood (Err f) is told h holds = tt
+  stood (Ok e) is reported h holds = is.stood reported h holds
+  stood (Err f) is reported h holds = tt
 
   pub refused : (result : Result (Engine D disk) (OpenFault D)) → IfErr result (λ f. OnlyReads disk mid f.disk) → IfErr result (λ f. StoreCause disk found mid f.disk f.cause) → IfErr result (IsNotOpened disk old)
   refused (Ok e) reads cause = tt

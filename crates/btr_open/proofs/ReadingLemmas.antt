@@ -12,7 +12,7 @@ use Rattle.btr_pages.specs.Pages.{Pages, with_pages, HasChildPage, IsPageAt}
 use Rattle.btr_pages.specs.Known.{AreKnown, ArePartOf}
 use Rattle.btr_pages.proofs.BlockLemmas.{each-places}
 use Rattle.btr_pages.proofs.KnownLemmas.{pages-below}
-use Rattle.btr_pages.proofs.ToldLemmas.{page-in}
+use Rattle.btr_pages.proofs.ReportedLemmas.{page-in}
 use Rattle.btr_tree.specs.Leads.{node_to}
 use Rattle.btr_tree.specs.Nodes.{above_root}
 use Rattle.btr_hist.specs.History.{latest}

@@ -31,7 +31,7 @@ use Rattle.btr_pages.specs.Pages.{Pages, with_pages, node_of_page, IsRootPage, I
 use Rattle.btr_pages.specs.Blocks.{block_of_bytes}
 use Rattle.btr_pages.proofs.BlockLemmas.{each-places, length-pages}
 use Rattle.btr_pages.proofs.KnownLemmas.{pages-below, pages-from}
-use Rattle.btr_pages.proofs.ToldLemmas.{with-either, page-in}
+use Rattle.btr_pages.proofs.ReportedLemmas.{with-either, page-in}
 use Rattle.btr_hist.specs.declared.entry.Entry.{Entry}
 use Rattle.btr_hist.specs.declared.entry.Entry.TheVariants.{Create, Define, Commit, Distillate}
 use Rattle.btr_hist.specs.declared.kernel.Reads.{Reads}

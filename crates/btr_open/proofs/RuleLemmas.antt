@@ -77,4 +77,4 @@ module _ (May : EntryRule) (all : (before : List Entry) (e : Entry) (root : ℕ)
   -- Why a log was not read is why the store was not opened.
   pub cause-plain : {D : Type 0} (disk : Ghosts D) (found : Super) (old new : D) (cause : OpenCause) → PartCause disk (IsDamagedStoreBy May (disk.contents old) found) old new cause → StoreCause disk found old new cause
   cause-plain disk found old new cause is =
-      cause-along disk (IsDamagedStoreBy May (disk.contents old) found) (IsDamagedStore (disk.contents old) found) old old new (omega arith) (λ told block damage. store-plain (disk.contents old) found block damage) cause is
+      cause-along disk (IsDamagedStoreBy May (disk.contents old) found) (IsDamagedStore (disk.contents old) found) old old new (omega arith) (λ reported block damage. store-plain (disk.contents old) found block damage) cause is

@@ -46,7 +46,7 @@ module _ {D : Type 0} (disk : Ghosts D) (found : Super) (old new : D) (some : 0 
   -- The superblock names no checkpoint.
   pub no-checkpoint-cause : (cause : OpenCause) → cause ≡ Damaged (2 * found.side + 1) → (disk.is_observable → IsNoCheckpoint (disk.contents old) found (2 * found.side + 1)) → FirstCause disk found old new cause
   no-checkpoint-cause cause is none =
-      subst (FirstCause disk found old new) (sym is) (λ told. (some, inl (none told)))
+      subst (FirstCause disk found old new) (sym is) (λ reported. (some, inl (none reported)))
 
   -- The checkpoint has no streams.
   pub no-roll-damage : (body : List ℕ) → IsCheckpointExtent (disk.contents old) found body → ((entries : ℕ) (roll : List RollStreamValue) → HasRoll found.checkpoint entries roll body → ⊥) → IsWrongStart (disk.contents old) found (found.checkpoint + 1)
@@ -58,8 +58,8 @@ module _ {D : Type 0} (disk : Ghosts D) (found : Super) (old mid new : D) (some 
   pub load-cause : (cause : OpenCause) → StartCause disk found roll mid new cause → FirstCause disk found old new cause
   load-cause NotAStore cause = absurd cause
   load-cause (Damaged block) cause =
-      λ told.
-      let wrong = subst (λ i. HasWrongVersionRoot i found roll block) (sym (same-bytes old mid reads told)) (cause told) in
-      (some, inr (inr (inr (record { body = is.body; extent = is.extent told; entries = entries; roll = roll; has = is.has; wrong = wrong }))))
+      λ reported.
+      let wrong = subst (λ i. HasWrongVersionRoot i found roll block) (sym (same-bytes old mid reads reported)) (cause reported) in
+      (some, inr (inr (inr (record { body = is.body; extent = is.extent reported; entries = entries; roll = roll; has = is.has; wrong = wrong }))))
   load-cause Fault cause = let low = reads.counts.more_faults in omega (arith, cause, low)
   load-cause Want cause = tt

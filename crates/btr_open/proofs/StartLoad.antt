@@ -106,7 +106,7 @@ module _ {D : Type 0} (disk : Ghosts D) (found : Super) (roll : List RollStreamV
   pub roots-load : (cause : OpenCause) → RootsCause disk roots old new cause → StartCause disk found roll old new cause
   roots-load NotAStore is = is
   roots-load (Damaged block) is =
-      λ told. let w = is told in wrong-below (disk.contents old) found roll roots below w.0 w.1 block w.2 w.3
+      λ reported. let w = is reported in wrong-below (disk.contents old) found roll roots below w.0 w.1 block w.2 w.3
   roots-load Fault is = is
   roots-load Want is = tt
 
@@ -114,6 +114,6 @@ module _ {D : Type 0} (disk : Ghosts D) (found : Super) (roll : List RollStreamV
   pub trees-load : (nodes : NodesValue) → (disk.is_observable → AreRootsFetched (disk.contents old) found.checkpoint roots nodes) → (cause : OpenCause) → TreesCause nodes found.checkpoint roll cause → StartCause disk found roll old new cause
   trees-load nodes fetched NotAStore is = is
   trees-load nodes fetched (Damaged block) is =
-      λ told. wrong-root (disk.contents old) found roll roots below nodes block (fetched told) is
+      λ reported. wrong-root (disk.contents old) found roll roots below nodes block (fetched reported) is
   trees-load nodes fetched Fault is = absurd is
   trees-load nodes fetched Want is = tt

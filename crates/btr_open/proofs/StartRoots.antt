@@ -211,7 +211,7 @@ module _ {D : Type 0} (disk : Ghosts D) where
   pub no-calls : (d : D) → (disk.is_observable → (c : Image) → disk.images_since d (disk.calls d) c → disk.images_now d c) → OnlyReads disk d d
   no-calls d only_now = record {
     counts = record { same_size = refl; more_calls = omega arith; more_faults = omega arith };
-    nothing = λ told. none_written disk.calls disk.images_since disk.contents disk.images_now d (only_now told);
+    nothing = λ reported. none_written disk.calls disk.images_since disk.contents disk.images_now d (only_now reported);
   }
 
   -- The trees of these roots were made so far.
@@ -225,9 +225,9 @@ module _ {D : Type 0} (disk : Ghosts D) where
   module _ (old mid : D) (limit : ℕ) (reader : BlockReader) (roots : List ℕ) (nodes : NodesValue) (so_far : IsFetchedSo old mid limit reader roots nodes) where
     -- The trees so far are those of pages that stand rightly.
     pub own-so : disk.is_observable → (own : Pages) × StandBelow (disk.contents mid) reader.limit own × AreKnown own nodes
-    own-so told =
-        let f = so_far.fetched told in
-        let stand : StandBelow (disk.contents mid) limit f.own = subst (λ i. StandBelow i limit f.own) (same-bytes old mid so_far.reads told) f.stand in
+    own-so reported =
+        let f = so_far.fetched reported in
+        let stand : StandBelow (disk.contents mid) limit f.own = subst (λ i. StandBelow i limit f.own) (same-bytes old mid so_far.reads reported) f.stand in
         (f.own, subst (λ n. StandBelow (disk.contents mid) n f.own) (sym so_far.limit_is) stand, f.known)
 
     -- One more was made.
@@ -237,18 +237,18 @@ module _ {D : Type 0} (disk : Ghosts D) where
       reads = OnlyReads-trans old mid new so_far.reads reads;
       holds = holds;
       grown = grown-more limit nodes more so_far.grown (subst (λ n. GrowsBelow n nodes more) so_far.limit_is grows);
-      fetched = λ told.
-          let image = sym (same-bytes old mid so_far.reads told) in
-          fetched-more (disk.contents old) limit roots root nodes more (so_far.fetched told)
-          (subst (λ i. AddsBelow i limit nodes more) image (subst (λ n. AddsBelow (disk.contents mid) n nodes more) so_far.limit_is (adds told)))
-          (subst (λ i. StaysPart i limit root nodes more) image (subst (λ n. StaysPart (disk.contents mid) n root nodes more) so_far.limit_is (part told)))
-          (there told);
+      fetched = λ reported.
+          let image = sym (same-bytes old mid so_far.reads reported) in
+          fetched-more (disk.contents old) limit roots root nodes more (so_far.fetched reported)
+          (subst (λ i. AddsBelow i limit nodes more) image (subst (λ n. AddsBelow (disk.contents mid) n nodes more) so_far.limit_is (adds reported)))
+          (subst (λ i. StaysPart i limit root nodes more) image (subst (λ n. StaysPart (disk.contents mid) n root nodes more) so_far.limit_is (part reported)))
+          (there reported);
     }
 
     -- Why one more was not made.
     pub cause-so : (all : List ℕ) (n root : ℕ) (new : D) (cause : OpenCause) → slice_get all n ≡ Some root → RootCause disk root mid new cause → RootsCause disk all old new cause
     cause-so all n root new NotAStore at is = is
     cause-so all n root new (Damaged block) at is =
-        λ told. (n, root, at, subst (λ i. IsWrongBelow i root block) (sym (same-bytes old mid so_far.reads told)) (is told))
+        λ reported. (n, root, at, subst (λ i. IsWrongBelow i root block) (sym (same-bytes old mid so_far.reads reported)) (is reported))
     cause-so all n root new Fault at is = let low = so_far.reads.counts.more_faults in omega (arith, is, low)
     cause-so all n root new Want at is = tt

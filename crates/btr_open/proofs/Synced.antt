@@ -42,9 +42,9 @@ module _ {D : Type 0} (disk : Ghosts D) where
     before = kept;
     after = record { same_size = refl; more_calls = omega arith; more_faults = omega arith };
     at_sync = only;
-    since = λ told. record {
-      each = λ c left. (only told).each c (only_now told c left);
-      itself = λ c same. counts_now told (disk.calls mid) c (omega arith) ((only told).itself c same);
+    since = λ reported. record {
+      each = λ c left. (only reported).each c (only_now reported c left);
+      itself = λ c same. counts_now reported (disk.calls mid) c (omega arith) ((only reported).itself c same);
     };
     now = only;
   }
@@ -53,20 +53,20 @@ module _ {D : Type 0} (disk : Ghosts D) where
   pub reads_on : (old synced mid new : D) → SyncsFirst disk old synced mid → OnlyReads disk mid new → (disk.is_observable → (t : ℕ) (c : Image) → t ≤ disk.calls new → disk.images_now new c → disk.images_since new t c) → SyncsFirst disk old synced new
   reads_on old synced mid new so_far reads counts_now =
       let on = counts-trans synced mid new so_far.after reads.counts in
-      let still = λ (told : disk.is_observable). Only-kept disk.calls disk.images_since disk.contents disk.images_now mid new (so_far.now told) (reads.nothing told) in
+      let still = λ (reported : disk.is_observable). Only-kept disk.calls disk.images_since disk.contents disk.images_now mid new (so_far.now reported) (reads.nothing reported) in
       record {
         counted = so_far.counted;
         before = so_far.before;
         after = on;
-        at_sync = λ told. Only-of (disk.contents new) (disk.contents mid) (disk.images_now synced) (reads.nothing told).same (so_far.at_sync told);
-        since = λ told. record {
+        at_sync = λ reported. Only-of (disk.contents new) (disk.contents mid) (disk.images_now synced) (reads.nothing reported).same (so_far.at_sync reported);
+        since = λ reported. record {
           each = λ c left.
-              let back : Same (disk.contents new) (disk.contents mid) = Same-sym (disk.contents mid) (disk.contents new) (reads.nothing told).same in
+              let back : Same (disk.contents new) (disk.contents mid) = Same-sym (disk.contents mid) (disk.contents new) (reads.nothing reported).same in
               ⊎_elim
-              (λ earlier. Same-trans (disk.contents new) (disk.contents mid) c back ((so_far.since told).each c earlier))
-              (λ now. Same-trans (disk.contents new) (disk.contents mid) c back ((so_far.now told).each c now))
-              ((reads.nothing told).moments.before (disk.calls synced) c so_far.after.more_calls left);
-          itself = λ c same. counts_now told (disk.calls synced) c on.more_calls ((still told).itself c same);
+              (λ earlier. Same-trans (disk.contents new) (disk.contents mid) c back ((so_far.since reported).each c earlier))
+              (λ now. Same-trans (disk.contents new) (disk.contents mid) c back ((so_far.now reported).each c now))
+              ((reads.nothing reported).moments.before (disk.calls synced) c so_far.after.more_calls left);
+          itself = λ c same. counts_now reported (disk.calls synced) c on.more_calls ((still reported).itself c same);
         };
         now = still;
       }

@@ -31,7 +31,7 @@ use Rattle.btr_pages.specs.Pages.{Pages, with_pages, node_of_stream, nodes_in, H
 use Rattle.btr_pages.specs.Known.{NodesValue, AreKnown, ArePartOf, IsKnown, IsReadRoot, node_at}
 use Rattle.btr_pages.proofs.KnownLemmas.{known-at}
 use Rattle.btr_pages.proofs.BlockLemmas.{each-places}
-use Rattle.btr_pages.proofs.ToldLemmas.{with-either}
+use Rattle.btr_pages.proofs.ReportedLemmas.{with-either}
 use Rattle.btr_hist.specs.declared.entry.Entry.{Entry}
 use Rattle.btr_hist.specs.declared.entry.Entry.TheVariants.{Create, Define, Commit, Distillate}
 use Rattle.btr_hist.specs.History.{change_of, commits, latest}

@@ -10,10 +10,10 @@ use Rattle.btr_disk.specs.Bytes.{Image}
 use Rattle.btr_base.specs.Span.{SpanValue, slot_of}
 use Rattle.btr_tree.specs.NewNodes.{NewNodeValue}
 use Rattle.btr_tree.proofs.ReadLemmas.{read-along}
-use Rattle.btr_node.specs.Page.{front}
+use Rattle.btr_node.specs.Page.{front, slots_of_page, span_of_page}
 use Rattle.btr_node.specs.declared.page.NodePage.{NodePage}
 use Rattle.btr_node.specs.declared.page.PageSlot.{PageSlot}
-use Rattle.btr_pages.specs.Pages.{Pages, slots_of_page, span_of_page, node_of_stream, nodes_in, IsPageAt, IsChildPage, HasChildPage}
+use Rattle.btr_pages.specs.Pages.{Pages, node_of_stream, nodes_in, IsPageAt, IsChildPage, HasChildPage}
 use Rattle.btr_pages.specs.Known.{KnownValue, NodesValue, node_at, IsKnown, AreKnown, ArePartOf, KnowsChildren, TakesPage}
 use Rattle.btr_pages.proofs.KnownLemmas.{block-at, known-at, knows-all, HasOnly}
 use Rattle.btr_open.specs.Below.{IsStoredPage, StandBelow, IsWrongChild, BreaksBelow}

@@ -8,9 +8,10 @@ use Rattle.btr_log.specs.Extents.{need, IsExtent, Extents}
 use Rattle.btr_log.proofs.ExtentLemmas.{Extents-push}
 use Rattle.btr_super.specs.declared.superblock.Super.{Super}
 use Rattle.btr_node.specs.declared.page.NodePage.{NodePage}
-use Rattle.btr_pages.specs.Pages.{Pages, with_pages, slots_of_page, HasChildPage, IsPageAt, ArePages}
+use Rattle.btr_node.specs.Page.{slots_of_page}
+use Rattle.btr_pages.specs.Pages.{Pages, with_pages, HasChildPage, IsPageAt, ArePages}
 use Rattle.btr_pages.proofs.KnownLemmas.{pages-below, pages-from}
-use Rattle.btr_pages.proofs.ToldLemmas.{with-either}
+use Rattle.btr_pages.proofs.ReportedLemmas.{with-either}
 use Rattle.btr_hist.specs.declared.entry.Entry.{Entry}
 use Rattle.btr_hist.specs.declared.entry.Entry.TheVariants.{Create, Define, Commit, Distillate}
 use Rattle.btr_roll.specs.Roll.{RollStreamValue}

@@ -62,18 +62,18 @@ module _ {D : Type 0} {disk : Ghosts D} {J : Type 0} (by : Judging J) where
     size-so-far = so_far.reads.reads.counts.same_size
 
     same-so-far : disk.is_observable → disk.contents (log_device mid) ≡ disk.contents (log_device old)
-    same-so-far told = sym (same-bytes (log_device old) (log_device mid) so_far.reads.reads told)
+    same-so-far reported = sym (same-bytes (log_device old) (log_device mid) so_far.reads.reads reported)
 
     -- What is said of the device before the calls is so now, and back.
     pub read-now : (gate : ℕ) (k : Loader) (j : J) → WasJudged disk by (log_device old) found gate k j → WasJudged disk by (log_device mid) found gate k j
-    read-now gate k j was told =
+    read-now gate k j was reported =
         subst (λ n. IsJudgedRead by n (disk.contents (log_device mid)) found gate k j) (sym size-so-far)
-        (subst (λ i. IsJudgedRead by (disk.size (log_device old)) i found gate k j) (sym (same-so-far told)) (was told))
+        (subst (λ i. IsJudgedRead by (disk.size (log_device old)) i found gate k j) (sym (same-so-far reported)) (was reported))
 
     read-before : (gate : ℕ) (k : Loader) (j : J) → WasJudged disk by (log_device mid) found gate k j → WasJudged disk by (log_device old) found gate k j
-    read-before gate k j was told =
+    read-before gate k j was reported =
         subst (λ n. IsJudgedRead by n (disk.contents (log_device old)) found gate k j) size-so-far
-        (subst (λ i. IsJudgedRead by (disk.size (log_device mid)) i found gate k j) (same-so-far told) (was told))
+        (subst (λ i. IsJudgedRead by (disk.size (log_device mid)) i found gate k j) (same-so-far reported) (was reported))
 
     -- Why no more was read.
     pub cause-before : (new : Log D disk) (cause : OpenCause) → LogCause disk by found (log_device mid) (log_device new) cause → LogCause disk by found (log_device old) (log_device new) cause
@@ -81,7 +81,7 @@ module _ {D : Type 0} {disk : Ghosts D} {J : Type 0} (by : Judging J) where
         let d0 = log_device old in
         let d1 = log_device mid in
         cause-along disk (IsDamagedStoreBy by.may (disk.contents d1) found) (IsDamagedStoreBy by.may (disk.contents d0) found) d0 d1 (log_device new) so_far.reads.reads.counts.more_faults
-        (λ told block damage. subst (λ i. IsDamagedStoreBy by.may i found block) (same-so-far told) damage) cause is
+        (λ reported block damage. subst (λ i. IsDamagedStoreBy by.may i found block) (same-so-far reported) damage) cause is
 
     -- One extent more was read.
     pub read-more : (new : Log D disk) (reads : ReadsLog mid new) (ahead : PieceValue) (after : BlockReader) (more : Loader) (judge_after : J) (next : ℕ) (behind : Place) → after.limit ≡ reader.limit → (disk.is_observable → IsPieceOf (disk.contents (log_device new)) ahead) → (disk.is_observable → IsReaderOf (disk.contents (log_device new)) after) → WasReadTo next more → IsNextPlace found.blocks place.gate l more next → WasJudged disk by (log_device mid) found next more judge_after → IsPlaceAfter place next behind → IsReadSoFar found old new ahead after more judge_after behind
@@ -97,14 +97,14 @@ module _ {D : Type 0} {disk : Ghosts D} {J : Type 0} (by : Judging J) where
         after_start = omega (arith, goes.gate, at.after, so_far.at.after_start);
       };
       into = subst (λ g. WasReadTo g more) (sym goes.gate) into;
-      read = λ told.
-          subst (λ g. IsJudgedRead by (disk.size (log_device old)) (disk.contents (log_device old)) found g more judge_after) (sym goes.gate) (read-before next more judge_after read told);
+      read = λ reported.
+          subst (λ g. IsJudgedRead by (disk.size (log_device old)) (disk.contents (log_device old)) found g more judge_after) (sym goes.gate) (read-before next more judge_after read reported);
     }
 
 -- Why the start was not read is why the log was not read.
 pub cause-of-start : {D : Type 0} (disk : Ghosts D) {J : Type 0} (by : Judging J) (found : Super) (old new : D) (cause : OpenCause) → FirstCause disk found old new cause → LogCause disk by found old new cause
 cause-of-start disk by found old new cause is =
-    cause-along disk (IsWrongStart (disk.contents old) found) (IsDamagedStoreBy by.may (disk.contents old) found) old old new (omega arith) (λ told block wrong. inl wrong) cause is
+    cause-along disk (IsWrongStart (disk.contents old) found) (IsDamagedStoreBy by.may (disk.contents old) found) old old new (omega arith) (λ reported block wrong. inl wrong) cause is
 
 -- ---- the whole log
 
@@ -146,8 +146,8 @@ module _ {D : Type 0} {disk : Ghosts D} {J : Type 0} {by : Judging J} (judge : J
       let end : device e ≡ log_device mid = ap log_device over.same_log ∙ made.same_device ∙ goes in
       let tail : tail_of e ≡ place.gate = ap log_tail over.same_log ∙ made.same_tail in
       let from : OnlyReads disk old (log_device mid) = subst (λ d. OnlyReads disk d (log_device mid)) begun.same_device reads.reads in
-      let whole : (told : disk.is_observable) → IsWholeLog (disk.size (log_device first)) (disk.contents (log_device first)) found place.gate l.board = λ told.
-      whole-read (disk.size (log_device first)) (disk.contents (log_device first)) found place.gate l (read told).read (closed told)
+      let whole : (reported : disk.is_observable) → IsWholeLog (disk.size (log_device first)) (disk.contents (log_device first)) found place.gate l.board = λ reported.
+      whole-read (disk.size (log_device first)) (disk.contents (log_device first)) found place.gate l (read reported).read (closed reported)
       in
       record {
         reads = subst (OnlyReads disk old) (sym end) from;
@@ -158,8 +158,8 @@ module _ {D : Type 0} {disk : Ghosts D} {J : Type 0} {by : Judging J} (judge : J
         blocks_are = ap log_blocks over.same_log ∙ made.same_blocks;
         under = over.same_super;
         inside = omega (arith, tail, at.inside);
-        whole = λ told.
+        whole = λ reported.
             subst (IsWholeLog (disk.size old) (disk.contents old) found (tail_of e)) (sym over.same_board)
             (subst (λ n. IsWholeLog (disk.size old) (disk.contents old) found n l.board) (sym tail)
-            (subst (λ d. IsWholeLog (disk.size d) (disk.contents d) found place.gate l.board) begun.same_device (whole told)));
+            (subst (λ d. IsWholeLog (disk.size d) (disk.contents d) found place.gate l.board) begun.same_device (whole reported)));
       }

@@ -2,10 +2,10 @@
 -- them one by one, from the roots of a checkpoint on.
 use Rattle.std.specs.Prelude.{◌≡◌, ◌⊎◌, ℕ, ◌*◌, ◌<◌, ◌≤◌, nat_lt, List, [], ◌∷◌, slice_get, Some, IfSome, if◌then◌else◌}
 use Rattle.btr_disk.specs.Bytes.{Image, Has}
-use Rattle.btr_node.specs.Page.{page_bytes, Fits, Keeps}
+use Rattle.btr_node.specs.Page.{page_bytes, Fits, Keeps, slots_of_page}
 use Rattle.btr_node.specs.declared.page.NodePage.{NodePage}
 use Rattle.btr_node.specs.declared.page.PageSlot.{PageSlot}
-use Rattle.btr_pages.specs.Pages.{Pages, slots_of_page, IsPageAt, IsChildPage}
+use Rattle.btr_pages.specs.Pages.{Pages, IsPageAt, IsChildPage}
 
 -- ---- pages that stand rightly
 

@@ -5,10 +5,10 @@ use Rattle.btr_disk.specs.declared.disk.Disk.{Ghosts}
 use Rattle.btr_disk.specs.Bytes.{Image, Has}
 use Rattle.btr_log.specs.Piece.{IsPieceOf}
 use Rattle.btr_log.specs.Extents.{need}
-use Rattle.btr_node.specs.Page.{Spells, Keeps, Fits}
+use Rattle.btr_node.specs.Page.{Spells, Keeps, Fits, slots_of_page}
 use Rattle.btr_node.specs.declared.page.NodePage.{NodePage}
 use Rattle.btr_node.specs.declared.page.PageSlot.{PageSlot}
-use Rattle.btr_pages.specs.Pages.{Pages, slots_of_page, HasRootPage}
+use Rattle.btr_pages.specs.Pages.{Pages, HasRootPage}
 use Rattle.btr_pages.specs.Blocks.{block_of_bytes}
 use Rattle.btr_pages.specs.Known.{NodesValue, AreKnown, ArePartOf, IsReadRoot, node_at}
 use Rattle.btr_tree.specs.History.{nothing}

@@ -45,9 +45,9 @@ module _ {D : Type 0} (disk : Ghosts D) where
     pub held : IsHeldSince h (calls_at_open engine) engine
     pub durable : IsDurable h (calls_at_open engine) (entries_at_open engine) engine []
 
-  -- The engine is not stopped, has its log at home, and was opened with all its entries. If the device is observable, the engine has the superblock that was
-  -- chosen; and if the device held a history, the engine is of this history. An observable device without a store, or with a damaged
-  -- block, is not opened.
+  -- The engine is not stopped, has its log at home, and was opened with all its entries. If the device is observable, the engine has the
+  -- superblock that was chosen; and if the device held a history, the engine is of this history. An observable device without a store, or
+  -- with a damaged block, is not opened.
   pub record IsOpenedEngine (old : D) (engine : Engine D disk) : Type 0 where
     pub kept : KeepsDisk old (device engine)
     pub synced : SyncsFirst old (synced_of engine) (device engine)

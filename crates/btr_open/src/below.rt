@@ -3,8 +3,8 @@ ghost use Rattle.std.specs.Prelude.{◌≡◌, ◌↔◌, ℕ, ◌+◌, ◌*◌,
 ghost use Rattle.std.specs.Prelude.{IfErr, IfOk, IfSome, OnOk, Some, IsSome, IsNone, IsTrue, MatchOption};
 ghost use Rattle.btr_disk.specs.Bytes.{Image, IsBlockRange};
 ghost use Rattle.btr_log.specs.Piece.{IsPieceOf, HoldsBlocks, bytes_at};
-ghost use Rattle.btr_node.specs.Page.{Keeps, Fits, front};
-ghost use Rattle.btr_pages.specs.Pages.{Pages, slots_of_page, span_of_page, IsChildPage};
+ghost use Rattle.btr_node.specs.Page.{Keeps, Fits, slots_of_page};
+ghost use Rattle.btr_pages.specs.Pages.{Pages, IsChildPage};
 ghost use Rattle.btr_pages.specs.Known.{ArePartOf, node_at};
 ghost use Rattle.btr_open.specs.Below.{StandBelow, IsStoredPage, HasNoPage};
 ghost use Rattle.btr_open.specs.Reading.{BlockCause};
@@ -16,7 +16,6 @@ ghost use Rattle.btr_open.specs.Loading.{IsBlock, IsSlotChild, FetchesAll, HaveN
 use crate::loading::OpenWalk;
 use crate::opening::OpenCause;
 use crate::roots::block_at;
-use btr_base::{Agg, Span};
 use btr_disk::Disk;
 use btr_log::{ExtentFault, Piece};
 use btr_node::{NodePage, PAGE, PageSlot, decode};
@@ -157,8 +156,8 @@ impl BlockReader {
             → OnOk result (FetchesAll (D.contents disk.old) self.old.limit (IsSlotChild (slots_of_page page.now)) nodes.old nodes.new) }
         ensures cause { IfErr result (BlockCause ⟦<D as Disk>⟧ disk.old disk.new) }
     {
-        for slot in slots_of(page) {
-            if count_of(&slot.agg) > 0 {
+        for slot in page.slots() {
+            if slot.count() > 0 {
                 self.fetch_at(alloc, disk, nodes, steps, slot.child)?;
             }
         }
@@ -211,7 +210,7 @@ impl BlockReader {
             (IsSome (node_at nodes.new block))) }
         ensures cause { IfErr result (BlockCause ⟦<D as Disk>⟧ disk.old disk.new) }
     {
-        for (i, slot) in slots_of(page).iter().enumerate() {
+        for (i, slot) in page.slots().iter().enumerate() {
             let broken = self.make_child(alloc, disk, nodes, steps, block, page, i as u8, slot)?;
             if broken.is_some() {
                 return Ok(broken);
@@ -250,7 +249,7 @@ impl BlockReader {
             (KnowsChild block nodes.new slot.now)) }
         ensures cause { IfErr result (BlockCause ⟦<D as Disk>⟧ disk.old disk.new) }
     {
-        if count_of(&slot.agg) == 0 {
+        if slot.count() == 0 {
             return Ok(None);
         }
         if slot.child >= block {
@@ -389,16 +388,6 @@ fn read<D: Disk>(piece: &mut Piece, disk: &mut D, first: u64, count: u64) -> Res
     }
 }
 
-/// The slots of a page: none of a leaf.
-fn slots_of(page: &NodePage) -> &[PageSlot]
-    ensures { result.now ≡ slots_of_page page.now }
-{
-    match page {
-        NodePage::Leaf { .. } => &[],
-        NodePage::Inner { slots, .. } => slots,
-    }
-}
-
 /// Whether a page is that of the child of a slot of another.
 fn is_child(page: &NodePage, i: u8, slot: &PageSlot, child: &NodePage) -> bool
     requires slot { slice_get (slots_of_page page.now) i ≡ Some slot.now }
@@ -407,62 +396,9 @@ fn is_child(page: &NodePage, i: u8, slot: &PageSlot, child: &NodePage) -> bool
     requires child { Keeps child.now }
     ensures { IsTrue result ↔ IsChildPage page.now i slot.now child.now }
 {
-    let parent = fields_of(page);
-    let child = fields_of(child);
-    child.stream == parent.stream
-        && child.span == parent.span.slot(i)
-        && child.version == slot.version
-        && child.count == count_of(&slot.agg)
-}
-
-/// The span of a page, and what it has beside its points or slots.
-#[derive(Clone, Copy)]
-struct Fields {
-    span: Span,
-    stream: u32,
-    version: u64,
-    count: u64,
-}
-
-/// The fields of a page that keeps the table.
-fn fields_of(page: &NodePage) -> Fields
-    requires { Keeps page.now }
-    ensures span { result.span ≡ span_of_page page.now }
-    ensures stream { result.stream ≡ (front page.now).stream }
-    ensures version { result.version ≡ (front page.now).version }
-    ensures count { result.count ≡ (front page.now).count }
-{
-    match page {
-        NodePage::Leaf {
-            start,
-            height,
-            stream,
-            version,
-            count,
-            ..
-        }
-        | NodePage::Inner {
-            start,
-            height,
-            stream,
-            version,
-            count,
-            ..
-        } => Fields {
-            span: Span {
-                start: *start,
-                height: *height as u8,
-            },
-            stream: *stream,
-            version: *version,
-            count: *count,
-        },
-    }
-}
-
-/// The count of an aggregate.
-fn count_of(agg: &Agg) -> u64
-    ensures { result ≡ agg.now.count }
-{
-    agg.count
+    let front = child.front();
+    front.stream == page.front().stream
+        && child.span() == page.span().slot(i)
+        && front.version == slot.version
+        && front.count == slot.count()
 }

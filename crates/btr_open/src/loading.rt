@@ -8,7 +8,7 @@ ghost use Rattle.btr_engine.specs.Stage.{HasRoomFor};
 ghost use Rattle.btr_open.specs.Content.{HasContent, node_blocks_of};
 ghost use Rattle.btr_open.specs.Walk.{FitsRoll};
 ghost use Rattle.btr_open.specs.Loading.{AddsTree, HasNothingNext, BreaksEntry, BreaksNext, HasAdded, HasJudged, HasMarked};
-ghost use Rattle.btr_open.specs.Loading.{IsTreeOfRoot, IsCheckpointRead};
+ghost use Rattle.btr_open.specs.Loading.{IsTreeOfRoot};
 ghost use Rattle.btr_open.specs.Reading.{WasReadTo};
 
 use crate::checkpoint::is_checkpoint;

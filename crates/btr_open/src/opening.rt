@@ -272,8 +272,8 @@ fn read_next<D: Disk, J: Judge>(
     }
 }
 
-/// Reads the body between these gates into the loader: tests it if it is that of a checkpoint, or else adds its entry. The judge is told
-/// of both. Returns the first block of the body that breaks the format, if there is one. The pages that the entry needs below the limit
+/// Reads the body between these gates into the loader: tests it if it is that of a checkpoint, or else adds its entry, and says it to
+/// the judge. Returns the first block of the body that breaks the format, if there is one. The pages that the entry needs below the limit
 /// are read before.
 fn read_body<D: Disk, J: Judge>(
     alloc: Global,

@@ -111,20 +111,8 @@ fn test(right: bool) -> RootTest
 fn is_root_page(page: &NodePage, stream: u32, version: u64) -> bool
     ensures { IsTrue result ↔ IsRootPage stream version page.now }
 {
-    match page {
-        NodePage::Leaf {
-            height,
-            stream: of,
-            version: made,
-            ..
-        }
-        | NodePage::Inner {
-            height,
-            stream: of,
-            version: made,
-            ..
-        } => { *height == u32::from(ROOT_HEIGHT) && *of == stream && *made <= version }
-    }
+    let front = page.front();
+    front.height == u32::from(ROOT_HEIGHT) && front.stream == stream && front.version <= version
 }
 
 /// The block of bytes from the index `at` on.

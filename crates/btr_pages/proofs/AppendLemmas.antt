@@ -77,7 +77,7 @@ few-places ps l is = omega (arith, ap length is, length-take 252 ps)
 
 -- ---- the page
 
--- The fields, the slots and the zeros behind them make the page of an inner node.
+-- The fields, the slots and the zeros after them make the page of an inner node.
 pub inner-appended : {X E : Type 0} (r : Result X E) (f : Front) (slots : List PageSlot) (x x1 x2 x3 : List ℕ) → x1 ≡ x ++ (codes "BTR-NODE" ++ front_bytes f) → x2 ≡ x1 ++ flat_map slot_bytes slots → OnOk r (x3 ≡ x2 ++ zeros 448) → OnOk r (x3 ≡ x ++ page_bytes (Inner f.start f.height f.stream f.version f.count slots))
 unfolding page_bytes
 inner-appended (Ok u) f slots x x1 x2 x3 e1 e2 e3 =

@@ -26,12 +26,12 @@ use Rattle.btr_tree.specs.Slots.{block_of, AreSameSlots}
 use Rattle.btr_tree.specs.Stored.{Store, leaf_node}
 use Rattle.btr_tree.proofs.NodeLemmas.{slot-part}
 use Rattle.btr_tree.proofs.ReadLemmas.{read-along, leaf-read, inner-read, IsSlotOf}
-use Rattle.btr_node.specs.Page.{front, Keeps, Fits, IsSlot, IsLeafPage, IsInnerPage}
+use Rattle.btr_node.specs.Page.{front, Keeps, Fits, IsSlot, IsLeafPage, IsInnerPage, span_of_page, slots_of_page}
 use Rattle.btr_node.specs.declared.page.Front.{Front}
 use Rattle.btr_node.specs.declared.page.NodePage.{NodePage}
 use Rattle.btr_node.specs.declared.page.NodePage.TheVariants.{Leaf, Inner}
 use Rattle.btr_node.specs.declared.page.PageSlot.{PageSlot}
-use Rattle.btr_pages.specs.Pages.{Pages, with_pages, span_of_page, slot_of_page, slots_of_page, node_of_page, node_of_stream, nodes_in, IsChildPage, HasChildPage, IsPageAt}
+use Rattle.btr_pages.specs.Pages.{Pages, with_pages, slot_of_page, node_of_page, node_of_stream, nodes_in, IsChildPage, HasChildPage, IsPageAt}
 use Rattle.btr_pages.specs.Known.{KnownValue, NodesValue, node_at, CameFrom, IsKnown, AreKnown, ArePartOf, KnowsChildren, TakesPage}
 use Rattle.btr_pages.specs.Made.{IsReadTree, IsKnownChild, HasKnownChild, MayHaveChild, IsBuildable, part_of, ArePartsTo, versions_of, AreLeafPoints, IsLeafMade, IsInnerMade, IsMadeAt}
 use Rattle.btr_pages.proofs.LeafLemmas.{leaf-points}

@@ -4,8 +4,8 @@ pub mod NumberLemmas
 pub mod KnownLemmas
 pub mod PageOfLemmas
 mod AppendLemmas
-pub mod ToldLemmas
-pub mod ToldNodeLemmas
+pub mod ReportedLemmas
+pub mod ReportedNodeLemmas
 pub mod PagesLemmas
 pub mod BlockLemmas
 pub mod RootPageLemmas

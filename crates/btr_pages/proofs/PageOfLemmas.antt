@@ -20,11 +20,11 @@ use Rattle.btr_tree.specs.NewNodes.{NewNodeValue}
 use Rattle.btr_tree.specs.Nodes.{points_of}
 use Rattle.btr_tree.specs.Stored.{leaf_node}
 use Rattle.btr_tree.proofs.VersionLemmas.{points-in_order}
-use Rattle.btr_node.specs.Page.{front, IsInside, IsUnused, IsSlot, Keeps, FitsFront, FitsPoint, FitsSlot, Fits}
+use Rattle.btr_node.specs.Page.{front, IsInside, IsUnused, IsSlot, Keeps, FitsFront, FitsPoint, FitsSlot, Fits, span_of_page}
 use Rattle.btr_node.specs.declared.page.NodePage.{NodePage}
 use Rattle.btr_node.specs.declared.page.NodePage.TheVariants.{Leaf, Inner}
 use Rattle.btr_node.specs.declared.page.PageSlot.{PageSlot}
-use Rattle.btr_pages.specs.Pages.{span_of_page, slot_of_page, node_of_page, unused, page_slot, unused_slot, page_slots_of, page_by, page_with, page_of}
+use Rattle.btr_pages.specs.Pages.{slot_of_page, node_of_page, unused, page_slot, unused_slot, page_slots_of, page_by, page_with, page_of}
 
 -- ---- lists
 

@@ -6,7 +6,8 @@ use Rattle.std.proofs.lemmas.Bool.{cases_lt}
 use Rattle.btr_tree.proofs.ReadLemmas.{read-along}
 use Rattle.btr_node.specs.declared.page.NodePage.{NodePage}
 use Rattle.btr_node.specs.declared.page.PageSlot.{PageSlot}
-use Rattle.btr_pages.specs.Pages.{Pages, no_pages, with_pages, slots_of_page, node_of_stream, nodes_in, HasChildPage, IsPageAt, ArePages}
+use Rattle.btr_node.specs.Page.{slots_of_page}
+use Rattle.btr_pages.specs.Pages.{Pages, no_pages, with_pages, node_of_stream, nodes_in, HasChildPage, IsPageAt, ArePages}
 use Rattle.btr_pages.specs.Known.{KnownValue, NodesValue, node_at, IsKnown, AreKnown}
 use Rattle.btr_pages.proofs.KnownLemmas.{pages-below, pages-from}
 
@@ -73,7 +74,7 @@ get-after [] more n = ap (slice_get more) (let e : 0 + n ≡ n = omega arith in 
 get-after (p ∷ ps) more n =
     ap (slice_get (p ∷ ps ++ more)) (let e : suc (length ps) + n ≡ suc (length ps + n) = omega arith in e) ∙ get-after ps more n
 
--- Pages from a block on, and then one more behind them, are these pages with the one more.
+-- Pages from a block on, and then one more after them, are these pages with the one more.
 pub pages-more : (pages : Pages) (first : ℕ) (new : List NodePage) (page : NodePage) (c : ℕ) → with_pages (with_pages pages first new) (first + length new) (page ∷ []) c ≡ with_pages pages first (new ++ page ∷ []) c
 pages-more pages first new page c =
     elim (cases_lt c (first + length new)) [
@@ -89,7 +90,7 @@ pages-more pages first new page c =
           ∙ sym (pages-from pages first c (new ++ page ∷ []) (omega arith))
     ]
 
--- Below the block behind pages, those that follow change nothing.
+-- Below the block after pages, those that follow change nothing.
 pub pages-before : (pages : Pages) (first : ℕ) (new more : List NodePage) (c : ℕ) → c < first + length new → with_pages pages first (new ++ more) c ≡ with_pages pages first new c
 pages-before pages first new more c lt =
     elim (cases_lt c first) [
@@ -110,7 +111,7 @@ right-last : (pages : Pages) (block : ℕ) (page : NodePage) (n : ℕ) → IsPag
 right-last pages block page zero is = subst (λ b. IsPageAt pages b page) (let e : block ≡ block + 0 = omega arith in e) is
 right-last pages block page (suc n) is = tt
 
--- One page more, behind the others.
+-- One page more, after the others.
 pub right-more : (pages : Pages) (first : ℕ) (new : List NodePage) (page : NodePage) → ArePages pages first new → IsPageAt (with_pages pages first new) (first + length new) page → ArePages pages first (new ++ page ∷ [])
 right-more pages first new page are is i =
     let more = with_pages pages first (new ++ page ∷ []) in
@@ -124,7 +125,7 @@ right-more pages first new page are is i =
           subst (λ k. IfSome (slice_get (new ++ page ∷ []) k) (IsPageAt more (first + i))) at (subst (λ o. IfSome o (IsPageAt more (first + i))) (sym (get-after new (page ∷ []) n)) (subst (λ b. IfSome (slice_get (page ∷ []) n) (IsPageAt more b)) block (right-last more (first + length new) page n here)))
     ]
 
--- Of pages that stand rightly, each stands rightly behind those before it.
+-- Of pages that stand rightly, each stands rightly after those before it.
 pub right-next : (pages : Pages) (first : ℕ) (new more : List NodePage) (page : NodePage) → ArePages pages first (new ++ page ∷ more) → IsPageAt (with_pages pages first new) (first + length new) page
 right-next pages first new more page are =
     let at : slice_get (new ++ page ∷ more) (length new) ≡ Some page = ap (slice_get (new ++ page ∷ more)) (let e : length new ≡ length new + 0 = omega arith in e) ∙ get-after new (page ∷ more) 0 in

@@ -5,10 +5,10 @@ use Rattle.btr_base.specs.Span.{SpanValue, IsSpan}
 use Rattle.btr_tree.specs.Leads.{IsRead}
 use Rattle.btr_tree.specs.Root.{TreeValue, root_part}
 use Rattle.btr_tree.proofs.RootLemmas.{span-whole}
-use Rattle.btr_node.specs.Page.{Keeps}
+use Rattle.btr_node.specs.Page.{Keeps, span_of_page}
 use Rattle.btr_node.specs.declared.page.NodePage.{NodePage}
 use Rattle.btr_node.specs.declared.page.NodePage.TheVariants.{Leaf, Inner}
-use Rattle.btr_pages.specs.Pages.{Pages, span_of_page, nodes_in, IsRootPage, HasRootPage}
+use Rattle.btr_pages.specs.Pages.{Pages, nodes_in, IsRootPage, HasRootPage}
 use Rattle.btr_pages.specs.Known.{KnownValue, NodesValue, node_at, IsKnown, ArePartOf, IsReadRoot}
 use Rattle.btr_pages.specs.Made.{IsKnownRoot}
 use Rattle.btr_pages.proofs.KnownLemmas.{block-at, known-at}

@@ -4,9 +4,9 @@ use Rattle.btr_base.specs.declared.limits.TheConstants.{FIRST}
 use Rattle.btr_tree.specs.Leads.{IsRead}
 use Rattle.btr_tree.specs.Root.{TreeValue, WasOpened, root_part, version_of}
 use Rattle.btr_tree.specs.Slots.{block_of}
-use Rattle.btr_node.specs.Page.{front, Keeps}
+use Rattle.btr_node.specs.Page.{front, Keeps, span_of_page, slots_of_page}
 use Rattle.btr_node.specs.declared.page.NodePage.{NodePage}
-use Rattle.btr_pages.specs.Pages.{Pages, with_pages, span_of_page, slots_of_page, nodes_in, IsPageAt}
+use Rattle.btr_pages.specs.Pages.{Pages, with_pages, nodes_in, IsPageAt}
 
 -- The tree that was made of the page in a block, and the stream of the page.
 pub record KnownValue : Type 0 where

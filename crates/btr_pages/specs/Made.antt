@@ -7,12 +7,12 @@ use Rattle.btr_base.specs.Span.{SpanValue, slot_of}
 use Rattle.btr_base.specs.declared.point.Point.{Point}
 use Rattle.btr_tree.specs.Opened.{part_at, AreParts, IsLeafTree, IsInnerTree}
 use Rattle.btr_tree.specs.Root.{TreeValue, WasOpened, version_of}
-use Rattle.btr_node.specs.Page.{front, Spells, Fits, IsInside}
+use Rattle.btr_node.specs.Page.{front, Spells, Fits, IsInside, span_of_page, slots_of_page}
 use Rattle.btr_node.specs.declared.page.Front.{Front}
 use Rattle.btr_node.specs.declared.page.NodePage.{NodePage}
 use Rattle.btr_node.specs.declared.page.NodePage.TheVariants.{Leaf, Inner}
 use Rattle.btr_node.specs.declared.page.PageSlot.{PageSlot}
-use Rattle.btr_pages.specs.Pages.{Pages, span_of_page, slots_of_page, IsPageAt}
+use Rattle.btr_pages.specs.Pages.{Pages, IsPageAt}
 use Rattle.btr_pages.specs.Known.{KnownValue, NodesValue, node_at, ArePartOf, KnowsChildren, TakesPage}
 use Rattle.btr_pages.specs.Blocks.{IsNoPage}
 

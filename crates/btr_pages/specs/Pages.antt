@@ -9,7 +9,7 @@ use Rattle.btr_base.specs.declared.point.Point.{Point}
 use Rattle.btr_tree.specs.NewNodes.{NewNodeValue}
 use Rattle.btr_tree.specs.Stored.{Store}
 use Rattle.btr_tree.specs.declared.node.Slot.{Slot}
-use Rattle.btr_node.specs.Page.{front, Keeps}
+use Rattle.btr_node.specs.Page.{front, Keeps, span_of_page, slots_of_page}
 use Rattle.btr_node.specs.declared.page.NodePage.{NodePage}
 use Rattle.btr_node.specs.declared.page.NodePage.TheVariants.{Leaf, Inner}
 use Rattle.btr_node.specs.declared.page.PageSlot.{PageSlot}
@@ -30,18 +30,9 @@ with_pages pages first new block = if nat_lt block first then pages block else s
 
 -- ---- a page as a node
 
--- The span that a page is about.
-abbrev pub span_of_page : NodePage → SpanValue
-span_of_page page = record { start = (front page).start; height = (front page).height }
-
 -- A slot of a page, as a slot of the tree.
 abbrev pub slot_of_page : PageSlot → Slot
 slot_of_page slot = record { agg = slot.agg; version = slot.version; child = slot.child }
-
--- The slots of a page: none of a leaf.
-abbrev pub slots_of_page : NodePage → List PageSlot
-slots_of_page (Leaf start height stream version count points) = []
-slots_of_page (Inner start height stream version count slots) = slots
 
 -- The node that a page says.
 abbrev pub node_of_page : NodePage → NewNodeValue
@@ -74,7 +65,7 @@ nodes_in pages stream block = option_and_then (node_of_stream stream) (pages blo
 abbrev pub unused : Point
 unused = record { time = pos 0; value = pos 0 }
 
--- The points, and unused places behind them: 252 in all.
+-- The points, and unused places after them: 252 in all.
 abbrev pub places_of : List Point → List Point
 places_of points = take 252 (points ++ replicate 252 unused)
 

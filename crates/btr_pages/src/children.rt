@@ -6,7 +6,7 @@ ghost use Rattle.btr_pages.specs.Made.{ArePartsTo, HasKnownChild, HaveKnownChild
 
 use crate::known::Known;
 use crate::nodes::Nodes;
-use btr_base::{Agg, FAN_OUT, Span};
+use btr_base::{FAN_OUT, Span};
 use btr_node::PageSlot;
 use btr_tree::Tree;
 use std::alloc::{AllocError, Global};
@@ -28,7 +28,7 @@ pub(crate) fn parts_of(
     let mut parts = Vec::new(alloc);
     for i in 0..FAN_OUT {
         let slot = &slots[usize::from(i)];
-        if count_of(&slot.agg) > 0 {
+        if slot.count() > 0 {
             let Some(tree) = part(nodes, block, span.slot(i), stream, slot)? else {
                 return Ok(None);
             };
@@ -83,7 +83,7 @@ fn fits(known: &Known, block: u64, place: Span, stream: u32, slot: &PageSlot) ->
         && known.stream == stream
         && tree.span() == place
         && tree.version() == slot.version
-        && known.count == count_of(&slot.agg)
+        && known.count == slot.count()
 }
 
 /// The versions of slots.
@@ -95,11 +95,4 @@ pub(crate) fn versions(slots: &[PageSlot; 64]) -> [u64; 64]
         versions[i] = slots[i].version;
     }
     versions
-}
-
-/// The count of an aggregate.
-fn count_of(agg: &Agg) -> u64
-    ensures { result ≡ agg.now.count }
-{
-    agg.count
 }

@@ -24,6 +24,6 @@ mod roots;
 mod laws;
 
 pub use known::Known;
-pub use laws::told_pages_stand;
+pub use laws::reported_pages_stand;
 pub use new_page::append_page;
 pub use nodes::Nodes;

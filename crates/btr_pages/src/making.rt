@@ -1,6 +1,5 @@
 //! How a tree is made of a page.
-ghost use Rattle.std.specs.Prelude.{◌≡◌, ℕ, IfOk, MatchOption};
-ghost use Rattle.btr_base.specs.Span.{IsSpan};
+ghost use Rattle.std.specs.Prelude.{ℕ, IfOk, MatchOption};
 ghost use Rattle.btr_node.specs.Page.{Keeps, Fits, IsInnerPage};
 ghost use Rattle.btr_pages.specs.Made.{AreLeafPoints, HaveKnownChildren, IsBuildable, IsInnerMade, IsLeafMade, IsMadeAt, page_front};
 
@@ -8,7 +7,7 @@ use crate::children::{parts_of, versions};
 use crate::known::Known;
 use crate::nodes::Nodes;
 use btr_base::{Bag, Point, Span};
-use btr_node::{NodePage, PageSlot};
+use btr_node::{Front, NodePage, PageSlot};
 use btr_tree::{Steps, Tree};
 use std::alloc::{AllocError, Global};
 
@@ -25,59 +24,34 @@ pub(crate) fn make<L>(
     requires fits { Fits page.now }
     ensures { IfOk result (λ r. MatchOption r (IsBuildable nodes.now block page.now → ⊥) (IsMadeAt nodes.now block page.now)) }
 {
-    match page {
-        NodePage::Leaf {
-            start,
-            height,
-            stream,
-            version,
-            count,
-            points,
-        } => {
-            let span = span_of(*start, *height);
-            let points = &points[..*count as usize];
-            let tree = make_leaf(alloc, block, span, *version, points, steps)?;
-            Ok(Some(Known {
-                block,
-                stream: *stream,
-                count: *count,
-                tree,
-            }))
+    let Front {
+        stream,
+        version,
+        count,
+        ..
+    } = page.front();
+    let span = page.span();
+    let tree = match page {
+        NodePage::Leaf { points, .. } => {
+            let points = &points[..count as usize];
+            make_leaf(alloc, block, span, version, points, steps)?
         }
-        NodePage::Inner {
-            start,
-            height,
-            stream,
-            version,
-            count,
-            slots,
-        } => {
-            let span = span_of(*start, *height);
+        NodePage::Inner { slots, .. } => {
             let Some(tree) = make_inner(
-                alloc, nodes, block, span, *stream, *version, *count, slots, steps,
+                alloc, nodes, block, span, stream, version, count, slots, steps,
             )?
             else {
                 return Ok(None);
             };
-            Ok(Some(Known {
-                block,
-                stream: *stream,
-                count: *count,
-                tree,
-            }))
+            tree
         }
-    }
-}
-
-/// The span of this start and this height.
-fn span_of(start: i64, height: u32) -> Span
-    requires { IsSpan (record { start = start; height = height }) }
-    ensures { result ≡ record { start = start; height = height } }
-{
-    Span {
-        start,
-        height: height as u8,
-    }
+    };
+    Ok(Some(Known {
+        block,
+        stream,
+        count,
+        tree,
+    }))
 }
 
 /// Makes the tree of the points of a leaf's page. An `Err` is out of memory.

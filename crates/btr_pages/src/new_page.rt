@@ -21,8 +21,9 @@ pub fn append_page(to: &mut Vec<u8>, node: &NewNode, stream: u32) -> Result<(), 
         let front = front_of(node, stream, total(&node.slots));
         return append_inner(to, &front, &node.slots);
     }
-    let front = front_of(node, stream, node.points.len() as u64);
-    append_leaf(to, &front, first_points(&node.points))
+    let points = node.points.as_slice();
+    let front = front_of(node, stream, points.len() as u64);
+    append_leaf(to, &front, first_points(points))
 }
 
 /// The fields of the page of a node of a stream, with this count.
@@ -73,7 +74,7 @@ fn append_slots(to: &mut Vec<u8>, slots: &NewSlots) -> Result<(), AllocError>
     Ok(())
 }
 
-/// The slot of a number, or a slot without a point if there are not so many.
+/// The slot of a number, or a slot without a point if there are not that many.
 fn slot_at(slots: &NewSlots, i: u8) -> PageSlot
     ensures { result ≡ get_or (map page_slot slots.now) i unused_slot }
 {
@@ -97,14 +98,7 @@ fn total(slots: &NewSlots) -> u64
 {
     let mut all: u64 = 0;
     for i in 0..SLOTS {
-        all = all.wrapping_add(count_of(&slot_at(slots, i as u8).agg));
+        all = all.wrapping_add(slot_at(slots, i as u8).count());
     }
     all
-}
-
-/// The count of an aggregate.
-fn count_of(agg: &Agg) -> u64
-    ensures { result ≡ agg.now.count }
-{
-    agg.count
 }

@@ -9,9 +9,9 @@ use Rattle.btr_log.specs.Piece.{PieceValue}
 use Rattle.btr_tree.specs.History.{Past}
 use Rattle.btr_tree.specs.NewNodes.{NewNodeValue}
 use Rattle.btr_tree.specs.Stored.{Store}
-use Rattle.btr_node.specs.Page.{front}
+use Rattle.btr_node.specs.Page.{front, span_of_page, slots_of_page}
 use Rattle.btr_node.specs.declared.page.NodePage.{NodePage}
-use Rattle.btr_pages.specs.Pages.{Pages, nodes_in, node_of_page, span_of_page, slot_of_page, slots_of_page}
+use Rattle.btr_pages.specs.Pages.{Pages, nodes_in, node_of_page, slot_of_page}
 use Rattle.btr_hist.specs.declared.entry.Entry.{Entry}
 use Rattle.btr_stored.specs.Judged.{IsOwn, IsRight}
 use Rattle.btr_stored.specs.FirstWrong.{IsFirstWrongOn}
@@ -127,9 +127,9 @@ module _ {D : Type 0} (disk : Ghosts D) where
 
   -- The first wrong node is that at the end of the way.
   pub gone-end : (tail : ℕ) (marks : List Mark) (block at : ℕ) (old mid : D) (piece : PieceValue) → HasGone tail marks block at old mid piece → disk.is_observable → IsAfter tail marks at mid (λ pages h page. IsFirstWrongFrom pages h page at at) → IsAfter tail marks block old (λ pages h page. IsFirstWrongFrom pages h page block at)
-  gone-end tail marks block at old mid piece gone told found pages h page wrong =
-      let down = gone.down told pages h page wrong in
-      let same = same-bytes disk old mid gone.reads told in
+  gone-end tail marks block at old mid piece gone reported found pages h page wrong =
+      let down = gone.down reported pages h page wrong in
+      let same = same-bytes disk old mid gone.reads reported in
       down.on at (found pages h down.below (subst (λ image. IsPageNotRight pages h image tail marks at down.below) (sym same) down.wrong))
 
   -- The way goes on to the next block.
@@ -138,9 +138,9 @@ module _ {D : Type 0} (disk : Ghosts D) where
     below = let low = gone.below in omega arith;
     reads = reads-trans disk old mid new gone.reads reads;
     can = can;
-    down = λ told pages h page wrong.
-        let down = gone.down told pages h page wrong in
-        let same = same-bytes disk old mid gone.reads told in
-        let further = found told pages h down.below (subst (λ image. IsPageNotRight pages h image tail marks at down.below) (sym same) down.wrong) in
+    down = λ reported pages h page wrong.
+        let down = gone.down reported pages h page wrong in
+        let same = same-bytes disk old mid gone.reads reported in
+        let further = found reported pages h down.below (subst (λ image. IsPageNotRight pages h image tail marks at down.below) (sym same) down.wrong) in
         goes-on pages h (disk.contents old) tail marks block at next page down (subst (λ image. GoesDown pages h image tail marks at down.below next) same further);
   }

@@ -11,11 +11,11 @@ use Rattle.btr_tree.specs.declared.node.Slot.{Slot}
 use Rattle.btr_tree.specs.History.{Past}
 use Rattle.btr_tree.specs.NewNodes.{NewNodeValue}
 use Rattle.btr_tree.specs.Stored.{Store}
-use Rattle.btr_node.specs.Page.{front, Keeps, IsSlot}
+use Rattle.btr_node.specs.Page.{front, Keeps, IsSlot, span_of_page, slots_of_page}
 use Rattle.btr_node.specs.declared.page.NodePage.{NodePage}
 use Rattle.btr_node.specs.declared.page.NodePage.TheVariants.{Leaf, Inner}
 use Rattle.btr_node.specs.declared.page.PageSlot.{PageSlot}
-use Rattle.btr_pages.specs.Pages.{Pages, span_of_page, slot_of_page, slots_of_page, node_of_page, node_of_stream, nodes_in, HasChildPage, IsPageAt}
+use Rattle.btr_pages.specs.Pages.{Pages, slot_of_page, node_of_page, node_of_stream, nodes_in, HasChildPage, IsPageAt}
 use Rattle.btr_hist.specs.declared.entry.Entry.{Entry}
 use Rattle.btr_engine.specs.Board.{HasVersion}
 use Rattle.btr_stored.specs.Judged.{IsRising, IsIn, IsOwn, IsRight, HasRight, IsRightSlot, AreRightBelow, IsPlacedNode}

@@ -55,8 +55,8 @@ module _ {D : Type 0} (disk : Ghosts D) where
   has-more tail nodes snapshot old mid new piece after n marks mark so_far reads can says = record {
     reads = reads-trans disk old mid new so_far.reads reads;
     can = can;
-    marked = λ told pages h known stored of.
-        let before = so_far.marked told pages h known stored of in
-        let same = same-bytes disk old mid so_far.reads told in
-        marked-more pages h n marks mark before (says told pages h known (subst (λ image. AreStoredAt image pages) (sym same) stored) of before);
+    marked = λ reported pages h known stored of.
+        let before = so_far.marked reported pages h known stored of in
+        let same = same-bytes disk old mid so_far.reads reported in
+        marked-more pages h n marks mark before (says reported pages h known (subst (λ image. AreStoredAt image pages) (sym same) stored) of before);
   }

@@ -34,19 +34,19 @@ module _ {D : Type 0} (disk : Ghosts D) where
       more_calls = omega (arith, first.counts.more_calls, second.counts.more_calls);
       more_faults = omega (arith, first.counts.more_faults, second.counts.more_faults);
     };
-    nothing = λ told. nothing_composes disk.calls disk.images_since disk.contents disk.images_now old mid new (first.nothing told) (second.nothing told);
+    nothing = λ reported. nothing_composes disk.calls disk.images_since disk.contents disk.images_now old mid new (first.nothing reported) (second.nothing reported);
   }
 
   -- No call. `only_now` is the device's law.
   pub reads-none : (d : D) → (disk.is_observable → (c : Image) → disk.images_since d (disk.calls d) c → disk.images_now d c) → ReadsDevice disk d d
   reads-none d only_now = record {
     counts = record { same_size = refl; more_calls = omega arith; more_faults = omega arith };
-    nothing = λ told. none_written disk.calls disk.images_since disk.contents disk.images_now d (only_now told);
+    nothing = λ reported. none_written disk.calls disk.images_since disk.contents disk.images_now d (only_now reported);
   }
 
   -- The device has the same bytes.
   pub same-bytes : (old new : D) → ReadsDevice disk old new → disk.is_observable → disk.contents new ≡ disk.contents old
-  same-bytes old new reads told = Same-is (disk.contents old) (disk.contents new) (reads.nothing told).same
+  same-bytes old new reads reported = Same-is (disk.contents old) (disk.contents new) (reads.nothing reported).same
 
   -- A fault of later calls has its cause in all of them.
   pub cause-later : (old mid new : D) (fault : VerifyFault) → ReadsDevice disk old mid → VerifyCause disk mid new fault → VerifyCause disk old new fault

@@ -22,13 +22,13 @@ use Rattle.btr_tree.specs.Shape.{ByKind, IsLeaf, IsInner, IsChild}
 use Rattle.btr_tree.specs.Stored.{Store}
 use Rattle.btr_tree.proofs.RootLemmas.{root-points, span-whole}
 use Rattle.btr_tree.proofs.UntouchedNodeLemmas.{some-has}
-use Rattle.btr_node.specs.Page.{front, Keeps}
+use Rattle.btr_node.specs.Page.{front, Keeps, span_of_page}
 use Rattle.btr_node.specs.declared.page.NodePage.{NodePage}
 use Rattle.btr_node.specs.declared.page.NodePage.TheVariants.{Leaf, Inner}
-use Rattle.btr_pages.specs.Pages.{Pages, nodes_in, node_of_page, span_of_page, HasRootPage}
+use Rattle.btr_pages.specs.Pages.{Pages, nodes_in, node_of_page, HasRootPage}
 use Rattle.btr_pages.specs.Known.{KnownValue, NodesValue, AreKnown, node_at}
 use Rattle.btr_pages.proofs.KnownLemmas.{known-at, block-at}
-use Rattle.btr_pages.proofs.ToldLemmas.{page-in}
+use Rattle.btr_pages.proofs.ReportedLemmas.{page-in}
 use Rattle.btr_hist.specs.declared.entry.Entry.{Entry}
 use Rattle.btr_engine.specs.declared.snapshot.Snapshot.{Snapshot}
 use Rattle.btr_engine.specs.Past.{commits_to}

@@ -7,10 +7,10 @@ use Rattle.btr_tree.specs.History.{Past}
 use Rattle.btr_tree.specs.NewNodes.{NewNodeValue}
 use Rattle.btr_tree.specs.Root.{root_part}
 use Rattle.btr_tree.specs.Stored.{Store}
-use Rattle.btr_node.specs.Page.{front}
+use Rattle.btr_node.specs.Page.{front, span_of_page}
 use Rattle.btr_node.specs.declared.page.NodePage.{NodePage}
 use Rattle.btr_node.specs.declared.page.PageSlot.{PageSlot}
-use Rattle.btr_pages.specs.Pages.{Pages, nodes_in, node_of_page, span_of_page}
+use Rattle.btr_pages.specs.Pages.{Pages, nodes_in, node_of_page}
 use Rattle.btr_pages.specs.Known.{NodesValue, AreKnown, node_at}
 use Rattle.btr_hist.specs.declared.entry.Entry.{Entry}
 use Rattle.btr_engine.specs.declared.snapshot.Snapshot.{Snapshot}

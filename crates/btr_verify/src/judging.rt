@@ -1,9 +1,8 @@
 //! How a page is judged: by the tree of its own version, and by the marks of its children.
 ghost use Rattle.std.specs.Prelude.{◌≡◌, ◌↔◌, ℕ, List, map, slice_get, Some, IfNone, IfSome, IsTrue};
-ghost use Rattle.btr_base.specs.Span.{IsSpan};
 ghost use Rattle.btr_disk.specs.Bytes.{Image};
-ghost use Rattle.btr_node.specs.Page.{Fits, Keeps, front};
-ghost use Rattle.btr_pages.specs.Pages.{Pages, node_of_page, slot_of_page, slots_of_page};
+ghost use Rattle.btr_node.specs.Page.{Keeps, front, slots_of_page};
+ghost use Rattle.btr_pages.specs.Pages.{Pages, node_of_page, slot_of_page};
 ghost use Rattle.btr_hist.specs.declared.entry.Entry.{Entry as EntrySpec};
 ghost use Rattle.btr_engine.specs.Board.{HasVersion};
 ghost use Rattle.btr_engine.specs.Snapshot.{IsSnapshotOf};
@@ -15,7 +14,7 @@ ghost use Rattle.btr_verify.specs.Judging.{AreMarkedRight, CanJudge, HasPageVers
 
 use btr_base::{Agg, Point, Span};
 use btr_engine::Snapshot;
-use btr_node::{NodePage, PageSlot, SLOTS};
+use btr_node::{Front, NodePage, PageSlot, SLOTS};
 use btr_stored::is_own;
 use btr_tree::{Label, Slot, Steps};
 
@@ -45,8 +44,7 @@ pub(crate) fn judge(
     page: &NodePage,
     steps: &mut Steps<JudgeWalk>,
 ) -> Mark
-    requires keeps { Keeps page.now }
-    requires fits { Fits page.now }
+    requires { Keeps page.now }
     ensures { (pages : Pages) (h : List EntrySpec) (image : Image) (block : ℕ)
         → CanJudge pages h image block marks.now snapshot.now page.now → IsMarkOf pages h block result page.now }
 {
@@ -61,47 +59,26 @@ pub(crate) fn judge(
 
 /// Whether the own fields of a page are those of its node in the tree of its version.
 fn is_own_page(snapshot: &Snapshot, page: &NodePage, steps: &mut Steps<JudgeWalk>) -> bool
-    requires keeps { Keeps page.now }
-    requires fits { Fits page.now }
+    requires { Keeps page.now }
     ensures { (h : List EntrySpec) → IsSnapshotOf h snapshot.now → HasPageVersion h page.now
         → IsTrue result ↔ IsOwn (past_of h (front page.now).stream) (node_of_page page.now) }
 {
+    let Front {
+        stream,
+        version,
+        count,
+        ..
+    } = page.front();
+    let span = page.span();
     match page {
-        NodePage::Leaf {
-            start,
-            height,
-            stream,
-            version,
-            count,
-            points,
-        } => {
-            let span = span_of(*start, *height);
-            let points = &points[..*count as usize];
-            is_own_node(snapshot, *stream, span, *version, points, &[], steps)
+        NodePage::Leaf { points, .. } => {
+            let points = &points[..count as usize];
+            is_own_node(snapshot, stream, span, version, points, &[], steps)
         }
-        NodePage::Inner {
-            start,
-            height,
-            stream,
-            version,
-            slots,
-            ..
-        } => {
-            let span = span_of(*start, *height);
+        NodePage::Inner { slots, .. } => {
             let slots = tree_slots(slots);
-            is_own_node(snapshot, *stream, span, *version, &[], &slots, steps)
+            is_own_node(snapshot, stream, span, version, &[], &slots, steps)
         }
-    }
-}
-
-/// The span of this start and this height.
-fn span_of(start: i64, height: u32) -> Span
-    requires { IsSpan (record { start = start; height = height }) }
-    ensures { result ≡ record { start = start; height = height } }
-{
-    Span {
-        start,
-        height: height as u8,
     }
 }
 
@@ -156,8 +133,8 @@ pub(crate) fn first_not_right(marks: &[Mark], page: &NodePage) -> Option<u64>
     ensures found { IfSome result (IsFirstNotRight marks.now (slots_of_page page.now)) }
     ensures none { IfNone result (AreMarkedRight marks.now (slots_of_page page.now)) }
 {
-    for slot in slots_of(page) {
-        if count_of(&slot.agg) > 0 && !is_right(marks, slot.child) {
+    for slot in page.slots() {
+        if slot.count() > 0 && !is_right(marks, slot.child) {
             return Some(slot.child);
         }
     }
@@ -182,21 +159,4 @@ pub(crate) fn is_wrong_below(marks: &[Mark], block: u64) -> bool
         Some(Mark::WrongBelow) => true,
         _ => false,
     }
-}
-
-/// The slots of a page: none of a leaf.
-fn slots_of(page: &NodePage) -> &[PageSlot]
-    ensures { result.now ≡ slots_of_page page.now }
-{
-    match page {
-        NodePage::Leaf { .. } => &[],
-        NodePage::Inner { slots, .. } => slots,
-    }
-}
-
-/// The count of an aggregate.
-fn count_of(agg: &Agg) -> u64
-    ensures { result ≡ agg.now.count }
-{
-    agg.count
 }

@@ -8,9 +8,9 @@ read_log-read-requires-clause-table g c =
     rw c.at-log.ensures.same_device (first-table (g.D.Disk.size c.args.disk) c.args.found c.requires.table)
 
 pub returns-in-Ok-clause-read : goal.returns-in-Ok-clause-read
-returns-in-Ok-clause-read g c told =
+returns-in-Ok-clause-read g c reported =
     let read = c.in-Ok.ensures in
-    log-judged g.D.Disk g.J.Judge c.args.found c.args.disk (log_device c.at-log.result) c.at-log.ensures.same_device c.read_log-read.new.loader c.read_log-read.new.judge (record { nodes = c.read_log-read.new.loader.nodes; tail = c.in-Ok.place.gate }) read.read read.closed read.place.inside refl told
+    log-judged g.D.Disk g.J.Judge c.args.found c.args.disk (log_device c.at-log.result) c.at-log.ensures.same_device c.read_log-read.new.loader c.read_log-read.new.judge (record { nodes = c.read_log-read.new.loader.nodes; tail = c.in-Ok.place.gate }) read.read read.closed read.place.inside refl reported
 
 pub returns-in-Err-clause-cause : goal.returns-in-Err-clause-cause
 returns-in-Err-clause-cause g c =

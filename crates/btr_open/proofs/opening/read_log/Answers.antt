@@ -24,8 +24,8 @@ loop-piece-init g c =
       holds = start.holds;
       at = ok.place;
       into = ok.into;
-      read = λ told.
-          start-judged g.J.Judge (g.D.Disk.size d) (g.D.Disk.contents d) c.args.found c.in_ok-place.place.gate c.read_start.new.loader c.args.judge.now c.requires.judge (ok.read told);
+      read = λ reported.
+          start-judged g.J.Judge (g.D.Disk.size d) (g.D.Disk.contents d) c.args.found c.in_ok-place.place.gate c.read_start.new.loader c.args.judge.now c.requires.judge (ok.read reported);
     }
 
 pub read_next-requires-clause-read : goal.read_next-requires-clause-read

@@ -21,7 +21,7 @@ synced_counts g c =
 chosen_reads : (g : Over) (c : After-choose g) → OnlyReads g.D.Disk c.sync.new.self c.choose.new.device
 chosen_reads g c = record {
   counts = record { same_size = c.choose.ensures.size; more_calls = c.choose.ensures.calls; more_faults = c.choose.ensures.cause.later };
-  nothing = λ told. c.choose.ensures.nothing told;
+  nothing = λ reported. c.choose.ensures.nothing reported;
 }
 
 keeps : (g : Over) (c : After-choose g) → KeepsDisk g.D.Disk c.args.disk.now c.choose.new.device
@@ -31,9 +31,9 @@ keeps g c =
     let d0 = c.args.disk.now in
     record {
       counts = counts-trans disk d0 c.sync.new.self c.choose.new.device (synced_counts g (goal.at.After-choose g c).In_ok-sync) (chosen_reads g c).counts;
-      unwritten = λ told.
-          unwritten_synced disk.calls disk.images_since disk.contents disk.images_now d0 c.sync.new.self c.choose.new.device (laws.only_now told d0) (laws.reads_as_image told d0)
-          c.sync.ensures.calls (c.sync.ensures.time told) (c.sync.ensures.contents told) (c.in_ok-sync.ensures.synced told) (c.choose.ensures.nothing told);
+      unwritten = λ reported.
+          unwritten_synced disk.calls disk.images_since disk.contents disk.images_now d0 c.sync.new.self c.choose.new.device (laws.only_now reported d0) (laws.reads_as_image reported d0)
+          c.sync.ensures.calls (c.sync.ensures.time reported) (c.sync.ensures.contents reported) (c.in_ok-sync.ensures.synced reported) (c.choose.ensures.nothing reported);
     }
 
 pub returns-in-Ok-clause-kept : goal.returns-in-Ok-clause-kept
@@ -47,9 +47,9 @@ returns-in-Ok-clause-synced g c =
     let disk = g.D.Disk in
     let laws = g.met.D.Disk in
     let mid = c.sync.new.self in
-    let done = sync_done disk c.args.disk.now mid c.sync.ensures.calls (synced_counts g (goal.at.returns-in-Ok-clause-synced g c).In_ok-sync) (λ told. laws.only_now told mid) (λ told. laws.counts_now told mid) (λ told. c.in_ok-sync.ensures.synced told) in
+    let done = sync_done disk c.args.disk.now mid c.sync.ensures.calls (synced_counts g (goal.at.returns-in-Ok-clause-synced g c).In_ok-sync) (λ reported. laws.only_now reported mid) (λ reported. laws.counts_now reported mid) (λ reported. c.in_ok-sync.ensures.synced reported) in
     subst (λ s. SyncsFirst disk c.args.disk.now s c.choose.new.device) (sym c.of-synced.ensures)
-    (reads_on disk c.args.disk.now mid mid c.choose.new.device done (chosen_reads g (goal.at.returns-in-Ok-clause-synced g c).After-choose) (λ told. laws.counts_now told c.choose.new.device))
+    (reads_on disk c.args.disk.now mid mid c.choose.new.device done (chosen_reads g (goal.at.returns-in-Ok-clause-synced g c).After-choose) (λ reported. laws.counts_now reported c.choose.new.device))
 
 pub returns-in-Ok-clause-chosen : goal.returns-in-Ok-clause-chosen
 returns-in-Ok-clause-chosen g c is_observable =

@@ -12,10 +12,10 @@ loop-root-init g c =
     let d = c.args.disk.now in
     record {
       limit_is = refl;
-      reads = no-calls disk d (λ told. g.met.D.Disk.only_now told d);
+      reads = no-calls disk d (λ reported. g.met.D.Disk.only_now reported d);
       holds = c.requires.holds;
       grown = grown-none c.args.reader.now.limit c.args.nodes.now c.requires.nodes;
-      fetched = λ told. fetched-none (disk.contents d) c.args.reader.now.limit c.args.nodes.now c.requires.nodes;
+      fetched = λ reported. fetched-none (disk.contents d) c.args.reader.now.limit c.args.nodes.now c.requires.nodes;
     }
 
 pub fetch_root-requires-clause-some : goal.fetch_root-requires-clause-some

@@ -23,7 +23,7 @@ returns-in_err-trees-clause-cause g c =
     let roots = c.in_ok-roots.roots.items in
     let nodes = c.fetch_roots.new.nodes in
     let cause = subst (λ l. TreesCause nodes c.args.found.checkpoint l c.in_err-trees.field-0.0) (c.deref-2.ensures.value ∙ c.roll.view_is) c.in_err-trees.ensures.cause in
-    rw (p.1, p.2) (trees-load disk c.args.found c.args.roll.now roots c.in_ok-roots.ensures c.args.disk.now c.fetch_roots.new.disk nodes (λ told. subst (λ n. AreRootsFetched (disk.contents c.args.disk.now) n roots nodes) c.requires.limit (subst (λ l. AreRootsFetched (disk.contents c.args.disk.now) c.args.reader.now.limit l nodes) c.deref.ensures.value (c.in_ok-fetch_roots.ensures.fetched told))) c.in_err-trees.field-0.0 cause)
+    rw (p.1, p.2) (trees-load disk c.args.found c.args.roll.now roots c.in_ok-roots.ensures c.args.disk.now c.fetch_roots.new.disk nodes (λ reported. subst (λ n. AreRootsFetched (disk.contents c.args.disk.now) n roots nodes) c.requires.limit (subst (λ l. AreRootsFetched (disk.contents c.args.disk.now) c.args.reader.now.limit l nodes) c.deref.ensures.value (c.in_ok-fetch_roots.ensures.fetched reported))) c.in_err-trees.field-0.0 cause)
 
 pub restored-requires-clause-trees : goal.restored-requires-clause-trees
 restored-requires-clause-trees g c =

@@ -22,15 +22,15 @@ returns-in-Err-clause-cause g c =
     let d1 = disk_of c.read_ahead.new.self in
     let found = c.args.found in
     cause-found disk (IsWrongStart (disk.contents d0) found) d0 d1 (log_blocks c.args.log.now) found.checkpoint
-    (λ told block damage. (c.requires.some, inr (inl (subst (λ n. IsDamagedExtent (disk.contents d0) n found.checkpoint block) c.requires.blocks damage))))
+    (λ reported block damage. (c.requires.some, inr (inl (subst (λ n. IsDamagedExtent (disk.contents d0) n found.checkpoint block) c.requires.blocks damage))))
     c.in-Err.fault c.cause_of.result c.cause_of.ensures.damaged c.cause_of.ensures.fault c.cause_of.ensures.want c.in-Err.ensures.cause
 
 pub returns-in_default-clause-cause : goal.returns-in_default-clause-cause
 returns-in_default-clause-cause g c =
     let disk = g.D.Disk in
     let d0 = disk_of c.args.log.now in
-    no-checkpoint-cause disk c.args.found d0 (disk_of c.read_ahead.new.self) c.requires.some c.no_checkpoint.result c.no_checkpoint.ensures (λ told. record {
-      why = inl (closed-gate (disk.contents d0) c.args.found.checkpoint c.read_ahead.new.piece c.in-Ok.found_there c.in_default.is (c.in-Ok.ensures.matches told));
+    no-checkpoint-cause disk c.args.found d0 (disk_of c.read_ahead.new.self) c.requires.some c.no_checkpoint.result c.no_checkpoint.ensures (λ reported. record {
+      why = inl (closed-gate (disk.contents d0) c.args.found.checkpoint c.read_ahead.new.piece c.in-Ok.found_there c.in_default.is (c.in-Ok.ensures.matches reported));
       of = refl;
     })
 
@@ -42,8 +42,8 @@ held : (g : Over) (c : In-Some g) → HoldsExtent (log_blocks c.args.log.now) c.
 held g c = subst (HoldsWhole (log_blocks c.args.log.now) c.args.found.checkpoint c.read_ahead.new.piece) c.in-Some.is c.in-Ok.ensures.whole
 
 matches : (g : Over) (c : In-Some g) → g.D.Disk.is_observable → IsOpen (g.D.Disk.contents (disk_of c.args.log.now)) c.args.found.checkpoint × Has (g.D.Disk.contents (disk_of c.args.log.now)) (4096 * (c.args.found.checkpoint + 1)) (body g c)
-matches g c told =
-    subst (MatchesPiece (g.D.Disk.contents (disk_of c.args.log.now)) c.args.found.checkpoint c.read_ahead.new.piece) c.in-Some.is (c.in-Ok.ensures.matches told)
+matches g c reported =
+    subst (MatchesPiece (g.D.Disk.contents (disk_of c.args.log.now)) c.args.found.checkpoint c.read_ahead.new.piece) c.in-Some.is (c.in-Ok.ensures.matches reported)
 
 pub returns-then-head-ne2-clause-cause : goal.returns-then-head-ne2-clause-cause
 returns-then-head-ne2-clause-cause g c =
@@ -52,8 +52,8 @@ returns-then-head-ne2-clause-cause g c =
     let d0 = disk_of c.args.log.now in
     let found = c.args.found in
     let head = c.in-Some.head in
-    no-checkpoint-cause disk found d0 (disk_of c.read_ahead.new.self) c.requires.some c.no_checkpoint-then-head-ne2.result c.no_checkpoint-then-head-ne2.ensures (λ told.
-    other-extent (disk.contents d0) found (log_blocks c.args.log.now) head (body g at) (found.checkpoint + head.n + 1) (held g at).whole (matches g at told) (2 * found.side + 1)
+    no-checkpoint-cause disk found d0 (disk_of c.read_ahead.new.self) c.requires.some c.no_checkpoint-then-head-ne2.result c.no_checkpoint-then-head-ne2.ensures (λ reported.
+    other-extent (disk.contents d0) found (log_blocks c.args.log.now) head (body g at) (found.checkpoint + head.n + 1) (held g at).whole (matches g at reported) (2 * found.side + 1)
     (elim c.then-head-ne2.branch [
       | then-head-ne2-via-then-head-ne2 w ↦ inl w.if-head-ne2.true
       | then-head-ne2-via-else-head-ne2+then-next-found w ↦ inr w.if-next-found.true
@@ -68,12 +68,12 @@ decode_checkpoint-requires-clause-body g c =
     subst (λ (b : List ℕ). IsBody b c.in-Some.head) (sym c.blocks-body.ensures) (held g at).whole.is_body
 
 pub returns-in-None-clause-cause : goal.returns-in-None-clause-cause
-returns-in-None-clause-cause g c told =
+returns-in-None-clause-cause g c reported =
     let disk = g.D.Disk in
     let at = (goal.at.returns-in-None-clause-cause g c).In-Some in
     let d0 = disk_of c.args.log.now in
     let found = c.args.found in
     let head = c.in-Some.head in
-    let extent = named-extent (disk.contents d0) found (log_blocks c.args.log.now) head (body g at) (found.checkpoint + head.n + 1) (held g at).whole (matches g at told) c.if-head-ne2.false c.if-next-found.false in
+    let extent = named-extent (disk.contents d0) found (log_blocks c.args.log.now) head (body g at) (found.checkpoint + head.n + 1) (held g at).whole (matches g at reported) c.if-head-ne2.false c.if-next-found.false in
     let none = subst (λ l. (entries : ℕ) (roll : List RollStreamValue) → HasRoll found.checkpoint entries roll l → ⊥) c.blocks-body.ensures (subst (λ o. IfNone o ((entries : ℕ) (roll : List RollStreamValue) → HasRoll found.checkpoint entries roll c.blocks-body.result.now → ⊥)) c.in-None.is c.in_ok-roll.ensures.none) in
     no-roll-damage disk found d0 (disk_of c.read_ahead.new.self) c.requires.some (body g at) extent none

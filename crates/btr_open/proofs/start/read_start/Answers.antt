@@ -10,15 +10,15 @@ use Rattle.btr_open.proofs.StartLemmas.{read-none, read-to-none, read-to-some, r
 use Rattle.btr_open.proofs.start.read_start.Goals as goal
 
 pub returns-then-found-eq0-clause-read : goal.returns-then-found-eq0-clause-read
-returns-then-found-eq0-clause-read g c told =
+returns-then-found-eq0-clause-read g c reported =
     let d = disk_of c.args.log.now in
     read-none (g.D.Disk.size d) (g.D.Disk.contents d) c.args.found c.args.loader.now c.requires.table c.if-found-eq0.true c.requires.board c.requires.nodes
 
 pub load-requires-clause-holds : goal.load-requires-clause-holds
-load-requires-clause-holds g c told =
+load-requires-clause-holds g c reported =
     let disk = g.D.Disk in
-    let held = c.requires.holds told in
-    let same = same-bytes (disk_of c.args.log.now) (disk_of c.read_checkpoint.new.log) c.read_checkpoint.ensures.reads.reads told in
+    let held = c.requires.holds reported in
+    let same = same-bytes (disk_of c.args.log.now) (disk_of c.read_checkpoint.new.log) c.read_checkpoint.ensures.reads.reads reported in
     record {
       ahead = subst (λ i. IsPieceOf i c.args.reader.now.ahead) same held.ahead;
       one = subst (λ i. IsPieceOf i c.args.reader.now.one) same held.one;
@@ -42,7 +42,7 @@ returns-clause-place g c =
     }
 
 pub returns-clause-read : goal.returns-clause-read
-returns-clause-read g c told =
+returns-clause-read g c reported =
     let disk = g.D.Disk in
     let d0 = disk_of c.args.log.now in
     let d1 = disk_of c.read_checkpoint.new.log in
@@ -51,8 +51,8 @@ returns-clause-read g c told =
     let read = c.in_ok-checkpoint.ensures.read in
     let entries = c.in_ok-checkpoint.checkpoint.entries in
     let roll = c.in_ok-checkpoint.checkpoint.roll in
-    let loaded = subst (λ i. IsLoaded i found.checkpoint roll entries c.load.new.loader) (sym (same-bytes d0 d1 c.read_checkpoint.ensures.reads.reads told)) (c.in_ok-load.ensures.loaded told) in
-    read-checkpoint (disk.size d0) (disk.contents d0) found c.load.new.loader c.requires.table some entries roll read.body read.has (read.extent told) loaded
+    let loaded = subst (λ i. IsLoaded i found.checkpoint roll entries c.load.new.loader) (sym (same-bytes d0 d1 c.read_checkpoint.ensures.reads.reads reported)) (c.in_ok-load.ensures.loaded reported) in
+    read-checkpoint (disk.size d0) (disk.contents d0) found c.load.new.loader c.requires.table some entries roll read.body read.has (read.extent reported) loaded
 
 pub returns-then-found-eq0-clause-into : goal.returns-then-found-eq0-clause-into
 returns-then-found-eq0-clause-into g c = read-to-none c.args.loader.now c.requires.board c.requires.nodes

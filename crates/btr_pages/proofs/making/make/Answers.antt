@@ -1,37 +1,38 @@
-use Rattle.std.proofs.Common.{◌≡◌, sym, subst, w64, to_z, of_z}
-use Rattle.std.proofs.lemmas.Int.{to_z-of_z}
+use Rattle.std.proofs.Common.{sym, ap, subst, ◌∙◌}
 use Rattle.std.specs.Option.{MatchOption}
 use Rattle.btr_base.specs.Span.{SpanValue}
-use Rattle.btr_node.specs.Page.{Keeps, Fits}
+use Rattle.btr_node.specs.Page.{Keeps, Fits, IsLeafPage, IsInnerPage, front, slots_of_page, span_of_page}
 use Rattle.btr_node.specs.declared.page.Front.{Front}
-use Rattle.btr_pages.specs.Made.{HaveKnownChildren, IsInnerMade, IsBuildable}
+use Rattle.btr_pages.specs.Made.{HaveKnownChildren, IsInnerMade, IsReadTree}
 use Rattle.btr_pages.proofs.KnownLemmas.{leaf-counted, inner-counted}
 use Rattle.btr_pages.proofs.making.make.Goals as goal
+use Rattle.btr_pages.proofs.making.make.Goals.{in-Leaf+in_ok-tree-in-Leaf, in-Inner+in_ok-tree-in-Inner+in-Some}
 
 pub invariant_of-result : goal.invariant_of-result
 invariant_of-result g c =
-    let keeps = subst Keeps c.in-Leaf.is c.requires.keeps in
-    let fits = subst Fits c.in-Leaf.is c.requires.fits in
-    let p = c.in-Leaf in
-    let f : Front = record { start = p.start; height = p.height; stream = p.stream; version = p.version; count = p.count } in
-    leaf-counted c.args.block p.version c.span_of-span.result f p.points c.in_ok-tree-in-Leaf.tree keeps fits.1 c.in_ok-tree-in-Leaf.ensures
+    let f = c.front-stream.result in
+    elim c.match-page.branch [
+      | in-Leaf+in_ok-tree-in-Leaf w ↦
+          let p = w.in-Leaf in
+          let keeps = subst (λ (f : Front). IsLeafPage f p.points) (sym (c.front-stream.ensures ∙ ap front p.is)) (subst Keeps p.is c.requires.keeps) in
+          let fits = subst Fits p.is c.requires.fits in
+          subst (λ t. IsReadTree f.count t) (sym w.tree-is) (leaf-counted c.args.block f.version c.span-span.result f p.points w.in_ok-tree-in-Leaf.tree keeps fits.1 w.in_ok-tree-in-Leaf.ensures)
+      | in-Inner+in_ok-tree-in-Inner+in-Some w ↦
+          let p = w.in-Inner in
+          let nodes = c.args.nodes.now in
+          let keeps = subst (λ (f : Front). IsInnerPage f p.slots) (sym (c.front-stream.ensures ∙ ap front p.is)) (subst Keeps p.is c.requires.keeps) in
+          let fits = subst Fits p.is c.requires.fits in
+          let made = subst (λ o. MatchOption o (HaveKnownChildren nodes c.args.block c.span-span.result f.stream p.slots → ⊥) (IsInnerMade nodes c.args.block c.span-span.result f.stream f.version p.slots)) w.in-Some.is w.in_ok-tree-in-Inner.ensures in
+          subst (λ t. IsReadTree f.count t) (sym w.tree-is) (inner-counted nodes c.args.block f.stream f.version c.span-span.result f p.slots w.in-Some.tree keeps fits.1 made)
+    ]
 
 pub returns-in_default : goal.returns-in_default
 returns-in_default g c may =
     let p = c.in-Inner in
+    let page = c.args.page.now in
+    let f = c.front-stream.result in
     let nodes = c.args.nodes.now in
-    let none = subst (λ o. MatchOption o (HaveKnownChildren nodes c.args.block c.span_of-span-in-Inner.result p.stream p.slots → ⊥) (IsInnerMade nodes c.args.block c.span_of-span-in-Inner.result p.stream p.version p.slots)) c.in_default.is c.in_ok-tree-in-Inner.ensures in
-    let fits = subst Fits p.is c.requires.fits in
-    let start : to_z w64 (of_z w64 p.start) ≡ p.start = to_z-of_z w64 p.start fits.0.start in
-    let all : HaveKnownChildren nodes c.args.block (record { start = p.start; height = p.height }) p.stream p.slots = subst (IsBuildable nodes c.args.block) p.is may in
-    none (subst (λ (s : SpanValue). HaveKnownChildren nodes c.args.block s p.stream p.slots) (sym c.span_of-span-in-Inner.ensures) (subst (λ z. HaveKnownChildren nodes c.args.block (record { start = z; height = p.height }) p.stream p.slots) (sym start) all))
-
-pub invariant_of-result-in-Inner : goal.invariant_of-result-in-Inner
-invariant_of-result-in-Inner g c =
-    let keeps = subst Keeps c.in-Inner.is c.requires.keeps in
-    let fits = subst Fits c.in-Inner.is c.requires.fits in
-    let p = c.in-Inner in
-    let nodes = c.args.nodes.now in
-    let f : Front = record { start = p.start; height = p.height; stream = p.stream; version = p.version; count = p.count } in
-    let made = subst (λ o. MatchOption o (HaveKnownChildren nodes c.args.block c.span_of-span-in-Inner.result p.stream p.slots → ⊥) (IsInnerMade nodes c.args.block c.span_of-span-in-Inner.result p.stream p.version p.slots)) c.in-Some.is c.in_ok-tree-in-Inner.ensures in
-    inner-counted nodes c.args.block p.stream p.version c.span_of-span-in-Inner.result f p.slots c.in-Some.tree keeps fits.1 made
+    let none = subst (λ o. MatchOption o (HaveKnownChildren nodes c.args.block c.span-span.result f.stream p.slots → ⊥) (IsInnerMade nodes c.args.block c.span-span.result f.stream f.version p.slots)) c.in_default.is c.in_ok-tree-in-Inner.ensures in
+    let slots = subst (HaveKnownChildren nodes c.args.block (span_of_page page) (front page).stream) (ap slots_of_page p.is) may in
+    let stream = subst (λ (f : Front). HaveKnownChildren nodes c.args.block (span_of_page page) f.stream p.slots) (sym c.front-stream.ensures) slots in
+    none (subst (λ (s : SpanValue). HaveKnownChildren nodes c.args.block s f.stream p.slots) (sym c.span-span.ensures) stream)

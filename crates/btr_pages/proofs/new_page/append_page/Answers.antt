@@ -10,7 +10,7 @@ use Rattle.btr_pages.proofs.new_page.append_page.Goals as goal
 
 pub append_leaf-requires : goal.append_leaf-requires
 append_leaf-requires c =
-    record { few = few-places c.deref.result.now c.first_points.result.now c.first_points.ensures }
+    record { few = few-places c.as_slice-points.result.now c.first_points.result.now c.first_points.ensures }
 
 pub returns : goal.returns
 returns c =
@@ -19,8 +19,9 @@ returns c =
     let f : Front = c.front_of-front-2.result in
     let first = c.first_points.result.now in
     let points = ap (λ (n : NewNodeValue). n.points) c.node.view_is in
-    let many : c.len-2.result ≡ length node.points = omega (arith, ap length points) in
+    let same = c.as_slice-points.ensures ∙ points in
+    let many : length c.as_slice-points.result.now ≡ length node.points = ap length same in
     let slots = ap (λ (n : NewNodeValue). length n.slots) c.node.view_is in
     let none : length node.slots ≡ 0 = omega (arith, slots, c.if-len-gt0.false) in
-    let is = leaf-is stream node f c.len-2.result first c.front_of-front-2.ensures many (c.first_points.ensures ∙ ap (take 252) (c.deref.ensures.value ∙ points)) none in
+    let is = leaf-is stream node f (length c.as_slice-points.result.now) first c.front_of-front-2.ensures many (c.first_points.ensures ∙ ap (take 252) same) none in
     same-page c.append_leaf.result c.append_leaf.new.to.items c.args.to.now.items (Leaf f.start f.height f.stream f.version f.count (places_with first)) (page_of stream node) is c.append_leaf.ensures

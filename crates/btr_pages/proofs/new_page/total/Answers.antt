@@ -6,7 +6,7 @@ use Rattle.btr_pages.proofs.new_page.total.Goals as goal
 
 pub loop-i-preserved : goal.loop-i-preserved
 loop-i-preserved c =
-    ap (λ n. (c.loop-i.all + n) % 2 ^ 64) c.count_of-all.ensures
+    ap (λ n. (c.loop-i.all + n) % 2 ^ 64) c.count-all.ensures
     ∙ slot-added c.args.slots.now c.loop-i.i c.loop-i.all c.slot_at.result c.loop-i-test.true c.slot_at.ensures c.loop-i.invariant
 
 pub returns : goal.returns

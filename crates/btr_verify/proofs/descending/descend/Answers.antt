@@ -10,17 +10,17 @@ loop-child-init g c =
     let disk = g.D.Disk in
     record {
       below = c.requires.below;
-      reads = reads-none disk c.args.disk.now (λ told. g.met.D.Disk.only_now told c.args.disk.now);
+      reads = reads-none disk c.args.disk.now (λ reported. g.met.D.Disk.only_now reported c.args.disk.now);
       can = c.requires.can;
-      down = λ told pages h page wrong. goes-nowhere pages h (disk.contents c.args.disk.now) c.args.tail c.args.marks.now c.args.block page wrong;
+      down = λ reported pages h page wrong. goes-nowhere pages h (disk.contents c.args.disk.now) c.args.tail c.args.marks.now c.args.block page wrong;
     }
 
 pub returns-in-None-clause-named : goal.returns-in-None-clause-named
-returns-in-None-clause-named g c told =
+returns-in-None-clause-named g c reported =
     let disk = g.D.Disk in
     let l = c.loop-child in
     let image = disk.contents l.disk in
-    gone-end disk c.args.tail c.args.marks.now c.args.block l.at c.args.disk.now l.disk l.piece l.invariant told (λ pages h page wrong. subst (λ o. MatchOption o (IsFirstWrongFrom pages h page l.at l.at) (GoesDown pages h image c.args.tail c.args.marks.now l.at page)) c.in-None.is (c.in_ok-wrong_child.ensures.child told pages h page wrong))
+    gone-end disk c.args.tail c.args.marks.now c.args.block l.at c.args.disk.now l.disk l.piece l.invariant reported (λ pages h page wrong. subst (λ o. MatchOption o (IsFirstWrongFrom pages h page l.at l.at) (GoesDown pages h image c.args.tail c.args.marks.now l.at page)) c.in-None.is (c.in_ok-wrong_child.ensures.child reported pages h page wrong))
 
 pub loop-child-preserved : goal.loop-child-preserved
 loop-child-preserved g c =
@@ -28,4 +28,4 @@ loop-child-preserved g c =
     let l = c.loop-child in
     let image = disk.contents l.disk in
     let lower = subst (λ o. IfSome o (λ child. child < l.at)) c.in-Some.is c.in_ok-wrong_child.ensures.lower in
-    gone-more disk c.args.tail c.args.marks.now c.args.block l.at c.in-Some.child c.args.disk.now l.disk c.wrong_child.new.disk l.piece c.wrong_child.new.piece l.invariant lower c.wrong_child.ensures.reads c.wrong_child.ensures.can (λ told pages h page wrong. subst (λ o. MatchOption o (IsFirstWrongFrom pages h page l.at l.at) (GoesDown pages h image c.args.tail c.args.marks.now l.at page)) c.in-Some.is (c.in_ok-wrong_child.ensures.child told pages h page wrong))
+    gone-more disk c.args.tail c.args.marks.now c.args.block l.at c.in-Some.child c.args.disk.now l.disk c.wrong_child.new.disk l.piece c.wrong_child.new.piece l.invariant lower c.wrong_child.ensures.reads c.wrong_child.ensures.can (λ reported pages h page wrong. subst (λ o. MatchOption o (IsFirstWrongFrom pages h page l.at l.at) (GoesDown pages h image c.args.tail c.args.marks.now l.at page)) c.in-Some.is (c.in_ok-wrong_child.ensures.child reported pages h page wrong))

@@ -1,5 +1,5 @@
 use Rattle.std.specs.Prelude.{ℕ, ◌<◌, IfSome, slice_get}
-use Rattle.btr_pages.specs.Pages.{slots_of_page}
+use Rattle.btr_node.specs.Page.{slots_of_page}
 use Rattle.btr_verify.specs.Judging.{IsMarkedRight}
 use Rattle.btr_verify.proofs.judging.first_not_right.Given as goal
 

@@ -4,7 +4,7 @@ use Rattle.btr_verify.proofs.ReadLemmas.{same-bytes, page-read}
 use Rattle.btr_verify.proofs.reading.read_page.Goals as goal
 
 pub returns-clause-page : goal.returns-clause-page
-returns-clause-page g c told =
+returns-clause-page g c reported =
     let disk = g.D.Disk in
-    page-read (disk.contents c.args.disk.now) (disk.contents c.hold.new.disk) c.hold.new.piece c.args.block c.decode.result (same-bytes disk c.args.disk.now c.hold.new.disk c.hold.ensures.reads told) c.in_ok-hold.ensures.held (c.hold.ensures.can.holds told)
+    page-read (disk.contents c.args.disk.now) (disk.contents c.hold.new.disk) c.hold.new.piece c.args.block c.decode.result (same-bytes disk c.args.disk.now c.hold.new.disk c.hold.ensures.reads reported) c.in_ok-hold.ensures.held (c.hold.ensures.can.holds reported)
     (λ page fits spells. c.decode.ensures.only page fits (subst (λ bytes. Spells bytes page) (sym c.held.ensures) spells))

@@ -19,8 +19,8 @@ make-make_child-requires g t c κs within =
           (
             read-still c.args.block c.args.self.now.limit l.self.limit c.args.page.now l.invariant.read.limit c.requires.page,
             (
-              slot-there c.args.page.now c.slots_of-slot-items.result.now l.i c.slot-item.result c.slots_of-slot-items.ensures c.loop-i-test.true c.slot-item.is,
-              λ told. device-still g.D.Disk c.args.disk.now l.disk c.args.self.now l.self c.args.block c.args.page.now l.nodes l.invariant.read told (l.invariant.device told),
+              slot-there c.args.page.now c.slots-slot-items.result.now l.i c.slot-item.result c.slots-slot-items.ensures c.loop-i-test.true c.slot-item.is,
+              λ reported. device-still g.D.Disk c.args.disk.now l.disk c.args.self.now l.self c.args.block c.args.page.now l.nodes l.invariant.read reported (l.invariant.device reported),
             ),
           ),
         ),
@@ -29,7 +29,7 @@ make-make_child-requires g t c κs within =
 
 pub make-loop-i-init : goal.make-loop-i-init
 make-loop-i-init g t c =
-    made-none g.D.Disk c.args.disk.now c.args.self.now c.args.block c.args.page.now c.args.nodes.now (λ told. g.met.D.Disk.only_now told c.args.disk.now) c.requires.reader c.requires.device
+    made-none g.D.Disk c.args.disk.now c.args.self.now c.args.block c.args.page.now c.args.nodes.now (λ reported. g.met.D.Disk.only_now reported c.args.disk.now) c.requires.reader c.requires.device
 
 pub make-returns-then-is_some-clause-grows : goal.make-returns-then-is_some-clause-grows
 make-returns-then-is_some-clause-grows g t c =
@@ -37,16 +37,16 @@ make-returns-then-is_some-clause-grows g t c =
     made-and g.D.Disk c.args.disk.now l.disk c.args.self.now l.self c.args.block c.args.page.now c.args.nodes.now l.nodes c.make_child.new.nodes l.i l.invariant c.in_ok-broken.ensures.grows
 
 pub make-returns-then-is_some-clause-made : goal.make-returns-then-is_some-clause-made
-make-returns-then-is_some-clause-made g t c told =
+make-returns-then-is_some-clause-made g t c reported =
     let l = c.loop-i in
-    made-broken g.D.Disk c.args.disk.now l.disk c.args.self.now l.self c.args.block c.args.page.now c.args.nodes.now l.nodes c.make_child.new.nodes l.i (KnowsChild c.args.block c.make_child.new.nodes c.slot-item.result) (IsSome (node_at c.make_child.new.nodes c.args.block)) c.in_ok-broken.broken l.invariant told (c.in_ok-broken.ensures.made told) (sym c.is_some.ensures ∙ c.if-is_some.true)
+    made-broken g.D.Disk c.args.disk.now l.disk c.args.self.now l.self c.args.block c.args.page.now c.args.nodes.now l.nodes c.make_child.new.nodes l.i (KnowsChild c.args.block c.make_child.new.nodes c.slot-item.result) (IsSome (node_at c.make_child.new.nodes c.args.block)) c.in_ok-broken.broken l.invariant reported (c.in_ok-broken.ensures.made reported) (sym c.is_some.ensures ∙ c.if-is_some.true)
 
 pub make-loop-i-preserved : goal.make-loop-i-preserved
 make-loop-i-preserved g t c =
     let l = c.loop-i in
     made-more g.D.Disk c.args.disk.now l.disk c.make_child.new.disk c.args.self.now l.self c.make_child.new.self c.args.block c.args.page.now c.slot-item.result c.args.nodes.now l.nodes c.make_child.new.nodes l.i l.invariant c.make_child.ensures.reads c.in_ok-broken.ensures.only c.in_ok-broken.ensures.grows
-    (λ told. subst (λ o. MakesBelow (g.D.Disk.contents l.disk) l.self.limit c.args.block c.args.page.now l.nodes c.make_child.new.nodes (KnowsChild c.args.block c.make_child.new.nodes c.slot-item.result) o) (none-of c.in_ok-broken.broken (sym c.is_some.ensures ∙ c.if-is_some.false)) (c.in_ok-broken.ensures.made told))
-    (slot-there c.args.page.now c.slots_of-slot-items.result.now l.i c.slot-item.result c.slots_of-slot-items.ensures c.loop-i-test.true c.slot-item.is)
+    (λ reported. subst (λ o. MakesBelow (g.D.Disk.contents l.disk) l.self.limit c.args.block c.args.page.now l.nodes c.make_child.new.nodes (KnowsChild c.args.block c.make_child.new.nodes c.slot-item.result) o) (none-of c.in_ok-broken.broken (sym c.is_some.ensures ∙ c.if-is_some.false)) (c.in_ok-broken.ensures.made reported))
+    (slot-there c.args.page.now c.slots-slot-items.result.now l.i c.slot-item.result c.slots-slot-items.ensures c.loop-i-test.true c.slot-item.is)
 
 pub make-returns-then-branch-clause-grows : goal.make-returns-then-branch-clause-grows
 make-returns-then-branch-clause-grows g t c =
@@ -59,28 +59,28 @@ make-returns-then-branch-clause-made g t c =
     made-all g.D.Disk c.args.disk.now l.disk c.args.self.now l.self c.args.block c.args.page.now c.args.nodes.now l.nodes c.add.new.self l.i l.invariant c.requires.page c.requires.fresh (c.add.ensures.added (c.in_ok-add.was ∙ ap Ok c.if-branch.true)) c.add.ensures.only
 
 pub make-returns-else-branch-clause-made : goal.make-returns-else-branch-clause-made
-make-returns-else-branch-clause-made g t c told =
+make-returns-else-branch-clause-made g t c reported =
     let l = c.loop-i in
     let image = g.D.Disk.contents c.args.disk.now in
     let is = c.in_ok-add.was ∙ ap Ok c.if-branch.false in
-    let size = ap length c.slots_of-slot-items.ensures in
+    let size = ap length c.slots-slot-items.ensures in
     let kept = c.add.ensures.kept (λ e. absurd (let both : Ok true ≡ Ok false = sym e ∙ is in cc)) in
     subst (λ xs. MakesBelow image c.args.self.now.limit c.args.block c.args.page.now c.args.nodes.now xs (IsSome (node_at xs c.args.block)) (Some c.args.block)) (sym kept)
-    (made-refused g.D.Disk c.args.disk.now l.disk c.args.self.now l.self c.args.block c.args.page.now c.args.nodes.now l.nodes l.i (IsSome (node_at l.nodes c.args.block)) l.invariant c.requires.page (omega (arith, c.loop-i-test.false)) (c.add.ensures.refused is) told)
+    (made-refused g.D.Disk c.args.disk.now l.disk c.args.self.now l.self c.args.block c.args.page.now c.args.nodes.now l.nodes l.i (IsSome (node_at l.nodes c.args.block)) l.invariant c.requires.page (omega (arith, c.loop-i-test.false)) (c.add.ensures.refused is) reported)
 
-pub make_child-returns-then-count_of-eq0-clause-made : goal.make_child-returns-then-count_of-eq0-clause-made
-make_child-returns-then-count_of-eq0-clause-made g t c told =
+pub make_child-returns-then-count-eq0-clause-made : goal.make_child-returns-then-count-eq0-clause-made
+make_child-returns-then-count-eq0-clause-made g t c reported =
     let slot = c.args.slot.now in
-    made-nothing (g.D.Disk.contents c.args.disk.now) c.args.self.now.limit c.args.block c.args.page.now c.args.nodes.now (KnowsChild c.args.block c.args.nodes.now slot) None (λ some. absurd (omega (arith, c.count_of.ensures, c.if-count_of-eq0.true)))
+    made-nothing (g.D.Disk.contents c.args.disk.now) c.args.self.now.limit c.args.block c.args.page.now c.args.nodes.now (KnowsChild c.args.block c.args.nodes.now slot) None (λ some. absurd (omega (arith, c.count.ensures, c.if-count-eq0.true)))
 
 pub make_child-returns-then-slot-block-clause-made : goal.make_child-returns-then-slot-block-clause-made
-make_child-returns-then-slot-block-clause-made g t c told =
+make_child-returns-then-slot-block-clause-made g t c reported =
     let slot = c.args.slot.now in
-    let some : 0 < slot.agg.count = omega (arith, c.count_of.ensures, c.if-count_of-eq0.false) in
-    made-wrong (g.D.Disk.contents c.args.disk.now) c.args.self.now.limit c.args.block c.args.i c.args.page.now slot (c.requires.device told).stored c.requires.slot some c.args.nodes.now (KnowsChild c.args.block c.args.nodes.now slot) c.args.block (inl (omega (arith, c.if-slot-block.true), refl))
+    let some : 0 < slot.agg.count = omega (arith, c.count.ensures, c.if-count-eq0.false) in
+    made-wrong (g.D.Disk.contents c.args.disk.now) c.args.self.now.limit c.args.block c.args.i c.args.page.now slot (c.requires.device reported).stored c.requires.slot some c.args.nodes.now (KnowsChild c.args.block c.args.nodes.now slot) c.args.block (inl (omega (arith, c.if-slot-block.true), refl))
 
 pub make_child-returns-then-is_some-clause-made : goal.make_child-returns-then-is_some-clause-made
-make_child-returns-then-is_some-clause-made g t c told =
+make_child-returns-then-is_some-clause-made g t c reported =
     let slot = c.args.slot.now in
     made-nothing (g.D.Disk.contents c.args.disk.now) c.args.self.now.limit c.args.block c.args.page.now c.args.nodes.now (KnowsChild c.args.block c.args.nodes.now slot) None
     (λ some. (omega (arith, c.if-slot-block.false), some-got (λ k. k.now) c.get.result (node_at c.args.nodes.now slot.child) c.get.ensures (sym c.is_some.ensures ∙ c.if-is_some.true)))
@@ -99,7 +99,7 @@ make_child-make_unknown-requires g t c κs within =
             (
               c.requires.slot,
               (
-                omega (arith, c.count_of.ensures, c.if-count_of-eq0.false),
+                omega (arith, c.count.ensures, c.if-count-eq0.false),
                 (
                   omega (arith, c.if-slot-block.false),
                   (
@@ -115,21 +115,21 @@ make_child-make_unknown-requires g t c κs within =
     )
 
 pub make_unknown-returns-in_default-clause-made : goal.make_unknown-returns-in_default-clause-made
-make_unknown-returns-in_default-clause-made g t c told =
+make_unknown-returns-in_default-clause-made g t c reported =
     let image = g.D.Disk.contents c.args.disk.now in
     let slot = c.args.slot.now in
     let some = c.requires.some in
-    let none : HasNoPage image slot.child = subst (λ o. MatchOption o (HasNoPage image slot.child) (IsStoredPage image slot.child)) c.in_default.is (c.in_ok-child.ensures.stored told) in
-    made-wrong image c.args.self.now.limit c.args.block c.args.i c.args.page.now slot (c.requires.device told).stored c.requires.slot some c.args.nodes.now (KnowsChild c.args.block c.args.nodes.now slot) slot.child (inr (inl (c.requires.lower, none, refl)))
+    let none : HasNoPage image slot.child = subst (λ o. MatchOption o (HasNoPage image slot.child) (IsStoredPage image slot.child)) c.in_default.is (c.in_ok-child.ensures.stored reported) in
+    made-wrong image c.args.self.now.limit c.args.block c.args.i c.args.page.now slot (c.requires.device reported).stored c.requires.slot some c.args.nodes.now (KnowsChild c.args.block c.args.nodes.now slot) slot.child (inr (inl (c.requires.lower, none, refl)))
 
 pub make_unknown-returns-then-not-is_child-clause-made : goal.make_unknown-returns-then-not-is_child-clause-made
-make_unknown-returns-then-not-is_child-clause-made g t c told =
+make_unknown-returns-then-not-is_child-clause-made g t c reported =
     let image = g.D.Disk.contents c.args.disk.now in
     let child = c.in-Some.child in
     let slot = c.args.slot.now in
     let some = c.requires.some in
-    let stored = subst (λ o. MatchOption o (HasNoPage image slot.child) (IsStoredPage image slot.child)) c.in-Some.is (c.in_ok-child.ensures.stored told) in
-    made-wrong image c.args.self.now.limit c.args.block c.args.i c.args.page.now slot (c.requires.device told).stored c.requires.slot some c.args.nodes.now (KnowsChild c.args.block c.args.nodes.now slot) c.args.block (inr (inr (c.requires.lower, child, stored, (λ fits. absurd (let yes = c.is_child.ensures.1 fits in let no = c.if-not-is_child.true in cc)), refl)))
+    let stored = subst (λ o. MatchOption o (HasNoPage image slot.child) (IsStoredPage image slot.child)) c.in-Some.is (c.in_ok-child.ensures.stored reported) in
+    made-wrong image c.args.self.now.limit c.args.block c.args.i c.args.page.now slot (c.requires.device reported).stored c.requires.slot some c.args.nodes.now (KnowsChild c.args.block c.args.nodes.now slot) c.args.block (inr (inr (c.requires.lower, child, stored, (λ fits. absurd (let yes = c.is_child.ensures.1 fits in let no = c.if-not-is_child.true in cc)), refl)))
 
 pub make_unknown-make-requires : goal.make_unknown-make-requires
 make_unknown-make-requires g t c κs within =
@@ -147,9 +147,9 @@ make_unknown-make-requires g t c κs within =
             read-still slot.child c.args.self.now.limit c.page.new.self.limit child c.page.ensures.reads.limit (subst (λ o. IfSome o (IsReadPage slot.child c.args.self.now.limit)) c.in-Some.is c.in_ok-child.ensures.found),
             (
               c.requires.fresh,
-              λ told. device-still g.D.Disk c.args.disk.now c.page.new.disk c.args.self.now c.page.new.self slot.child child c.args.nodes.now c.page.ensures.reads told (record {
-                stored = subst (λ o. MatchOption o (HasNoPage (g.D.Disk.contents c.args.disk.now) slot.child) (IsStoredPage (g.D.Disk.contents c.args.disk.now) slot.child)) c.in-Some.is (c.in_ok-child.ensures.stored told);
-                own = (c.requires.device told).own;
+              λ reported. device-still g.D.Disk c.args.disk.now c.page.new.disk c.args.self.now c.page.new.self slot.child child c.args.nodes.now c.page.ensures.reads reported (record {
+                stored = subst (λ o. MatchOption o (HasNoPage (g.D.Disk.contents c.args.disk.now) slot.child) (IsStoredPage (g.D.Disk.contents c.args.disk.now) slot.child)) c.in-Some.is (c.in_ok-child.ensures.stored reported);
+                own = (c.requires.device reported).own;
               }),
             ),
           ),
@@ -158,12 +158,12 @@ make_unknown-make-requires g t c κs within =
     )
 
 pub make_unknown-returns-clause-made : goal.make_unknown-returns-clause-made
-make_unknown-returns-clause-made g t c told =
+make_unknown-returns-clause-made g t c reported =
     let image = g.D.Disk.contents c.args.disk.now in
     let child = c.in-Some.child in
     let slot = c.args.slot.now in
     let some = c.requires.some in
-    let stored = subst (λ o. MatchOption o (HasNoPage image slot.child) (IsStoredPage image slot.child)) c.in-Some.is (c.in_ok-child.ensures.stored told) in
+    let stored = subst (λ o. MatchOption o (HasNoPage image slot.child) (IsStoredPage image slot.child)) c.in-Some.is (c.in_ok-child.ensures.stored reported) in
     let fits : IsChildPage c.args.page.now c.args.i slot child = c.is_child.ensures.0 c.if-not-is_child.false in
     ok-weaker c.make.result (λ o made.
-    made-down image c.args.self.now.limit c.args.block c.args.i c.args.page.now slot (c.requires.device told).stored c.requires.slot some child c.args.nodes.now c.make.new.nodes o c.requires.page.below c.requires.lower stored fits (made-in g.D.Disk c.args.disk.now c.page.new.disk c.args.self.now c.page.new.self slot.child child c.args.nodes.now c.make.new.nodes (IsSome (node_at c.make.new.nodes slot.child)) o c.page.ensures.reads told made)) (c.make.ensures.made told)
+    made-down image c.args.self.now.limit c.args.block c.args.i c.args.page.now slot (c.requires.device reported).stored c.requires.slot some child c.args.nodes.now c.make.new.nodes o c.requires.page.below c.requires.lower stored fits (made-in g.D.Disk c.args.disk.now c.page.new.disk c.args.self.now c.page.new.self slot.child child c.args.nodes.now c.make.new.nodes (IsSome (node_at c.make.new.nodes slot.child)) o c.page.ensures.reads reported made)) (c.make.ensures.made reported)

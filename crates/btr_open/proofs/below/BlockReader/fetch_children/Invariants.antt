@@ -1,4 +1,4 @@
-use Rattle.btr_pages.specs.Pages.{slots_of_page}
+use Rattle.btr_node.specs.Page.{slots_of_page}
 use Rattle.btr_open.proofs.FetchingBelow.{IsChildTo, HasFetched}
 use Rattle.btr_open.proofs.below.BlockReader.fetch_children.Given as goal
 

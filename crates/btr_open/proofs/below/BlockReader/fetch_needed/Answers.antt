@@ -1,8 +1,7 @@
 use Rattle.std.specs.Prelude.{length, ◌+◌, ◌*◌, Some, IfSome}
 use Rattle.std.proofs.Common.{◌≡◌, sym, ◌∙◌, subst, arith, inl}
-use Rattle.btr_node.specs.Page.{Fits, Spells}
+use Rattle.btr_node.specs.Page.{Fits, Spells, slots_of_page}
 use Rattle.btr_node.specs.declared.page.NodePage.{NodePage}
-use Rattle.btr_pages.specs.Pages.{slots_of_page}
 use Rattle.btr_pages.specs.Blocks.{block_of_bytes}
 use Rattle.btr_open.specs.Loading.{IsBlock, IsSlotChild, IsNeeded}
 use Rattle.btr_open.proofs.FetchingBelow.{IsNeededTo, fetched-none, fetched-more, fetched-same, fetched-as, fetches-same, page-one, needed-first, needed-before, needed-here, needed-or, needed-only, needed-all, needed-of}
@@ -16,7 +15,7 @@ loop-i-init g c =
     let r = c.args.self.now in
     let nodes = c.args.nodes.now in
     let bytes = c.args.bytes.now in
-    let none = fetched-none disk d r (λ k. ⊥) nodes (λ told. g.met.D.Disk.only_now told d) c.requires.reader c.requires.own (λ k is some lt. is) in
+    let none = fetched-none disk d r (λ k. ⊥) nodes (λ reported. g.met.D.Disk.only_now reported d) c.requires.reader c.requires.own (λ k is some lt. is) in
     fetched-more disk d d c.fetch_at.new.disk r r c.fetch_at.new.self (λ k. ⊥) (IsBlock c.args.root) (IsNeededTo 0 bytes c.args.root) nodes nodes c.fetch_at.new.nodes none c.fetch_at.ensures.reads c.in_ok-fetch_at.ensures.grows c.in_ok-fetch_at.ensures.all (λ k is. absurd is) (λ k same. inl same) (needed-first bytes c.args.root)
 
 pub loop-i-preserved : goal.loop-i-preserved
@@ -44,20 +43,20 @@ loop-i-preserved g c =
     ]
 
 pub returns-clause-adds : goal.returns-clause-adds
-returns-clause-adds g c told = (c.loop-i.invariant.all told).adds
+returns-clause-adds g c reported = (c.loop-i.invariant.all reported).adds
 
 pub returns-clause-part : goal.returns-clause-part
-returns-clause-part g c told =
+returns-clause-part g c reported =
     let l = c.loop-i in
     let bytes = c.args.bytes.now in
     let root = c.args.root in
     let size : length bytes ≡ 4096 * l.i = omega (arith, c.requires.whole, c.loop-i-test.false, l.auto.i-end) in
-    (fetches-same (g.D.Disk.contents c.args.disk.now) c.args.self.now.limit (IsNeededTo l.i bytes root) (IsNeeded bytes root) c.args.nodes.now l.nodes (l.invariant.all told) (needed-of l.i bytes root (omega arith)) (needed-all l.i bytes root (omega arith))).part
+    (fetches-same (g.D.Disk.contents c.args.disk.now) c.args.self.now.limit (IsNeededTo l.i bytes root) (IsNeeded bytes root) c.args.nodes.now l.nodes (l.invariant.all reported) (needed-of l.i bytes root (omega arith)) (needed-all l.i bytes root (omega arith))).part
 
 pub returns-clause-fetched : goal.returns-clause-fetched
-returns-clause-fetched g c told =
+returns-clause-fetched g c reported =
     let l = c.loop-i in
     let bytes = c.args.bytes.now in
     let root = c.args.root in
     let size : length bytes ≡ 4096 * l.i = omega (arith, c.requires.whole, c.loop-i-test.false, l.auto.i-end) in
-    (fetches-same (g.D.Disk.contents c.args.disk.now) c.args.self.now.limit (IsNeededTo l.i bytes root) (IsNeeded bytes root) c.args.nodes.now l.nodes (l.invariant.all told) (needed-of l.i bytes root (omega arith)) (needed-all l.i bytes root (omega arith))).fetched
+    (fetches-same (g.D.Disk.contents c.args.disk.now) c.args.self.now.limit (IsNeededTo l.i bytes root) (IsNeeded bytes root) c.args.nodes.now l.nodes (l.invariant.all reported) (needed-of l.i bytes root (omega arith)) (needed-all l.i bytes root (omega arith))).fetched

@@ -364,7 +364,7 @@ new_nodes-stand G (suc k) s above h v block aligned leads =
 -- ---- each node stands in its own block
 
 -- A node that a commit wrote, in the block of its place: it is the node of a span, and its children are in lower blocks.
-pub record IsTold (G : ℕ → NewNodeValue → Type 0) (h : Past) (v block : ℕ) (n : NewNodeValue) : Type 0 where
+pub record IsReported (G : ℕ → NewNodeValue → Type 0) (h : Past) (v block : ℕ) (n : NewNodeValue) : Type 0 where
   pub height : ℕ
   pub start : ℤ
   pub above : List Point → Bool
@@ -375,43 +375,43 @@ pub record IsTold (G : ℕ → NewNodeValue → Type 0) (h : Past) (v block : �
   pub is : n ≡ node_to links height start above h
   pub on : LeadsOn G height start h block links
 
-pub laid-at : (f : Store) (first : ℕ) (told : List NewNodeValue) (b : ℕ) (n : NewNodeValue) → laid f first told b ≡ Some n → ((b < first) × (f b ≡ Some n)) ⊎ ((first ≤ b) × (slice_get told (b - first) ≡ Some n))
-laid-at f first told b n at =
-    elim (nat_lt b first) as (λ t. nat_lt b first ≡ t → cond t (f b) (slice_get told (b - first)) ≡ Some n → ((b < first) × (f b ≡ Some n)) ⊎ ((first ≤ b) × (slice_get told (b - first) ≡ Some n))) [
+pub laid-at : (f : Store) (first : ℕ) (reported : List NewNodeValue) (b : ℕ) (n : NewNodeValue) → laid f first reported b ≡ Some n → ((b < first) × (f b ≡ Some n)) ⊎ ((first ≤ b) × (slice_get reported (b - first) ≡ Some n))
+laid-at f first reported b n at =
+    elim (nat_lt b first) as (λ t. nat_lt b first ≡ t → cond t (f b) (slice_get reported (b - first)) ≡ Some n → ((b < first) × (f b ≡ Some n)) ⊎ ((first ≤ b) × (slice_get reported (b - first) ≡ Some n))) [
       | true ↦ λ e here. inl (test-less b first e, here)
       | false ↦ λ e here. inr (grind (arith, nat_tests), here)
     ] refl at
 
-get-bare : (told ns : List NewNodeValue) (i : ℕ) (n : NewNodeValue) → bare_all told ≡ ns → slice_get told i ≡ Some n → slice_get ns i ≡ Some (bare n)
-get-bare told ns i n same at =
+get-bare : (reported ns : List NewNodeValue) (i : ℕ) (n : NewNodeValue) → bare_all reported ≡ ns → slice_get reported i ≡ Some n → slice_get ns i ≡ Some (bare n)
+get-bare reported ns i n same at =
     ap (λ (xs : List NewNodeValue). slice_get xs i) (sym same)
-    ∙ (slice_get-map bare told i ∙ ap (λ (o : Option NewNodeValue). option_map bare o) at)
+    ∙ (slice_get-map bare reported i ∙ ap (λ (o : Option NewNodeValue). option_map bare o) at)
 
 same-spans : (m n : NewNodeValue) (u : SpanValue) → m.span ≡ u → n.span ≡ u → m.span ≡ n.span
 same-spans m n u p q = p ∙ sym q
 
-get-once : (told : List NewNodeValue) (i j : ℕ) (n m : NewNodeValue) → j ≡ i → slice_get told i ≡ Some n → slice_get told j ≡ Some m → n ≡ m
-get-once told i j n m e p q =
-    let is : Some n ≡ Some m = sym p ∙ (ap (λ k. slice_get told k) (sym e) ∙ q) in cc
+get-once : (reported : List NewNodeValue) (i j : ℕ) (n m : NewNodeValue) → j ≡ i → slice_get reported i ≡ Some n → slice_get reported j ≡ Some m → n ≡ m
+get-once reported i j n m e p q =
+    let is : Some n ≡ Some m = sym p ∙ (ap (λ k. slice_get reported k) (sym e) ∙ q) in cc
 
 -- Each node that a commit wrote stands in the block of its place.
-pub told-node : (f : Store) (first : ℕ) (told : List NewNodeValue) (h : Past) (v block : ℕ) → ((b : ℕ) (n : NewNodeValue) → f b ≡ Some n → n.version < v) → bare_all told ≡ new_nodes 10 FIRST above_root h v → Leads (In (laid f first told)) 10 FIRST above_root h block → (i : ℕ) (n : NewNodeValue) → slice_get told i ≡ Some n → IsTold (In (laid f first told)) h v (first + i) n
-told-node f first told h v block old same leads i n at =
-    let G = In (laid f first told) in
+pub reported-node : (f : Store) (first : ℕ) (reported : List NewNodeValue) (h : Past) (v block : ℕ) → ((b : ℕ) (n : NewNodeValue) → f b ≡ Some n → n.version < v) → bare_all reported ≡ new_nodes 10 FIRST above_root h v → Leads (In (laid f first reported)) 10 FIRST above_root h block → (i : ℕ) (n : NewNodeValue) → slice_get reported i ≡ Some n → IsReported (In (laid f first reported)) h v (first + i) n
+reported-node f first reported h v block old same leads i n at =
+    let G = In (laid f first reported) in
     let ns = new_nodes 10 FIRST above_root h v in
-    let here = get-bare told ns i n same at in
+    let here = get-bare reported ns i n same at in
     let st = each-get (Stands G h v) ns i (bare n) (new_nodes-stand G 10 FIRST above_root h v block root-aligned leads) here in
     let to = leads-to G st.height st.start st.above h st.block st.points st.leads in
     let m = node_to to.links st.height st.start st.above h in
     let version = node_to-version_is to.links st.height st.start st.above h v st.version in
-    elim (laid-at f first told st.block m to.is) [
+    elim (laid-at f first reported st.block m to.is) [
       | inl low ↦ let less = old st.block m low.1 in absurd (omega arith)
       | inr high ↦
-          let there = get-bare told ns (st.block - first) m same high.1 in
+          let there = get-bare reported ns (st.block - first) m same high.1 in
           let spans = same-spans (bare m) (bare n) (record { start = st.start; height = st.height }) (node_to-span to.links st.height st.start st.above h) st.span in
           let place = new_nodes-apart 10 FIRST above_root h v (st.block - first) i (bare m) (bare n) (omega arith) there here spans in
           let le = high.0 in
-          let is = get-once told i (st.block - first) n m place at high.1 in
+          let is = get-once reported i (st.block - first) n m place at high.1 in
           let block_is : st.block ≡ first + i = omega arith in
           record {
             height = st.height;

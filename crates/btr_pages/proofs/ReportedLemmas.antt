@@ -32,13 +32,13 @@ use Rattle.btr_tree.proofs.LeadsLemmas.{stored-leads}
 use Rattle.btr_tree.proofs.NodeLemmas.{slot-part, prefix-next, prefix-none, prefix-all}
 use Rattle.btr_tree.proofs.RootLemmas.{root-aligned, root-points, tree-room}
 use Rattle.btr_tree.proofs.StoredLemmas.{stored-below}
-use Rattle.btr_node.specs.Page.{front, IsSlot, Keeps, FitsPoint, FitsSlot, Fits}
+use Rattle.btr_node.specs.Page.{front, IsSlot, Keeps, FitsPoint, FitsSlot, Fits, span_of_page, slots_of_page}
 use Rattle.btr_node.specs.declared.page.NodePage.{NodePage}
 use Rattle.btr_node.specs.declared.page.PageSlot.{PageSlot}
-use Rattle.btr_pages.specs.Pages.{Pages, with_pages, span_of_page, slots_of_page, node_of_page, node_of_stream, nodes_in, page_slot, page_of, pages_of, HasChildPage, IsPageAt, ArePages}
-use Rattle.btr_pages.specs.Told.{AreKept, IsToldOf, IsToldBy, AreTold}
+use Rattle.btr_pages.specs.Pages.{Pages, with_pages, node_of_page, node_of_stream, nodes_in, page_slot, page_of, pages_of, HasChildPage, IsPageAt, ArePages}
+use Rattle.btr_pages.specs.Reported.{AreKept, IsReportedOf, IsReportedBy, AreReported}
 use Rattle.btr_pages.proofs.PageOfLemmas.{each-map, inner-page_of, leaf-again, inner-again, page_of-stream, HasPlaces, fits-places, page_of-places, page-span, page-version, page-versioned, leaf-count, inner-count, leaf-values, leaf-keeps, inner-keeps, slot-fits, leaf-fits, inner-fits}
-use Rattle.btr_pages.proofs.ToldNodeLemmas.{each-get, each-first, version-same, version-at_most, older, older-is, stored-older, In, LeadsTo, leads-to, leads-nowhere, part-aligned, IsTold, laid-at, told-node, IsLeafNode, IsInnerNode, node-kind, node_to-span, node_to-version, slots-get, slots-length, slots-count}
+use Rattle.btr_pages.proofs.ReportedNodeLemmas.{each-get, each-first, version-same, version-at_most, older, older-is, stored-older, In, LeadsTo, leads-to, leads-nowhere, part-aligned, IsReported, laid-at, reported-node, IsLeafNode, IsInnerNode, node-kind, node_to-span, node_to-version, slots-get, slots-length, slots-count}
 
 -- ---- pages in blocks
 
@@ -108,16 +108,16 @@ map-nodes stream None says = refl
 map-nodes stream (Some n) says = says-node stream n (says n refl)
 
 -- The pages of nodes are the nodes, laid from a block on.
-nodes-laid : (pages : Pages) (stream first : ℕ) (told : List NewNodeValue) → ((i : ℕ) (n : NewNodeValue) → slice_get told i ≡ Some n → node_of_page (page_of stream n) ≡ n) → (b : ℕ) → nodes_in (with_pages pages first (pages_of stream told)) stream b ≡ laid (nodes_in pages stream) first told b
-nodes-laid pages stream first told says b =
-    elim (nat_lt b first) as (λ t. option_and_then (node_of_stream stream) (cond t (pages b) (slice_get (pages_of stream told) (b - first))) ≡ cond t (nodes_in pages stream b) (slice_get told (b - first))) [
+nodes-laid : (pages : Pages) (stream first : ℕ) (reported : List NewNodeValue) → ((i : ℕ) (n : NewNodeValue) → slice_get reported i ≡ Some n → node_of_page (page_of stream n) ≡ n) → (b : ℕ) → nodes_in (with_pages pages first (pages_of stream reported)) stream b ≡ laid (nodes_in pages stream) first reported b
+nodes-laid pages stream first reported says b =
+    elim (nat_lt b first) as (λ t. option_and_then (node_of_stream stream) (cond t (pages b) (slice_get (pages_of stream reported) (b - first))) ≡ cond t (nodes_in pages stream b) (slice_get reported (b - first))) [
       | true ↦ refl
-      | false ↦ ap (option_and_then (node_of_stream stream)) (slice_get-map (page_of stream) told (b - first)) ∙ map-nodes stream (slice_get told (b - first)) (says (b - first))
+      | false ↦ ap (option_and_then (node_of_stream stream)) (slice_get-map (page_of stream) reported (b - first)) ∙ map-nodes stream (slice_get reported (b - first)) (says (b - first))
     ]
 
-told-page : (pages : Pages) (stream first : ℕ) (told : List NewNodeValue) (b : ℕ) (n : NewNodeValue) → first ≤ b → slice_get told (b - first) ≡ Some n → with_pages pages first (pages_of stream told) b ≡ Some (page_of stream n)
-told-page pages stream first told b n le at =
-    with-new pages first (pages_of stream told) b le ∙ slice_get-map (page_of stream) told (b - first) ∙ ap (option_map (page_of stream)) at
+reported-page : (pages : Pages) (stream first : ℕ) (reported : List NewNodeValue) (b : ℕ) (n : NewNodeValue) → first ≤ b → slice_get reported (b - first) ≡ Some n → with_pages pages first (pages_of stream reported) b ≡ Some (page_of stream n)
+reported-page pages stream first reported b n le at =
+    with-new pages first (pages_of stream reported) b le ∙ slice_get-map (page_of stream) reported (b - first) ∙ ap (option_map (page_of stream)) at
 
 -- ---- the values of points that are stored
 
@@ -187,32 +187,32 @@ values-after h c old added =
 
 -- ---- the node in a block, when the pages of a commit are there
 
--- The older nodes of a stream, and the told ones from a block on.
-abbrev pub Told : Pages → ℕ → ℕ → ℕ → List NewNodeValue → ℕ → NewNodeValue → Type 0
-Told pages stream first v told = In (laid (older v (nodes_in pages stream)) first told)
+-- The older nodes of a stream, and the reported ones from a block on.
+abbrev pub Reported : Pages → ℕ → ℕ → ℕ → List NewNodeValue → ℕ → NewNodeValue → Type 0
+Reported pages stream first v reported = In (laid (older v (nodes_in pages stream)) first reported)
 
 -- What is known of a commit and of the nodes that it wrote.
-pub record IsWritten (pages : Pages) (stream first : ℕ) (h : Past) (c : Commit) (told : List NewNodeValue) : Type 0 where
+pub record IsWritten (pages : Pages) (stream first : ℕ) (h : Past) (c : Commit) (reported : List NewNodeValue) : Type 0 where
   pub some : 0 < c.version
   pub before : IsBefore c.version h
   pub room : HasNoCrowdedSpan FIRST END (bag (c ▷ h))
   pub few : length (bag (c ▷ h)) ≤ MAX_POINTS
   pub top : c.version ≤ 4294967295
   pub kept : AreKept pages
-  pub each : (i : ℕ) (n : NewNodeValue) → slice_get told i ≡ Some n → IsTold (Told pages stream first c.version told) (c ▷ h) c.version (first + i) n
+  pub each : (i : ℕ) (n : NewNodeValue) → slice_get reported i ≡ Some n → IsReported (Reported pages stream first c.version reported) (c ▷ h) c.version (first + i) n
 
--- A node that was told is a leaf or an inner node.
-pub record IsToldNode (pages : Pages) (stream first : ℕ) (h : Past) (c : Commit) (told : List NewNodeValue) (block : ℕ) (n : NewNodeValue) : Type 0 where
+-- A node that was reported is a leaf or an inner node.
+pub record IsReportedNode (pages : Pages) (stream first : ℕ) (h : Past) (c : Commit) (reported : List NewNodeValue) (block : ℕ) (n : NewNodeValue) : Type 0 where
   pub height : ℕ
   pub start : ℤ
   pub aligned : IsSpan (record { start = start; height = height })
   pub points : 0 < length (points_of height start (bag (c ▷ h)))
-  pub kind : IsLeafNode (c ▷ h) height start c.version n ⊎ IsInnerNode (Told pages stream first c.version told) (c ▷ h) height start c.version block n
+  pub kind : IsLeafNode (c ▷ h) height start c.version n ⊎ IsInnerNode (Reported pages stream first c.version reported) (c ▷ h) height start c.version block n
 
-known : (pages : Pages) (stream first : ℕ) (h : Past) (c : Commit) (told : List NewNodeValue) → IsWritten pages stream first h c told → (i : ℕ) (n : NewNodeValue) → slice_get told i ≡ Some n → IsToldNode pages stream first h c told (first + i) n
-known pages stream first h c told w i n at =
+known : (pages : Pages) (stream first : ℕ) (h : Past) (c : Commit) (reported : List NewNodeValue) → IsWritten pages stream first h c reported → (i : ℕ) (n : NewNodeValue) → slice_get reported i ≡ Some n → IsReportedNode pages stream first h c reported (first + i) n
+known pages stream first h c reported w i n at =
     let t = w.each i n at in
-    let G = Told pages stream first c.version told in
+    let G = Reported pages stream first c.version reported in
     let kind = node-kind G (c ▷ h) t.height t.start t.above (first + i) t.links c.version w.room t.aligned t.version t.on in
     record {
       height = t.height;
@@ -222,10 +222,10 @@ known pages stream first h c told w i n at =
       kind = subst (λ (m : NewNodeValue). IsLeafNode (c ▷ h) t.height t.start c.version m ⊎ IsInnerNode G (c ▷ h) t.height t.start c.version (first + i) m) (sym t.is) kind;
     }
 
--- The page of a told node says it.
-told-says : (pages : Pages) (stream first : ℕ) (h : Past) (c : Commit) (told : List NewNodeValue) → IsWritten pages stream first h c told → (i : ℕ) (n : NewNodeValue) → slice_get told i ≡ Some n → node_of_page (page_of stream n) ≡ n
-told-says pages stream first h c told w i n at =
-    let k = known pages stream first h c told w i n at in
+-- The page of a reported node says it.
+reported-says : (pages : Pages) (stream first : ℕ) (h : Past) (c : Commit) (reported : List NewNodeValue) → IsWritten pages stream first h c reported → (i : ℕ) (n : NewNodeValue) → slice_get reported i ≡ Some n → node_of_page (page_of stream n) ≡ n
+reported-says pages stream first h c reported w i n at =
+    let k = known pages stream first h c reported w i n at in
     let Says = λ (m : NewNodeValue). node_of_page (page_of stream m) ≡ m in
     elim k.kind [
       | inl leaf ↦ subst Says (sym leaf.is) (leaf-again stream k.start k.height c.version (points_of k.height k.start (bag (c ▷ h))) leaf.few)
@@ -233,9 +233,9 @@ told-says pages stream first h c told w i n at =
     ]
 
 -- A node that is there has a version from 1 on.
-told-versioned : (pages : Pages) (stream first : ℕ) (h : Past) (c : Commit) (told : List NewNodeValue) → IsWritten pages stream first h c told → (b : ℕ) (n : NewNodeValue) → Told pages stream first c.version told b n → 1 ≤ n.version
-told-versioned pages stream first h c told w b n at =
-    elim (laid-at (older c.version (nodes_in pages stream)) first told b n at) [
+reported-versioned : (pages : Pages) (stream first : ℕ) (h : Past) (c : Commit) (reported : List NewNodeValue) → IsWritten pages stream first h c reported → (b : ℕ) (n : NewNodeValue) → Reported pages stream first c.version reported b n → 1 ≤ n.version
+reported-versioned pages stream first h c reported w b n at =
+    elim (laid-at (older c.version (nodes_in pages stream)) first reported b n at) [
       | inl old ↦
           let is = older-is c.version (nodes_in pages stream b) n old.1 in
           let of = page-in pages stream b n is.0 in
@@ -251,10 +251,10 @@ told-versioned pages stream first h c told w b n at =
 points-few : (k : ℕ) (s : ℤ) (b : List Point) → length (points_of k s b) ≤ length b
 points-few k s b = length-filter (is_within s (s +ℤ pos (width k))) b
 
--- Each slot of a told inner node keeps the table.
-slot-keeps : (pages : Pages) (stream first : ℕ) (h : Past) (c : Commit) (told : List NewNodeValue) (block : ℕ) (links : ℕ → ℕ) (below : ℕ) (s : ℤ) → IsWritten pages stream first h c told → (i : ℕ) → Leads (Told pages stream first c.version told) below (slot_start below s i) (is_inner (suc below) s) (c ▷ h) (links i) → IsSlot c.version (page_slot (slot_to (links i) (slot_of_points (suc below) s below (slot_start below s i) (c ▷ h))))
-slot-keeps pages stream first h c told block links below s w i leads =
-    let G = Told pages stream first c.version told in
+-- Each slot of a reported inner node keeps the table.
+slot-keeps : (pages : Pages) (stream first : ℕ) (h : Past) (c : Commit) (reported : List NewNodeValue) (block : ℕ) (links : ℕ → ℕ) (below : ℕ) (s : ℤ) → IsWritten pages stream first h c reported → (i : ℕ) → Leads (Reported pages stream first c.version reported) below (slot_start below s i) (is_inner (suc below) s) (c ▷ h) (links i) → IsSlot c.version (page_slot (slot_to (links i) (slot_of_points (suc below) s below (slot_start below s i) (c ▷ h))))
+slot-keeps pages stream first h c reported block links below s w i leads =
+    let G = Reported pages stream first c.version reported in
     let t = slot_start below s i in
     let above = is_inner (suc below) s in
     let count = agg-count (points_of below t (bag (c ▷ h))) in
@@ -264,17 +264,17 @@ slot-keeps pages stream first h c told block links below s w i leads =
       has_version = λ some.
           let points : 0 < length (points_of below t (bag (c ▷ h))) = omega arith in
           let to = leads-to G below t above (c ▷ h) (links i) points leads in
-          let from = told-versioned pages stream first h c told w (links i) (node_to to.links below t above (c ▷ h)) to.is in
+          let from = reported-versioned pages stream first h c reported w (links i) (node_to to.links below t above (c ▷ h)) to.is in
           subst (λ v. 1 ≤ v) (node_to-version to.links below t above (c ▷ h) ∙ sym (version-same above below t (c ▷ h) points)) from;
       has_child = λ some.
           let points : 0 < length (points_of below t (bag (c ▷ h))) = omega arith in
           (leads-to G below t above (c ▷ h) (links i) points leads).some;
     }
 
--- The page of a told node keeps the table.
-told-keeps : (pages : Pages) (stream first : ℕ) (h : Past) (c : Commit) (told : List NewNodeValue) → IsWritten pages stream first h c told → (i : ℕ) (n : NewNodeValue) → slice_get told i ≡ Some n → Keeps (page_of stream n)
-told-keeps pages stream first h c told w i n at =
-    let k = known pages stream first h c told w i n at in
+-- The page of a reported node keeps the table.
+reported-keeps : (pages : Pages) (stream first : ℕ) (h : Past) (c : Commit) (reported : List NewNodeValue) → IsWritten pages stream first h c reported → (i : ℕ) (n : NewNodeValue) → slice_get reported i ≡ Some n → Keeps (page_of stream n)
+reported-keeps pages stream first h c reported w i n at =
+    let k = known pages stream first h c reported w i n at in
     let H = c ▷ h in
     elim k.kind [
       | inl leaf ↦ subst (λ (m : NewNodeValue). Keeps (page_of stream m)) (sym leaf.is) (leaf-keeps stream k.start k.height c.version H k.aligned w.some w.top k.points leaf.few)
@@ -284,7 +284,7 @@ told-keeps pages stream first h c told w i n at =
           let many = inner.many in
           let part = points-few (suc inner.below) k.start (bag H) in
           let aligned : IsSpan (record { start = k.start; height = suc inner.below }) = subst (λ j. IsSpan (record { start = k.start; height = j })) inner.height k.aligned in
-          let each = each-first (λ x. IsSlot c.version (page_slot x)) 64 (λ j. slot_to (inner.links j) (slot_of_points (suc inner.below) k.start inner.below (slot_start inner.below k.start j) H) ∷ []) (λ j lt. (slot-keeps pages stream first h c told (first + i) inner.links inner.below k.start w j (inner.on j lt).1, tt)) in
+          let each = each-first (λ x. IsSlot c.version (page_slot x)) 64 (λ j. slot_to (inner.links j) (slot_of_points (suc inner.below) k.start inner.below (slot_start inner.below k.start j) H) ∷ []) (λ j lt. (slot-keeps pages stream first h c reported (first + i) inner.links inner.below k.start w j (inner.on j lt).1, tt)) in
           subst (λ (m : NewNodeValue). Keeps (page_of stream m)) (sym inner.is) (inner-keeps stream k.start inner.below c.version (length (points_of (suc inner.below) k.start (bag H))) ss aligned w.some w.top (slots-length inner.links inner.below k.start H) (slots-count inner.links inner.below k.start H) (omega arith) (omega arith) each)
     ]
 
@@ -299,16 +299,16 @@ record HasPage (pages : Pages) (stream b : ℕ) (n : NewNodeValue) : Type 0 wher
   pub keeps : Keeps page
   pub places : HasPlaces page
 
-has-page : (pages : Pages) (stream first : ℕ) (h : Past) (c : Commit) (told : List NewNodeValue) → IsWritten pages stream first h c told → (b : ℕ) (n : NewNodeValue) → Told pages stream first c.version told b n → HasPage (with_pages pages first (pages_of stream told)) stream b n
-has-page pages stream first h c told w b n at =
-    elim (laid-at (older c.version (nodes_in pages stream)) first told b n at) [
+has-page : (pages : Pages) (stream first : ℕ) (h : Past) (c : Commit) (reported : List NewNodeValue) → IsWritten pages stream first h c reported → (b : ℕ) (n : NewNodeValue) → Reported pages stream first c.version reported b n → HasPage (with_pages pages first (pages_of stream reported)) stream b n
+has-page pages stream first h c reported w b n at =
+    elim (laid-at (older c.version (nodes_in pages stream)) first reported b n at) [
       | inl old ↦
           let is = older-is c.version (nodes_in pages stream b) n old.1 in
           let of = page-in pages stream b n is.0 in
           let kept = kept-at pages w.kept b of.page of.is in
           record {
             page = of.page;
-            is = with-old pages first (pages_of stream told) b old.0 ∙ of.is;
+            is = with-old pages first (pages_of stream reported) b old.0 ∙ of.is;
             its_stream = of.its_stream;
             says = of.says;
             keeps = kept.0;
@@ -317,20 +317,20 @@ has-page pages stream first h c told w b n at =
       | inr new ↦
           record {
             page = page_of stream n;
-            is = told-page pages stream first told b n new.0 new.1;
+            is = reported-page pages stream first reported b n new.0 new.1;
             its_stream = page_of-stream stream n;
-            says = told-says pages stream first h c told w (b - first) n new.1;
-            keeps = told-keeps pages stream first h c told w (b - first) n new.1;
+            says = reported-says pages stream first h c reported w (b - first) n new.1;
+            keeps = reported-keeps pages stream first h c reported w (b - first) n new.1;
             places = page_of-places stream n;
           }
     ]
 
 -- The count of a page of a span.
-page-count : (pages : Pages) (stream first : ℕ) (h : Past) (c : Commit) (told : List NewNodeValue) → IsWritten pages stream first h c told → (k : ℕ) (s : ℤ) (above : List Point → Bool) (block : ℕ) (page : NodePage) → IsSpan (record { start = s; height = k }) → 0 < length (points_of k s (bag (c ▷ h))) → (to : LeadsTo (Told pages stream first c.version told) k s above (c ▷ h) block) → node_of_page page ≡ node_to to.links k s above (c ▷ h) → Keeps page → HasPlaces page → (front page).count ≡ length (points_of k s (bag (c ▷ h)))
-page-count pages stream first h c told w k s above block page aligned some to says keeps places =
+page-count : (pages : Pages) (stream first : ℕ) (h : Past) (c : Commit) (reported : List NewNodeValue) → IsWritten pages stream first h c reported → (k : ℕ) (s : ℤ) (above : List Point → Bool) (block : ℕ) (page : NodePage) → IsSpan (record { start = s; height = k }) → 0 < length (points_of k s (bag (c ▷ h))) → (to : LeadsTo (Reported pages stream first c.version reported) k s above (c ▷ h) block) → node_of_page page ≡ node_to to.links k s above (c ▷ h) → Keeps page → HasPlaces page → (front page).count ≡ length (points_of k s (bag (c ▷ h)))
+page-count pages stream first h c reported w k s above block page aligned some to says keeps places =
     let H = c ▷ h in
     let v = node_version above k s H in
-    elim (node-kind (Told pages stream first c.version told) H k s above block to.links v w.room aligned refl to.on) [
+    elim (node-kind (Reported pages stream first c.version reported) H k s above block to.links v w.room aligned refl to.on) [
       | inl leaf ↦ leaf-count page (record { start = s; height = k }) v (points_of k s (bag H)) keeps places (says ∙ leaf.is) some
       | inr inner ↦
           let long = slots-length inner.links inner.below s H in
@@ -340,14 +340,14 @@ page-count pages stream first h c told w k s above block page aligned some to sa
     ]
 
 -- The child of a slot that has a point.
-child-page : (pages : Pages) (stream first : ℕ) (h : Past) (c : Commit) (told : List NewNodeValue) → IsWritten pages stream first h c told → (block : ℕ) (parent : NodePage) (below : ℕ) (s : ℤ) (link i : ℕ) → (front parent).stream ≡ stream → span_of_page parent ≡ record { start = s; height = suc below } → IsSpan (record { start = s; height = suc below }) → i < 64 → (link < block) × Leads (Told pages stream first c.version told) below (slot_start below s i) (is_inner (suc below) s) (c ▷ h) link → 0 < length (points_of below (slot_start below s i) (bag (c ▷ h))) → HasChildPage (with_pages pages first (pages_of stream told)) block parent i (page_slot (slot_to link (slot_of_points (suc below) s below (slot_start below s i) (c ▷ h))))
-child-page pages stream first h c told w block parent below s link i of_stream of_span aligned lt next some =
+child-page : (pages : Pages) (stream first : ℕ) (h : Past) (c : Commit) (reported : List NewNodeValue) → IsWritten pages stream first h c reported → (block : ℕ) (parent : NodePage) (below : ℕ) (s : ℤ) (link i : ℕ) → (front parent).stream ≡ stream → span_of_page parent ≡ record { start = s; height = suc below } → IsSpan (record { start = s; height = suc below }) → i < 64 → (link < block) × Leads (Reported pages stream first c.version reported) below (slot_start below s i) (is_inner (suc below) s) (c ▷ h) link → 0 < length (points_of below (slot_start below s i) (bag (c ▷ h))) → HasChildPage (with_pages pages first (pages_of stream reported)) block parent i (page_slot (slot_to link (slot_of_points (suc below) s below (slot_start below s i) (c ▷ h))))
+child-page pages stream first h c reported w block parent below s link i of_stream of_span aligned lt next some =
     let H = c ▷ h in
     let t = slot_start below s i in
     let above = is_inner (suc below) s in
-    let to = leads-to (Told pages stream first c.version told) below t above H link some next.1 in
+    let to = leads-to (Reported pages stream first c.version reported) below t above H link some next.1 in
     let n = node_to to.links below t above H in
-    let has = has-page pages stream first h c told w link n to.is in
+    let has = has-page pages stream first h c reported w link n to.is in
     record {
       lower = next.0;
       child = has.page;
@@ -358,18 +358,18 @@ child-page pages stream first h c told w block parent below s link i of_stream o
             ∙ sym (slot-part (record { start = s; height = suc below }) below i refl)
             ∙ ap (λ (u : SpanValue). slot_of u i) (sym of_span);
         version = page-version has.page ∙ ap (λ (m : NewNodeValue). m.version) has.says ∙ node_to-version to.links below t above H ∙ sym (version-same above below t H some);
-        count = page-count pages stream first h c told w below t above link has.page (part-aligned below s i lt aligned) some to has.says has.keeps has.places ∙ sym (agg-count (points_of below t (bag H)));
+        count = page-count pages stream first h c reported w below t above link has.page (part-aligned below s i lt aligned) some to has.says has.keeps has.places ∙ sym (agg-count (points_of below t (bag H)));
       };
     }
 
--- The page of a told inner node: each slot that has a point has its child's page.
-inner-children : (pages : Pages) (stream first : ℕ) (h : Past) (c : Commit) (told : List NewNodeValue) → IsWritten pages stream first h c told → (block k : ℕ) (s : ℤ) (n : NewNodeValue) → IsSpan (record { start = s; height = k }) → (inner : IsInnerNode (Told pages stream first c.version told) (c ▷ h) k s c.version block n) → (i : ℕ) → IfSome (slice_get (slots_of_page (page_of stream n)) i) (λ slot. 0 < slot.agg.count → HasChildPage (with_pages pages first (pages_of stream told)) block (page_of stream n) i slot)
-inner-children pages stream first h c told w block k s n aligned inner i =
+-- The page of a reported inner node: each slot that has a point has its child's page.
+inner-children : (pages : Pages) (stream first : ℕ) (h : Past) (c : Commit) (reported : List NewNodeValue) → IsWritten pages stream first h c reported → (block k : ℕ) (s : ℤ) (n : NewNodeValue) → IsSpan (record { start = s; height = k }) → (inner : IsInnerNode (Reported pages stream first c.version reported) (c ▷ h) k s c.version block n) → (i : ℕ) → IfSome (slice_get (slots_of_page (page_of stream n)) i) (λ slot. 0 < slot.agg.count → HasChildPage (with_pages pages first (pages_of stream reported)) block (page_of stream n) i slot)
+inner-children pages stream first h c reported w block k s n aligned inner i =
     let H = c ▷ h in
     let below = inner.below in
     let ss = slots_to inner.links below s H in
     let long = slots-length inner.links below s H in
-    let P = with_pages pages first (pages_of stream told) in
+    let P = with_pages pages first (pages_of stream reported) in
     let m : NewNodeValue = record { span = record { start = s; height = suc below }; version = c.version; points = []; slots = ss } in
     let page = inner-page_of stream (record { start = s; height = suc below }) c.version [] ss long in
     let Children = λ (p : NodePage). IfSome (slice_get (slots_of_page p) i) (λ slot. 0 < slot.agg.count → HasChildPage P block p i slot) in
@@ -383,30 +383,30 @@ inner-children pages stream first h c told w block k s n aligned inner i =
           let at : slice_get (slots_of_page parent) i ≡ Some (page_slot (slot_to (inner.links i) (slot_of_points (suc below) s below t H))) = get ∙ ap (option_map page_slot) (slots-get inner.links below s H i lt) in
           subst At (sym at) (λ some.
           let count = agg-count (points_of below t (bag H)) in
-          child-page pages stream first h c told w block parent below s (inner.links i) i (page_of-stream stream m) (ap span_of_page page) high lt (inner.on i lt) (omega arith))
+          child-page pages stream first h c reported w block parent below s (inner.links i) i (page_of-stream stream m) (ap span_of_page page) high lt (inner.on i lt) (omega arith))
       | inr le ↦ subst At (sym (get ∙ ap (option_map page_slot) (slice_get_past ss i (omega arith)))) tt
     ])
 
--- A page of a told node stands rightly.
-told-stands : (pages : Pages) (stream first : ℕ) (h : Past) (c : Commit) (told : List NewNodeValue) → IsWritten pages stream first h c told → (i : ℕ) (n : NewNodeValue) → slice_get told i ≡ Some n → IsPageAt (with_pages pages first (pages_of stream told)) (first + i) (page_of stream n)
-told-stands pages stream first h c told w i n at =
-    let k = known pages stream first h c told w i n at in
-    let P = with_pages pages first (pages_of stream told) in
+-- A page of a reported node stands rightly.
+reported-stands : (pages : Pages) (stream first : ℕ) (h : Past) (c : Commit) (reported : List NewNodeValue) → IsWritten pages stream first h c reported → (i : ℕ) (n : NewNodeValue) → slice_get reported i ≡ Some n → IsPageAt (with_pages pages first (pages_of stream reported)) (first + i) (page_of stream n)
+reported-stands pages stream first h c reported w i n at =
+    let k = known pages stream first h c reported w i n at in
+    let P = with_pages pages first (pages_of stream reported) in
     record {
-      keeps = told-keeps pages stream first h c told w i n at;
+      keeps = reported-keeps pages stream first h c reported w i n at;
       children = λ j. elim k.kind [
         | inl leaf ↦ subst (λ (m : NewNodeValue). IfSome (slice_get (slots_of_page (page_of stream m)) j) (λ slot. 0 < slot.agg.count → HasChildPage P (first + i) (page_of stream m) j slot)) (sym leaf.is) tt
-        | inr inner ↦ inner-children pages stream first h c told w (first + i) k.height k.start n k.aligned inner j
+        | inr inner ↦ inner-children pages stream first h c reported w (first + i) k.height k.start n k.aligned inner j
       ];
     }
 
-told-stand : (pages : Pages) (stream first : ℕ) (h : Past) (c : Commit) (told : List NewNodeValue) → IsWritten pages stream first h c told → ArePages pages first (pages_of stream told)
-told-stand pages stream first h c told w i =
-    let P = with_pages pages first (pages_of stream told) in
+reported-stand : (pages : Pages) (stream first : ℕ) (h : Past) (c : Commit) (reported : List NewNodeValue) → IsWritten pages stream first h c reported → ArePages pages first (pages_of stream reported)
+reported-stand pages stream first h c reported w i =
+    let P = with_pages pages first (pages_of stream reported) in
     let At = λ (o : Option NodePage). IfSome o (λ page. IsPageAt P (first + i) page) in
-    subst At (sym (slice_get-map (page_of stream) told i)) (elim (slice_get told i) as (λ o. slice_get told i ≡ o → At (option_map (page_of stream) o)) [
+    subst At (sym (slice_get-map (page_of stream) reported i)) (elim (slice_get reported i) as (λ o. slice_get reported i ≡ o → At (option_map (page_of stream) o)) [
       | None ↦ λ e. tt
-      | Some n ↦ λ e. told-stands pages stream first h c told w i n e
+      | Some n ↦ λ e. reported-stands pages stream first h c reported w i n e
     ] refl)
 
 -- ---- the numbers of the new pages fit
@@ -415,11 +415,11 @@ each-at : {X : Type 0} (P : X → Type 0) (xs : List X) → ((i : ℕ) (x : X) �
 each-at P [] h = tt
 each-at P (x ∷ xs) h = (h 0 x refl, each-at P xs (λ i y at. h (suc i) y at))
 
-told-fits : (pages : Pages) (stream first : ℕ) (h : Past) (c : Commit) (told : List NewNodeValue) → IsWritten pages stream first h c told → Values (bag (c ▷ h)) → stream < 2 ^ 32 → first + length told < 2 ^ 64 → (i : ℕ) (n : NewNodeValue) → slice_get told i ≡ Some n → Fits (page_of stream n)
-told-fits pages stream first h c told w values low blocks i n at =
-    let k = known pages stream first h c told w i n at in
+reported-fits : (pages : Pages) (stream first : ℕ) (h : Past) (c : Commit) (reported : List NewNodeValue) → IsWritten pages stream first h c reported → Values (bag (c ▷ h)) → stream < 2 ^ 32 → first + length reported < 2 ^ 64 → (i : ℕ) (n : NewNodeValue) → slice_get reported i ≡ Some n → Fits (page_of stream n)
+reported-fits pages stream first h c reported w values low blocks i n at =
+    let k = known pages stream first h c reported w i n at in
     let H = c ▷ h in
-    let place = slice_get_within told i n at in
+    let place = slice_get_within reported i n at in
     elim k.kind [
       | inl leaf ↦ subst (λ (m : NewNodeValue). Fits (page_of stream m)) (sym leaf.is) (leaf-fits stream k.start k.height c.version (bag H) k.aligned low w.top leaf.few values)
       | inr inner ↦
@@ -442,10 +442,10 @@ told-fits pages stream first h c told w values low blocks i n at =
 
 -- ---- all together
 
-written : (pages : Pages) (stream first : ℕ) (h : Past) (c : Commit) (old new : TreeValue) (told : List NewNodeValue) → IsToldOf pages stream first h c old → IsToldBy first h c old new told → IsWritten pages stream first h c told
-written pages stream first h c old new told of by =
+written : (pages : Pages) (stream first : ℕ) (h : Past) (c : Commit) (old new : TreeValue) (reported : List NewNodeValue) → IsReportedOf pages stream first h c old → IsReportedBy first h c old new reported → IsWritten pages stream first h c reported
+written pages stream first h c old new reported of by =
     let f = older c.version (nodes_in pages stream) in
-    let g = laid f first told in
+    let g = laid f first reported in
     let before : IsBelow f first 10 FIRST old.node = record {
       stored = stored-older (nodes_in pages stream) c.version 10 FIRST above_root h old.node of.some of.before of.tree.node of.stored.stored;
       below = of.stored.below;
@@ -460,22 +460,22 @@ written pages stream first h c old new told of by =
       few = by.tree.few;
       top = of.version_to;
       kept = of.kept;
-      each = told-node f first told (c ▷ h) c.version (block_of new.node) (λ b n at. (older-is c.version (nodes_in pages stream b) n at).1) by.nodes leads;
+      each = reported-node f first reported (c ▷ h) c.version (block_of new.node) (λ b n at. (older-is c.version (nodes_in pages stream b) n at).1) by.nodes leads;
     }
 
 -- The pages of the nodes that a commit wrote stand rightly, and the new tree is stored in them.
-pub told-pages : (pages : Pages) (stream first : ℕ) (h : Past) (c : Commit) (old new : TreeValue) (told : List NewNodeValue) → IsToldOf pages stream first h c old → IsToldBy first h c old new told → AreTold pages stream first told new
-told-pages pages stream first h c old new told of by =
-    let w = written pages stream first h c old new told of by in
+pub reported-pages : (pages : Pages) (stream first : ℕ) (h : Past) (c : Commit) (old new : TreeValue) (reported : List NewNodeValue) → IsReportedOf pages stream first h c old → IsReportedBy first h c old new reported → AreReported pages stream first reported new
+reported-pages pages stream first h c old new reported of by =
+    let w = written pages stream first h c old new reported of by in
     let values = values-after h c (tree-values pages stream h old of.kept of.tree of.stored.stored) (each-weaker (λ p. FitsSigned w64 p.value) (λ p. IsValue p.value) fits-value c.added of.values) in
     let f = nodes_in pages stream in
     let after = by.laid f of.stored in
-    let same = nodes-laid pages stream first told (told-says pages stream first h c told w) in
+    let same = nodes-laid pages stream first reported (reported-says pages stream first h c reported w) in
     record {
-      stand = told-stand pages stream first h c told w;
-      fit = each-map (page_of stream) Fits told (each-at (λ n. Fits (page_of stream n)) told (told-fits pages stream first h c told w values of.stream_to by.blocks));
+      stand = reported-stand pages stream first h c reported w;
+      fit = each-map (page_of stream) Fits reported (each-at (λ n. Fits (page_of stream n)) reported (reported-fits pages stream first h c reported w values of.stream_to by.blocks));
       stored = record {
-        stored = stored-below (laid f first told) (nodes_in (with_pages pages first (pages_of stream told)) stream) (first + length told) (λ b lt. same b) 10 FIRST new.node after.below after.stored;
+        stored = stored-below (laid f first reported) (nodes_in (with_pages pages first (pages_of stream reported)) stream) (first + length reported) (λ b lt. same b) 10 FIRST new.node after.below after.stored;
         below = after.below;
       };
     }

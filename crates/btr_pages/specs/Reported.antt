@@ -17,7 +17,7 @@ abbrev pub AreKept : Pages → Type 0
 AreKept pages = (block : ℕ) → IfSome (pages block) (λ page. Keeps page × Fits page)
 
 -- A tree that is stored in pages below a block, a commit that is newer than its past, and the numbers of both within their limits.
-pub record IsToldOf (pages : Pages) (stream first : ℕ) (h : Past) (c : Commit) (old : TreeValue) : Type 0 where
+pub record IsReportedOf (pages : Pages) (stream first : ℕ) (h : Past) (c : Commit) (old : TreeValue) : Type 0 where
   pub some : 0 < c.version
   pub before : IsBefore c.version h
   pub tree : IsTree h old
@@ -28,22 +28,22 @@ pub record IsToldOf (pages : Pages) (stream first : ℕ) (h : Past) (c : Commit)
   pub version_to : c.version ≤ 4294967295
 
 -- The tree after the commit, and the nodes that it wrote, for the blocks from `first` on.
-pub record IsToldBy (first : ℕ) (h : Past) (c : Commit) (old new : TreeValue) (told : List NewNodeValue) : Type 0 where
+pub record IsReportedBy (first : ℕ) (h : Past) (c : Commit) (old new : TreeValue) (reported : List NewNodeValue) : Type 0 where
   pub tree : IsTree (c ▷ h) new
-  pub nodes : bare_all told ≡ new_nodes 10 FIRST above_root (c ▷ h) c.version
-  pub laid : (store : Store) → IsBelow store first 10 FIRST old.node → IsLaid store first told 10 FIRST new.node
-  pub blocks : first + length told < 2 ^ 64
+  pub nodes : bare_all reported ≡ new_nodes 10 FIRST above_root (c ▷ h) c.version
+  pub laid : (store : Store) → IsBelow store first 10 FIRST old.node → IsLaid store first reported 10 FIRST new.node
+  pub blocks : first + length reported < 2 ^ 64
 
 -- The pages of the nodes stand rightly from `first` on, their numbers fit, and the new tree is stored in them and the pages before.
-pub record AreTold (pages : Pages) (stream first : ℕ) (told : List NewNodeValue) (new : TreeValue) : Type 0 where
-  pub stand : ArePages pages first (pages_of stream told)
-  pub fit : AllByRecursion Fits (pages_of stream told)
-  pub stored : IsBelow (nodes_in (with_pages pages first (pages_of stream told)) stream) (first + length told) 10 FIRST new.node
+pub record AreReported (pages : Pages) (stream first : ℕ) (reported : List NewNodeValue) (new : TreeValue) : Type 0 where
+  pub stand : ArePages pages first (pages_of stream reported)
+  pub fit : AllByRecursion Fits (pages_of stream reported)
+  pub stored : IsBelow (nodes_in (with_pages pages first (pages_of stream reported)) stream) (first + length reported) 10 FIRST new.node
 
 -- The pages of what any commit wrote stand rightly.
-abbrev pub ToldPagesStand : Type 0
-ToldPagesStand =
-    (pages : Pages) (stream first : ℕ) (h : Past) (c : Commit) (old new : TreeValue) (told : List NewNodeValue)
-    → IsToldOf pages stream first h c old
-    → IsToldBy first h c old new told
-    → AreTold pages stream first told new
+abbrev pub ReportedPagesStand : Type 0
+ReportedPagesStand =
+    (pages : Pages) (stream first : ℕ) (h : Past) (c : Commit) (old new : TreeValue) (reported : List NewNodeValue)
+    → IsReportedOf pages stream first h c old
+    → IsReportedBy first h c old new reported
+    → AreReported pages stream first reported new
