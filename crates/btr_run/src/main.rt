@@ -25,12 +25,24 @@ use std::thread::Threads;
 /// The status of a run whose words are refused.
 const NO_USAGE: u8 = 2;
 
+/// The size of the block that is freed first: just below 32 MiB, the most for which the C library changes what it does.
+const KEPT_BYTES: usize = 33_000_000;
+
 fn main(rt: HostRuntime) -> ExitCode {
+    keep_freed_memory(rt.alloc());
     let status = match words(&rt) {
         Ok(words) => run_or_explain(&rt, &rt, words.as_slice()),
         Err(AllocError) => end_without_memory(&rt),
     };
     ExitCode::from(status)
+}
+
+/// Lets the C library keep what is freed for whoever asks for memory next. Until a large block is freed, it gives each block of 128 KiB
+/// or more back to the system at once, and lengthens the memory of each thread page by page, for which the threads wait for one another.
+/// The block is not touched, so it takes no memory.
+fn keep_freed_memory(alloc: Global) {
+    let block: Result<Vec<u8>, AllocError> = Vec::with_capacity(alloc, KEPT_BYTES);
+    drop(block);
 }
 
 /// Runs the words of the command line. If they are refused, it says on standard error why, for whoever typed them.
